@@ -1,0 +1,5 @@
+pub mod Text
+pub mod Words
+pub mod Calls
+pub mod Tokens
+pub mod Tree
