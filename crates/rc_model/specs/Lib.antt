@@ -3,3 +3,13 @@ pub mod Words
 pub mod Calls
 pub mod Tokens
 pub mod Tree
+pub mod Plans
+pub mod State
+pub mod Shell
+pub mod Image
+pub mod Acts
+pub mod Meaning
+pub mod Layout
+pub mod Machine
+pub mod Script
+pub mod Faults

@@ -1,9 +1,9 @@
 -- Texts: a text is the list of its bytes, which are UTF-8.
-use Rattle.std.specs.Prelude.{ℕ, List, [], ◌∷◌, ◌++◌, Bool, true, false, ◌==◌, ◌&&◌}
+use Rattle.std.specs.Prelude.{ℕ, List, [], ◌∷◌, Bool, true, false, ◌==◌, ◌&&◌}
 use Rattle.std.specs.Cmp.Lexicographic.{slice_cmp}
 use Rattle.std.specs.declared.cmp.Ordering.{Ordering}
 use Rattle.std.specs.Ordering.{nat_cmp}
-use Rattle.std.specs.List.{flat_map}
+use Rattle.std.specs.List.{join_with_byte}
 
 abbrev pub Text : Type 0
 Text = List ℕ
@@ -20,5 +20,4 @@ begins_with (b ∷ bs) (c ∷ text) = (b == c) && begins_with bs text
 
 -- texts joined by spaces
 abbrev pub spaced : List (List ℕ) → List ℕ
-spaced [] = []
-spaced (t ∷ ts) = t ++ flat_map (λ u. 32 ∷ u) ts
+spaced texts = join_with_byte 32 texts

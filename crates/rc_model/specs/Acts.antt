@@ -1,0 +1,112 @@
+-- What an instruction of the machine and a step of the meaning share.
+use Rattle.std.specs.Prelude.{ℕ, zero, suc, List, [], ◌∷◌, ◌++◌, Bool, ◌||◌, if◌then◌else◌, Option, Some, None, is_some, codes}
+use Rattle.std.specs.List.{list_any}
+use Rattle.std.specs.Str.{bytes_eq}
+use Rattle.std.specs.Map.{lookup}
+use Rattle.std.specs.Fmt.{decimal}
+use Rattle.rc_model.specs.Text.{begins_with}
+use Rattle.rc_model.specs.Words.{has_pattern}
+use Rattle.rc_model.specs.Calls.{Slots, Answer, found, Program, Ending, Code, Signal, Launch, write, start, wait, probe, as_child, as_ending}
+use Rattle.rc_model.specs.State.{State, value_of, with_status}
+use Rattle.rc_model.specs.Shell.{Shell, ◌>>=◌, ◌>>◌, pure, call, say, get, change, exits}
+use Rattle.rc_model.specs.Image.{entries}
+
+abbrev pub set_status : List ℕ → Shell (Unit {0})
+set_status text = change (λ s. with_status s text)
+
+-- a report goes to descriptor 2 in one call
+abbrev pub report : Slots → List ℕ → Shell (Unit {0})
+report slots text = say (write slots.errors (codes "rc: " ++ text ++ 10 ∷ []))
+
+-- a runtime error: a report, the status `error`, and the end of the shell
+abbrev pub fails : {A : Type 0} → Slots → List ℕ → Shell A
+fails slots text = do
+  report slots text
+  set_status (codes "error")
+  exits
+
+-- what the shell can't do yet
+abbrev pub not_yet : {A : Type 0} → Slots → Shell A
+not_yet slots = fails slots (codes "not yet")
+
+-- file names are not expanded yet
+abbrev pub expanded : Slots → List (List (ℕ × Bool)) → Shell (List (List (ℕ × Bool)))
+expanded slots words = if list_any has_pattern words then not_yet slots else pure words
+
+-- a name that is a path is taken as it is
+abbrev pub is_path : List ℕ → Bool
+is_path name = begins_with (codes "/") name || begins_with (codes "./") name || begins_with (codes "../") name
+
+-- where a program may be
+abbrev pub candidate : List ℕ → List ℕ → List ℕ
+candidate [] name = codes "./" ++ name
+candidate (b ∷ bs) name = if bytes_eq (b ∷ bs) (codes ".") then codes "./" ++ name else (b ∷ bs) ++ 47 ∷ name
+
+-- a probe that finds a program ends the search
+abbrev pub probed : Shell (Option (List ℕ)) → List ℕ → Answer → Shell (Option (List ℕ))
+probed others path (found Program) = pure (Some path)
+probed others path _ = others
+
+-- the first directory that has the program
+abbrev pub search_dirs : List ℕ → List (List ℕ) → Shell (Option (List ℕ))
+search_dirs name [] = pure None
+search_dirs name (d ∷ ds) = do
+  a ← call (probe (candidate d name))
+  probed (search_dirs name ds) (candidate d name) a
+
+-- a program by its name: the empty name is never found
+abbrev pub find_program : List ℕ → Shell (Option (List ℕ))
+find_program [] = pure None
+find_program (c ∷ cs) =
+    if is_path (c ∷ cs)
+    then pure (Some (c ∷ cs))
+    else (λ s. search_dirs (c ∷ cs) (value_of s (codes "path")) s)
+
+-- the status by which a child ended
+abbrev pub ending_status : Option Ending → List ℕ
+ending_status None = codes "cannot wait"
+ending_status (Some (Code zero)) = []
+ending_status (Some (Code (suc n))) = decimal (suc n)
+ending_status (Some Signal) = codes "signal"
+
+-- a child that was started is waited for
+abbrev pub started : Slots → List ℕ → Option ℕ → Shell (Unit {0})
+started slots name None = do
+  report slots (name ++ codes ": cannot start")
+  set_status (codes "cannot start")
+started slots name (Some n) = do
+  a ← call (wait n)
+  set_status (ending_status (as_ending a))
+
+-- what is asked for a program
+abbrev pub launch_of : Slots → List ℕ → List (List ℕ) → State → Launch
+launch_of slots path args s = record { program = Some path; args = args; entries = entries s; slots = slots }
+
+-- a program that was looked for is started
+abbrev pub run_found : Slots → List ℕ → List (List ℕ) → Option (List ℕ) → Shell (Unit {0})
+run_found slots name args None = do
+  report slots (name ++ codes ": not found")
+  set_status (codes "not found")
+run_found slots name args (Some path) = do
+  s ← get
+  a ← call (start (launch_of slots path args s))
+  started slots name (as_child a)
+
+abbrev pub run_program : Slots → List ℕ → List (List ℕ) → Shell (Unit {0})
+run_program slots name args = do
+  path ← find_program name
+  run_found slots name args path
+
+abbrev pub builtin_names : List (List ℕ)
+builtin_names = codes "." ∷ codes "builtin" ∷ codes "cd" ∷ codes "eval" ∷ codes "exec" ∷ codes "exit" ∷ codes "shift" ∷ codes "wait" ∷ codes "whatis" ∷ []
+
+-- functions and built-ins are not run yet
+abbrev pub is_not_yet : State → List ℕ → Bool
+is_not_yet s name = is_some (lookup (bytes_eq name) s.functions) || list_any (bytes_eq name) builtin_names
+
+-- the words of a simple command
+abbrev pub run_words : Slots → List (List ℕ) → Shell (Unit {0})
+run_words slots [] = fails slots (codes "empty argument list")
+run_words slots (name ∷ args) = do
+  s ← get
+  if is_not_yet s name then not_yet slots else run_program slots name args

@@ -1,0 +1,90 @@
+-- The state of a shell. A finite map is the list of its entries, in byte order of their names.
+use Rattle.std.specs.Prelude.{ℕ, nat_le, List, [], ◌∷◌, Bool, false, not, ◌&&◌, ◌||◌, ◌==◌, if◌then◌else◌, codes, unwrap_or}
+use Rattle.std.specs.List.{list_all}
+use Rattle.std.specs.Str.{bytes_eq}
+use Rattle.std.specs.Map.{lookup, remove_entry}
+use Rattle.std.specs.BTreeMap.{insert_entry}
+use Rattle.rc_model.specs.Text.{text_cmp, spaced}
+use Rattle.rc_model.specs.Tree.{Node, cmd}
+
+-- a value is a list of texts
+abbrev pub Value : Type 0
+Value = List (List ℕ)
+
+pub record State : Type 0 where
+  -- each name with its values: the top one is visible, a local covers those below
+  pub variables : List (List ℕ × List (List (List ℕ)))
+  -- the names of the open locals, the newest first
+  pub locals : List (List ℕ)
+  pub functions : List (List ℕ × Node cmd)
+  pub status : List ℕ
+  -- what `if not` looks at
+  pub flag : Bool
+  -- the children that run in the background, in the order of their starts
+  pub background : List ℕ
+
+-- nothing is set, and the status is null
+abbrev pub new_state : State
+new_state = record { variables = []; locals = []; functions = []; status = []; flag = false; background = [] }
+
+abbrev pub status_name : List ℕ
+status_name = codes "status"
+
+-- all values of a name, the visible one first
+abbrev pub values_of : State → List ℕ → List (List (List ℕ))
+values_of s name = unwrap_or (lookup (bytes_eq name) s.variables) []
+
+-- the top value, which is empty where there is none
+abbrev pub visible : List (List (List ℕ)) → List (List ℕ)
+visible [] = []
+visible (v ∷ vs) = v
+
+-- the other values
+abbrev pub covered : List (List (List ℕ)) → List (List (List ℕ))
+covered [] = []
+covered (v ∷ vs) = vs
+
+-- what a name stands for: the status has one member
+abbrev pub value_of : State → List ℕ → List (List ℕ)
+value_of s name = if bytes_eq name status_name then s.status ∷ [] else visible (values_of s name)
+
+abbrev pub is_digit : ℕ → Bool
+is_digit c = nat_le 48 c && nat_le c 57
+
+-- letters, digits, `_` and `*`
+abbrev pub is_name_char : ℕ → Bool
+is_name_char c = is_digit c || ((nat_le 65 c && nat_le c 90) || (nat_le 97 c && nat_le c 122)) || (c == 95) || (c == 42)
+
+-- the name of a variable: not empty, and not all digits
+abbrev pub is_name : List ℕ → Bool
+is_name name = list_all is_name_char name && not (list_all is_digit name)
+
+abbrev pub with_status : State → List ℕ → State
+with_status s text = record s { status = text }
+
+-- a name with these values; one with none is not in the map
+abbrev pub put_values : List (List ℕ × List (List (List ℕ))) → List ℕ → List (List (List ℕ)) → List (List ℕ × List (List (List ℕ)))
+put_values variables name [] = remove_entry (bytes_eq name) variables
+put_values variables name (v ∷ vs) = insert_entry text_cmp variables name (v ∷ vs)
+
+-- an assignment changes the visible value; that of the status joins its members by spaces
+abbrev pub set_value : State → List ℕ → List (List ℕ) → State
+set_value s name value =
+    if bytes_eq name status_name
+    then with_status s (spaced value)
+    else record s { variables = put_values s.variables name (value ∷ covered (values_of s name)) }
+
+-- the newest local ends; one of the status has no value to uncover
+abbrev pub end_local : State → List (List ℕ) → State
+end_local s [] = s
+end_local s (name ∷ names) =
+    if bytes_eq name status_name
+    then record s { locals = names }
+    else record s { locals = names; variables = put_values s.variables name (covered (values_of s name)) }
+
+abbrev pub pop_local : State → State
+pop_local s = end_local s s.locals
+
+-- each character of a true status is `0` or `|`
+abbrev pub is_true : List ℕ → Bool
+is_true status = list_all (λ c. (c == 48) || (c == 124)) status
