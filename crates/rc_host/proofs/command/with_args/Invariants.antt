@@ -1,0 +1,9 @@
+use Rattle.std.proofs.Common.{◌≡◌, map, string_bytes, take}
+use Rattle.std.specs.Process.{command_program, command_args}
+use Rattle.rc_host.proofs.command.with_args.Given as goal
+
+abbrev pub invariant-loop-arg : goal.invariant-loop-arg
+invariant-loop-arg l = record {
+  program : command_program l.command ≡ l.program;
+  args : command_args l.command ≡ map string_bytes (take l.arg-index l.args);
+}
