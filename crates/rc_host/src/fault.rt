@@ -1,14 +1,16 @@
 //! What an error of the system is to a shell.
-ghost use Rattle.std.specs.Prelude.{◌≢◌};
+ghost use Rattle.std.specs.Prelude.{◌≡◌, ◌≢◌};
+ghost use Rattle.std.specs.IoError.{error_kind, raw_os_error};
 ghost use Rattle.rc_world.specs.declared.types.Fault.TheVariants.{Halt};
+ghost use Rattle.rc_host.specs.Faults.{fault_of as meant};
 
 use rc_world::Fault;
 use std::io;
 use std::io::ErrorKind;
 
-/// `NoMemory` is want of memory in this process, before Linux was asked.
 pub fn fault_of(error: &io::Error) -> Fault
-    ensures { result ≢ Halt }
+    ensures meant { result ≡ meant (error_kind error.now) (raw_os_error error.now) }
+    ensures answered { result ≢ Halt }
 {
     match error.kind() {
         ErrorKind::NotFound => Fault::NotFound,

@@ -5,5 +5,7 @@ mod command;
 mod fault;
 mod host;
 mod table;
+#[cfg(test)]
+mod tests;
 
 pub use host::HostWorld;

@@ -1,0 +1,16 @@
+-- What an error of the system is to a shell.
+use Rattle.std.specs.Prelude.{ℤ, Option, None}
+use Rattle.std.specs.declared.io.ErrorKind.{ErrorKind}
+use Rattle.std.specs.declared.io.ErrorKind.TheVariants as kind
+use Rattle.rc_world.specs.declared.types.Fault.{Fault}
+use Rattle.rc_world.specs.declared.types.Fault.TheVariants.{NotFound, Denied, Exists, Broken, Full, Other, NoMemory}
+
+-- by its kind and Linux's number of it: want of memory without a number was met before Linux was asked
+abbrev pub fault_of : ErrorKind → Option ℤ → Fault
+fault_of kind.NotFound number = NotFound
+fault_of kind.PermissionDenied number = Denied
+fault_of kind.AlreadyExists number = Exists
+fault_of kind.BrokenPipe number = Broken
+fault_of kind.StorageFull number = Full
+fault_of kind.OutOfMemory None = NoMemory
+fault_of _ number = Other
