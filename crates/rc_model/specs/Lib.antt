@@ -3,3 +3,4 @@ pub mod Words
 pub mod Calls
 pub mod Tokens
 pub mod Tree
+pub mod WellFormed
