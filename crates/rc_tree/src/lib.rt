@@ -1,8 +1,10 @@
 //! The tree of a script: its types, copies, well-formedness and its text.
 #![tactic(auto)]
 
+mod clone;
 mod mode;
 
+pub use clone::clone_tree;
 pub use mode::Mode;
 
 /// A command.
