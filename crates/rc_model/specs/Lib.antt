@@ -13,3 +13,4 @@ pub mod Layout
 pub mod Machine
 pub mod Script
 pub mod Faults
+pub mod WellFormed
