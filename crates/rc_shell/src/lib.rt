@@ -5,5 +5,6 @@ mod code;
 mod environment;
 mod names;
 mod state;
+mod word;
 
 pub use state::{SetError, State};
