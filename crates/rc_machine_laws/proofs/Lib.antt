@@ -4,3 +4,6 @@ pub mod Run
 pub mod Follow
 pub mod Turns
 pub mod Ends
+pub mod Goes
+pub mod Told
+pub mod Reached
