@@ -13,7 +13,8 @@ use Rattle.rc_model.specs.Machine.{Config, Final, Ended, Stuck, end_waits, after
 use Rattle.rc_model.specs.Script.{waits, script, IsPrefix, Agrees}
 use Rattle.rc_machine_laws.proofs.Less.{Same, less_plays, less_exec}
 use Rattle.rc_machine_laws.proofs.Run.{Point, at, Runs, does}
-use Rattle.rc_machine_laws.proofs.Follow.{spot, at_return, meaning_runs}
+use Rattle.rc_machine_laws.proofs.Follow.{at_return, meaning_runs}
+use Rattle.rc_machine_laws.proofs.Parts.{spot}
 
 abbrev final_of : Played State → Played Final
 final_of (Ends made s left) = Ends made (Ended s) left
@@ -53,7 +54,8 @@ record Follows (n : ℕ) (f : Point) (given : List Answer) (r : Played State) : 
   enough : LongEnough n j r
   is : play (f j) given ≡ final_of r
 
-owed_same : (owed : List ℕ) (s : State) (k : ℕ) (given : List Answer) → play (and_then (end_waits owed s) (after (exec k))) given ≡ final_of (play (waits s owed) given)
+owed_same : (owed : List ℕ) (s : State) (k : ℕ) (given : List Answer)
+    → play (and_then (end_waits owed s) (after (exec k))) given ≡ final_of (play (waits s owed) given)
 owed_same [] s k given = refl
 owed_same (c ∷ cs) s k [] = refl
 owed_same (c ∷ cs) s k (a ∷ rest) = final_answered (wait c) (is_halt a) _ _ (owed_same cs s k rest)
@@ -67,8 +69,8 @@ owed_enough n j (c ∷ cs) s (a ∷ rest) = enough_answered n j j (wait c) (is_h
 abbrev last : Node cmd → State → State → Config
 last d s t = spot (begin d s) (length (cmd_code d 0)) [] t
 
-follows_from : (n : ℕ) (d : Node cmd) (s0 : State) (p : Plan (Result (Unit {0}))) (f : Point) (given : List Answer) → Runs n f (λ a t. at (last d s0 t)) [] p
-    → Follows n f given (play (under p (λ a t. done_with t) waits) given)
+follows_from : (n : ℕ) (d : Node cmd) (s0 : State) (p : Plan (Result (Unit {0}))) (f : Point) (given : List Answer)
+    → Runs n f (λ a t. at (last d s0 t)) [] p → Follows n f given (play (under p (λ a t. done_with t) waits) given)
 follows_from n d s0 (done_with (Next a t)) f given r =
     let over = (does (last d s0 t) Return (at_return d)).by 0 in
     let come = r.by.by over.0 in
@@ -103,7 +105,8 @@ longer : (m n : ℕ) (c : Config) (given : List Answer) (o : Played Final) → m
 longer m n c given o le over e =
     same_over o (play (exec n c) given) over (subst (λ p. Same p (play (exec n c) given)) e (less_plays (exec m c) (exec n c) given (less_exec m n c le)))
 
-one_end : (m n : ℕ) (c : Config) (given : List Answer) (o p : Played Final) → IsOver o → IsOver p → play (exec m c) given ≡ o → play (exec n c) given ≡ p → o ≡ p
+one_end : (m n : ℕ) (c : Config) (given : List Answer) (o p : Played Final) → IsOver o → IsOver p
+    → play (exec m c) given ≡ o → play (exec n c) given ≡ p → o ≡ p
 one_end m n c given o p over_o over_p e f =
     ⊎_elim
     (λ lt. sym (longer m n c given o (omega arith) over_o e) ∙ f)
@@ -111,7 +114,8 @@ one_end m n c given o p over_o over_p e f =
     (cases_lt m n)
 
 -- a run that is over within m instructions is that of the meaning with m turns
-over_too : (m : ℕ) (c : Config) (given : List Answer) (p : Played Final) (r : Played State) → IsOver p → play (exec m c) given ≡ p → Follows m (at c) given r → p ≡ final_of r
+over_too : (m : ℕ) (c : Config) (given : List Answer) (p : Played Final) (r : Played State)
+    → IsOver p → play (exec m c) given ≡ p → Follows m (at c) given r → p ≡ final_of r
 over_too m c given p (Ends made s left) over e f = one_end m f.j c given p (Ends made (Ended s) left) over tt e f.is
 over_too m c given p (Waits made) over e f = one_end m f.j c given p (Waits made) over tt e f.is
 over_too m c given p (Cut made) over e f = absurd (subst IsOver (sym (longer m f.j c given p f.enough over e) ∙ f.is) over)
@@ -160,12 +164,17 @@ limit_too m c given made (Waits all) e f =
 pub agrees : (d : Node cmd) (s : State) (given : List Answer) → Agrees d s given
 agrees d s given =
     let c = begin d s in
-    let follows : (n : ℕ) → Follows n (at c) given (script n d s given) = λ n. follows_from n d s (meaning n plain d s) (at c) given (meaning_runs n d c s) in
+    let means : ℕ → Played State = λ n. script n d s given in
+    let follows : (n : ℕ) → Follows n (at c) given (means n) = λ n. follows_from n d s (meaning n plain d s) (at c) given (meaning_runs n d c s) in
     record {
-      ends = λ n made t left e. let f = subst (Follows n (at c) given) e (follows n) in (f.j, λ k le. longer f.j k c given (Ends made (Ended t) left) le tt f.is);
-      wants = λ n made e. let f = subst (Follows n (at c) given) e (follows n) in (f.j, λ k le. longer f.j k c given (Waits made) le tt f.is);
-      ends_only = λ m made t left e. (m, end_is (script m d s given) made t left (over_too m c given (Ends made (Ended t) left) (script m d s given) tt e (follows m)));
-      wants_only = λ m made e. (m, waiting_is (script m d s given) made (over_too m c given (Waits made) (script m d s given) tt e (follows m)));
-      at_limit = λ m made e. (m, limit_too m c given made (script m d s given) e (follows m));
-      never_stuck = λ m made left e. not_stuck (script m d s given) made left (over_too m c given (Ends made Stuck left) (script m d s given) tt e (follows m));
+      ends = λ n made t left e.
+          let f = subst (Follows n (at c) given) e (follows n) in
+          (f.j, λ k le. longer f.j k c given (Ends made (Ended t) left) le tt f.is);
+      wants = λ n made e.
+          let f = subst (Follows n (at c) given) e (follows n) in
+          (f.j, λ k le. longer f.j k c given (Waits made) le tt f.is);
+      ends_only = λ m made t left e. (m, end_is (means m) made t left (over_too m c given (Ends made (Ended t) left) (means m) tt e (follows m)));
+      wants_only = λ m made e. (m, waiting_is (means m) made (over_too m c given (Waits made) (means m) tt e (follows m)));
+      at_limit = λ m made e. (m, limit_too m c given made (means m) e (follows m));
+      never_stuck = λ m made left e. not_stuck (means m) made left (over_too m c given (Ends made Stuck left) (means m) tt e (follows m));
     }

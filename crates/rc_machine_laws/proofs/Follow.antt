@@ -1,46 +1,16 @@
 -- The machine follows the meaning, form by form.
 use Rattle.std.proofs.Common.{◌≡◌, ℕ, zero, suc, ◌+◌, List, [], ◌∷◌, ◌++◌, length, Some, subst, arith, length-append}
 use Rattle.std.specs.Prelude.{slice_get, Bool, true, false}
-use Rattle.rc_model.specs.Words.{written, word_texts}
+use Rattle.rc_model.specs.Words.{written}
 use Rattle.rc_model.specs.Tree.{Node, Many, cmd, arg, item, none, more, Seq, Simple, Item, Lit}
-use Rattle.rc_model.specs.Plans.{Plan}
-use Rattle.rc_model.specs.State.{State}
-use Rattle.rc_model.specs.Shell.{Result, stops}
-use Rattle.rc_model.specs.Acts.{expanded, run_words}
-use Rattle.rc_model.specs.Meaning.{Runner, Caller, cmd_means, arg_means, args_mean, items_mean, meaning}
-use Rattle.rc_model.specs.Layout.{Nil, Word, Join, Glob, Run, Return, NotYet, code, cmd_code, arg_code, args_code, items_code}
-use Rattle.rc_model.specs.Machine.{Config, stuck}
-use Rattle.rc_machine_laws.proofs.Run.{Point, at, Leads, Runs, does, after_leads, then_runs, runs_bind, runs_at, settle_runs, not_yet_runs}
+use Rattle.rc_model.specs.Shell.{stops}
+use Rattle.rc_model.specs.Acts.{expanded}
+use Rattle.rc_model.specs.Meaning.{Caller, cmd_means, arg_means, args_mean, items_mean, meaning}
+use Rattle.rc_model.specs.Layout.{Nil, Word, Join, Glob, Run, Return, code, cmd_code, arg_code, args_code, items_code}
+use Rattle.rc_model.specs.Machine.{Config}
 use Rattle.rc_machine_laws.proofs.Place.{HasAt, has_front, has_back, has_all}
-
-abbrev pub Words : Type 0
-Words = List (List (List (ℕ × Bool)))
-
--- a configuration at another place of its code, with other words and another state
-abbrev pub spot : Config → ℕ → Words → State → Config
-spot c place words s = record c { place = place; words = words; state = s }
-
--- the instructions from p to q do what the meaning says
-abbrev pub Stretch : ℕ → Config → ℕ → ℕ → Runner → Type 0
-Stretch n c p q m = (s : State) → Runs n (at (spot c p c.words s)) (λ a s1. at (spot c q c.words s1)) c.scopes (m s)
-
--- the same, with a list of words on top
-abbrev Pushes : ℕ → Config → ℕ → ℕ → Words → (State → Plan (Result (List (List (ℕ × Bool))))) → Type 0
-Pushes n c p q words m = (s : State) → Runs n (at (spot c p words s)) (λ v s1. at (spot c q (v ∷ c.words) s1)) c.scopes (m s)
-
--- the place at the end, under another name
-to_place : {A : Type 0} {n : ℕ} {f : Point} (c : Config) (words : A → Words) (p q : ℕ) (m : Plan (Result A)) → p ≡ q
-    → Runs n f (λ a s. at (spot c p (words a) s)) c.scopes m → Runs n f (λ a s. at (spot c q (words a) s)) c.scopes m
-to_place {n = n} {f = f} c words p q m e r = subst (λ x. Runs n f (λ a s. at (spot c x (words a) s)) c.scopes m) e r
-
--- a body that was called: its own code, in the frames and scopes of c
-abbrev pub body : Config → Node cmd → Config
-body c d = record c { code = code d }
-
--- what a called body does: from its first instruction to its Return
-abbrev pub CallsRun : ℕ → Caller → Type 0
-CallsRun n call = (d : Node cmd) (c : Config) (f : Point) (s : State) → Leads f (at (spot (body c d) 0 c.words s))
-    → Runs n f (λ a s1. at (spot (body c d) (length (cmd_code d 0)) c.words s1)) c.scopes (call c.slots d s)
+use Rattle.rc_machine_laws.proofs.Run.{does, after_leads, then_runs, runs_bind, runs_at}
+use Rattle.rc_machine_laws.proofs.Parts.{spot, body, Stretch, Pushes, to_place, CallsRun, glob_runs, run_runs, not_yet_runs}
 
 module _ (n : ℕ) (call : Caller) (calls_run : CallsRun n call) where
   mutual
@@ -53,16 +23,16 @@ module _ (n : ℕ) (call : Caller) (calls_run : CallsRun n call) where
         let end_has = has_back c.code.ops (p + 1) args (Glob ∷ Run ∷ []) h.1 in
         let len : q + 1 + 1 ≡ p + length (Nil ∷ (args ++ Glob ∷ Run ∷ [])) = omega (arith, length-append args (Glob ∷ Run ∷ [])) in
         let mean = args_mean words call n c.slots [] s in
+        let args_has = has_front c.code.ops (p + 1) args (Glob ∷ Run ∷ []) h.1 in
         to_place c (λ a. c.words) (q + 1 + 1) _ _ len (
-        runs_bind mean _ (then_runs mean (does (spot c p c.words s) Nil h.0) (args_run words c (p + 1) [] (has_front c.code.ops (p + 1) args _ h.1) s)) (λ v s1.
-        runs_bind (expanded c.slots v s1) _ (then_runs _ (does (spot c q (v ∷ c.words) s1) Glob end_has.0) (settle_runs (expanded c.slots v s1) _ (λ w s2. runs_at w s2))) (λ w s2.
-        then_runs _ (does (spot c (q + 1) (w ∷ c.words) s2) Run end_has.1.0) (settle_runs (run_words c.slots (word_texts w) s2) _ (λ a s3. runs_at a s3)))))
-    cmd_runs d c p h s = then_runs _ (does (spot c p c.words s) NotYet h.0) (not_yet_runs c.slots s (λ a s1. stuck))
+        runs_bind mean _ (then_runs mean (does (spot c p c.words s) Nil h.0) (args_run words c (p + 1) [] args_has s)) (λ v s1.
+        runs_bind (expanded c.slots v s1) _ (glob_runs c q end_has.0 v s1) (λ w s2. run_runs c (q + 1) end_has.1.0 w s2)))
+    cmd_runs d c p h s = not_yet_runs c p h.0 s
 
     arg_runs : (a : Node arg) (c : Config) (p : ℕ) → HasAt c.code.ops p (arg_code a p)
         → Pushes n c p (p + length (arg_code a p)) c.words (arg_means a call n c.slots)
     arg_runs (Lit text quoted) c p h s = then_runs _ (does (spot c p c.words s) (Word text quoted) h.0) (runs_at (written text quoted ∷ []) s)
-    arg_runs a c p h s = then_runs _ (does (spot c p c.words s) NotYet h.0) (not_yet_runs c.slots s (λ a s1. stuck))
+    arg_runs a c p h s = not_yet_runs c p h.0 s
 
     args_run : (l : Many arg) (c : Config) (p : ℕ) (before : List (List (ℕ × Bool))) → HasAt c.code.ops p (args_code l p)
         → Pushes n c p (p + length (args_code l p)) (before ∷ c.words) (args_mean l call n c.slots before)
@@ -84,7 +54,7 @@ module _ (n : ℕ) (call : Caller) (calls_run : CallsRun n call) where
     items_run none c p h s =
         let len : p ≡ p + 0 = omega arith in
         to_place c (λ a. c.words) p (p + 0) _ len (runs_at tt s)
-    items_run (more (Item d true) l) c p h s = then_runs _ (does (spot c p c.words s) NotYet h.0) (not_yet_runs c.slots s (λ a s1. stuck))
+    items_run (more (Item d true) l) c p h s = not_yet_runs c p h.0 s
     items_run (more (Item d false) l) c p h s =
         let first = cmd_code d p in
         let q = p + length first in

@@ -1,6 +1,7 @@
 pub mod Less
 pub mod Place
 pub mod Run
+pub mod Parts
 pub mod Follow
 pub mod Turns
 pub mod Ends

@@ -1,11 +1,10 @@
 -- How the machine comes from one point of its run to another.
-use Rattle.std.proofs.Common.{◌≡◌, ℕ, suc, pred, ◌<◌, ◌≤◌, List, [], Some, refl, ap, ◌∙◌, arith}
+use Rattle.std.proofs.Common.{◌≡◌, ℕ, suc, pred, ◌<◌, ◌≤◌, List, Some, refl, ap, ◌∙◌, arith}
 use Rattle.std.specs.Prelude.{slice_get}
-use Rattle.rc_model.specs.Calls.{Answer, Call, Slots}
+use Rattle.rc_model.specs.Calls.{Answer, Call}
 use Rattle.rc_model.specs.Plans.{Plan, done_with, ask, cut, and_then}
 use Rattle.rc_model.specs.State.{State}
 use Rattle.rc_model.specs.Shell.{Result, Next, Exit, Shell, under, leaves}
-use Rattle.rc_model.specs.Acts.{not_yet}
 use Rattle.rc_model.specs.Layout.{Op}
 use Rattle.rc_model.specs.Machine.{Scope, Config, Final, Step, unwind, act, after, exec}
 
@@ -122,8 +121,3 @@ settle_runs (done_with (Exit s owed)) go r = runs_exit s owed
 settle_runs {n = n} {scopes = scopes} (ask c more) go r =
     record { by = (λ a. mid (under (more a) go (unwind scopes)), comes_same _, λ a. (settle_runs {n = n} (more a) go r).by) }
 settle_runs {n = n} cut go r = record { by = (n, omega arith, refl) }
-
--- what the shell can't do yet ends it, whatever value is wanted
-pub not_yet_runs : {A : Type 0} {n : ℕ} {k : A → State → Point} {scopes : List Scope} (slots : Slots) (s : State) (go : Unit {0} → State → Plan Step)
-    → Runs {A = A} n (mid (under (not_yet slots s) go (unwind scopes))) k scopes (not_yet slots s)
-not_yet_runs slots s go = runs_ask _ _ _ (λ a. runs_exit _ [])
