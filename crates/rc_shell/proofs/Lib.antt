@@ -1,3 +1,4 @@
+pub mod Entries
 pub mod Escapes
 pub mod Texts
 pub mod Variables

@@ -44,7 +44,7 @@ impl<T: Drop> From<AllocFailed<T>> for SetError {
 /// The variables of a shell and its status.
 #[derive(Drop)]
 pub struct State {
-    variables: BTreeMap<String, Vec<String>>,
+    pub(crate) variables: BTreeMap<String, Vec<String>>,
     status: String,
 }
 
