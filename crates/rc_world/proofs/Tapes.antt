@@ -3,7 +3,8 @@ use Rattle.std.proofs.Common.{arith, ℕ, ◌≡◌, refl, sym, ◌∙◌, ap, L
 use Rattle.std.specs.Prelude.{true}
 use Rattle.std.specs.declared.alloc.Global.{Global}
 use Rattle.std.specs.List.{AllZip}
-use Rattle.rc_model.specs.Calls.{Call, Answer, file, pair, done, bytes, child, ended, names, found, refused, event, fitting, taken_as, want, Want, was_made, calls}
+use Rattle.rc_model.specs.Calls.{Call, Answer, file, pair, done, bytes, child, ended, names, found, refused}
+use Rattle.rc_model.specs.Calls.{event, fitting, taken_as, want, Want, was_made, calls}
 use Rattle.rc_model.specs.Calls.{WantsFile, WantsPair, WantsDone, WantsBytes, WantsChild, WantsEnding, WantsNames, WantsKind}
 use Rattle.rc_model.specs.Calls.{Fault, NotFound, Denied, Exists, Broken, Full, Other, Halt, NoMemory}
 use Rattle.rc_world.specs.Tapes.{call_of, answer_of, played, next_answer, refusal}

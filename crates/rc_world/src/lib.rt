@@ -1,6 +1,7 @@
 //! The world of a shell: the calls that it makes, and a tape that plays answers.
 #![tactic(auto)]
 
+pub mod calls;
 pub mod tape;
 pub mod types;
 pub mod world;
