@@ -1,12 +1,11 @@
 -- What an instruction of the machine and a step of the meaning share.
-use Rattle.std.specs.Prelude.{ℕ, zero, suc, List, [], ◌∷◌, ◌++◌, Bool, ◌||◌, if◌then◌else◌, Option, Some, None, is_some, codes}
-use Rattle.std.specs.List.{list_any}
+use Rattle.std.specs.Prelude.{ℕ, zero, suc, List, [], ◌∷◌, ◌++◌, Bool, ◌||◌, if◌then◌else◌, Option, Some, None, is_some, codes, nat_eq}
+use Rattle.std.specs.List.{list_any, starts_with}
 use Rattle.std.specs.Str.{bytes_eq}
 use Rattle.std.specs.Map.{lookup}
 use Rattle.std.specs.Fmt.{decimal}
-use Rattle.rc_model.specs.Text.{begins_with}
 use Rattle.rc_model.specs.Words.{has_pattern}
-use Rattle.rc_model.specs.Calls.{Slots, Answer, found, Program, Ending, Code, Signal, Launch, write, start, wait, probe, as_child, as_ending}
+use Rattle.rc_model.specs.Calls.{Slots, Kind, Program, Ending, Code, Signal, Launch, write, start, wait, probe, as_kind, as_child, as_ending}
 use Rattle.rc_model.specs.State.{State, value_of, with_status}
 use Rattle.rc_model.specs.Shell.{Shell, ◌>>=◌, ◌>>◌, pure, call, say, get, change, exits}
 use Rattle.rc_model.specs.Image.{entries}
@@ -35,7 +34,7 @@ expanded slots words = if list_any has_pattern words then not_yet slots else pur
 
 -- a name that is a path is taken as it is
 abbrev pub is_path : List ℕ → Bool
-is_path name = begins_with (codes "/") name || begins_with (codes "./") name || begins_with (codes "../") name
+is_path name = starts_with nat_eq name (codes "/") || starts_with nat_eq name (codes "./") || starts_with nat_eq name (codes "../")
 
 -- where a program may be
 abbrev pub candidate : List ℕ → List ℕ → List ℕ
@@ -43,8 +42,8 @@ candidate [] name = codes "./" ++ name
 candidate (b ∷ bs) name = if bytes_eq (b ∷ bs) (codes ".") then codes "./" ++ name else (b ∷ bs) ++ 47 ∷ name
 
 -- a probe that finds a program ends the search
-abbrev pub probed : Shell (Option (List ℕ)) → List ℕ → Answer → Shell (Option (List ℕ))
-probed others path (found Program) = pure (Some path)
+abbrev pub probed : Shell (Option (List ℕ)) → List ℕ → Option Kind → Shell (Option (List ℕ))
+probed others path (Some Program) = pure (Some path)
 probed others path _ = others
 
 -- the first directory that has the program
@@ -52,7 +51,7 @@ abbrev pub search_dirs : List ℕ → List (List ℕ) → Shell (Option (List �
 search_dirs name [] = pure None
 search_dirs name (d ∷ ds) = do
   a ← call (probe (candidate d name))
-  probed (search_dirs name ds) (candidate d name) a
+  probed (search_dirs name ds) (candidate d name) (as_kind a)
 
 -- a program by its name: the empty name is never found
 abbrev pub find_program : List ℕ → Shell (Option (List ℕ))

@@ -13,3 +13,5 @@ pub mod Layout
 pub mod Machine
 pub mod Script
 pub mod Faults
+pub mod PlainScripts
+pub mod WellFormed

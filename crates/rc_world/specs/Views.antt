@@ -69,30 +69,30 @@ launch_of launch = record {
 }
 
 -- what the result of a call says as an answer
-abbrev pub answer_of : {T : Type 0} → (T → calls.Answer) → Result T Fault → calls.Answer
-answer_of good (Ok x) = good x
-answer_of good (Err f) = calls.refused (fault_of f)
+abbrev pub answer_or_refused : {T : Type 0} → (T → calls.Answer) → Result T Fault → calls.Answer
+answer_or_refused good (Ok x) = good x
+answer_or_refused good (Err f) = calls.refused (fault_of f)
 
 abbrev pub file_answer : Result Handle Fault → calls.Answer
-file_answer result = answer_of (λ handle. calls.file handle.0) result
+file_answer result = answer_or_refused (λ handle. calls.file handle.0) result
 
 abbrev pub pair_answer : Result (Handle × Handle) Fault → calls.Answer
-pair_answer result = answer_of (λ ends. calls.pair ends.0.0 ends.1.0) result
+pair_answer result = answer_or_refused (λ ends. calls.pair ends.0.0 ends.1.0) result
 
 abbrev pub done_answer : Result (Unit {0}) Fault → calls.Answer
-done_answer result = answer_of (λ x. calls.done) result
+done_answer result = answer_or_refused (λ x. calls.done) result
 
 abbrev pub bytes_answer : Result (Vec ℕ) Fault → calls.Answer
-bytes_answer result = answer_of (λ bytes. calls.bytes bytes.items) result
+bytes_answer result = answer_or_refused (λ bytes. calls.bytes bytes.items) result
 
 abbrev pub child_answer : Result ChildNo Fault → calls.Answer
-child_answer result = answer_of (λ child. calls.child child.0) result
+child_answer result = answer_or_refused (λ child. calls.child child.0) result
 
 abbrev pub ending_answer : Result Ending Fault → calls.Answer
-ending_answer result = answer_of (λ ending. calls.ended (ending_of ending)) result
+ending_answer result = answer_or_refused (λ ending. calls.ended (ending_of ending)) result
 
 abbrev pub names_answer : Result (Vec (String Global)) Fault → calls.Answer
-names_answer result = answer_of (λ names. calls.names (map string_bytes names.items)) result
+names_answer result = answer_or_refused (λ names. calls.names (map string_bytes names.items)) result
 
 abbrev pub kind_answer : Result Kind Fault → calls.Answer
-kind_answer result = answer_of (λ kind. calls.found (kind_of kind)) result
+kind_answer result = answer_or_refused (λ kind. calls.found (kind_of kind)) result

@@ -1,0 +1,5 @@
+pub mod Entries
+pub mod Escapes
+pub mod Texts
+pub mod Variables
+pub mod WordLaws

@@ -1,0 +1,10 @@
+//! Runs a script over a world.
+#![tactic(auto)]
+
+mod code;
+mod environment;
+mod names;
+mod state;
+mod word;
+
+pub use state::{SetError, State};
