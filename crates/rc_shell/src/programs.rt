@@ -1,26 +1,45 @@
 //! Programs: they are looked for, started and waited for.
 
-ghost use Rattle.std.specs.Prelude.{◌≡◌, ◌∷◌, ◌++◌, [], codes, IfOk, map, string_bytes, option_map, nat_eq};
-ghost use Rattle.rc_model.specs.Acts.{report, is_path, candidate, search_dirs, find_program, ending_status, launch_of, started, run_found, run_program};
+ghost use Rattle.std.specs.Prelude.{◌≡◌, ◌∷◌, ◌++◌, [], codes, IfOk, map, string_bytes, option_map};
+ghost use Rattle.rc_model.specs.Acts.{report, is_path, candidate, is_program, search_dirs, find_program, ending_status, refuse, wait_started, launch_of, run_found, run_program};
 ghost use Rattle.rc_model.specs.Shell.{Next};
-ghost use Rattle.rc_model.specs.State.{value_of};
 ghost use Rattle.rc_world.specs.Comes.{Comes};
-ghost use Rattle.rc_world.specs.Views.{slots_of, ending_of};
+ghost use Rattle.rc_world.specs.Views.{slot_of, slots_of, kind_of, ending_of};
 ghost use Rattle.rc_world.specs.Views as world;
 ghost use Rattle.rc_shell.specs.States.{state_of};
 
 use crate::environment::entries;
 use crate::state::State;
-use rc_world::{ChildNo, Ending, Kind, Launch, Program, Slots, Stop, World, calls};
+use rc_world::{ChildNo, Ending, Kind, Launch, Program, Slot, Slots, Stop, World, calls};
 use std::alloc::{AllocError, Global};
 
+/// Where reports go.
+fn errors_slot(slots: Slots) -> Slot
+    ensures { slot_of result ≡ (slots_of slots).errors }
+{
+    let [_, _, errors] = slots.0;
+    errors
+}
+
+fn report_line(alloc: Global, text: &str) -> Result<String, AllocError>
+    ensures { IfOk result (λ line. string_bytes line ≡ (codes "rc: " ++ text.now ++ 10 ∷ [])) }
+{
+    format!(in alloc; "rc: {text}\n")
+}
+
 /// Writes `rc: TEXT` to descriptor 2.
-pub fn report<W: World>(alloc: Global, world: &mut W, state: &State, slots: Slots, text: &str) -> Result<(), Stop>
+#[tactic(auto, using(rc_world::proofs::Joins::passed_up, rc_world::proofs::Joins::ran_none, rc_world::proofs::Joins::left_here))]
+pub fn report<W: World>(
+    alloc: Global,
+    world: &mut W,
+    state: &State,
+    slots: Slots,
+    text: &str,
+) -> Result<(), Stop>
     ensures { Comes (W.events world.old) (W.events world.new) (report (slots_of slots) text.now (state_of state.now)) (λ x. Next x (state_of state.now)) result }
 {
-    let line = format!(in alloc; "rc: {text}\n")?;
-    let [_, _, errors] = slots.0;
-    calls::write(world, errors, line.as_bytes())?;
+    let line = report_line(alloc, text)?;
+    calls::write(world, errors_slot(slots), line.as_bytes())?;
     Ok(())
 }
 
@@ -41,13 +60,26 @@ fn candidate(alloc: Global, dir: &str, name: &str) -> Result<String, AllocError>
     format!(in alloc; "{dir}/{name}")
 }
 
-/// The first directory of `$path` that has the program.
-fn search_dirs<W: World>(alloc: Global, world: &mut W, state: &State, name: &str, dirs: &[String]) -> Result<Option<String>, Stop>
+fn is_program(found: Option<Kind>) -> bool
+    ensures { result ≡ is_program (option_map kind_of found) }
+{
+    matches!(found, Some(Kind::Program))
+}
+
+/// The first directory that has the program.
+#[tactic(auto, using(rc_world::proofs::Joins::passed_up, rc_world::proofs::Joins::ran_none, rc_world::proofs::Joins::left_here))]
+fn search_dirs<W: World>(
+    alloc: Global,
+    world: &mut W,
+    state: &State,
+    name: &str,
+    dirs: &[String],
+) -> Result<Option<String>, Stop>
     ensures { Comes (W.events world.old) (W.events world.new) (search_dirs name.now (map string_bytes dirs.now) (state_of state.now)) (λ found. Next (option_map string_bytes found) (state_of state.now)) result }
 {
     for dir in dirs {
         let path = candidate(alloc, dir, name)?;
-        if let Some(Kind::Program) = calls::probe(world, &path)? {
+        if is_program(calls::probe(world, &path)?) {
             return Ok(Some(path));
         }
     }
@@ -55,7 +87,13 @@ fn search_dirs<W: World>(alloc: Global, world: &mut W, state: &State, name: &str
 }
 
 /// The path of a program: its name where that is a path, else the first of `$path` that has it.
-pub fn find_program<W: World>(alloc: Global, world: &mut W, state: &State, name: &str) -> Result<Option<String>, Stop>
+#[tactic(auto, using(rc_world::proofs::Joins::passed_up, rc_world::proofs::Joins::ran_none, rc_world::proofs::Joins::left_here))]
+pub fn find_program<W: World>(
+    alloc: Global,
+    world: &mut W,
+    state: &State,
+    name: &str,
+) -> Result<Option<String>, Stop>
     ensures { Comes (W.events world.old) (W.events world.new) (find_program name.now (state_of state.now)) (λ found. Next (option_map string_bytes found) (state_of state.now)) result }
 {
     if name.is_empty() {
@@ -80,15 +118,44 @@ fn ending_status(alloc: Global, ending: Option<Ending>) -> Result<String, AllocE
     }
 }
 
+fn refusal_text(alloc: Global, name: &str, why: &str) -> Result<String, AllocError>
+    ensures { IfOk result (λ text. string_bytes text ≡ (name.now ++ codes ": " ++ why.now)) }
+{
+    format!(in alloc; "{name}: {why}")
+}
+
+/// A program that cannot be run, and why.
+#[tactic(auto, using(rc_world::proofs::Joins::passed_up, rc_world::proofs::Joins::ran_none, rc_world::proofs::Joins::left_here))]
+fn refuse<W: World>(
+    alloc: Global,
+    world: &mut W,
+    state: &mut State,
+    slots: Slots,
+    name: &str,
+    why: &str,
+) -> Result<(), Stop>
+    ensures { Comes (W.events world.old) (W.events world.new) (refuse (slots_of slots) name.now why.now (state_of state.old)) (λ x. Next x (state_of state.new)) result }
+{
+    let text = refusal_text(alloc, name, why)?;
+    report(alloc, world, state, slots, &text)?;
+    state.set_status(why)?;
+    Ok(())
+}
+
 /// A child that was started is waited for.
-fn wait_started<W: World>(alloc: Global, world: &mut W, state: &mut State, slots: Slots, name: &str, child: Option<ChildNo>) -> Result<(), Stop>
-    ensures { Comes (W.events world.old) (W.events world.new) (started (slots_of slots) name.now (option_map (λ n. n.0) child) (state_of state.old)) (λ x. Next x (state_of state.new)) result }
+#[tactic(auto, using(rc_world::proofs::Joins::passed_up, rc_world::proofs::Joins::ran_none, rc_world::proofs::Joins::left_here))]
+fn wait_started<W: World>(
+    alloc: Global,
+    world: &mut W,
+    state: &mut State,
+    slots: Slots,
+    name: &str,
+    child: Option<ChildNo>,
+) -> Result<(), Stop>
+    ensures { Comes (W.events world.old) (W.events world.new) (wait_started (slots_of slots) name.now (option_map (λ n. n.0) child) (state_of state.old)) (λ x. Next x (state_of state.new)) result }
 {
     let Some(child) = child else {
-        let text = format!(in alloc; "{name}: cannot start")?;
-        report(alloc, world, state, slots, &text)?;
-        state.set_status("cannot start")?;
-        return Ok(());
+        return refuse(alloc, world, state, slots, name, "cannot start");
     };
     let ending = calls::wait(world, child)?;
     let status = ending_status(alloc, ending)?;
@@ -97,30 +164,43 @@ fn wait_started<W: World>(alloc: Global, world: &mut W, state: &mut State, slots
 }
 
 /// What is asked for a program.
-fn launch(alloc: Global, state: &State, slots: Slots, path: String, args: &[String]) -> Result<Launch, AllocError>
+fn launch(
+    alloc: Global,
+    state: &State,
+    slots: Slots,
+    path: String,
+    args: &[String],
+) -> Result<Launch, AllocError>
     ensures { IfOk result (λ l. world.launch_of l ≡ launch_of (slots_of slots) (string_bytes path) (map string_bytes args.now) (state_of state.now)) }
 {
     let mut copy = Vec::new(alloc);
     for arg in args {
         copy.push(arg.clone()?)?;
     }
+    let env = entries(alloc, state)?;
     Ok(Launch {
         program: Program::Path(path),
         args: copy,
-        env: entries(alloc, state)?,
+        env,
         slots,
     })
 }
 
 /// A program that was looked for is started.
-fn run_found<W: World>(alloc: Global, world: &mut W, state: &mut State, slots: Slots, name: &str, args: &[String], path: Option<String>) -> Result<(), Stop>
+#[tactic(auto, using(rc_world::proofs::Joins::passed_up, rc_world::proofs::Joins::ran_none, rc_world::proofs::Joins::left_here))]
+fn run_found<W: World>(
+    alloc: Global,
+    world: &mut W,
+    state: &mut State,
+    slots: Slots,
+    name: &str,
+    args: &[String],
+    path: Option<String>,
+) -> Result<(), Stop>
     ensures { Comes (W.events world.old) (W.events world.new) (run_found (slots_of slots) name.now (map string_bytes args.now) (option_map string_bytes path) (state_of state.old)) (λ x. Next x (state_of state.new)) result }
 {
     let Some(path) = path else {
-        let text = format!(in alloc; "{name}: not found")?;
-        report(alloc, world, state, slots, &text)?;
-        state.set_status("not found")?;
-        return Ok(());
+        return refuse(alloc, world, state, slots, name, "not found");
     };
     let launch = launch(alloc, state, slots, path, args)?;
     let child = calls::start(world, &launch)?;
@@ -128,7 +208,15 @@ fn run_found<W: World>(alloc: Global, world: &mut W, state: &mut State, slots: S
 }
 
 /// Runs a program by its name.
-pub fn run_program<W: World>(alloc: Global, world: &mut W, state: &mut State, slots: Slots, name: &str, args: &[String]) -> Result<(), Stop>
+#[tactic(auto, using(rc_world::proofs::Joins::passed_up, rc_world::proofs::Joins::ran_none, rc_world::proofs::Joins::left_here))]
+pub fn run_program<W: World>(
+    alloc: Global,
+    world: &mut W,
+    state: &mut State,
+    slots: Slots,
+    name: &str,
+    args: &[String],
+) -> Result<(), Stop>
     ensures { Comes (W.events world.old) (W.events world.new) (run_program (slots_of slots) name.now (map string_bytes args.now) (state_of state.old)) (λ x. Next x (state_of state.new)) result }
 {
     let path = find_program(alloc, world, state, name)?;

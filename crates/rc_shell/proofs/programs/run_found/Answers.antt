@@ -1,37 +1,25 @@
-use Rattle.std.proofs.Common.{rules, ◌≡◌, ◌∷◌, ◌++◌, [], codes, IfOk, map, string_bytes, option_map, nat_eq, ℕ, ◌+◌, ◌-◌, ◌*◌, ◌<◌, ◌≤◌, length, ◌/◌, ◌%◌, Bool, true, false, nat_lt, List, slice_index_or, slice_set, bit_and, bit_or, Fits, w8, w32, w64, Bor, MutBor}
-use Rattle.rc_model.specs.Acts.{report, is_path, candidate, search_dirs, find_program, ending_status, launch_of, started, run_found, run_program}
-use Rattle.rc_model.specs.Shell.{Next}
-use Rattle.rc_model.specs.State.{value_of}
-use Rattle.rc_world.specs.Comes.{Comes}
-use Rattle.rc_world.specs.Views.{slots_of, ending_of}
-use Rattle.rc_world.specs.Views as world
+use Rattle.std.proofs.Common.{rules, ◌≡◌, map, string_bytes, option_map}
+use Rattle.rc_model.specs.Acts.{launch_of, wait_started}
+use Rattle.rc_model.specs.Calls.{start, as_child}
+use Rattle.rc_world.specs.Views.{slots_of}
+use Rattle.rc_world.specs.declared.types.Stop.TheVariants.{NoMemory}
+use Rattle.rc_world.proofs.Joins.{passed_up, left_here, ran_none}
 use Rattle.rc_shell.specs.States.{state_of}
+use Rattle.rc_shell.proofs.Calls.{left_at, comes_behind}
 use Rattle.rc_shell.proofs.programs.run_found.Goals as goal
 
--- src/programs.rt:120:20
-pub returns-in_err-text : goal.returns-in_err-text
-returns-in_err-text g c = ?
-
--- src/programs.rt:121:9
-pub returns-in_err-report : goal.returns-in_err-report
-returns-in_err-report g c = ?
-
--- src/programs.rt:122:9
-pub returns-in_err-set_status : goal.returns-in_err-set_status
-returns-in_err-set_status g c = ?
-
--- src/programs.rt:123:9
-pub returns-in_default : goal.returns-in_default
-returns-in_default g c = ?
-
--- src/programs.rt:125:18
 pub returns-in_err-launch : goal.returns-in_err-launch
-returns-in_err-launch g c = ?
+returns-in_err-launch g c = passed_up _ _ _ _ c.from_residual.result NoMemory c.from_residual.ensures.1 (left_here _ _ _ _ (ran_none _ _))
 
--- src/programs.rt:126:17
 pub returns-in_err-child : goal.returns-in_err-child
-returns-in_err-child g c = ?
+returns-in_err-child g c =
+    let s = state_of c.args.state.now in
+    rw c.in-Some.is (passed_up _ _ _ _ c.from_residual-in_err-child.result c.in_err-child.field-0.0 c.from_residual-in_err-child.ensures.1
+    (left_at _ _ _ (start (launch_of (slots_of c.args.slots) (string_bytes c.in-Some.path) (map string_bytes c.args.args.now) s)) as_child (λ n. wait_started (slots_of c.args.slots) c.args.name.now n s)
+    (rw c.in_ok-launch.ensures at c.in_err-child.ensures)))
 
--- src/programs.rt:116:1
 pub returns : goal.returns
-returns g c = ?
+returns g c =
+    let s = state_of c.args.state.now in
+    rw c.in-Some.is (comes_behind _ _ _ (start (launch_of (slots_of c.args.slots) (string_bytes c.in-Some.path) (map string_bytes c.args.args.now) s)) as_child _ (λ n. wait_started (slots_of c.args.slots) c.args.name.now n s) _ c.wait_started.result
+    (rw c.in_ok-launch.ensures at c.in_ok-child.ensures) c.wait_started.ensures)
