@@ -51,3 +51,5 @@ other_does c cs h p q r s t o = record {
 
 pub letter_is : (c : ℕ) (cs : List ℕ) → escapes c cs ≡ false → c ≢ 32 → c ≢ 9 → c ≢ 35 → c ≢ 10 → c ≢ 59 → is_operator c ≡ false → class_at Plain c cs ≡ Letter
 letter_is c cs h p q r s t o = ap (λ z. cond z Space (class c)) h ∙ class_apart c p q r s t ∙ ap (λ z. cond z Other Letter) o
+
+pub ruleset classes = (blank_does, hash_does, newline_does, semicolon_does, other_does, letter_is)

@@ -139,3 +139,7 @@ at_end items new words left ps whole e h s =
     ap (λ m. outcome m (commands [] whole)) (sym s.fits_are ∙ ap (misfit (eqb (length words) 0)) e)
     ∙ ap (λ cs. Accepted (script_tree cs)) (sym s.commands_are ∙ ap (λ z. s.done ++ commands s.begun z) e)
     ∙ sym (ap (λ ns. Accepted (tree.Seq ns)) (ended items new words left s.done s.begun s.items_are s.words_are h))
+
+pub ruleset ends = (ends_nothing, ends_something)
+
+pub ruleset steps = (begin, after_word, after_blank, after_separator, at_misfit, at_stray, at_end)

@@ -139,3 +139,9 @@ unfolding pieces
 comment_goes_on line c cs bs e n =
     ap (pieces Comment line) e
     ∙ ap (λ z. piece (cond z End Further) c line (pieces (cond z Plain Comment) (cond z (suc line) line) bs)) (unequal c 10 n)
+
+pub ruleset first_pieces = (none_begins, blank_begins, comment_begins, continuation_begins, newline_begins, semicolon_begins, other_begins, letter_begins)
+
+pub ruleset words = (word_goes_on, word_ends)
+
+pub ruleset comments = (comment_goes_on, comment_at_end)

@@ -43,3 +43,5 @@ zero_byte script place line short h z l = is_text script (Some place) short h z 
 
 pub is_read : (script : List ℕ) → length script ≤ longest_script → IsUtf8 script → None ≡ position (λ b. b == 0) script → reading script ≡ reading_of_pieces (pieces Plain 1 (chars script))
 is_read script short h z = is_text script None short h z
+
+pub ruleset readings = (too_long, not_text, zero_byte, is_read)

@@ -24,7 +24,7 @@ const BUILTINS: [&str; 9] = [
 ];
 
 /// The commands of the text, or its first misfit.
-#[tactic(auto, using(crate::proofs::CommandSteps::begin, crate::proofs::CommandSteps::after_word, crate::proofs::CommandSteps::after_blank, crate::proofs::CommandSteps::after_separator, crate::proofs::CommandSteps::at_misfit, crate::proofs::CommandSteps::at_stray, crate::proofs::CommandSteps::at_end))]
+#[tactic(auto, using(crate::proofs::CommandSteps::steps))]
 pub fn read(alloc: Global, text: &str) -> Result<Vec<Item>, ParseError>
     requires { length text.now ≤ longest_script }
     ensures { MatchResult result (λ v. reading_of_pieces (pieces Plain 1 (chars text.now)) ≡ Accepted (tree.Seq (items_tree v.items)))
@@ -66,7 +66,7 @@ fn unexpected(line: usize) -> ParseError
 }
 
 /// Ends a command, if it has begun.
-#[tactic(auto, using(crate::proofs::CommandSteps::ends_nothing, crate::proofs::CommandSteps::ends_something))]
+#[tactic(auto, using(crate::proofs::CommandSteps::ends))]
 fn end_command(alloc: Global, items: &mut Vec<Item>, words: &mut Vec<Arg>) -> Result<(), AllocError>
     ensures { OnOk result (EndsCommand items.old.items words.old.items items.new.items words.new.items) }
 {

@@ -9,6 +9,8 @@ ghost use Rattle.rc_tree.specs.View.{cmd_tree};
 mod commands;
 mod fault;
 mod pieces;
+#[cfg(test)]
+mod tests;
 mod text;
 
 pub use fault::{FaultKind, ParseError, SyntaxFault};

@@ -36,7 +36,7 @@ enum Class {
 }
 
 /// The first piece of the text, with what follows it and the line of that.
-#[tactic(auto, using(crate::proofs::PieceSteps::none_begins, crate::proofs::PieceSteps::blank_begins, crate::proofs::PieceSteps::comment_begins, crate::proofs::PieceSteps::continuation_begins, crate::proofs::PieceSteps::newline_begins, crate::proofs::PieceSteps::semicolon_begins, crate::proofs::PieceSteps::other_begins, crate::proofs::PieceSteps::letter_begins))]
+#[tactic(auto, using(crate::proofs::PieceSteps::first_pieces))]
 pub fn first_piece(
     alloc: Global,
     text: &str,
@@ -67,7 +67,7 @@ pub fn first_piece(
 }
 
 /// The word that begins with the character, and what follows it.
-#[tactic(auto, using(crate::proofs::PieceSteps::word_goes_on, crate::proofs::PieceSteps::word_ends))]
+#[tactic(auto, using(crate::proofs::PieceSteps::words))]
 fn word_from(alloc: Global, first: char, behind: &str) -> Result<(String, &str), AllocError>
     ensures cut { IfOk result (λ x. (line : ℕ) → word_from (encode_utf8 first) line (pieces model.Plain line (chars behind.now))
         ≡ model.Word (string_bytes x.0) line ∷ pieces model.Plain line (chars x.1.now)) }
@@ -100,7 +100,7 @@ fn first_letter(text: &str) -> Option<(char, &str)>
 }
 
 /// What follows a comment: the end of its line.
-#[tactic(auto, using(crate::proofs::PieceSteps::comment_ends, crate::proofs::PieceSteps::comment_at_end, crate::proofs::PieceSteps::comment_goes_on))]
+#[tactic(auto, using(crate::proofs::PieceSteps::comments))]
 fn behind_comment(text: &str) -> &str
     ensures cut { (line : ℕ) → pieces model.Comment line (chars text.now) ≡ pieces model.Plain line (chars result.now) }
     ensures within { length result.now ≤ length text.now }
@@ -117,7 +117,7 @@ fn behind_comment(text: &str) -> &str
 }
 
 /// What the character begins, before what follows it.
-#[tactic(auto, using(crate::proofs::ClassSteps::blank_does, crate::proofs::ClassSteps::hash_does, crate::proofs::ClassSteps::newline_does, crate::proofs::ClassSteps::semicolon_does, crate::proofs::ClassSteps::other_does, crate::proofs::ClassSteps::letter_is))]
+#[tactic(auto, using(crate::proofs::ClassSteps::classes))]
 fn class_of(c: char, behind: &str) -> Class
     ensures { IsOf result c (chars behind.now) }
 {

@@ -13,7 +13,7 @@ use std::str;
 const LONGEST: usize = 1_048_576;
 
 /// The script as text, if it is short enough, UTF-8 and without byte 0.
-#[tactic(auto, using(crate::proofs::TextSteps::too_long, crate::proofs::TextSteps::not_text, crate::proofs::TextSteps::zero_byte, crate::proofs::TextSteps::is_read))]
+#[tactic(auto, using(crate::proofs::TextSteps::readings))]
 pub fn checked(script: &[u8]) -> Result<&str, SyntaxFault>
     ensures text { IfOk result (λ s. s.now ≡ script.now) }
     ensures short { OnOk result (length script.now ≤ longest_script) }
