@@ -29,8 +29,11 @@ pub data Piece : Type 0 where
 -- what a character is in its piece
 pub data Class : Type 0 where
   Letter : Class
+  -- a blank begins with it
   Space : Class
+  -- a command ends with it
   End : Class
+  -- another token begins with it
   Other : Class
   -- it goes on with a blank that began before it
   Further : Class
@@ -71,7 +74,7 @@ place_after Escaped c cs = Plain
 abbrev pub line_after : ℕ → ℕ → ℕ
 line_after line c = if c == 10 then suc line else line
 
--- the begin of a word in front of the pieces behind it, of which the first may go on with the word
+-- the beginning of a word in front of the pieces behind it, of which the first may go on with the word
 abbrev pub word_from : List ℕ → ℕ → List Piece → List Piece
 word_from text line (Word further l ∷ ps) = Word (text ++ further) line ∷ ps
 word_from text line ps = Word text line ∷ ps

@@ -171,7 +171,6 @@ fn behind_first(text: &str) -> &str
 /// The first character of the text, and what follows it.
 fn first_char(text: &str) -> Option<(char, &str)>
     ensures chars { MatchOption result (chars text.now ≡ []) (λ x. chars text.now ≡ x.0 ∷ chars x.1.now) }
-    ensures bytes { MatchOption result (text.now ≡ []) (λ x. text.now ≡ encode_utf8 x.0 ++ x.1.now) }
     ensures shorter { IfSome result (λ x. length x.1.now < length text.now) }
     ensures utf8 { IfSome result (λ x. IsUtf8 x.1.now) }
 {
