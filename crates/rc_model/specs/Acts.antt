@@ -1,12 +1,11 @@
 -- What an instruction of the machine and a step of the meaning share.
-use Rattle.std.specs.Prelude.{ℕ, zero, suc, List, [], ◌∷◌, ◌++◌, Bool, ◌||◌, if◌then◌else◌, Option, Some, None, is_some, codes}
-use Rattle.std.specs.List.{list_any}
+use Rattle.std.specs.Prelude.{ℕ, zero, suc, length, ◌==◌, true, false, List, [], ◌∷◌, ◌++◌, Bool, ◌||◌, if◌then◌else◌, Option, Some, None, is_some, codes, nat_eq}
+use Rattle.std.specs.List.{list_any, starts_with}
 use Rattle.std.specs.Str.{bytes_eq}
 use Rattle.std.specs.Map.{lookup}
 use Rattle.std.specs.Fmt.{decimal}
-use Rattle.rc_model.specs.Text.{begins_with}
 use Rattle.rc_model.specs.Words.{has_pattern}
-use Rattle.rc_model.specs.Calls.{Slots, Answer, found, Program, Ending, Code, Signal, Launch, write, start, wait, probe, as_child, as_ending}
+use Rattle.rc_model.specs.Calls.{Slots, Kind, Program, Ending, Code, Signal, Launch, write, start, wait, probe, as_kind, as_child, as_ending}
 use Rattle.rc_model.specs.State.{State, value_of, with_status}
 use Rattle.rc_model.specs.Shell.{Shell, ◌>>=◌, ◌>>◌, pure, call, say, get, change, exits}
 use Rattle.rc_model.specs.Image.{entries}
@@ -35,32 +34,29 @@ expanded slots words = if list_any has_pattern words then not_yet slots else pur
 
 -- a name that is a path is taken as it is
 abbrev pub is_path : List ℕ → Bool
-is_path name = begins_with (codes "/") name || begins_with (codes "./") name || begins_with (codes "../") name
+is_path name = starts_with nat_eq name (codes "/") || starts_with nat_eq name (codes "./") || starts_with nat_eq name (codes "../")
 
 -- where a program may be
 abbrev pub candidate : List ℕ → List ℕ → List ℕ
-candidate [] name = codes "./" ++ name
-candidate (b ∷ bs) name = if bytes_eq (b ∷ bs) (codes ".") then codes "./" ++ name else (b ∷ bs) ++ 47 ∷ name
+candidate dir name = if (length dir == 0) || bytes_eq dir (codes ".") then codes "./" ++ name else dir ++ 47 ∷ name
 
--- a probe that finds a program ends the search
-abbrev pub probed : Shell (Option (List ℕ)) → List ℕ → Answer → Shell (Option (List ℕ))
-probed others path (found Program) = pure (Some path)
-probed others path _ = others
+abbrev pub is_program : Option Kind → Bool
+is_program (Some Program) = true
+is_program _ = false
 
 -- the first directory that has the program
 abbrev pub search_dirs : List ℕ → List (List ℕ) → Shell (Option (List ℕ))
 search_dirs name [] = pure None
 search_dirs name (d ∷ ds) = do
   a ← call (probe (candidate d name))
-  probed (search_dirs name ds) (candidate d name) a
+  if is_program (as_kind a) then pure (Some (candidate d name)) else search_dirs name ds
 
 -- a program by its name: the empty name is never found
 abbrev pub find_program : List ℕ → Shell (Option (List ℕ))
-find_program [] = pure None
-find_program (c ∷ cs) =
-    if is_path (c ∷ cs)
-    then pure (Some (c ∷ cs))
-    else (λ s. search_dirs (c ∷ cs) (value_of s (codes "path")) s)
+find_program name =
+    if length name == 0 then pure None
+    else (if is_path name then pure (Some name)
+    else (λ s. search_dirs name (value_of s (codes "path")) s))
 
 -- the status by which a child ended
 abbrev pub ending_status : Option Ending → List ℕ
@@ -69,12 +65,16 @@ ending_status (Some (Code zero)) = []
 ending_status (Some (Code (suc n))) = decimal (suc n)
 ending_status (Some Signal) = codes "signal"
 
+-- a program that cannot be run, and why
+abbrev pub refuse : Slots → List ℕ → List ℕ → Shell (Unit {0})
+refuse slots name why = do
+  report slots (name ++ codes ": " ++ why)
+  set_status why
+
 -- a child that was started is waited for
-abbrev pub started : Slots → List ℕ → Option ℕ → Shell (Unit {0})
-started slots name None = do
-  report slots (name ++ codes ": cannot start")
-  set_status (codes "cannot start")
-started slots name (Some n) = do
+abbrev pub wait_started : Slots → List ℕ → Option ℕ → Shell (Unit {0})
+wait_started slots name None = refuse slots name (codes "cannot start")
+wait_started slots name (Some n) = do
   a ← call (wait n)
   set_status (ending_status (as_ending a))
 
@@ -84,13 +84,11 @@ launch_of slots path args s = record { program = Some path; args = args; entries
 
 -- a program that was looked for is started
 abbrev pub run_found : Slots → List ℕ → List (List ℕ) → Option (List ℕ) → Shell (Unit {0})
-run_found slots name args None = do
-  report slots (name ++ codes ": not found")
-  set_status (codes "not found")
+run_found slots name args None = refuse slots name (codes "not found")
 run_found slots name args (Some path) = do
   s ← get
   a ← call (start (launch_of slots path args s))
-  started slots name (as_child a)
+  wait_started slots name (as_child a)
 
 abbrev pub run_program : Slots → List ℕ → List (List ℕ) → Shell (Unit {0})
 run_program slots name args = do

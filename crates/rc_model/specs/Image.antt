@@ -1,5 +1,5 @@
 -- What a shell hands to a program as text: the entries of its environment.
-use Rattle.std.specs.Prelude.{ℕ, List, [], ◌∷◌, ◌++◌, ◌==◌, if◌then◌else◌, codes, map}
+use Rattle.std.specs.Prelude.{ℕ, List, [], ◌∷◌, ◌++◌, Bool, ◌||◌, ◌==◌, if◌then◌else◌, codes, map}
 use Rattle.std.specs.List.{flat_map, join_with_byte}
 use Rattle.std.specs.Str.{bytes_eq}
 use Rattle.std.specs.BTreeMap.{insert_entry}
@@ -21,10 +21,14 @@ value_text value = join_with_byte 1 (map escaped value)
 abbrev pub entry : List ℕ × List (List ℕ) → List ℕ
 entry binding = binding.0 ++ 61 ∷ value_text binding.1
 
--- an empty value is not handed over, and neither is that of `*`
+-- `*` is not handed over, and the status is no variable
+abbrev pub is_kept : List ℕ → Bool
+is_kept name = bytes_eq name (codes "*") || bytes_eq name status_name
+
+-- an empty value is not handed over
 abbrev pub with_binding : List ℕ → List (List ℕ) → List (List ℕ × List (List ℕ)) → List (List ℕ × List (List ℕ))
 with_binding name [] others = others
-with_binding name (m ∷ ms) others = if bytes_eq name (codes "*") then others else (name, m ∷ ms) ∷ others
+with_binding name (m ∷ ms) others = if is_kept name then others else (name, m ∷ ms) ∷ others
 
 -- the visible values that are handed over
 abbrev pub handed_values : List (List ℕ × List (List (List ℕ))) → List (List ℕ × List (List ℕ))

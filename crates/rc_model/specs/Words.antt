@@ -17,9 +17,13 @@ word_texts ws = map word_text ws
 abbrev pub written : List ℕ → Bool → List (ℕ × Bool)
 written text quoted = map (λ c. (c, not quoted)) (chars text)
 
--- marked `*`, `?` and `[` are pattern characters
+-- `*`, `?` and `[`
+abbrev pub is_pattern_char : ℕ → Bool
+is_pattern_char c = ((c == 42) || (c == 63)) || (c == 91)
+
+-- they are pattern characters where they are marked
 abbrev pub is_pattern : ℕ × Bool → Bool
-is_pattern m = if m.1 then ((m.0 == 42) || (m.0 == 63)) || (m.0 == 91) else false
+is_pattern m = if m.1 then is_pattern_char m.0 else false
 
 abbrev pub has_pattern : List (ℕ × Bool) → Bool
 has_pattern w = list_any is_pattern w

@@ -3,9 +3,11 @@
 
 mod clone;
 mod mode;
+mod soundness;
 
 pub use clone::clone_tree;
 pub use mode::Mode;
+pub use soundness::well_formed;
 
 /// A command.
 #[cycle(tree)]

@@ -1,0 +1,6 @@
+pub mod Calls
+pub mod Entries
+pub mod Escapes
+pub mod Texts
+pub mod Variables
+pub mod WordLaws

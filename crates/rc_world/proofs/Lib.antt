@@ -1,0 +1,4 @@
+pub mod Joins
+pub mod Shells
+pub mod Answered
+pub mod Tapes
