@@ -17,11 +17,16 @@ set_status text = change (λ s. with_status s text)
 abbrev pub report : Slots → List ℕ → Shell (Unit {0})
 report slots text = say (write slots.errors (codes "rc: " ++ text ++ 10 ∷ []))
 
--- a runtime error: a report, the status `error`, and the end of the shell
-abbrev pub fails : {A : Type 0} → Slots → List ℕ → Shell A
-fails slots text = do
+-- what a runtime error leaves: a report, and the status `error`
+abbrev pub fault : Slots → List ℕ → Shell (Unit {0})
+fault slots text = do
   report slots text
   set_status (codes "error")
+
+-- a runtime error ends the shell
+abbrev pub fails : {A : Type 0} → Slots → List ℕ → Shell A
+fails slots text = do
+  fault slots text
   exits
 
 -- what the shell can't do yet
