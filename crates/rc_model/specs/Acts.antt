@@ -1,5 +1,5 @@
 -- What an instruction of the machine and a step of the meaning share.
-use Rattle.std.specs.Prelude.{ℕ, zero, suc, List, [], ◌∷◌, ◌++◌, Bool, ◌||◌, if◌then◌else◌, Option, Some, None, is_some, codes, nat_eq}
+use Rattle.std.specs.Prelude.{ℕ, zero, suc, length, ◌==◌, true, false, List, [], ◌∷◌, ◌++◌, Bool, ◌||◌, if◌then◌else◌, Option, Some, None, is_some, codes, nat_eq}
 use Rattle.std.specs.List.{list_any, starts_with}
 use Rattle.std.specs.Str.{bytes_eq}
 use Rattle.std.specs.Map.{lookup}
@@ -17,11 +17,16 @@ set_status text = change (λ s. with_status s text)
 abbrev pub report : Slots → List ℕ → Shell (Unit {0})
 report slots text = say (write slots.errors (codes "rc: " ++ text ++ 10 ∷ []))
 
--- a runtime error: a report, the status `error`, and the end of the shell
-abbrev pub fails : {A : Type 0} → Slots → List ℕ → Shell A
-fails slots text = do
+-- what a runtime error leaves: a report, and the status `error`
+abbrev pub fault : Slots → List ℕ → Shell (Unit {0})
+fault slots text = do
   report slots text
   set_status (codes "error")
+
+-- a runtime error ends the shell
+abbrev pub fails : {A : Type 0} → Slots → List ℕ → Shell A
+fails slots text = do
+  fault slots text
   exits
 
 -- what the shell can't do yet
@@ -38,28 +43,25 @@ is_path name = starts_with nat_eq name (codes "/") || starts_with nat_eq name (c
 
 -- where a program may be
 abbrev pub candidate : List ℕ → List ℕ → List ℕ
-candidate [] name = codes "./" ++ name
-candidate (b ∷ bs) name = if bytes_eq (b ∷ bs) (codes ".") then codes "./" ++ name else (b ∷ bs) ++ 47 ∷ name
+candidate dir name = if (length dir == 0) || bytes_eq dir (codes ".") then codes "./" ++ name else dir ++ 47 ∷ name
 
--- a probe that finds a program ends the search
-abbrev pub probed : Shell (Option (List ℕ)) → List ℕ → Option Kind → Shell (Option (List ℕ))
-probed others path (Some Program) = pure (Some path)
-probed others path _ = others
+abbrev pub is_program : Option Kind → Bool
+is_program (Some Program) = true
+is_program _ = false
 
 -- the first directory that has the program
 abbrev pub search_dirs : List ℕ → List (List ℕ) → Shell (Option (List ℕ))
 search_dirs name [] = pure None
 search_dirs name (d ∷ ds) = do
   a ← call (probe (candidate d name))
-  probed (search_dirs name ds) (candidate d name) (as_kind a)
+  if is_program (as_kind a) then pure (Some (candidate d name)) else search_dirs name ds
 
 -- a program by its name: the empty name is never found
 abbrev pub find_program : List ℕ → Shell (Option (List ℕ))
-find_program [] = pure None
-find_program (c ∷ cs) =
-    if is_path (c ∷ cs)
-    then pure (Some (c ∷ cs))
-    else (λ s. search_dirs (c ∷ cs) (value_of s (codes "path")) s)
+find_program name =
+    if length name == 0 then pure None
+    else (if is_path name then pure (Some name)
+    else (λ s. search_dirs name (value_of s (codes "path")) s))
 
 -- the status by which a child ended
 abbrev pub ending_status : Option Ending → List ℕ
@@ -68,12 +70,16 @@ ending_status (Some (Code zero)) = []
 ending_status (Some (Code (suc n))) = decimal (suc n)
 ending_status (Some Signal) = codes "signal"
 
+-- a program that cannot be run, and why
+abbrev pub refuse : Slots → List ℕ → List ℕ → Shell (Unit {0})
+refuse slots name why = do
+  report slots (name ++ codes ": " ++ why)
+  set_status why
+
 -- a child that was started is waited for
-abbrev pub started : Slots → List ℕ → Option ℕ → Shell (Unit {0})
-started slots name None = do
-  report slots (name ++ codes ": cannot start")
-  set_status (codes "cannot start")
-started slots name (Some n) = do
+abbrev pub wait_started : Slots → List ℕ → Option ℕ → Shell (Unit {0})
+wait_started slots name None = refuse slots name (codes "cannot start")
+wait_started slots name (Some n) = do
   a ← call (wait n)
   set_status (ending_status (as_ending a))
 
@@ -83,13 +89,11 @@ launch_of slots path args s = record { program = Some path; args = args; entries
 
 -- a program that was looked for is started
 abbrev pub run_found : Slots → List ℕ → List (List ℕ) → Option (List ℕ) → Shell (Unit {0})
-run_found slots name args None = do
-  report slots (name ++ codes ": not found")
-  set_status (codes "not found")
+run_found slots name args None = refuse slots name (codes "not found")
 run_found slots name args (Some path) = do
   s ← get
   a ← call (start (launch_of slots path args s))
-  started slots name (as_child a)
+  wait_started slots name (as_child a)
 
 abbrev pub run_program : Slots → List ℕ → List (List ℕ) → Shell (Unit {0})
 run_program slots name args = do

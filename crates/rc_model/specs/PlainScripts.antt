@@ -29,8 +29,11 @@ pub data Piece : Type 0 where
 -- what a character is in its piece
 pub data Class : Type 0 where
   Letter : Class
+  -- a blank begins with it
   Space : Class
+  -- a command ends with it
   End : Class
+  -- another token begins with it
   Other : Class
   -- it goes on with a blank that began before it
   Further : Class
@@ -41,12 +44,16 @@ pub data Place : Type 0 where
   Comment : Place
   Escaped : Place
 
--- what a character is that stands alone
+-- a character that begins a token other than a word
+unfoldable pub is_operator : ℕ → Bool
+is_operator c = list_any (λ d. d == c) (codes "&|^$=`'{}()<>")
+
+-- what a character is that stands alone: a space, a tab and `#` are blanks, a newline and `;` end a command
 unfoldable pub class : ℕ → Class
 class c =
-    if list_any (λ d. c == d) (32 ∷ 9 ∷ codes "#") then Space
-    else (if list_any (λ d. c == d) (10 ∷ codes ";") then End
-    else (if list_any (λ d. c == d) (codes "&|^$=`'{}()<>") then Other else Letter))
+    if ((c == 32) || (c == 9)) || (c == 35) then Space
+    else (if (c == 10) || (c == 59) then End
+    else (if is_operator c then Other else Letter))
 
 -- a backslash goes before a newline
 abbrev pub escapes : ℕ → List ℕ → Bool
@@ -67,14 +74,14 @@ place_after Escaped c cs = Plain
 abbrev pub line_after : ℕ → ℕ → ℕ
 line_after line c = if c == 10 then suc line else line
 
--- a letter in front of the word that it begins, which may go on directly behind it
-abbrev pub letter : ℕ → ℕ → List Piece → List Piece
-letter c line (Word text l ∷ ps) = Word (encode_utf8 c ++ text) line ∷ ps
-letter c line ps = Word (encode_utf8 c) line ∷ ps
+-- the beginning of a word in front of the pieces behind it, of which the first may go on with the word
+abbrev pub word_from : List ℕ → ℕ → List Piece → List Piece
+word_from text line (Word further l ∷ ps) = Word (text ++ further) line ∷ ps
+word_from text line ps = Word text line ∷ ps
 
 -- what a character adds to the pieces behind it
 abbrev pub piece : Class → ℕ → ℕ → List Piece → List Piece
-piece Letter c line ps = letter c line ps
+piece Letter c line ps = word_from (encode_utf8 c) line ps
 piece Space c line ps = Blank ∷ ps
 piece End c line ps = Separator ∷ ps
 piece Other c line ps = Stray line ∷ ps
@@ -170,17 +177,17 @@ IsRefused script fault = reading script ≡ Refused fault
 -- Examples.
 
 echo_hello : IsAccepted (codes "echo hello") (script_tree ((codes "echo" ∷ codes "hello" ∷ []) ∷ []))
-unfolding reading pieces class misfit commands fits is_reserved is_utf8 chars encode_utf8
+unfolding reading pieces class is_operator misfit commands fits is_reserved is_utf8 chars encode_utf8
 echo_hello = refl
 
 nothing : IsAccepted [] (Seq none)
-unfolding reading pieces class misfit commands fits is_reserved is_utf8 chars encode_utf8
+unfolding reading pieces class is_operator misfit commands fits is_reserved is_utf8 chars encode_utf8
 nothing = refl
 
 note : IsAccepted (codes "# note") (Seq none)
-unfolding reading pieces class misfit commands fits is_reserved is_utf8 chars encode_utf8
+unfolding reading pieces class is_operator misfit commands fits is_reserved is_utf8 chars encode_utf8
 note = refl
 
 stray_bar : IsRefused (codes "a | ;") (record { kind = Unexpected; line = 1 })
-unfolding reading pieces class misfit commands fits is_reserved is_utf8 chars encode_utf8
+unfolding reading pieces class is_operator misfit commands fits is_reserved is_utf8 chars encode_utf8
 stray_bar = refl

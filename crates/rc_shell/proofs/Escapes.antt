@@ -32,9 +32,10 @@ escaped_two = ap escaped (encode_ascii 2 (lit< tt))
 
 -- any other character is spelled without them
 pub escaped_other : (c : ℕ) → (c ≡ 1 → ⊥) → (c ≡ 2 → ⊥) → escaped (encode_utf8 c) ≡ encode_utf8 c
-escaped_other c h k = escaped_plain (encode_utf8 c) (λ i lt.
-    (λ e. h (inside_one c [] (encode_utf8 c) i (sym (append-nil (encode_utf8 c))) lt (omega (arith, e)) ∙ e),
-    λ e. k (inside_one c [] (encode_utf8 c) i (sym (append-nil (encode_utf8 c))) lt (omega (arith, e)) ∙ e)))
+escaped_other c h k = escaped_plain (encode_utf8 c) (λ i lt. (
+  λ e. h (inside_one c [] (encode_utf8 c) i (sym (append-nil (encode_utf8 c))) lt (omega (arith, e)) ∙ e),
+  λ e. k (inside_one c [] (encode_utf8 c) i (sym (append-nil (encode_utf8 c))) lt (omega (arith, e)) ∙ e),
+))
 
 -- the text of members behind a first one
 pub value_strings : (s : String Global) (ss : List (String Global)) → escaped (string_bytes s) ++ flat_map (λ t. 1 ∷ escaped (string_bytes t)) ss ≡ value_text (map string_bytes (s ∷ ss))

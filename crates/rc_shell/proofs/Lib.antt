@@ -1,5 +1,7 @@
+pub mod Calls
 pub mod Entries
 pub mod Escapes
+pub mod Search
 pub mod Texts
 pub mod Variables
 pub mod WordLaws

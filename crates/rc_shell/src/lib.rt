@@ -4,6 +4,7 @@
 mod code;
 mod environment;
 mod names;
+mod programs;
 mod state;
 mod word;
 

@@ -4,7 +4,7 @@ use Rattle.std.specs.Prelude.{true, if◌then◌else◌}
 use Rattle.std.specs.Result.{IsErrAnd}
 use Rattle.std.proofs.lemmas.List.{append_assoc, append-nil}
 use Rattle.rc_model.specs.Calls.{Call, Answer, Event, event, extend, told_by, was_made, refused, Halt as halt}
-use Rattle.rc_model.specs.Plans.{Plan, done_with, ask, cut, and_then, IsAnswered, Goes, Ran}
+use Rattle.rc_model.specs.Plans.{Plan, done_with, ask, cut, asks, and_then, IsAnswered, Goes, Ran}
 use Rattle.rc_world.specs.Comes.{Left, for_memory, by_halt, Comes}
 use Rattle.rc_world.specs.declared.types.Stop.{Stop}
 use Rattle.rc_world.specs.declared.types.Stop.TheVariants.{NoMemory, Halt}
@@ -106,6 +106,54 @@ left_halt a b call go h = by_halt (record { trace = []; call = call; go = go; to
 -- left between two calls
 pub left_here : {X : Type 0} (a b : Option (List Event)) (p q : Plan X) → Ran a b p q → Left a b p NoMemory
 left_here a b p q f = for_memory q f
+
+-- left before any call
+pub left_memory : {X : Type 0} (a : Option (List Event)) (p : Plan X) → Left a a p NoMemory
+left_memory a p = for_memory p (ran_none a p)
+
+-- a call that was answered goes on by its answer, which is viewed so
+goes_on : {X V : Type 0} (q : Call) (view : Answer → V) (v : V) (more : Answer → Plan X) (es : List Event) →
+    Goes (asks q view) es (done_with v) → (x : Answer) × (view x ≡ v) × Goes (ask q more) es (more x)
+goes_on q view v more [] h = absurd (let n : ⊥ = cc in n)
+goes_on q view v more (e ∷ []) h = let k : view e.answer ≡ v = cc in (e.answer, k, (h.0, h.1, refl))
+goes_on q view v more (e ∷ f ∷ es) h = absurd h.2
+
+-- a call that may have been answered
+goes_somewhere : {X V : Type 0} (q : Call) (view : Answer → V) (p : Plan V) (more : Answer → Plan X) (es : List Event) →
+    Goes (asks q view) es p → (r : Plan X) × Goes (ask q more) es r
+goes_somewhere q view p more [] h = (ask q more, refl)
+goes_somewhere q view p more (e ∷ []) h = (more e.answer, (h.0, h.1, refl))
+goes_somewhere q view p more (e ∷ f ∷ es) h = absurd h.2
+
+-- a call that was not answered
+goes_unanswered : {X V : Type 0} (q c : Call) (view : Answer → V) (go : Answer → Plan V) (more : Answer → Plan X) (es : List Event) →
+    Goes (asks q view) es (ask c go) → Goes (ask q more) es (ask c more)
+goes_unanswered q c view go more [] h = let k : q ≡ c = cc in ap (λ c. ask c more) k
+goes_unanswered q c view go more (e ∷ []) h = absurd (let n : ⊥ = cc in n)
+goes_unanswered q c view go more (e ∷ f ∷ es) h = absurd h.2
+
+-- a call was answered, and what follows each answer that is viewed so went on
+pub ran_asked : {X V : Type 0} (a b c : Option (List Event)) (q : Call) (view : Answer → V) (v : V) (more : Answer → Plan X) (r : Plan X) →
+    Ran a b (asks q view) (done_with v) → ((x : Answer) → view x ≡ v → Ran b c (more x) r) → Ran a c (ask q more) r
+ran_asked a b c q view v more r f g =
+    let k = goes_on q view v more f.trace f.goes in
+    ran_join a b c (ask q more) (more k.0) r (record { trace = f.trace; told = f.told; goes = k.2 }) (g k.0 k.1)
+
+-- a call was left
+pub left_asked : {X V : Type 0} (a b : Option (List Event)) (stop : Stop) (q : Call) (view : Answer → V) (more : Answer → Plan X) →
+    Left a b (asks q view) stop → Left a b (ask q more) stop
+left_asked a b NoMemory q view more (for_memory p f) =
+    let k = goes_somewhere q view p more f.trace f.goes in
+    for_memory k.0 (record { trace = f.trace; told = f.told; goes = k.1 })
+left_asked a b Halt q view more (by_halt f) =
+    by_halt (record { trace = f.trace; call = f.call; go = more; told = f.told; goes = goes_unanswered q f.call view f.go more f.trace f.goes })
+
+-- a call was answered, and what follows was left
+pub left_answered : {X V : Type 0} (a b c : Option (List Event)) (stop : Stop) (q : Call) (view : Answer → V) (v : V) (more : Answer → Plan X) →
+    Ran a b (asks q view) (done_with v) → ((x : Answer) → view x ≡ v → Left b c (more x) stop) → Left a c (ask q more) stop
+left_answered a b c stop q view v more f g =
+    let k = goes_on q view v more f.trace f.goes in
+    left_join a b c stop (ask q more) (more k.0) (record { trace = f.trace; told = f.told; goes = k.2 }) (g k.0 k.1)
 
 -- a `?` hands on why
 pub passed_up : {X T : Type 0} (a b : Option (List Event)) (plan : Plan X) (view : T → X) (result : Result T Stop) (stop : Stop) →

@@ -1,8 +1,7 @@
 -- How the values of a program stand for calls and answers.
-use Rattle.std.specs.Prelude.{ℕ, List, String, Option, Some, None, Result, Ok, Err, map, string_bytes, slice_get}
+use Rattle.std.specs.Prelude.{ℕ, List, String, Option, Some, None, Result, Ok, Err, map, string_bytes, slice_index_or}
 use Rattle.std.specs.declared.alloc.Global.{Global}
 use Rattle.std.specs.Global.{Vec}
-use Rattle.std.specs.Option.{option_map_or}
 use Rattle.rc_model.specs.Calls as calls
 use Rattle.rc_world.specs.declared.types.Fault.{Fault}
 use Rattle.rc_world.specs.declared.types.Fault.TheVariants as fault
@@ -35,9 +34,9 @@ abbrev pub slot_of : Slot → calls.Slot
 slot_of (slot.Own n) = calls.Own n
 slot_of (slot.To handle) = calls.To handle.0
 
--- what descriptor n is
+-- what a descriptor is: there are three
 abbrev pub slot_at : Slots → ℕ → calls.Slot
-slot_at slots n = option_map_or slot_of (slice_get slots.0 n) (calls.Own n)
+slot_at slots n = slot_of (slice_index_or slots.0 n (slot.Own 0))
 
 abbrev pub slots_of : Slots → calls.Slots
 slots_of slots = record { input = slot_at slots 0; output = slot_at slots 1; errors = slot_at slots 2 }

@@ -32,23 +32,25 @@ loop-name-preserved c =
     let e : string_bytes c.in_ok-entry.field-0 ≡ entry b = search rules in
     let more : map string_bytes c.push-in-loop-name.new.self.items ≡ map string_bytes c.if-not-has_status.all.items ++ string_bytes c.in_ok-entry.field-0 ∷ [] = grind (arith, common_steps) in
     elim c.if-not-has_status.branch [
-      then-not-has_status+then-is_behind_status+in_ok-status_entry+in_ok-push v ↦
-        let none_yet : c.loop-name.has_status ≡ false = search rules in
-        let now_there : c.if-not-has_status.has_status ≡ true = search rules in
-        let x : string_bytes v.in_ok-status_entry.field-0 ≡ entry (status_name, status ∷ []) = search rules in
-        let put : map string_bytes c.if-not-has_status.all.items ≡ w ++ string_bytes v.in_ok-status_entry.field-0 ∷ [] = grind (arith, common_steps) in
-        let lt : is_lt (text_cmp status_name b.0) ≡ true = search rules in
-        rw (more, now_there) (turn_with_status (map string_bytes c.if-not-has_status.all.items) all status (string_bytes c.in_ok-entry.field-0) b rest e
-        (turn_at_status w (map string_bytes c.if-not-has_status.all.items) all status (string_bytes v.in_ok-status_entry.field-0) b rest put x lt (rw none_yet at turn)))
-    | else-not-has_status v ↦ elim v.else-not-has_status.branch [
-        else-not-has_status-via-then-not-has_status+else-is_behind_status u ↦
+      | then-not-has_status+then-is_behind_status+in_ok-status_entry+in_ok-push v ↦
           let none_yet : c.loop-name.has_status ≡ false = search rules in
-          let none_still : c.if-not-has_status.has_status ≡ false = search rules in
-          let lt : is_lt (text_cmp status_name b.0) ≡ false = search rules in
-          let same : map string_bytes c.if-not-has_status.all.items ≡ w = search rules in
-          rw (more, none_still, same) (turn_before_status w all status (string_bytes c.in_ok-entry.field-0) b rest e lt kept (rw none_yet at turn))
-      | else-not-has_status-via-else-not-has_status u ↦
-          let there : c.loop-name.has_status ≡ true = search rules in
-          let there_still : c.if-not-has_status.has_status ≡ true = search rules in
-          let same : map string_bytes c.if-not-has_status.all.items ≡ w = search rules in
-          rw (more, there_still, same) (turn_with_status w all status (string_bytes c.in_ok-entry.field-0) b rest e (rw there at turn)) ] ]
+          let now_there : c.if-not-has_status.has_status ≡ true = search rules in
+          let x : string_bytes v.in_ok-status_entry.field-0 ≡ entry (status_name, status ∷ []) = search rules in
+          let put : map string_bytes c.if-not-has_status.all.items ≡ w ++ string_bytes v.in_ok-status_entry.field-0 ∷ [] = grind (arith, common_steps) in
+          let lt : is_lt (text_cmp status_name b.0) ≡ true = search rules in
+          rw (more, now_there) (turn_with_status (map string_bytes c.if-not-has_status.all.items) all status (string_bytes c.in_ok-entry.field-0) b rest e
+          (turn_at_status w (map string_bytes c.if-not-has_status.all.items) all status (string_bytes v.in_ok-status_entry.field-0) b rest put x lt (rw none_yet at turn)))
+      | else-not-has_status v ↦ elim v.else-not-has_status.branch [
+        | else-not-has_status-via-then-not-has_status+else-is_behind_status u ↦
+            let none_yet : c.loop-name.has_status ≡ false = search rules in
+            let none_still : c.if-not-has_status.has_status ≡ false = search rules in
+            let lt : is_lt (text_cmp status_name b.0) ≡ false = search rules in
+            let same : map string_bytes c.if-not-has_status.all.items ≡ w = search rules in
+            rw (more, none_still, same) (turn_before_status w all status (string_bytes c.in_ok-entry.field-0) b rest e lt kept (rw none_yet at turn))
+        | else-not-has_status-via-else-not-has_status u ↦
+            let there : c.loop-name.has_status ≡ true = search rules in
+            let there_still : c.if-not-has_status.has_status ≡ true = search rules in
+            let same : map string_bytes c.if-not-has_status.all.items ≡ w = search rules in
+            rw (more, there_still, same) (turn_with_status w all status (string_bytes c.in_ok-entry.field-0) b rest e (rw there at turn))
+      ]
+    ]

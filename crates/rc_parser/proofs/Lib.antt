@@ -1,0 +1,4 @@
+pub mod ClassSteps
+pub mod PieceSteps
+pub mod TextSteps
+pub mod CommandSteps

@@ -1,0 +1,37 @@
+-- One turn of the search for a program.
+use Rattle.std.proofs.Common.{◌≡◌, ℕ, ◌<◌, ◌+◌, Bool, true, false, cond, List, [], ◌∷◌, length, map, drop, get_or, Option, Some, refl, ap, ◌∙◌, subst, sym, string_bytes, drop-cons, add-one}
+use Rattle.std.specs.declared.alloc.Global.{Global}
+use Rattle.std.specs.declared.string.String.{String}
+use Rattle.rc_model.specs.Acts.{candidate, is_program, search_dirs}
+use Rattle.rc_model.specs.Calls.{Kind, Event, probe, as_kind}
+use Rattle.rc_model.specs.Plans.{Plan, done_with, asks, Ran}
+use Rattle.rc_model.specs.Shell.{Result, Next, pure}
+use Rattle.rc_model.specs.State.{State}
+use Rattle.rc_world.specs.Comes.{Left}
+use Rattle.rc_world.specs.declared.types.Stop.{Stop}
+use Rattle.rc_world.proofs.Joins.{ran_none}
+use Rattle.rc_shell.proofs.Calls.{left_at, ran_behind}
+
+-- the directories that are left: this one and those behind it
+pub dirs_left : (dirs : List (String Global)) (i : ℕ) (dir : String Global) → i < length dirs → dir ≡ get_or dirs i dir → map string_bytes (drop i dirs) ≡ string_bytes dir ∷ map string_bytes (drop (i + 1) dirs)
+dirs_left dirs i dir lt is =
+    ap (map string_bytes) (drop-cons dirs i dir lt)
+    ∙ ap (λ n. string_bytes (get_or dirs i dir) ∷ map string_bytes (drop n dirs)) (sym (add-one i))
+    ∙ ap (λ d. string_bytes d ∷ map string_bytes (drop (i + 1) dirs)) (sym is)
+
+module _ (name dir : List ℕ) (dirs : List (List ℕ)) (s : State) where
+  -- what follows the probe
+  abbrev next : Option Kind → Plan (Result (Option (List ℕ)))
+  next k = (cond (is_program k) (pure (Some (candidate dir name))) (search_dirs name dirs)) s
+
+  next_is : (a : Option (List Event)) (k : Option Kind) (b : Bool) → is_program k ≡ b → Ran a a (next k) ((cond b (pure (Some (candidate dir name))) (search_dirs name dirs)) s)
+  next_is a k b h = subst (λ t. Ran a a (next k) ((cond t (pure (Some (candidate dir name))) (search_dirs name dirs)) s)) h (ran_none a (next k))
+
+  pub ran_found : (a b : Option (List Event)) (k : Option Kind) → Ran a b (asks (probe (candidate dir name)) as_kind) (done_with k) → is_program k ≡ true → Ran a b (search_dirs name (dir ∷ dirs) s) (done_with (Next (Some (candidate dir name)) s))
+  ran_found a b k f h = ran_behind a b b (probe (candidate dir name)) as_kind k next _ f (next_is b k true h)
+
+  pub ran_further : (a b : Option (List Event)) (k : Option Kind) → Ran a b (asks (probe (candidate dir name)) as_kind) (done_with k) → is_program k ≡ false → Ran a b (search_dirs name (dir ∷ dirs) s) (search_dirs name dirs s)
+  ran_further a b k f h = ran_behind a b b (probe (candidate dir name)) as_kind k next _ f (next_is b k false h)
+
+  pub left_at_probe : (a b : Option (List Event)) (stop : Stop) → Left a b (asks (probe (candidate dir name)) as_kind) stop → Left a b (search_dirs name (dir ∷ dirs) s) stop
+  left_at_probe a b stop f = left_at a b stop (probe (candidate dir name)) as_kind next f

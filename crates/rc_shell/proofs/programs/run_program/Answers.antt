@@ -1,0 +1,19 @@
+use Rattle.std.proofs.Common.{rules, ◌≡◌, map, string_bytes, option_map}
+use Rattle.rc_model.specs.Acts.{find_program, run_found}
+use Rattle.rc_model.specs.Shell.{leaves}
+use Rattle.rc_world.specs.Views.{slots_of}
+use Rattle.rc_world.proofs.Joins.{passed_up}
+use Rattle.rc_world.proofs.Shells.{left_under}
+use Rattle.rc_shell.specs.States.{state_of}
+use Rattle.rc_shell.proofs.Calls.{comes_next}
+use Rattle.rc_shell.proofs.programs.run_program.Goals as goal
+
+pub returns-in_err-path : goal.returns-in_err-path
+returns-in_err-path g c =
+    passed_up _ _ _ _ c.from_residual.result c.in_err-path.field-0.0 c.from_residual.ensures.1
+    (left_under _ _ _ (find_program c.args.name.now (state_of c.args.state.now)) (λ path s. run_found (slots_of c.args.slots) c.args.name.now (map string_bytes c.args.args.now) path s) leaves c.in_err-path.ensures)
+
+pub returns : goal.returns
+returns g c =
+    comes_next _ _ _ (find_program c.args.name.now (state_of c.args.state.now)) _ _ (λ path s. run_found (slots_of c.args.slots) c.args.name.now (map string_bytes c.args.args.now) path s) leaves _ c.run_found.result
+    c.in_ok-path.ensures c.run_found.ensures
