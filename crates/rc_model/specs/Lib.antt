@@ -2,4 +2,5 @@ pub mod Text
 pub mod Words
 pub mod Calls
 pub mod Tokens
+pub mod Reading
 pub mod Tree
