@@ -5,3 +5,4 @@ pub mod Tokens
 pub mod Reading
 pub mod Tree
 pub mod WellFormed
+pub mod Printing

@@ -2,6 +2,7 @@
 #![tactic(auto)]
 
 mod clone;
+mod here;
 mod mode;
 mod soundness;
 
