@@ -101,3 +101,6 @@ pub enum Piece {
     Text(String),
     Name(String),
 }
+
+#[cfg(test)]
+mod tests;
