@@ -1,3 +1,4 @@
 pub mod Modes
 pub mod View
 pub mod Fits
+pub mod Lines

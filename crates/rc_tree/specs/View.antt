@@ -364,3 +364,6 @@ nodes_push f (y ∷ ys) x = ap (more (f y)) (nodes_push f ys x)
 
 -- what a loop needs that goes along a list and makes another
 pub ruleset tree_lists = (nodes_push, common_steps)
+
+-- what a walk along the tree needs
+pub ruleset tree_walks = (tree_nodes, common_steps)

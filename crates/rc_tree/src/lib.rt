@@ -2,11 +2,15 @@
 #![tactic(auto)]
 
 mod clone;
+mod form;
+mod here;
 mod mode;
+mod printing;
 mod soundness;
 
 pub use clone::clone_tree;
 pub use mode::Mode;
+pub use printing::{PrintFault, print};
 pub use soundness::well_formed;
 
 /// A command.
@@ -97,3 +101,6 @@ pub enum Piece {
     Text(String),
     Name(String),
 }
+
+#[cfg(test)]
+mod tests;
