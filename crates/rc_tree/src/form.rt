@@ -2,7 +2,7 @@
 
 ghost use Rattle.std.specs.Prelude.{◌≡◌, ◌++◌, OnOk, string_bytes, codes, if◌then◌else◌};
 ghost use Rattle.rc_model.specs.Printing.{is_empty, stands_first, is_case, begin_with_case, literal, bar, sign, opening, copying};
-ghost use Rattle.rc_tree.specs.Modes.{mode_of};
+ghost use Rattle.rc_world.specs.Views.{mode_of};
 ghost use Rattle.rc_tree.specs.View.{cmd_tree, arg_tree, args_tree, logic_of};
 
 use crate::{Arg, Cmd, Logic, Mode};

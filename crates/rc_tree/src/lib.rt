@@ -4,13 +4,12 @@
 mod clone;
 mod form;
 mod here;
-mod mode;
 mod printing;
 mod soundness;
 
 pub use clone::clone_tree;
-pub use mode::Mode;
 pub use printing::{PrintFault, print};
+pub use rc_world::Mode;
 pub use soundness::well_formed;
 
 /// A command.
