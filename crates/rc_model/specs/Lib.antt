@@ -2,6 +2,7 @@ pub mod Text
 pub mod Words
 pub mod Calls
 pub mod Tokens
+pub mod Reading
 pub mod Tree
 pub mod Plans
 pub mod State
@@ -15,3 +16,4 @@ pub mod Script
 pub mod Faults
 pub mod PlainScripts
 pub mod WellFormed
+pub mod Printing

@@ -1,5 +1,6 @@
 -- Plain scripts, which are all that the shell accepts yet: commands of unquoted words, parted by `;` and newlines.
-use Rattle.std.specs.Prelude.{◌≡◌, refl, ℕ, suc, nat_lt, Bool, true, false, not, ◌&&◌, ◌||◌, ◌==◌, if◌then◌else◌, Option, Some, None, List, [], ◌∷◌, ◌++◌, length, take, codes}
+use Rattle.std.specs.Prelude.{◌≡◌, refl, ℕ, suc, nat_lt, Bool, true, false, not, ◌&&◌, ◌||◌, ◌==◌, if◌then◌else◌, Option, Some, None, List, [], ◌∷◌, ◌++◌}
+use Rattle.std.specs.Prelude.{length, take, codes}
 use Rattle.std.specs.List.{list_any, count_by, position}
 use Rattle.std.specs.Char.{encode_utf8}
 use Rattle.std.specs.Str.{bytes_eq, chars, is_utf8}

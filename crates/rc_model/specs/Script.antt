@@ -1,6 +1,6 @@
 -- A whole script: by its meaning, by the machine, and what it is for the two to agree.
-use Rattle.std.specs.Prelude.{◌≡◌, ◌≢◌, ℕ, ◌≤◌, List, [], ◌∷◌, ◌++◌}
-use Rattle.rc_model.specs.Calls.{Call, Answer, refused, Halt, Event, event, calls, answers, wait, plain}
+use Rattle.std.specs.Prelude.{◌≡◌, ◌≢◌, ℕ, ◌≤◌, List, [], ◌∷◌, ◌++◌, Option}
+use Rattle.rc_model.specs.Calls.{Call, Answer, refused, Halt, Event, event, calls, answers, extend, wait, plain}
 use Rattle.rc_model.specs.Plans.{Plan, done_with, ask, Played, Ends, Waits, Cut, play, calls_made}
 use Rattle.rc_model.specs.Tree.{Node, cmd}
 use Rattle.rc_model.specs.State.{State}
@@ -56,6 +56,10 @@ abbrev pub TurnsOnlyGoOn : Node cmd → State → List Answer → Type 0
 TurnsOnlyGoOn c s given = (n m : ℕ) → n ≤ m → GoesOn (script n c s given) (script m c s given)
 
 -- What is told of a run of a script, by its trace.
+
+-- between two tellings of a world came a trace of which this holds
+abbrev pub Told : Option (List Event) → Option (List Event) → (List Event → Type 0) → Type 0
+Told before after P = (trace : List Event) × (after ≡ extend before trace) × P trace
 
 -- the meaning ends so, over the answers that were given, all of which it uses
 abbrev pub EndsAsMeant : Node cmd → State → List Event → State → Type 0

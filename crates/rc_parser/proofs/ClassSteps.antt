@@ -8,7 +8,8 @@ pub unequal : (a b : ℕ) → a ≢ b → eqb a b ≡ false
 unequal a b n = grind (arith, nat_tests)
 
 -- a character that is known
-known : (c d : ℕ) (cs : List ℕ) (k : Class) (p : Place) (b : Bool) → c ≡ d → escapes c cs ≡ false → class d ≡ k → cond (eqb d 35) Comment Plain ≡ p → eqb d 10 ≡ b → Does k p b c cs
+known : (c d : ℕ) (cs : List ℕ) (k : Class) (p : Place) (b : Bool) → c ≡ d → escapes c cs ≡ false → class d ≡ k → cond (eqb d 35) Comment Plain ≡ p →
+    eqb d 10 ≡ b → Does k p b c cs
 known c d cs k p b e h class_is place_is line_is = record {
   class_is = ap (λ z. cond z Space (class c)) h ∙ ap class e ∙ class_is;
   place_is = ap (λ z. cond z Escaped (cond (eqb c 35) Comment Plain)) h ∙ ap (λ z. cond (eqb z 35) Comment Plain) e ∙ place_is;
@@ -49,7 +50,8 @@ other_does c cs h p q r s t o = record {
   line_is = unequal c 10 s;
 }
 
-pub letter_is : (c : ℕ) (cs : List ℕ) → escapes c cs ≡ false → c ≢ 32 → c ≢ 9 → c ≢ 35 → c ≢ 10 → c ≢ 59 → is_operator c ≡ false → class_at Plain c cs ≡ Letter
+pub letter_is : (c : ℕ) (cs : List ℕ) → escapes c cs ≡ false → c ≢ 32 → c ≢ 9 → c ≢ 35 → c ≢ 10 → c ≢ 59 → is_operator c ≡ false →
+    class_at Plain c cs ≡ Letter
 letter_is c cs h p q r s t o = ap (λ z. cond z Space (class c)) h ∙ class_apart c p q r s t ∙ ap (λ z. cond z Other Letter) o
 
 pub ruleset classes = (blank_does, hash_does, newline_does, semicolon_does, other_does, letter_is)

@@ -1,5 +1,6 @@
 -- What is known of the commands between two pieces.
-use Rattle.std.proofs.Common.{◌≡◌, ◌≢◌, ℕ, Bool, true, false, cond, eqb, List, [], ◌∷◌, ◌++◌, length, Some, refl, sym, ap, ◌∙◌, append_assoc, string_bytes, arith}
+use Rattle.std.proofs.Common.{◌≡◌, ◌≢◌, ℕ, Bool, true, false, cond, eqb, List, [], ◌∷◌, ◌++◌, length, Some, refl, sym, ap, ◌∙◌, append_assoc, string_bytes}
+use Rattle.std.proofs.Common.{arith}
 use Rattle.std.proofs.lemmas.List.{append-nil, length_push}
 use Rattle.std.specs.declared.alloc.Global.{Global}
 use Rattle.std.specs.declared.string.String.{String}
@@ -7,7 +8,8 @@ use Rattle.std.specs.declared.vec.Vec.{Vec}
 use Rattle.rc_model.specs.Tree.{Node, Many, none, more, nodes, snoc, arg, item}
 use Rattle.rc_model.specs.Tree as tree
 use Rattle.rc_model.specs.Faults.{Unexpected}
-use Rattle.rc_model.specs.PlainScripts.{Piece, Word, Blank, Separator, Stray, Accepted, fits, misfit, command, commands, outcome, reading_of_pieces, refusal, word_arg, command_item, script_tree}
+use Rattle.rc_model.specs.PlainScripts.{Piece, Word, Blank, Separator, Stray, Accepted, fits, misfit, command, commands, outcome, reading_of_pieces, refusal}
+use Rattle.rc_model.specs.PlainScripts.{word_arg, command_item, script_tree}
 use Rattle.rc_parser.proofs.ClassSteps.{unequal}
 use Rattle.rc_parser.specs.Commands.{EndsCommand}
 use Rattle.rc_tree.specs.declared.Arg.{Arg}
@@ -50,15 +52,18 @@ pushed_some : (words : List Arg) (w : Arg) → eqb (length (words ++ w ∷ [])) 
 pushed_some words w = unequal (length (words ++ w ∷ [])) 0 (λ e. absurd (omega (arith, length_push words w)))
 
 -- the code's test of a word
-pub judged : (words : List Arg) (first result : Bool) (n : ℕ) (text word : List ℕ) → n ≡ length words → first ≡ eqb n 0 → text ≡ word → result ≡ fits first text →
+pub judged : (words : List Arg) (first result : Bool) (n : ℕ) (text word : List ℕ) → n ≡ length words → first ≡ eqb n 0 → text ≡ word →
+    result ≡ fits first text →
     fits (eqb (length words) 0) word ≡ result
 judged words first result n text word l f t r = ap (λ k. fits (eqb k 0) word) (sym l) ∙ ap (λ b. fits b word) (sym f) ∙ ap (fits first) (sym t) ∙ sym r
 
-fits_word : (first : Bool) (text : List ℕ) (line : ℕ) (ps qs : List Piece) → ps ≡ Word text line ∷ qs → misfit first ps ≡ cond (fits first text) (misfit false qs) (Some line)
+fits_word : (first : Bool) (text : List ℕ) (line : ℕ) (ps qs : List Piece) → ps ≡ Word text line ∷ qs →
+    misfit first ps ≡ cond (fits first text) (misfit false qs) (Some line)
 unfolding misfit
 fits_word first text line ps qs e = ap (misfit first) e
 
-pub after_word : (items : List Item) (words new : List Arg) (word : String Global) (line : ℕ) (ps qs whole : List Piece) → ps ≡ Word (string_bytes word) line ∷ qs →
+pub after_word : (items : List Item) (words new : List Arg) (word : String Global) (line : ℕ) (ps qs whole : List Piece) →
+    ps ≡ Word (string_bytes word) line ∷ qs →
     fits (eqb (length words) 0) (string_bytes word) ≡ true → new ≡ words ++ Lit word false ∷ [] → SoFar items words ps whole → SoFar items new qs whole
 unfolding commands
 after_word items words new word line ps qs whole e f n s = record {
@@ -74,7 +79,8 @@ after_word items words new word line ps qs whole e f n s = record {
   commands_are = sym (ap (λ z. s.done ++ commands s.begun z) e) ∙ s.commands_are;
 }
 
-pub after_blank : (items : List Item) (words : List Arg) (ps qs whole : List Piece) → ps ≡ Blank ∷ qs → SoFar items words ps whole → SoFar items words qs whole
+pub after_blank : (items : List Item) (words : List Arg) (ps qs whole : List Piece) → ps ≡ Blank ∷ qs → SoFar items words ps whole →
+    SoFar items words qs whole
 unfolding misfit commands
 after_blank items words ps qs whole e s = record {
   done = s.done;
@@ -90,7 +96,8 @@ command_then [] others = refl
 command_then (w ∷ ws) others = refl
 
 -- the commands behind the end of one
-ended : (old new : List Item) (words left : List Arg) (done : List (List (List ℕ))) (begun : List (List ℕ)) → items_tree old ≡ nodes command_item done → args_tree words ≡ nodes word_arg begun →
+ended : (old new : List Item) (words left : List Arg) (done : List (List (List ℕ))) (begun : List (List ℕ)) → items_tree old ≡ nodes command_item done →
+    args_tree words ≡ nodes word_arg begun →
     EndsCommand old words new left → items_tree new ≡ nodes command_item (done ++ command begun [])
 ended old new [] left done [] i w h = ap items_tree h.0 ∙ i ∙ ap (nodes command_item) (sym (append-nil done))
 ended old new [] left done (b ∷ bs) i w h = cc
@@ -103,7 +110,8 @@ left_empty : (old new : List Item) (words left : List Arg) → EndsCommand old w
 left_empty old new [] left h = h.1
 left_empty old new (w ∷ ws) left h = h.1
 
-pub after_separator : (items new : List Item) (words left : List Arg) (ps qs whole : List Piece) → ps ≡ Separator ∷ qs → EndsCommand items words new left → SoFar items words ps whole →
+pub after_separator : (items new : List Item) (words left : List Arg) (ps qs whole : List Piece) → ps ≡ Separator ∷ qs → EndsCommand items words new left →
+    SoFar items words ps whole →
     SoFar new left qs whole
 unfolding misfit commands
 after_separator items new words left ps qs whole e h s = record {
@@ -118,21 +126,25 @@ after_separator items new words left ps qs whole e h s = record {
 }
 
 -- a misfit refuses the whole
-refused : (items : List Item) (words : List Arg) (ps whole : List Piece) (line : ℕ) → misfit (eqb (length words) 0) ps ≡ Some line → SoFar items words ps whole →
+refused : (items : List Item) (words : List Arg) (ps whole : List Piece) (line : ℕ) → misfit (eqb (length words) 0) ps ≡ Some line →
+    SoFar items words ps whole →
     reading_of_pieces whole ≡ refusal Unexpected line
 refused items words ps whole line h s = ap (λ m. outcome m (commands [] whole)) (sym s.fits_are ∙ h)
 
-pub at_misfit : (items : List Item) (words : List Arg) (text : List ℕ) (line : ℕ) (ps qs whole : List Piece) → ps ≡ Word text line ∷ qs → fits (eqb (length words) 0) text ≡ false →
+pub at_misfit : (items : List Item) (words : List Arg) (text : List ℕ) (line : ℕ) (ps qs whole : List Piece) → ps ≡ Word text line ∷ qs →
+    fits (eqb (length words) 0) text ≡ false →
     SoFar items words ps whole → reading_of_pieces whole ≡ refusal Unexpected line
 at_misfit items words text line ps qs whole e f s =
     refused items words ps whole line (fits_word (eqb (length words) 0) text line ps qs e ∙ ap (λ b. cond b (misfit false qs) (Some line)) f) s
 
-pub at_stray : (items : List Item) (words : List Arg) (line : ℕ) (ps qs whole : List Piece) → ps ≡ Stray line ∷ qs → SoFar items words ps whole → reading_of_pieces whole ≡ refusal Unexpected line
+pub at_stray : (items : List Item) (words : List Arg) (line : ℕ) (ps qs whole : List Piece) → ps ≡ Stray line ∷ qs → SoFar items words ps whole →
+    reading_of_pieces whole ≡ refusal Unexpected line
 unfolding misfit
 at_stray items words line ps qs whole e s = refused items words ps whole line (ap (misfit (eqb (length words) 0)) e) s
 
 -- a whole without a misfit is accepted
-pub at_end : (items new : List Item) (words left : List Arg) (ps whole : List Piece) → ps ≡ [] → EndsCommand items words new left → SoFar items words ps whole →
+pub at_end : (items new : List Item) (words left : List Arg) (ps whole : List Piece) → ps ≡ [] → EndsCommand items words new left →
+    SoFar items words ps whole →
     reading_of_pieces whole ≡ Accepted (tree.Seq (items_tree new))
 unfolding misfit commands
 at_end items new words left ps whole e h s =

@@ -1,12 +1,15 @@
 -- What piece a text begins with.
-use Rattle.std.proofs.Common.{◌≡◌, ◌≢◌, ℕ, suc, ◌+◌, Bool, true, false, cond, ◌&&◌, ◌||◌, eqb, List, [], ◌∷◌, ◌++◌, drop, refl, sym, ap, ◌∙◌, append_assoc, add-one}
+use Rattle.std.proofs.Common.{◌≡◌, ◌≢◌, ℕ, suc, ◌+◌, Bool, true, false, cond, ◌&&◌, ◌||◌, eqb, List, [], ◌∷◌, ◌++◌, drop, refl, sym, ap, ◌∙◌, append_assoc}
+use Rattle.std.proofs.Common.{add-one}
 use Rattle.rc_parser.proofs.ClassSteps.{unequal}
 use Rattle.std.proofs.lemmas.Bool.{eqb-true}
 use Rattle.std.specs.Char.{encode_utf8}
-use Rattle.rc_model.specs.PlainScripts.{Piece, Word, Blank, Separator, Stray, Class, Letter, Space, End, Other, Further, Place, Plain, Comment, Escaped, class, class_at, place_after, escapes, is_operator, line_after, word_from, piece, pieces}
+use Rattle.rc_model.specs.PlainScripts.{Piece, Word, Blank, Separator, Stray, Class, Letter, Space, End, Other, Further, Place, Plain, Comment, Escaped}
+use Rattle.rc_model.specs.PlainScripts.{class, class_at, place_after, escapes, is_operator, line_after, word_from, piece, pieces}
 use Rattle.rc_parser.specs.Classes.{Does, is_letter, begins_word}
 
-step : (line c : ℕ) (cs : List ℕ) (k : Class) (p : Place) (b : Bool) → Does k p b c cs → pieces Plain line (c ∷ cs) ≡ piece k c line (pieces p (cond b (suc line) line) cs)
+step : (line c : ℕ) (cs : List ℕ) (k : Class) (p : Place) (b : Bool) → Does k p b c cs →
+    pieces Plain line (c ∷ cs) ≡ piece k c line (pieces p (cond b (suc line) line) cs)
 unfolding pieces
 step line c cs k p b d =
     ap (λ z. piece z c line (pieces (place_after Plain c cs) (line_after line c) cs)) d.class_is
@@ -47,14 +50,17 @@ continues : (line c : ℕ) (bs : List ℕ) → escapes c bs ≡ true → pieces 
 continues line c [] h = cc
 continues line c (d ∷ ds) h = let b = both_true (eqb c 92) (eqb d 10) h in escaped line c d ds (eqb-true c 92 b.0) (eqb-true d 10 b.1)
 
-pub continuation_begins : (line c : ℕ) (cs bs rest : List ℕ) → cs ≡ c ∷ bs → escapes c bs ≡ true → rest ≡ drop 1 bs → pieces Plain line cs ≡ Blank ∷ pieces Plain (line + 1) rest
+pub continuation_begins : (line c : ℕ) (cs bs rest : List ℕ) → cs ≡ c ∷ bs → escapes c bs ≡ true → rest ≡ drop 1 bs →
+    pieces Plain line cs ≡ Blank ∷ pieces Plain (line + 1) rest
 continuation_begins line c cs bs rest e h r =
-    ap (pieces Plain line) e ∙ continues line c bs h ∙ ap (λ n. Blank ∷ pieces Plain n (drop 1 bs)) (sym (add-one line)) ∙ ap (λ t. Blank ∷ pieces Plain (line + 1) t) (sym r)
+    ap (pieces Plain line) e ∙ continues line c bs h ∙ ap (λ n. Blank ∷ pieces Plain n (drop 1 bs)) (sym (add-one line))
+    ∙ ap (λ t. Blank ∷ pieces Plain (line + 1) t) (sym r)
 
 -- words
 
 -- a letter is none of the characters that mean something else
-letter_tests : (blank hash newline semicolon operator : Bool) → cond (blank || hash) Space (cond (newline || semicolon) End (cond operator Other Letter)) ≡ Letter → (hash ≡ false) × (newline ≡ false)
+letter_tests : (blank hash newline semicolon operator : Bool) →
+    cond (blank || hash) Space (cond (newline || semicolon) End (cond operator Other Letter)) ≡ Letter → (hash ≡ false) × (newline ≡ false)
 letter_tests false false false semicolon operator h = (refl, refl)
 letter_tests false false true semicolon operator h = cc
 letter_tests false true newline semicolon operator h = cc
@@ -75,10 +81,12 @@ letter_does c cs h =
       line_is = t.1;
     }
 
-pub letter_begins : (line c : ℕ) (cs bs : List ℕ) → cs ≡ c ∷ bs → class_at Plain c bs ≡ Letter → pieces Plain line cs ≡ word_from (encode_utf8 c) line (pieces Plain line bs)
+pub letter_begins : (line c : ℕ) (cs bs : List ℕ) → cs ≡ c ∷ bs → class_at Plain c bs ≡ Letter →
+    pieces Plain line cs ≡ word_from (encode_utf8 c) line (pieces Plain line bs)
 letter_begins line c cs bs e h = ap (pieces Plain line) e ∙ step line c bs Letter Plain false (letter_does c bs h)
 
-word_grows : (text : List ℕ) (line c : ℕ) (ps : List Piece) → word_from text line (word_from (encode_utf8 c) line ps) ≡ word_from (text ++ encode_utf8 c) line ps
+word_grows : (text : List ℕ) (line c : ℕ) (ps : List Piece) →
+    word_from text line (word_from (encode_utf8 c) line ps) ≡ word_from (text ++ encode_utf8 c) line ps
 word_grows text line c [] = refl
 word_grows text line c (Word further l ∷ ps) = ap (λ t. Word t line ∷ ps) (sym (append_assoc text (encode_utf8 c) further))
 word_grows text line c (Blank ∷ ps) = refl
@@ -106,14 +114,16 @@ not_further c cs h = by (escapes c cs) h
     by true h = cc
     by false h = further_tests ((eqb c 32 || eqb c 9) || eqb c 35) (eqb c 10 || eqb c 59) (is_operator c) h
 
-ends_at : (k : Class) (text : List ℕ) (line c : ℕ) (ps : List Piece) → is_letter k ≡ false → k ≢ Further → word_from text line (piece k c line ps) ≡ Word text line ∷ piece k c line ps
+ends_at : (k : Class) (text : List ℕ) (line c : ℕ) (ps : List Piece) → is_letter k ≡ false → k ≢ Further →
+    word_from text line (piece k c line ps) ≡ Word text line ∷ piece k c line ps
 ends_at Letter text line c ps h f = cc
 ends_at Space text line c ps h f = refl
 ends_at End text line c ps h f = refl
 ends_at Other text line c ps h f = refl
 ends_at Further text line c ps h f = absurd (f refl)
 
-pub word_ends : (text : List ℕ) (line : ℕ) (cs : List ℕ) → begins_word cs ≡ false → word_from text line (pieces Plain line cs) ≡ Word text line ∷ pieces Plain line cs
+pub word_ends : (text : List ℕ) (line : ℕ) (cs : List ℕ) → begins_word cs ≡ false →
+    word_from text line (pieces Plain line cs) ≡ Word text line ∷ pieces Plain line cs
 unfolding pieces
 word_ends text line [] h = refl
 word_ends text line (c ∷ cs) h = ends_at (class_at Plain c cs) text line c (pieces (place_after Plain c cs) (line_after line c) cs) h (not_further c cs)

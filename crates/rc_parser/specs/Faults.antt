@@ -3,7 +3,8 @@ use Rattle.std.specs.Prelude.{◌≡◌, ℕ, List}
 use Rattle.rc_model.specs.Faults as model
 use Rattle.rc_model.specs.PlainScripts.{Reading, Refused, IsRefused}
 use Rattle.rc_parser.specs.declared.fault.FaultKind.{FaultKind}
-use Rattle.rc_parser.specs.declared.fault.FaultKind.TheVariants.{TooLong, NotText, ZeroByte, OpenQuote, BadDescriptor, OpenHere, Unexpected, MisplacedIfNot, TooDeep, TooManyStages}
+use Rattle.rc_parser.specs.declared.fault.FaultKind.TheVariants.{TooLong, NotText, ZeroByte, OpenQuote, BadDescriptor, OpenHere, Unexpected, MisplacedIfNot}
+use Rattle.rc_parser.specs.declared.fault.FaultKind.TheVariants.{TooDeep, TooManyStages}
 use Rattle.rc_parser.specs.declared.fault.SyntaxFault.{SyntaxFault}
 use Rattle.rc_parser.specs.declared.fault.ParseError.{ParseError}
 use Rattle.rc_parser.specs.declared.fault.ParseError.TheVariants.{Fault, NoMemory}

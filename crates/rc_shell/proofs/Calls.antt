@@ -36,3 +36,10 @@ pub comes_next : {A X T : Type 0} (a b c : Option (List Event)) (p : Plan (Ended
     Ran a b p (done_with (Next x s)) → Comes b c (go x s) view result → Comes a c (under p go leave) view result
 comes_next a b c p x s go leave view (Ok v) f g = ran_next a b c p x s go leave (done_with (view v)) f g
 comes_next a b c p x s go leave view (Err stop) f g = left_next a b c stop p x s go leave f g
+
+-- a plan that is another one
+pub comes_as : {X T : Type 0} (a b : Option (List Event)) (p q : Plan X) (view : T → X) (result : Result T Stop) → p ≡ q → Comes a b q view result → Comes a b p view result
+comes_as a b p q view result e f = subst (λ r. Comes a b r view result) (sym e) f
+
+pub ran_as : {X : Type 0} (a b : Option (List Event)) (p q r : Plan X) → p ≡ q → Ran a b q r → Ran a b p r
+ran_as a b p q r e f = subst (λ t. Ran a b t r) (sym e) f

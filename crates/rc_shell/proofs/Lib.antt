@@ -1,7 +1,10 @@
 pub mod Calls
 pub mod Entries
 pub mod Escapes
+pub mod Runs
 pub mod Search
+pub mod Stacks
+pub mod StateLaws
 pub mod Texts
 pub mod Variables
 pub mod WordLaws

@@ -4,7 +4,7 @@ ghost use Rattle.std.specs.Prelude.{◌≡◌, ◌∷◌, ◌++◌, [], IfOk, On
 ghost use Rattle.rc_model.specs.Layout.{code, cmd_code, arg_code, args_code, items_code};
 ghost use Rattle.rc_tree.specs.View.{cmd_tree, arg_tree, args_tree, items_tree};
 ghost use Rattle.rc_shell.specs.Codes.{op_of, ops_of, code_of};
-ghost use Rattle.std.specs.Prelude.{option_map, slice_get};
+ghost use Rattle.std.specs.Prelude.{◌<◌, ◌^◌, IsSome, option_map, slice_get};
 ghost use Rattle.std.specs.Option.{option_copied};
 
 use rc_tree::{Arg, Cmd, Item};
@@ -31,7 +31,8 @@ pub struct Code {
 impl Code {
     /// The instruction at a place: none past the end.
     pub fn op(&self, place: usize) -> Option<&Op>
-        ensures { option_map op_of (option_copied result) ≡ slice_get (code_of self.now).ops place }
+        ensures op { option_map op_of (option_copied result) ≡ slice_get (code_of self.now).ops place }
+        ensures within { IsSome result → place < 2 ^ 63 }
     {
         self.ops.get(place)
     }

@@ -71,19 +71,25 @@ fits_Simple xs d = deeper (has_some xs) (are_sound xs) (depths xs) d
 
 pub fits_Assign : (xs : Many t.pair) (x : Node t.cmd) (d : ℕ) → fits (t.Assign xs x) d ≡ nat_lt 0 d && (has_some xs && (all_fit xs (d - 1) && fits x (d - 1)))
 unfolding fits all_fit
-fits_Assign xs x d = deeper (has_some xs) (are_sound xs && is_sound x) (max (depths xs) (depth x)) d ∙ ap (λ v. nat_lt 0 d && (has_some xs && v)) (beside (are_sound xs) (is_sound x) (depths xs) (depth x) (d - 1))
+fits_Assign xs x d = deeper (has_some xs) (are_sound xs && is_sound x) (max (depths xs) (depth x)) d
+    ∙ ap (λ v. nat_lt 0 d && (has_some xs && v)) (beside (are_sound xs) (is_sound x) (depths xs) (depth x) (d - 1))
 
-pub fits_Redirect : (xs : Many t.redir) (x : Node t.cmd) (d : ℕ) → fits (t.Redirect xs x) d ≡ nat_lt 0 d && (has_some xs && (all_fit xs (d - 1) && fits x (d - 1)))
+pub fits_Redirect : (xs : Many t.redir) (x : Node t.cmd) (d : ℕ) → fits (t.Redirect xs x) d
+    ≡ nat_lt 0 d && (has_some xs && (all_fit xs (d - 1) && fits x (d - 1)))
 unfolding fits all_fit
-fits_Redirect xs x d = deeper (has_some xs) (are_sound xs && is_sound x) (max (depths xs) (depth x)) d ∙ ap (λ v. nat_lt 0 d && (has_some xs && v)) (beside (are_sound xs) (is_sound x) (depths xs) (depth x) (d - 1))
+fits_Redirect xs x d = deeper (has_some xs) (are_sound xs && is_sound x) (max (depths xs) (depth x)) d
+    ∙ ap (λ v. nat_lt 0 d && (has_some xs && v)) (beside (are_sound xs) (is_sound x) (depths xs) (depth x) (d - 1))
 
-pub fits_Pipeline : (xs : Many t.stage) (x : Node t.cmd) (d : ℕ) → fits (t.Pipeline xs x) d ≡ nat_lt 0 d && (has_stages xs && (all_fit xs (d - 1) && fits x (d - 1)))
+pub fits_Pipeline : (xs : Many t.stage) (x : Node t.cmd) (d : ℕ) → fits (t.Pipeline xs x) d
+    ≡ nat_lt 0 d && (has_stages xs && (all_fit xs (d - 1) && fits x (d - 1)))
 unfolding fits all_fit
-fits_Pipeline xs x d = deeper (has_stages xs) (are_sound xs && is_sound x) (max (depths xs) (depth x)) d ∙ ap (λ v. nat_lt 0 d && (has_stages xs && v)) (beside (are_sound xs) (is_sound x) (depths xs) (depth x) (d - 1))
+fits_Pipeline xs x d = deeper (has_stages xs) (are_sound xs && is_sound x) (max (depths xs) (depth x)) d
+    ∙ ap (λ v. nat_lt 0 d && (has_stages xs && v)) (beside (are_sound xs) (is_sound x) (depths xs) (depth x) (d - 1))
 
 pub fits_AndOr : (x : Node t.cmd) (xs : Many t.link) (d : ℕ) → fits (t.AndOr x xs) d ≡ nat_lt 0 d && (has_some xs && (fits x (d - 1) && all_fit xs (d - 1)))
 unfolding fits all_fit
-fits_AndOr x xs d = deeper (has_some xs) (is_sound x && are_sound xs) (max (depth x) (depths xs)) d ∙ ap (λ v. nat_lt 0 d && (has_some xs && v)) (beside (is_sound x) (are_sound xs) (depth x) (depths xs) (d - 1))
+fits_AndOr x xs d = deeper (has_some xs) (is_sound x && are_sound xs) (max (depth x) (depths xs)) d
+    ∙ ap (λ v. nat_lt 0 d && (has_some xs && v)) (beside (is_sound x) (are_sound xs) (depth x) (depths xs) (d - 1))
 
 pub fits_Not : (x : Node t.cmd) (d : ℕ) → fits (t.Not x) d ≡ nat_lt 0 d && fits x (d - 1)
 unfolding fits all_fit
@@ -95,7 +101,8 @@ fits_Subshell x d = below (is_sound x) (depth x) d
 
 pub fits_If : (x : Node t.cmd) (y : Node t.cmd) (d : ℕ) → fits (t.If x y) d ≡ nat_lt 0 d && (fits x (d - 1) && fits y (d - 1))
 unfolding fits all_fit
-fits_If x y d = below (is_sound x && is_sound y) (max (depth x) (depth y)) d ∙ ap (λ v. nat_lt 0 d && v) (beside (is_sound x) (is_sound y) (depth x) (depth y) (d - 1))
+fits_If x y d = below (is_sound x && is_sound y) (max (depth x) (depth y)) d
+    ∙ ap (λ v. nat_lt 0 d && v) (beside (is_sound x) (is_sound y) (depth x) (depth y) (d - 1))
 
 pub fits_IfNot : (x : Node t.cmd) (d : ℕ) → fits (t.IfNot x) d ≡ nat_lt 0 d && fits x (d - 1)
 unfolding fits all_fit
@@ -103,13 +110,16 @@ fits_IfNot x d = below (is_sound x) (depth x) d
 
 pub fits_While : (x : Node t.cmd) (y : Node t.cmd) (d : ℕ) → fits (t.While x y) d ≡ nat_lt 0 d && (fits x (d - 1) && fits y (d - 1))
 unfolding fits all_fit
-fits_While x y d = below (is_sound x && is_sound y) (max (depth x) (depth y)) d ∙ ap (λ v. nat_lt 0 d && v) (beside (is_sound x) (is_sound y) (depth x) (depth y) (d - 1))
+fits_While x y d = below (is_sound x && is_sound y) (max (depth x) (depth y)) d
+    ∙ ap (λ v. nat_lt 0 d && v) (beside (is_sound x) (is_sound y) (depth x) (depth y) (d - 1))
 
 pub fits_ForAll : (n : Node t.arg) (x : Node t.cmd) (d : ℕ) → fits (t.ForAll n x) d ≡ nat_lt 0 d && (fits n (d - 1) && fits x (d - 1))
 unfolding fits all_fit
-fits_ForAll n x d = below (is_sound n && is_sound x) (max (depth n) (depth x)) d ∙ ap (λ v. nat_lt 0 d && v) (beside (is_sound n) (is_sound x) (depth n) (depth x) (d - 1))
+fits_ForAll n x d = below (is_sound n && is_sound x) (max (depth n) (depth x)) d
+    ∙ ap (λ v. nat_lt 0 d && v) (beside (is_sound n) (is_sound x) (depth n) (depth x) (d - 1))
 
-pub fits_For : (n : Node t.arg) (xs : Many t.arg) (x : Node t.cmd) (d : ℕ) → fits (t.For n xs x) d ≡ nat_lt 0 d && (fits n (d - 1) && (all_fit xs (d - 1) && fits x (d - 1)))
+pub fits_For : (n : Node t.arg) (xs : Many t.arg) (x : Node t.cmd) (d : ℕ) → fits (t.For n xs x) d
+    ≡ nat_lt 0 d && (fits n (d - 1) && (all_fit xs (d - 1) && fits x (d - 1)))
 unfolding fits all_fit
 fits_For n xs x d = below (is_sound n && (are_sound xs && is_sound x)) (max (depth n) (max (depths xs) (depth x))) d
     ∙ ap (λ v. nat_lt 0 d && v) (beside (is_sound n) (are_sound xs && is_sound x) (depth n) (max (depths xs) (depth x)) (d - 1))
@@ -117,15 +127,18 @@ fits_For n xs x d = below (is_sound n && (are_sound xs && is_sound x)) (max (dep
 
 pub fits_Switch : (n : Node t.arg) (xs : Many t.branch) (d : ℕ) → fits (t.Switch n xs) d ≡ nat_lt 0 d && (fits n (d - 1) && all_fit xs (d - 1))
 unfolding fits all_fit
-fits_Switch n xs d = below (is_sound n && are_sound xs) (max (depth n) (depths xs)) d ∙ ap (λ v. nat_lt 0 d && v) (beside (is_sound n) (are_sound xs) (depth n) (depths xs) (d - 1))
+fits_Switch n xs d = below (is_sound n && are_sound xs) (max (depth n) (depths xs)) d
+    ∙ ap (λ v. nat_lt 0 d && v) (beside (is_sound n) (are_sound xs) (depth n) (depths xs) (d - 1))
 
 pub fits_Match : (n : Node t.arg) (xs : Many t.arg) (d : ℕ) → fits (t.Match n xs) d ≡ nat_lt 0 d && (fits n (d - 1) && all_fit xs (d - 1))
 unfolding fits all_fit
-fits_Match n xs d = below (is_sound n && are_sound xs) (max (depth n) (depths xs)) d ∙ ap (λ v. nat_lt 0 d && v) (beside (is_sound n) (are_sound xs) (depth n) (depths xs) (d - 1))
+fits_Match n xs d = below (is_sound n && are_sound xs) (max (depth n) (depths xs)) d
+    ∙ ap (λ v. nat_lt 0 d && v) (beside (is_sound n) (are_sound xs) (depth n) (depths xs) (d - 1))
 
 pub fits_Define : (xs : Many t.arg) (x : Node t.cmd) (d : ℕ) → fits (t.Define xs x) d ≡ nat_lt 0 d && (has_some xs && (all_fit xs (d - 1) && fits x (d - 1)))
 unfolding fits all_fit
-fits_Define xs x d = deeper (has_some xs) (are_sound xs && is_sound x) (max (depths xs) (depth x)) d ∙ ap (λ v. nat_lt 0 d && (has_some xs && v)) (beside (are_sound xs) (is_sound x) (depths xs) (depth x) (d - 1))
+fits_Define xs x d = deeper (has_some xs) (are_sound xs && is_sound x) (max (depths xs) (depth x)) d
+    ∙ ap (λ v. nat_lt 0 d && (has_some xs && v)) (beside (are_sound xs) (is_sound x) (depths xs) (depth x) (d - 1))
 
 pub fits_Undefine : (xs : Many t.arg) (d : ℕ) → fits (t.Undefine xs) d ≡ nat_lt 0 d && (has_some xs && all_fit xs (d - 1))
 unfolding fits all_fit
@@ -137,7 +150,8 @@ fits_Brace x d = below (is_sound x) (depth x) d
 
 pub fits_Lit : (text : List ℕ) (quoted : Bool) (d : ℕ) → fits (t.Lit text quoted) d ≡ nat_lt 0 d && ((quoted || has_text text) && without_zero text)
 unfolding fits all_fit
-fits_Lit text quoted d = below ((quoted || has_text text) && without_zero text) 0 d ∙ ap (λ v. nat_lt 0 d && v) (and_zero ((quoted || has_text text) && without_zero text) (d - 1))
+fits_Lit text quoted d = below ((quoted || has_text text) && without_zero text) 0 d
+    ∙ ap (λ v. nat_lt 0 d && v) (and_zero ((quoted || has_text text) && without_zero text) (d - 1))
 
 pub fits_Concat : (xs : Many t.arg) (d : ℕ) → fits (t.Concat xs) d ≡ nat_lt 0 d && (has_several xs && all_fit xs (d - 1))
 unfolding fits all_fit
@@ -161,7 +175,8 @@ fits_Flat x d = below (is_sound x) (depth x) d
 
 pub fits_Sub : (x : Node t.arg) (xs : Many t.arg) (d : ℕ) → fits (t.Sub x xs) d ≡ nat_lt 0 d && (fits x (d - 1) && all_fit xs (d - 1))
 unfolding fits all_fit
-fits_Sub x xs d = below (is_sound x && are_sound xs) (max (depth x) (depths xs)) d ∙ ap (λ v. nat_lt 0 d && v) (beside (is_sound x) (are_sound xs) (depth x) (depths xs) (d - 1))
+fits_Sub x xs d = below (is_sound x && are_sound xs) (max (depth x) (depths xs)) d
+    ∙ ap (λ v. nat_lt 0 d && v) (beside (is_sound x) (are_sound xs) (depth x) (depths xs) (d - 1))
 
 pub fits_Back : (x : Node t.cmd) (d : ℕ) → fits (t.Back x) d ≡ nat_lt 0 d && fits x (d - 1)
 unfolding fits all_fit

@@ -1,1 +1,4 @@
 pub mod Fitting
+pub mod Forms
+pub mod Quotes
+pub mod Texts

@@ -1,3 +1,3 @@
-pub mod Modes
 pub mod View
 pub mod Fits
+pub mod Lines

@@ -8,8 +8,8 @@ use Rattle.std.proofs.lemmas.Grind.{common_steps}
 use Rattle.std.proofs.Common.{ap, sym, ◌∙◌}
 use Rattle.rc_model.specs.Tree.{Sort, Node, Many, none, more, nodes, snoc}
 use Rattle.rc_model.specs.Tree as t
-use Rattle.rc_tree.specs.Modes.{mode_of}
-use Rattle.rc_tree.specs.declared.mode.Mode.{Mode}
+use Rattle.rc_world.specs.Views.{mode_of}
+use Rattle.rc_world.specs.declared.types.Mode.{Mode}
 use Rattle.rc_tree.specs.declared.Logic.{Logic}
 use Rattle.rc_tree.specs.declared.Logic.TheVariants.{And, Or}
 use Rattle.rc_tree.specs.declared.Piece.{Piece}
@@ -364,3 +364,6 @@ nodes_push f (y ∷ ys) x = ap (more (f y)) (nodes_push f ys x)
 
 -- what a loop needs that goes along a list and makes another
 pub ruleset tree_lists = (nodes_push, common_steps)
+
+-- what a walk along the tree needs
+pub ruleset tree_walks = (tree_nodes, common_steps)

@@ -2,11 +2,14 @@
 #![tactic(auto)]
 
 mod clone;
-mod mode;
+mod form;
+mod here;
+mod printing;
 mod soundness;
 
 pub use clone::clone_tree;
-pub use mode::Mode;
+pub use printing::{PrintFault, print};
+pub use rc_world::Mode;
 pub use soundness::well_formed;
 
 /// A command.
@@ -97,3 +100,6 @@ pub enum Piece {
     Text(String),
     Name(String),
 }
+
+#[cfg(test)]
+mod tests;

@@ -1,15 +1,18 @@
 -- What a call of a world comes to where only its refusal matters.
-use Rattle.std.proofs.Common.{arith, ℕ, ◌≡◌, ◌≤◌, refl, sym, ◌∙◌, ap, subst, List, [], Option, Some, None, option_map, Result, Ok, Err, map, string_bytes, String, Vec, vec_len, IfOk, is_some, length}
+use Rattle.std.proofs.Common.{arith, ℕ, ◌≡◌, ◌≤◌, refl, sym, ◌∙◌, ap, subst, List, Option, Some}
+use Rattle.std.proofs.Common.{None, option_map, Result, Ok, Err, map, string_bytes, String, Vec, vec_len, IfOk, is_some, length}
 use Rattle.std.specs.declared.alloc.Global.{Global}
 use Rattle.std.specs.Prelude.{Bool, true, false, if◌then◌else◌}
 use Rattle.std.proofs.lemmas.Bool.{le-leb}
 use Rattle.rc_model.specs.Calls as calls
-use Rattle.rc_model.specs.Calls.{Call, Answer, Event, file, pair, done, bytes, child, ended, names, found, refused, extend, told_by, was_made, is_halt, want, taken_as, Want}
+use Rattle.rc_model.specs.Calls.{Call, Answer, Event, file, pair, done, bytes, child, ended}
+use Rattle.rc_model.specs.Calls.{names, found, refused, extend, told_by, was_made, is_halt, want, taken_as, Want}
 use Rattle.rc_model.specs.Calls.{WantsFile, WantsPair, WantsDone, WantsBytes, WantsChild, WantsEnding, WantsNames, WantsKind}
 use Rattle.rc_model.specs.Calls.{as_file, as_pair, as_done, as_bytes, as_child, as_ending, as_names, as_kind}
 use Rattle.rc_model.specs.Plans.{Plan, done_with, asks, Ran}
 use Rattle.rc_world.specs.Comes.{Comes, unless_refused, was_done}
-use Rattle.rc_world.specs.Views.{answer_or_refused, file_answer, pair_answer, done_answer, bytes_answer, child_answer, ending_answer, names_answer, kind_answer, fault_of, ending_of, kind_of}
+use Rattle.rc_world.specs.Views.{answer_or_refused, file_answer, pair_answer, done_answer, bytes_answer, child_answer}
+use Rattle.rc_world.specs.Views.{ending_answer, names_answer, kind_answer, fault_of, ending_of, kind_of}
 use Rattle.rc_world.specs.declared.types.Fault.{Fault}
 use Rattle.rc_world.specs.declared.types.Fault.TheVariants.{NotFound, Denied, Exists, Broken, Full, Other, Halt, NoMemory}
 use Rattle.rc_world.specs.declared.types.Stop.{Stop}
@@ -45,9 +48,10 @@ ran_asks {V = V} a b c seen x v g h =
 
 -- a refusal, by a fault that is neither a halt nor want of memory
 ran_refused : {V : Type 0} (a b : Option (List Event)) (c : Call) (seen : Answer → V) (f : calls.Fault) (v : V) →
-    Gives (calls.open_file [] calls.Read) seen (refused f) v → b ≡ extend a (told_by c (refused f)) → Ran a b (asks c seen) (done_with v)
-ran_refused a b c seen f v g h =
-    ran_asks a b c seen (refused f) v (record { made = g.made; came = g.came; fits = same_refusal (want c) f ∙ g.fits; viewed = g.viewed }) h
+    was_made (refused f) ≡ true → is_halt (refused f) ≡ false → taken_as WantsFile (refused f) ≡ refused f → seen (refused f) ≡ v →
+    b ≡ extend a (told_by c (refused f)) → Ran a b (asks c seen) (done_with v)
+ran_refused a b c seen f v made came fits viewed h =
+    ran_asks a b c seen (refused f) v (record { made = made; came = came; fits = same_refusal (want c) f ∙ fits; viewed = viewed }) h
 
 -- the refusal of a call
 refusal_comes : {T V : Type 0} (a b : Option (List Event)) (c : Call) (seen : Answer → V) (view : Option T → V) (f : Fault) →
@@ -55,12 +59,12 @@ refusal_comes : {T V : Type 0} (a b : Option (List Event)) (c : Call) (seen : An
     Comes a b (asks c seen) view (unless_refused (Err f))
 refusal_comes a b c seen view Halt n h = left_halt a b c (λ x. done_with (seen x)) h
 refusal_comes a b c seen view NoMemory n h = left_no_memory a b (asks c seen) h
-refusal_comes a b c seen view NotFound n h = ran_refused a b c seen calls.NotFound (view None) (record { made = refl; came = refl; fits = refl; viewed = n calls.NotFound }) h
-refusal_comes a b c seen view Denied n h = ran_refused a b c seen calls.Denied (view None) (record { made = refl; came = refl; fits = refl; viewed = n calls.Denied }) h
-refusal_comes a b c seen view Exists n h = ran_refused a b c seen calls.Exists (view None) (record { made = refl; came = refl; fits = refl; viewed = n calls.Exists }) h
-refusal_comes a b c seen view Broken n h = ran_refused a b c seen calls.Broken (view None) (record { made = refl; came = refl; fits = refl; viewed = n calls.Broken }) h
-refusal_comes a b c seen view Full n h = ran_refused a b c seen calls.Full (view None) (record { made = refl; came = refl; fits = refl; viewed = n calls.Full }) h
-refusal_comes a b c seen view Other n h = ran_refused a b c seen calls.Other (view None) (record { made = refl; came = refl; fits = refl; viewed = n calls.Other }) h
+refusal_comes a b c seen view NotFound n h = ran_refused a b c seen calls.NotFound (view None) refl refl refl (n calls.NotFound) h
+refusal_comes a b c seen view Denied n h = ran_refused a b c seen calls.Denied (view None) refl refl refl (n calls.Denied) h
+refusal_comes a b c seen view Exists n h = ran_refused a b c seen calls.Exists (view None) refl refl refl (n calls.Exists) h
+refusal_comes a b c seen view Broken n h = ran_refused a b c seen calls.Broken (view None) refl refl refl (n calls.Broken) h
+refusal_comes a b c seen view Full n h = ran_refused a b c seen calls.Full (view None) refl refl refl (n calls.Full) h
+refusal_comes a b c seen view Other n h = ran_refused a b c seen calls.Other (view None) refl refl refl (n calls.Other) h
 
 came_to : {T V : Type 0} (a b : Option (List Event)) (c : Call) (good : T → Answer) (seen : Answer → V) (view : Option T → V) (r : Result T Fault) →
     ((x : T) → r ≡ Ok x → Gives c seen (good x) (view (Some x))) → ((f : calls.Fault) → seen (refused f) ≡ view None) →
@@ -68,7 +72,8 @@ came_to : {T V : Type 0} (a b : Option (List Event)) (c : Call) (good : T → An
 came_to a b c good seen view (Ok x) g n h = ran_asks a b c seen (good x) (view (Some x)) (g x refl) h
 came_to a b c good seen view (Err f) g n h = refusal_comes a b c seen view f n h
 
-ends_so : {T V : Type 0} (a b : Option (List Event)) (plan : Plan V) (view : T → V) (r s : Result T Stop) → s ≡ r → Comes a b plan view r → Comes a b plan view s
+ends_so : {T V : Type 0} (a b : Option (List Event)) (plan : Plan V) (view : T → V) (r s : Result T Stop) →
+    s ≡ r → Comes a b plan view r → Comes a b plan view s
 ends_so {T = T} a b plan view r s e h = let P : Result T Stop → Type 0 = λ s. Comes a b plan view s in subst P (sym e) h
 
 -- the calls, by the kind of their answers
@@ -100,8 +105,10 @@ ending_comes a b c r s w h e =
     (came_to a b c (λ x. ended (ending_of x)) as_ending (option_map ending_of) r
     (λ x o. record { made = refl; came = refl; fits = ap (λ w. taken_as w (ended (ending_of x))) w; viewed = refl }) (λ f. refl) h)
 
-pub names_comes : (a b : Option (List Event)) (c : Call) (r : Result (Vec (String Global) Global) Fault) (s : Result (Option (Vec (String Global) Global)) Stop) →
-    want c ≡ WantsNames → b ≡ extend a (told_by c (names_answer r)) → s ≡ unless_refused r → Comes a b (asks c as_names) (option_map (λ x. map string_bytes x.items)) s
+pub names_comes : (a b : Option (List Event)) (c : Call)
+    (r : Result (Vec (String Global) Global) Fault) (s : Result (Option (Vec (String Global) Global)) Stop) →
+    want c ≡ WantsNames → b ≡ extend a (told_by c (names_answer r)) → s ≡ unless_refused r →
+    Comes a b (asks c as_names) (option_map (λ x. map string_bytes x.items)) s
 names_comes a b c r s w h e =
     ends_so a b (asks c as_names) (option_map (λ x. map string_bytes x.items)) (unless_refused r) s e
     (came_to a b c (λ x. names (map string_bytes x.items)) as_names (option_map (λ x. map string_bytes x.items)) r
@@ -132,7 +139,8 @@ bytes_comes a b c r s w l h e =
     (λ x o. record { made = refl; came = refl; fits = ap (λ w. taken_as w (bytes x.items)) w ∙ fits_read x (bounded r x l o); viewed = refl }) (λ f. refl) h)
 
 -- what gives nothing is done or not
-done_to : (a b : Option (List Event)) (plan : Plan Bool) (r : Result (Unit {0}) Fault) → Comes a b plan is_some (unless_refused r) → Comes a b plan (λ x. x) (was_done r)
+done_to : (a b : Option (List Event)) (plan : Plan Bool) (r : Result (Unit {0}) Fault) →
+    Comes a b plan is_some (unless_refused r) → Comes a b plan (λ x. x) (was_done r)
 done_to a b plan (Ok x) h = h
 done_to a b plan (Err NotFound) h = h
 done_to a b plan (Err Denied) h = h

@@ -32,7 +32,8 @@ extend_nil (Some before) = ap Some (sym (append-nil before))
 pub told_append : (a b c : Option (List Event)) (es fs : List Event) → b ≡ extend a es → c ≡ extend b fs → c ≡ extend a (es ++ fs)
 told_append a b c es fs h k = k ∙ (ap (λ o. extend o fs) h ∙ extend_append a es fs)
 
-told_further : (a b c : Option (List Event)) (es fs : List Event) (e : Event) → b ≡ extend a es → c ≡ extend b (fs ++ e ∷ []) → c ≡ extend a ((es ++ fs) ++ e ∷ [])
+told_further : (a b c : Option (List Event)) (es fs : List Event) (e : Event) →
+    b ≡ extend a es → c ≡ extend b (fs ++ e ∷ []) → c ≡ extend a ((es ++ fs) ++ e ∷ [])
 told_further a b c es fs e h k = told_append a b c es (fs ++ e ∷ []) h k ∙ ap (extend a) (sym (append_assoc es fs (e ∷ [])))
 
 -- nothing was called
@@ -100,7 +101,8 @@ pub left_no_memory : {X : Type 0} (a b : Option (List Event)) (p : Plan X) → b
 left_no_memory a b p h = for_memory p (record { trace = []; told = h; goes = refl })
 
 -- a call was not answered
-pub left_halt : {X : Type 0} (a b : Option (List Event)) (call : Call) (go : Answer → Plan X) → b ≡ extend a (event call (refused halt) ∷ []) → Left a b (ask call go) Halt
+pub left_halt : {X : Type 0} (a b : Option (List Event)) (call : Call) (go : Answer → Plan X) →
+    b ≡ extend a (event call (refused halt) ∷ []) → Left a b (ask call go) Halt
 left_halt a b call go h = by_halt (record { trace = []; call = call; go = go; told = h; goes = refl })
 
 -- left between two calls

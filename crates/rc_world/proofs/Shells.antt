@@ -22,12 +22,14 @@ pub ran_under : {A X : Type 0} (a b : Option (List Event)) (p q : Plan (Result A
 ran_under a b p q go leave f = record { trace = f.trace; told = f.told; goes = goes_under p q go leave f.trace f.goes }
 
 -- the first part came to a next state, and what follows went on
-pub ran_next : {A X : Type 0} (a b c : Option (List Event)) (p : Plan (Result A)) (x : A) (s : State) (go : A → State → Plan X) (leave : State → List ℕ → Plan X) (q : Plan X) →
+pub ran_next : {A X : Type 0} (a b c : Option (List Event)) (p : Plan (Result A)) (x : A) (s : State)
+    (go : A → State → Plan X) (leave : State → List ℕ → Plan X) (q : Plan X) →
     Ran a b p (done_with (Next x s)) → Ran b c (go x s) q → Ran a c (under p go leave) q
 ran_next a b c p x s go leave q f g = ran_join a b c (under p go leave) (go x s) q (ran_under a b p (done_with (Next x s)) go leave f) g
 
 -- the first part ended the shell, and what follows its end went on
-pub ran_exit : {A X : Type 0} (a b c : Option (List Event)) (p : Plan (Result A)) (s : State) (owed : List ℕ) (go : A → State → Plan X) (leave : State → List ℕ → Plan X) (q : Plan X) →
+pub ran_exit : {A X : Type 0} (a b c : Option (List Event)) (p : Plan (Result A)) (s : State) (owed : List ℕ)
+    (go : A → State → Plan X) (leave : State → List ℕ → Plan X) (q : Plan X) →
     Ran a b p (done_with (Exit s owed)) → Ran b c (leave s owed) q → Ran a c (under p go leave) q
 ran_exit a b c p s owed go leave q f g = ran_join a b c (under p go leave) (leave s owed) q (ran_under a b p (done_with (Exit s owed)) go leave f) g
 
@@ -45,10 +47,12 @@ left_under a b Halt p go leave (by_halt f) =
     })
 
 -- what follows the first part was left
-pub left_next : {A X : Type 0} (a b c : Option (List Event)) (stop : Stop) (p : Plan (Result A)) (x : A) (s : State) (go : A → State → Plan X) (leave : State → List ℕ → Plan X) →
+pub left_next : {A X : Type 0} (a b c : Option (List Event)) (stop : Stop) (p : Plan (Result A)) (x : A) (s : State)
+    (go : A → State → Plan X) (leave : State → List ℕ → Plan X) →
     Ran a b p (done_with (Next x s)) → Left b c (go x s) stop → Left a c (under p go leave) stop
 left_next a b c stop p x s go leave f g = left_join a b c stop (under p go leave) (go x s) (ran_under a b p (done_with (Next x s)) go leave f) g
 
-pub left_exit : {A X : Type 0} (a b c : Option (List Event)) (stop : Stop) (p : Plan (Result A)) (s : State) (owed : List ℕ) (go : A → State → Plan X) (leave : State → List ℕ → Plan X) →
+pub left_exit : {A X : Type 0} (a b c : Option (List Event)) (stop : Stop) (p : Plan (Result A)) (s : State) (owed : List ℕ)
+    (go : A → State → Plan X) (leave : State → List ℕ → Plan X) →
     Ran a b p (done_with (Exit s owed)) → Left b c (leave s owed) stop → Left a c (under p go leave) stop
 left_exit a b c stop p s owed go leave f g = left_join a b c stop (under p go leave) (leave s owed) (ran_under a b p (done_with (Exit s owed)) go leave f) g

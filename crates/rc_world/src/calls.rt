@@ -78,7 +78,8 @@ pub fn wait<W: World>(world: &mut W, child: ChildNo) -> Result<Option<Ending>, S
 }
 
 pub fn list<W: World>(world: &mut W, path: &str) -> Result<Option<Vec<String>>, Stop>
-    ensures { Comes (W.events world.old) (W.events world.new) (asks (list_names path.now) as_names) (option_map (λ names. map string_bytes names.items)) result }
+    ensures { Comes (W.events world.old) (W.events world.new) (asks (list_names path.now) as_names)
+        (option_map (λ names. map string_bytes names.items)) result }
 {
     unless_refused(world.list(path))
 }

@@ -3,6 +3,8 @@
 
 pub mod calls;
 pub mod tape;
+#[cfg(test)]
+mod tests;
 pub mod types;
 pub mod world;
 

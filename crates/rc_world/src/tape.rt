@@ -26,6 +26,7 @@ pub enum Call {
     Chdir(String),
 }
 
+/// What a call is answered.
 #[derive(Drop)]
 pub enum Answer {
     File(Handle),

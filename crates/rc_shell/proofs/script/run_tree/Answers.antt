@@ -1,0 +1,45 @@
+use Rattle.std.proofs.Common.{◌≡◌}
+use Rattle.rc_model.specs.Machine.{begin}
+use Rattle.rc_shell.specs.Codes.{code_of}
+use Rattle.rc_shell.specs.Machines.{config_of}
+use Rattle.rc_shell.specs.States.{state_of}
+use Rattle.rc_tree.specs.View.{cmd_tree}
+use Rattle.rc_shell.proofs.Runs.{begins, never_stuck_from, told_ended, told_limit, told_halted, told_left, told_nothing}
+use Rattle.rc_shell.proofs.script.run_tree.Goals as goal
+
+pub returns-in_default : goal.returns-in_default
+returns-in_default g c = let before = g.W.World.events c.args.world.now in told_nothing c.args.limit (cmd_tree c.args.cmd.now) (state_of c.args.state) before before
+
+pub run-requires : goal.run-requires
+run-requires g c =
+    let t = cmd_tree c.args.cmd.now in
+    let s = state_of c.args.state in
+    never_stuck_from t s (config_of c.new-machine.result) (begins t s (code_of c.in-Ok.code) (config_of c.new-machine.result) c.new-machine.ensures c.in-Ok.ensures)
+
+pub returns-in-Ok-Ended : goal.returns-in-Ok-Ended
+returns-in-Ok-Ended g c =
+    let t = cmd_tree c.args.cmd.now in
+    let s = state_of c.args.state in
+    let start : config_of c.new-machine.result ≡ begin t s = begins t s (code_of c.in-Ok.code) (config_of c.new-machine.result) c.new-machine.ensures c.in-Ok.ensures in
+    rw c.into_state.ensures (told_ended c.args.limit t s _ _ (state_of c.run.new.self.state) (rw (c.in-Ok-Ended.field-0-is, start) at c.in-Ok-Ended.ensures))
+
+pub returns-in-Ok-Limit : goal.returns-in-Ok-Limit
+returns-in-Ok-Limit g c =
+    let t = cmd_tree c.args.cmd.now in
+    let s = state_of c.args.state in
+    let start : config_of c.new-machine.result ≡ begin t s = begins t s (code_of c.in-Ok.code) (config_of c.new-machine.result) c.new-machine.ensures c.in-Ok.ensures in
+    told_limit c.args.limit t s _ _ (rw (c.in-Ok-Limit.field-0-is, start) at c.in-Ok-Limit.ensures)
+
+pub returns-in-Ok-Halted : goal.returns-in-Ok-Halted
+returns-in-Ok-Halted g c =
+    let t = cmd_tree c.args.cmd.now in
+    let s = state_of c.args.state in
+    let start : config_of c.new-machine.result ≡ begin t s = begins t s (code_of c.in-Ok.code) (config_of c.new-machine.result) c.new-machine.ensures c.in-Ok.ensures in
+    told_halted c.args.limit t s _ _ (rw (c.in-Ok-Halted.field-0-is, start) at c.in-Ok-Halted.ensures)
+
+pub returns-in-Err : goal.returns-in-Err
+returns-in-Err g c =
+    let t = cmd_tree c.args.cmd.now in
+    let s = state_of c.args.state in
+    let start : config_of c.new-machine.result ≡ begin t s = begins t s (code_of c.in-Ok.code) (config_of c.new-machine.result) c.new-machine.ensures c.in-Ok.ensures in
+    told_left c.args.limit t s _ _ (rw start at c.in-Err.ensures)

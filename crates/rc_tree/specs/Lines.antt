@@ -1,0 +1,23 @@
+-- Texts and lines as a walk along a list writes them, behind what stands there already.
+use Rattle.std.specs.Prelude.{ℕ, List, [], ◌∷◌, ◌++◌, codes}
+use Rattle.rc_model.specs.Printing.{Line, ended, parting}
+
+-- `between` stands before the first text, and `mark` before each further one
+abbrev pub led : (between mark : List ℕ) → List (List ℕ) → List ℕ
+led between mark [] = []
+led between mark (t ∷ ts) = between ++ (t ++ led mark mark ts)
+
+-- each text with a space behind it
+abbrev pub trailed : List (List ℕ) → List ℕ
+trailed [] = []
+trailed (t ∷ ts) = t ++ (codes " " ++ trailed ts)
+
+-- `between` stands before the first line
+abbrev pub behind : (between : List ℕ) → List Line → List ℕ
+behind between [] = []
+behind between (line ∷ lines) = between ++ (ended line ++ behind (parting line) lines)
+
+-- what stands between these lines and the next one
+abbrev pub parting_after : (between : List ℕ) → List Line → List ℕ
+parting_after between [] = between
+parting_after between (line ∷ lines) = parting_after (parting line) lines
