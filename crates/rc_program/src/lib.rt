@@ -1,0 +1,15 @@
+//! What the program does, over any world and any reader.
+#![tactic(auto)]
+
+mod fault;
+mod process;
+mod reading;
+mod running;
+mod status;
+#[cfg(test)]
+mod tests;
+
+pub use fault::RunFault;
+pub use process::{own_path, report, words};
+pub use running::run_rc;
+pub use status::process_status;
