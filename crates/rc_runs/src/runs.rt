@@ -10,14 +10,22 @@ use std::rt::Files;
 /// What is to be seen of each run, and its script: a text so many times.
 const RUNS: [(&str, &[u8], usize); 13] = [
     ("a command", b"echo hello\n", 1),
-    ("newlines and semicolons", b"echo a; echo b c\necho d;;\n\necho e", 1),
+    (
+        "newlines and semicolons",
+        b"echo a; echo b c\necho d;;\n\necho e",
+        1,
+    ),
     ("the environment of a command", b"false; env", 1),
     ("an empty script", b"", 1),
     ("1,000 commands", b"true\n", 1000),
     ("a program that isn't found", b"nope", 1),
     ("a path that can't be started", b"./nope\necho on", 1),
     ("a program that ends with 3", b"sh ends_with_3.sh", 1),
-    ("a program that ends by a signal", b"sh ends_by_signal.sh", 1),
+    (
+        "a program that ends by a signal",
+        b"sh ends_by_signal.sh",
+        1,
+    ),
     ("a script of the greatest size", b" ", 1_048_576),
     ("a script over that size", b" ", 1_048_577),
     ("a byte that is no text", b"true\ntrue \xff\n", 1),
@@ -40,11 +48,7 @@ fn shell(alloc: Global) -> Result<Command, AllocError> {
     Ok(command)
 }
 
-fn with_text<R: Processes + AllocGlobal>(
-    rt: &R,
-    text: &[u8],
-    times: usize,
-) -> Result<Output> {
+fn with_text<R: Processes + AllocGlobal>(rt: &R, text: &[u8], times: usize) -> Result<Output> {
     let mut script = Vec::new(rt.alloc());
     for _ in 0..times {
         script.extend_from_slice(text)?;
