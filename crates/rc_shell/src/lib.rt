@@ -9,6 +9,8 @@ mod programs;
 mod script;
 mod simple;
 mod state;
+#[cfg(test)]
+mod tests;
 mod word;
 
 pub use rc_parser::{FaultKind, SyntaxFault};
