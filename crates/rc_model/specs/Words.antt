@@ -1,5 +1,5 @@
 -- Words: a word is a list of characters, each marked or not. Only marked characters can stand for others.
-use Rattle.std.specs.Prelude.{ℕ, Bool, false, not, if◌then◌else◌, ◌==◌, ◌||◌, List, map}
+use Rattle.std.specs.Prelude.{ℕ, Bool, true, false, not, if◌then◌else◌, ◌==◌, ◌||◌, List, map}
 use Rattle.std.specs.Str.{chars, encode_utf8_all}
 use Rattle.std.specs.List.{list_any}
 
