@@ -3,6 +3,8 @@
 
 ghost use Rattle.std.specs.Prelude.{◌≡◌};
 
+mod operators;
+
 use std::alloc::{AllocError, AllocFailed};
 
 /// A part of the script, in bytes.
