@@ -3,6 +3,7 @@
 
 ghost use Rattle.std.specs.Prelude.{◌≡◌};
 
+mod machine;
 mod operators;
 
 use std::alloc::{AllocError, AllocFailed};

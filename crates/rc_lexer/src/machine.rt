@@ -1,0 +1,303 @@
+//! The machine that reads a script character by character.
+#![tactic(auto)]
+
+ghost use Rattle.std.specs.Prelude.{◌≡◌, ◌≢◌, ℕ, ◌≤◌, ◌↔◌, List, [], ◌∷◌, ◌++◌, length, slice_range, IfOk, OnOk, IsTrue};
+ghost use Rattle.rc_model.specs.Tokens as model;
+ghost use Rattle.rc_model.specs.Reading as reading;
+ghost use Rattle.rc_lexer.specs.Views.{lexeme_of};
+ghost use Rattle.rc_lexer.specs.Classes.{class_is};
+ghost use Rattle.rc_lexer.specs.Machine.{lexeme_tokens, Marked, place_of, before_of, due_in, due_left, state_in, Stands, IsHead, Does, Spelled, IfSpelled, Ends, Keeps, line_of, tokens_in};
+
+use crate::operators::{Class, begins_operator, is_name_char, operator};
+use crate::{FaultKind, LexError, LexFault, Span, Token, TokenKind};
+use std::alloc::{AllocError, Global};
+use std::collections::VecDeque;
+
+/// A place in the script: how many bytes stand before it, and its line.
+#[derive(Clone, Copy)]
+pub struct Place {
+    pub byte: usize,
+    pub line: usize,
+}
+
+/// What stands directly before a place.
+#[derive(Clone, Copy)]
+pub enum Before {
+    /// Nothing that matters to what follows.
+    Apart,
+    Word,
+    Quoted,
+    Name,
+    /// A `$` with its name still to come.
+    Dollar,
+    /// A `<<` between these places, with its mark still to come.
+    Here(Place, Place),
+}
+
+/// What has begun and has not ended, with the place where it began.
+#[derive(Clone, Copy)]
+pub enum State {
+    Between(Before),
+    Comment,
+    /// A backslash, which makes a newline a blank.
+    Backslash(Before, Place),
+    /// A word with a backslash behind it, at the second place.
+    WordBackslash(Before, Place, Place),
+    Word(Before, Place),
+    Name(Place),
+    Quoted(Before, Place),
+    /// A quoted word behind a quote that ends it if no other follows.
+    Closed(Before, Place),
+    Operator(Before, Place),
+    /// The body of the here document that is due first: where it begins, and where the line begins.
+    Body(usize, usize),
+}
+
+/// The character at hand.
+#[derive(Clone, Copy)]
+pub struct Head {
+    pub c: char,
+    pub class: Class,
+    pub place: Place,
+    pub next: Place,
+}
+
+/// A here document whose body is still to come.
+#[derive(Drop)]
+pub struct Due {
+    mark: Vec<u8>,
+    line: usize,
+}
+
+/// What is read so far.
+#[derive(Drop)]
+pub struct Lexer {
+    alloc: Global,
+    tokens: Vec<Token>,
+    /// The `$`s whose name is still to come.
+    dollars: Vec<Token>,
+    bodies: Vec<Span>,
+    due: VecDeque<Due>,
+}
+
+fn token(kind: TokenKind, start: Place, stop: Place) -> Token
+    ensures { result ≡ record { kind = kind; span = record { start = start.byte; stop = stop.byte }; line = start.line } }
+{
+    Token {
+        kind,
+        span: Span {
+            start: start.byte,
+            stop: stop.byte,
+        },
+        line: start.line,
+    }
+}
+
+/// Whether a `^` is inserted before the token.
+fn joins(before: Before, kind: TokenKind) -> bool
+    ensures { (script text : List ℕ) → result ≡ model.joins (before_of before) (lexeme_of script kind text) }
+{
+    let begins_part = matches!(
+        kind,
+        TokenKind::Quoted
+            | TokenKind::Backquote
+            | TokenKind::Dollar
+            | TokenKind::DollarCount
+            | TokenKind::DollarFlat
+            | TokenKind::BareDollar
+    );
+    match before {
+        Before::Word => begins_part,
+        Before::Quoted | Before::Name => begins_part || matches!(kind, TokenKind::Word),
+        _ => false,
+    }
+}
+
+fn behind_blank(before: Before) -> Before
+    ensures { before_of result ≡ model.behind_blank (before_of before) }
+{
+    match before {
+        Before::Here(start, stop) => Before::Here(start, stop),
+        _ => Before::Apart,
+    }
+}
+
+fn without_here(before: Before) -> Before
+    ensures { before_of result ≡ reading.without_here (before_of before) }
+{
+    match before {
+        Before::Here(_, _) => Before::Apart,
+        _ => before,
+    }
+}
+
+fn begins_name(before: Before, c: char) -> bool
+    ensures { result ≡ model.begins_name (before_of before) c }
+{
+    match before {
+        Before::Dollar => is_name_char(c),
+        _ => false,
+    }
+}
+
+/// What a quoted word says, without its quotes.
+fn unquoted(alloc: Global, text: &[u8]) -> Result<Vec<u8>, AllocError>
+    ensures { IfOk result (λ v. v.items ≡ model.unquoted_text text.now) }
+{
+    let mut out = Vec::new(alloc);
+    let Some((_, rest)) = text.split_first() else {
+        return Ok(out);
+    };
+    let mut after_quote = false;
+    for b in rest {
+        if *b == b'\'' && !after_quote {
+            after_quote = true;
+        } else {
+            out.push(*b)?;
+            after_quote = false;
+        }
+    }
+    Ok(out)
+}
+
+impl Lexer {
+    pub fn new(alloc: Global) -> Self
+        ensures tokens { result.tokens.items ≡ [] }
+        ensures bodies { result.bodies.items ≡ [] }
+        ensures due { result.due.items ≡ [] }
+    {
+        Lexer {
+            alloc,
+            tokens: Vec::new(alloc),
+            dollars: Vec::new(alloc),
+            bodies: Vec::new(alloc),
+            due: VecDeque::new(alloc),
+        }
+    }
+
+    /// What the character begins.
+    fn begin(&mut self, script: &[u8], before: Before, head: Head) -> Result<State, LexError>
+        requires { IsHead script.now head }
+        ensures does { Does script.now head.next.byte self.old self.new result (reading.begin (before_of before) (due_in self.old) (place_of head.place) head.c (class_is head.class)) }
+        ensures stands { IfOk result (λ s. Stands script.now head.next.byte s) }
+    {
+        match head.class {
+            Class::Blank => Ok(State::Between(behind_blank(before))),
+            Class::Quote => Ok(State::Quoted(before, head.place)),
+            Class::Backslash => Ok(State::Backslash(before, head.place)),
+            Class::Ordinary if begins_name(before, head.c) => Ok(State::Name(head.place)),
+            Class::Ordinary => Ok(State::Word(before, head.place)),
+            Class::Hash => {
+                self.bare_here(before)?;
+                Ok(State::Comment)
+            }
+            Class::Operates => {
+                self.bare_here(before)?;
+                self.dollars.clear();
+                Ok(State::Operator(without_here(before), head.place))
+            }
+            Class::LineEnd => {
+                self.bare_here(before)?;
+                self.tokens.push(token(TokenKind::Newline, head.place, head.next))?;
+                Ok(self.line(head.next.byte))
+            }
+        }
+    }
+
+    /// A `<<` whose mark does not come.
+    fn bare_here(&mut self, before: Before) -> Result<(), AllocError>
+        ensures tokens { OnOk result ((script : List ℕ) → tokens_in script self.new ≡ tokens_in script self.old ++ reading.bare_here (before_of before)) }
+        ensures rest { OnOk result (Keeps self.old self.new) }
+    {
+        if let Before::Here(start, stop) = before {
+            self.tokens.push(token(TokenKind::BareHere, start, stop))?;
+        }
+        Ok(())
+    }
+
+    /// A token between two places, with a `^` where it wants one.
+    fn lexeme(&mut self, before: Before, kind: TokenKind, start: Place, stop: Place) -> Result<(), AllocError>
+        ensures tokens { OnOk result ((script : List ℕ) → tokens_in script self.new ≡ tokens_in script self.old ++ lexeme_tokens script (before_of before) kind start stop) }
+        ensures rest { OnOk result (Keeps self.old self.new) }
+    {
+        if joins(before, kind) {
+            self.tokens.push(token(TokenKind::FreeCaret, start, start))?;
+        }
+        self.tokens.push(token(kind, start, stop))?;
+        Ok(())
+    }
+
+    /// A `<<` with its mark.
+    fn mark(&mut self, quoted: bool, mark: Vec<u8>, start: Place, stop: Place) -> Result<(), AllocError>
+        ensures { OnOk result (Marked quoted mark.items start stop self.old self.new) }
+    {
+        let body = Span { start: 0, stop: 0 };
+        self.due.push_back(Due {
+            mark,
+            line: start.line,
+        })?;
+        self.tokens.push(token(TokenKind::HereDoc(quoted, body), start, stop))?;
+        Ok(())
+    }
+
+    /// An unquoted word, and what it is for what follows.
+    fn word(&mut self, script: &[u8], before: Before, start: Place, stop: Place) -> Result<Before, LexError>
+        requires order { start.byte ≤ stop.byte }
+        requires within { stop.byte ≤ length script.now }
+        ensures { IfSpelled script.now before (model.Word (slice_range script.now start.byte stop.byte)) start stop self.old self.new result }
+    {
+        if let Before::Here(begin, _) = before {
+            let mark = script[start.byte..stop.byte].to_vec(self.alloc)?;
+            self.mark(false, mark, begin, stop)?;
+            return Ok(Before::Apart);
+        }
+        self.lexeme(before, TokenKind::Word, start, stop)?;
+        Ok(Before::Word)
+    }
+
+    /// A quoted word, and what it is for what follows.
+    fn quoted(&mut self, script: &[u8], before: Before, start: Place, stop: Place) -> Result<Before, LexError>
+        requires order { start.byte ≤ stop.byte }
+        requires within { stop.byte ≤ length script.now }
+        ensures { IfSpelled script.now before (model.Quoted (model.unquoted_text (slice_range script.now start.byte stop.byte))) start stop self.old self.new result }
+    {
+        if let Before::Here(begin, _) = before {
+            let mark = unquoted(self.alloc, &script[start.byte..stop.byte])?;
+            self.mark(true, mark, begin, stop)?;
+            return Ok(Before::Apart);
+        }
+        self.lexeme(before, TokenKind::Quoted, start, stop)?;
+        match before {
+            Before::Dollar => Ok(Before::Name),
+            _ => Ok(Before::Quoted),
+        }
+    }
+
+    /// The character behind a word that is read so far.
+    fn in_word(&mut self, script: &[u8], before: Before, start: Place, head: Head) -> Result<State, LexError>
+        requires head { IsHead script.now head }
+        requires order { start.byte ≤ head.place.byte }
+        ensures does { Does script.now head.next.byte self.old self.new result (reading.in_word (before_of before) (place_of start) (slice_range script.now start.byte head.place.byte) (due_in self.old) (place_of head.place) head.c (class_is head.class)) }
+        ensures stands { IfOk result (λ s. Stands script.now head.next.byte s) }
+    {
+        match head.class {
+            Class::Ordinary => Ok(State::Word(before, start)),
+            Class::Backslash => Ok(State::WordBackslash(before, start, head.place)),
+            _ => {
+                let after = self.word(script, before, start, head.place)?;
+                self.begin(script, after, head)
+            }
+        }
+    }
+
+    /// The state at the beginning of a line.
+    fn line(&self, at: usize) -> State
+        ensures { result ≡ line_of self.now.due.items at }
+    {
+        if self.due.is_empty() {
+            State::Between(Before::Apart)
+        } else {
+            State::Body(at, at)
+        }
+    }
+}
