@@ -1,5 +1,5 @@
 -- How the definitions see a lexer and its state, and what a step of it does.
-use Rattle.std.specs.Prelude.{◌≡◌, ℕ, Bool, ◌≤◌, List, [], ◌∷◌, ◌++◌, map, length, slice_range, Result, Ok, Err}
+use Rattle.std.specs.Prelude.{◌≡◌, ℕ, Bool, false, ◌≤◌, List, [], ◌∷◌, ◌++◌, map, length, slice_range, Result, Ok, Err}
 use Rattle.std.specs.Char.{encode_utf8}
 use Rattle.rc_model.specs.Tokens as model
 use Rattle.rc_model.specs.Tokens.{Outcome, LexFault}
@@ -88,7 +88,7 @@ Stands script end (Word b p) = p.byte ≤ end
 Stands script end (Name p) = p.byte ≤ end
 Stands script end (Quoted b p) = p.byte ≤ end
 Stands script end (Closed b p) = p.byte ≤ end
-Stands script end (Operator b p) = p.byte ≤ end
+Stands script end (Operator b p) = (p.byte ≤ end) × (model.awaits_mark (before_of b) ≡ false)
 Stands script end (Body b l) = (b ≤ l) × (l ≤ end)
 Stands script end s = Unit {0}
 
@@ -153,3 +153,10 @@ pub record Marked (quoted : Bool) (mark : List ℕ) (p q : Place) (old new : Lex
   pub due : due_in new ≡ due_in old ++ record { mark = mark; line = p.line } ∷ []
   pub dollars : new.dollars.items ≡ old.dollars.items
   pub bodies : new.bodies.items ≡ old.bodies.items
+
+-- the `$`s are tokens, so or so
+pub record Resolved (seen : List model.Token → List model.Token) (old new : Lexer) : Type 0 where
+  pub tokens : (script : List ℕ) → tokens_in script new ≡ tokens_in script old ++ seen (dollars_in script old)
+  pub dollars : new.dollars.items ≡ []
+  pub bodies : new.bodies.items ≡ old.bodies.items
+  pub due : new.due.items ≡ old.due.items

@@ -1,12 +1,12 @@
 //! The machine that reads a script character by character.
 #![tactic(auto)]
 
-ghost use Rattle.std.specs.Prelude.{◌≡◌, ◌≢◌, ℕ, ◌≤◌, ◌↔◌, List, [], ◌∷◌, ◌++◌, length, slice_range, IfOk, OnOk, IsTrue};
+ghost use Rattle.std.specs.Prelude.{false, ◌||◌, ◌==◌, ◌≡◌, ◌≢◌, ℕ, ◌≤◌, ◌↔◌, List, [], ◌∷◌, ◌++◌, length, slice_range, IfOk, OnOk, IsTrue};
 ghost use Rattle.rc_model.specs.Tokens as model;
 ghost use Rattle.rc_model.specs.Reading as reading;
-ghost use Rattle.rc_lexer.specs.Views.{lexeme_of};
+ghost use Rattle.rc_lexer.specs.Views.{lexeme_of, tokens_of};
 ghost use Rattle.rc_lexer.specs.Classes.{class_is};
-ghost use Rattle.rc_lexer.specs.Machine.{lexeme_tokens, Marked, place_of, before_of, due_in, due_left, state_in, Stands, IsHead, Does, Spelled, IfSpelled, Ends, Keeps, line_of, tokens_in};
+ghost use Rattle.rc_lexer.specs.Machine.{Resolved, dollars_in, lexeme_tokens, Marked, place_of, before_of, due_in, due_left, state_in, Stands, IsHead, Does, Spelled, IfSpelled, Ends, Keeps, line_of, tokens_in};
 
 use crate::operators::{Class, begins_operator, is_name_char, operator};
 use crate::{FaultKind, LexError, LexFault, Span, Token, TokenKind};
@@ -123,7 +123,8 @@ fn behind_blank(before: Before) -> Before
 }
 
 fn without_here(before: Before) -> Before
-    ensures { before_of result ≡ reading.without_here (before_of before) }
+    ensures value { before_of result ≡ reading.without_here (before_of before) }
+    ensures apart { model.awaits_mark (before_of result) ≡ false }
 {
     match before {
         Before::Here(_, _) => Before::Apart,
@@ -138,6 +139,52 @@ fn begins_name(before: Before, c: char) -> bool
         Before::Dollar => is_name_char(c),
         _ => false,
     }
+}
+
+/// What the token is for what follows.
+fn behind(before: Before, kind: TokenKind) -> Before
+    ensures { (script text : List ℕ) → before_of result ≡ model.as_before (before_of before) (lexeme_of script kind text) }
+{
+    match (before, kind) {
+        (Before::Here(_, _), _) => Before::Apart,
+        (Before::Dollar, TokenKind::Quoted) => Before::Name,
+        (_, TokenKind::Word) => Before::Word,
+        (_, TokenKind::Quoted) => Before::Quoted,
+        (_, TokenKind::Name) => Before::Name,
+        (_, TokenKind::Dollar | TokenKind::DollarCount | TokenKind::DollarFlat) => Before::Dollar,
+        _ => Before::Apart,
+    }
+}
+
+/// What the operator means here, where no name follows.
+fn meant(before: Before, kind: TokenKind) -> TokenKind
+    ensures { (script text : List ℕ) → lexeme_of script result text ≡ model.meant (before_of before) [] (lexeme_of script kind text) }
+{
+    match (before, kind) {
+        (Before::Name, TokenKind::LeftParen) => TokenKind::Subscript,
+        (_, TokenKind::Dollar | TokenKind::DollarCount | TokenKind::DollarFlat) => TokenKind::BareDollar,
+        _ => kind,
+    }
+}
+
+/// Whether a name begins with the character, quoted or not.
+fn names(c: char) -> bool
+    ensures { result ≡ (model.is_name_char c || (c == 39)) }
+{
+    is_name_char(c) || c == '\''
+}
+
+fn push_bare(tokens: &mut Vec<Token>, dollars: &[Token]) -> Result<(), AllocError>
+    ensures { OnOk result ((script : List ℕ) → tokens_of script tokens.new.items ≡ tokens_of script tokens.old.items ++ reading.bare (tokens_of script dollars.now)) }
+{
+    for dollar in dollars {
+        tokens.push(Token {
+            kind: TokenKind::BareDollar,
+            span: dollar.span,
+            line: dollar.line,
+        })?;
+    }
+    Ok(())
 }
 
 /// What a quoted word says, without its quotes.
@@ -252,7 +299,7 @@ impl Lexer {
             return Ok(Before::Apart);
         }
         self.lexeme(before, TokenKind::Word, start, stop)?;
-        Ok(Before::Word)
+        Ok(behind(before, TokenKind::Word))
     }
 
     /// A quoted word, and what it is for what follows.
@@ -267,10 +314,7 @@ impl Lexer {
             return Ok(Before::Apart);
         }
         self.lexeme(before, TokenKind::Quoted, start, stop)?;
-        match before {
-            Before::Dollar => Ok(Before::Name),
-            _ => Ok(Before::Quoted),
-        }
+        Ok(behind(before, TokenKind::Quoted))
     }
 
     /// The character behind a word that is read so far.
@@ -288,6 +332,77 @@ impl Lexer {
                 self.begin(script, after, head)
             }
         }
+    }
+
+    /// The character behind a name that is read so far.
+    fn in_name(&mut self, script: &[u8], start: Place, head: Head) -> Result<State, LexError>
+        requires head { IsHead script.now head }
+        requires order { start.byte ≤ head.place.byte }
+        ensures does { Does script.now head.next.byte self.old self.new result (reading.step (reading.Name (place_of start) (slice_range script.now start.byte head.place.byte)) (due_in self.old) (place_of head.place) head.c (class_is head.class)) }
+        ensures stands { IfOk result (λ s. Stands script.now head.next.byte s) }
+    {
+        if is_name_char(head.c) {
+            return Ok(State::Name(start));
+        }
+        self.lexeme(Before::Dollar, TokenKind::Name, start, head.place)?;
+        self.begin(script, Before::Name, head)
+    }
+
+    /// The character behind a quoted word that it ends.
+    fn behind_quoted(&mut self, script: &[u8], before: Before, start: Place, head: Head) -> Result<State, LexError>
+        requires head { IsHead script.now head }
+        requires order { start.byte ≤ head.place.byte }
+        ensures does { Does script.now head.next.byte self.old self.new result (reading.ends (before_of before) (model.Quoted (model.unquoted_text (slice_range script.now start.byte head.place.byte))) (place_of start) (due_in self.old) (place_of head.place) head.c (class_is head.class)) }
+        ensures stands { IfOk result (λ s. Stands script.now head.next.byte s) }
+    {
+        let after = self.quoted(script, before, start, head.place)?;
+        self.begin(script, after, head)
+    }
+
+    /// A `^` before a `$` that wants one.
+    fn caret(&mut self, before: Before, start: Place) -> Result<(), AllocError>
+        ensures tokens { OnOk result ((script : List ℕ) → tokens_in script self.new ≡ tokens_in script self.old ++ model.caret (before_of before) model.Dollar (place_of start)) }
+        ensures rest { OnOk result (Keeps self.old self.new) }
+    {
+        if joins(before, TokenKind::Dollar) {
+            self.tokens.push(token(TokenKind::FreeCaret, start, start))?;
+        }
+        Ok(())
+    }
+
+    /// The `$`s have no name.
+    fn bare_dollars(&mut self) -> Result<(), AllocError>
+        ensures { OnOk result (Resolved reading.bare self.old self.new) }
+    {
+        push_bare(&mut self.tokens, self.dollars.as_slice())?;
+        self.dollars.clear();
+        Ok(())
+    }
+
+    /// The `$`s have a name.
+    fn named_dollars(&mut self) -> Result<(), AllocError>
+        ensures { OnOk result (Resolved (λ dollars. dollars) self.old self.new) }
+    {
+        self.tokens.extend_from_slice(self.dollars.as_slice())?;
+        self.dollars.clear();
+        Ok(())
+    }
+
+    /// The character behind `$`s whose name is still to come.
+    fn behind_dollars(&mut self, script: &[u8], head: Head) -> Result<State, LexError>
+        requires { IsHead script.now head }
+        ensures does { Does script.now head.next.byte self.old self.new result (reading.behind_dollars (dollars_in script.now self.old) (due_in self.old) (place_of head.place) head.c (class_is head.class)) }
+        ensures stands { IfOk result (λ s. Stands script.now head.next.byte s) }
+    {
+        if names(head.c) {
+            self.named_dollars()?;
+            return self.begin(script, Before::Dollar, head);
+        }
+        if head.c == '$' {
+            return Ok(State::Operator(Before::Dollar, head.place));
+        }
+        self.bare_dollars()?;
+        self.begin(script, Before::Apart, head)
     }
 
     /// The state at the beginning of a line.

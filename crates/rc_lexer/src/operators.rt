@@ -1,7 +1,7 @@
 //! How operators are written, and what a character begins.
 #![tactic(auto)]
 
-ghost use Rattle.std.specs.Prelude.{◌≡◌, MatchOption, Some, None, []};
+ghost use Rattle.std.specs.Prelude.{◌≡◌, ℕ, List, MatchOption, Some, None, []};
 ghost use Rattle.rc_model.specs.Tokens.{begins_operator, operator, class_of, is_name_char};
 ghost use Rattle.rc_lexer.specs.Views.{lexeme_of};
 ghost use Rattle.rc_lexer.specs.Classes.{class_is};
@@ -89,7 +89,7 @@ pub fn begins_operator(text: &[u8]) -> bool
 
 /// The operator that is written so.
 pub fn operator(text: &[u8]) -> Option<TokenKind>
-    ensures { MatchOption result (operator text.now ≡ None) (λ kind. operator text.now ≡ Some (lexeme_of [] kind [])) }
+    ensures { MatchOption result (operator text.now ≡ None) (λ kind. (script slice : List ℕ) → operator text.now ≡ Some (lexeme_of script kind slice)) }
 {
     for (operator, kind) in &OPERATORS {
         if operator.as_bytes() == text {
