@@ -33,7 +33,7 @@ emits script end us x old mid new (Ok s) t b d =
 emits script end us x old mid new (Err (Fault f)) t b d = ap (reading.emit us) d
 emits script end us x old mid new (Err Memory) t b d = d
 
-along : (script : List ℕ) (end : ℕ) (old new : Lexer) (r : Result State LexError) (x y : Step) → x ≡ y → Does script end old new r x → Does script end old new r y
+pub along : (script : List ℕ) (end : ℕ) (old new : Lexer) (r : Result State LexError) (x y : Step) → x ≡ y → Does script end old new r x → Does script end old new r y
 along script end old new r x y e d = subst (λ z. Does script end old new r z) e d
 
 -- a lexeme ends, and the character begins something

@@ -1,3 +1,6 @@
 pub mod Tables
 pub mod Steps
 pub mod Does
+pub mod Operates
+pub mod Operated
+pub mod InBody

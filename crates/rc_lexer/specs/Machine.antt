@@ -82,8 +82,8 @@ due_left l s = due_behind l.due.items s
 
 -- the state says what stands in the script before this byte
 abbrev pub Stands : List ℕ → ℕ → State → Type 0
-Stands script end (Backslash b p) = slice_range script p.byte end ≡ 92 ∷ []
-Stands script end (WordBackslash b p q) = slice_range script p.byte end ≡ slice_range script p.byte q.byte ++ 92 ∷ []
+Stands script end (Backslash b p) = (p.byte ≤ end) × (slice_range script p.byte end ≡ 92 ∷ [])
+Stands script end (WordBackslash b p q) = (p.byte ≤ q.byte) × (q.byte ≤ end) × (slice_range script p.byte end ≡ slice_range script p.byte q.byte ++ 92 ∷ [])
 Stands script end (Word b p) = p.byte ≤ end
 Stands script end (Name p) = p.byte ≤ end
 Stands script end (Quoted b p) = p.byte ≤ end

@@ -222,6 +222,45 @@ impl Lexer {
         }
     }
 
+    /// Reads one more character.
+    pub fn step(&mut self, script: &[u8], state: State, head: Head) -> Result<State, LexError>
+        requires head { IsHead script.now head }
+        requires stands { Stands script.now head.place.byte state }
+        ensures does { Does script.now head.next.byte self.old self.new result (reading.step (state_in script.now head.place.byte self.old state) (due_left self.old state) (place_of head.place) head.c (class_is head.class)) }
+        ensures stands { IfOk result (λ s. Stands script.now head.next.byte s) }
+    {
+        match state {
+            State::Between(before) => self.begin(script, before, head),
+            State::Comment => match head.class {
+                Class::LineEnd => self.begin(script, Before::Apart, head),
+                _ => Ok(state),
+            },
+            State::Backslash(before, start) => match head.class {
+                Class::LineEnd => Ok(State::Between(behind_blank(before))),
+                _ => self.in_word(script, before, start, head),
+            },
+            State::WordBackslash(before, start, stop) => match head.class {
+                Class::LineEnd => {
+                    self.word(script, before, start, stop)?;
+                    Ok(State::Between(Before::Apart))
+                }
+                _ => self.in_word(script, before, start, head),
+            },
+            State::Word(before, start) => self.in_word(script, before, start, head),
+            State::Name(start) => self.in_name(script, start, head),
+            State::Quoted(before, start) => match head.class {
+                Class::Quote => Ok(State::Closed(before, start)),
+                _ => Ok(state),
+            },
+            State::Closed(before, start) => match head.class {
+                Class::Quote => Ok(State::Quoted(before, start)),
+                _ => self.behind_quoted(script, before, start, head),
+            },
+            State::Operator(before, start) => self.in_operator(script, before, start, head),
+            State::Body(body, line) => self.in_body(script, body, line, head),
+        }
+    }
+
     /// What the character begins.
     fn begin(&mut self, script: &[u8], before: Before, head: Head) -> Result<State, LexError>
         requires { IsHead script.now head }
@@ -403,6 +442,82 @@ impl Lexer {
         }
         self.bare_dollars()?;
         self.begin(script, Before::Apart, head)
+    }
+
+    /// The character behind an operator that it ends.
+    fn operated(&mut self, script: &[u8], before: Before, start: Place, head: Head) -> Result<State, LexError>
+        requires head { IsHead script.now head }
+        requires order { start.byte ≤ head.place.byte }
+        requires apart { model.awaits_mark (before_of before) ≡ false }
+        ensures does { Does script.now head.next.byte self.old self.new result (reading.operated (before_of before) (dollars_in script.now self.old) (place_of start) (model.operator (slice_range script.now start.byte head.place.byte)) (due_in self.old) (place_of head.place) head.c (class_is head.class)) }
+        ensures stands { IfOk result (λ s. Stands script.now head.next.byte s) }
+    {
+        let Some(kind) = operator(&script[start.byte..head.place.byte]) else {
+            return Err(LexError::Fault(LexFault {
+                kind: FaultKind::BadDescriptor,
+                line: start.line,
+            }));
+        };
+        match kind {
+            TokenKind::BareHere => self.begin(script, Before::Here(start, head.place), head),
+            TokenKind::Dollar => {
+                self.caret(before, start)?;
+                self.dollars.push(token(kind, start, head.place))?;
+                self.behind_dollars(script, head)
+            }
+            TokenKind::DollarCount | TokenKind::DollarFlat => {
+                self.caret(before, start)?;
+                self.bare_dollars()?;
+                self.dollars.push(token(kind, start, head.place))?;
+                self.behind_dollars(script, head)
+            }
+            _ => {
+                let meant = meant(before, kind);
+                self.lexeme(before, meant, start, head.place)?;
+                self.begin(script, behind(before, meant), head)
+            }
+        }
+    }
+
+    /// The character behind an operator that is read so far.
+    fn in_operator(&mut self, script: &[u8], before: Before, start: Place, head: Head) -> Result<State, LexError>
+        requires head { IsHead script.now head }
+        requires order { start.byte ≤ head.place.byte }
+        requires apart { model.awaits_mark (before_of before) ≡ false }
+        ensures does { Does script.now head.next.byte self.old self.new result (reading.step (reading.Operator (before_of before) (dollars_in script.now self.old) (place_of start) (slice_range script.now start.byte head.place.byte)) (due_in self.old) (place_of head.place) head.c (class_is head.class)) }
+        ensures stands { IfOk result (λ s. Stands script.now head.next.byte s) }
+    {
+        if begins_operator(&script[start.byte..head.next.byte]) {
+            return Ok(State::Operator(before, start));
+        }
+        self.operated(script, before, start, head)
+    }
+
+    /// The character in the body of a here document.
+    fn in_body(&mut self, script: &[u8], body: usize, line: usize, head: Head) -> Result<State, LexError>
+        requires head { IsHead script.now head }
+        requires order { body ≤ line }
+        requires within { line ≤ head.place.byte }
+        ensures does { Does script.now head.next.byte self.old self.new result (reading.step (state_in script.now head.place.byte self.old (State.Body body line)) (due_left self.old (State.Body body line)) (place_of head.place) head.c (class_is head.class)) }
+        ensures stands { IfOk result (λ s. Stands script.now head.next.byte s) }
+    {
+        let Some(due) = self.due.front() else {
+            return self.begin(script, Before::Apart, head);
+        };
+        match head.class {
+            Class::LineEnd => {
+                if &script[line..head.place.byte] != due.mark.as_slice() {
+                    return Ok(State::Body(body, head.next.byte));
+                }
+                self.bodies.push(Span {
+                    start: body,
+                    stop: line,
+                })?;
+                let _ = self.due.pop_front();
+                Ok(self.line(head.next.byte))
+            }
+            _ => Ok(State::Body(body, line)),
+        }
     }
 
     /// The state at the beginning of a line.
