@@ -4,3 +4,5 @@ pub mod Does
 pub mod Operates
 pub mod Operated
 pub mod InBody
+pub mod Filled
+pub mod Walk

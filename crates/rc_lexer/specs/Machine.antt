@@ -160,3 +160,9 @@ pub record Resolved (seen : List model.Token → List model.Token) (old new : Le
   pub dollars : new.dollars.items ≡ []
   pub bodies : new.bodies.items ≡ old.bodies.items
   pub due : new.due.items ≡ old.due.items
+
+-- no here document is due, or the first that is due is open
+abbrev pub IsClosed : List model.Due → Result (Unit {0}) LexError → Type 0
+IsClosed due (Ok u) = reading.closed [] [] due ≡ Ok ([], [])
+IsClosed due (Err (Fault f)) = reading.closed [] [] due ≡ Err (fault_of f)
+IsClosed due (Err Memory) = ⊥

@@ -1,12 +1,12 @@
 //! The machine that reads a script character by character.
 #![tactic(auto)]
 
-ghost use Rattle.std.specs.Prelude.{false, ◌||◌, ◌==◌, ◌≡◌, ◌≢◌, ℕ, ◌≤◌, ◌↔◌, List, [], ◌∷◌, ◌++◌, length, slice_range, IfOk, OnOk, IsTrue};
+ghost use Rattle.std.specs.Prelude.{false, ◌||◌, ◌==◌, ◌≡◌, ◌≢◌, ℕ, ◌≤◌, ◌↔◌, List, [], ◌∷◌, ◌++◌, map, length, slice_range, IfOk, OnOk, IsTrue};
 ghost use Rattle.rc_model.specs.Tokens as model;
 ghost use Rattle.rc_model.specs.Reading as reading;
-ghost use Rattle.rc_lexer.specs.Views.{lexeme_of, tokens_of};
+ghost use Rattle.rc_lexer.specs.Views.{lexeme_of, slice_at, token_of, tokens_of};
 ghost use Rattle.rc_lexer.specs.Classes.{class_is};
-ghost use Rattle.rc_lexer.specs.Machine.{Resolved, dollars_in, lexeme_tokens, Marked, place_of, before_of, due_in, due_left, state_in, Stands, IsHead, Does, Spelled, IfSpelled, Ends, Keeps, line_of, tokens_in};
+ghost use Rattle.rc_lexer.specs.Machine.{IsClosed, bodies_in, Resolved, dollars_in, lexeme_tokens, Marked, place_of, before_of, due_in, due_left, state_in, Stands, IsHead, Does, Spelled, IfSpelled, Ends, Keeps, line_of, tokens_in};
 
 use crate::operators::{Class, begins_operator, is_name_char, operator};
 use crate::{FaultKind, LexError, LexFault, Span, Token, TokenKind};
@@ -203,6 +203,48 @@ fn unquoted(alloc: Global, text: &[u8]) -> Result<Vec<u8>, AllocError>
             out.push(*b)?;
             after_quote = false;
         }
+    }
+    Ok(out)
+}
+
+pub fn fault(kind: FaultKind, line: usize) -> LexError
+    ensures { result ≡ LexError.Fault (record { kind = kind; line = line }) }
+{
+    LexError::Fault(LexFault {
+        kind,
+        line,
+    })
+}
+
+/// The token with the next body, if it is a here document, and the bodies behind that.
+fn with_body(token: Token, bodies: &[Span]) -> (Token, &[Span])
+    ensures { (script : List ℕ) (ts : List model.Token) → model.filled (token_of script token ∷ ts) (map (slice_at script) bodies.now) ≡ token_of script result.0 ∷ model.filled ts (map (slice_at script) result.1.now) }
+{
+    let TokenKind::HereDoc(quoted, _) = token.kind else {
+        return (token, bodies);
+    };
+    let Some((body, rest)) = bodies.split_first() else {
+        return (token, bodies);
+    };
+    let kind = TokenKind::HereDoc(quoted, *body);
+    let token = Token {
+        kind,
+        span: token.span,
+        line: token.line,
+    };
+    (token, rest)
+}
+
+/// Each here document takes the next body.
+fn filled(alloc: Global, tokens: &[Token], bodies: &[Span]) -> Result<Vec<Token>, AllocError>
+    ensures { IfOk result (λ v. (script : List ℕ) → tokens_of script v.items ≡ model.filled (tokens_of script tokens.now) (map (slice_at script) bodies.now)) }
+{
+    let mut out = Vec::new(alloc);
+    let mut left = bodies;
+    for token in tokens {
+        let (token, rest) = with_body(*token, left);
+        out.push(token)?;
+        left = rest;
     }
     Ok(out)
 }
@@ -453,10 +495,7 @@ impl Lexer {
         ensures stands { IfOk result (λ s. Stands script.now head.next.byte s) }
     {
         let Some(kind) = operator(&script[start.byte..head.place.byte]) else {
-            return Err(LexError::Fault(LexFault {
-                kind: FaultKind::BadDescriptor,
-                line: start.line,
-            }));
+            return Err(fault(FaultKind::BadDescriptor, start.line));
         };
         match kind {
             TokenKind::BareHere => self.begin(script, Before::Here(start, head.place), head),
@@ -529,5 +568,95 @@ impl Lexer {
         } else {
             State::Body(at, at)
         }
+    }
+
+    /// The script ends in this state.
+    pub fn finish(&mut self, script: &[u8], state: State, place: Place) -> Result<(), LexError>
+        requires stands { Stands script.now place.byte state }
+        requires within { place.byte ≤ length script.now }
+        ensures { Ends script.now self.old self.new result (reading.finish (state_in script.now place.byte self.old state) (due_left self.old state) (place_of place)) }
+    {
+        match state {
+            State::Between(before) => {
+                self.bare_here(before)?;
+                self.nothing_due()
+            }
+            State::Comment => self.nothing_due(),
+            State::Backslash(before, start) | State::Word(before, start) => self.last_word(script, before, start, place),
+            State::WordBackslash(before, start, _) => self.last_word(script, before, start, place),
+            State::Name(start) => {
+                self.lexeme(Before::Dollar, TokenKind::Name, start, place)?;
+                self.nothing_due()
+            }
+            State::Quoted(_, start) => Err(fault(FaultKind::OpenQuote, start.line)),
+            State::Closed(before, start) => {
+                let _ = self.quoted(script, before, start, place)?;
+                self.nothing_due()
+            }
+            State::Operator(before, start) => self.last_operator(script, before, start, place),
+            State::Body(body, line) => self.last_line(script, body, line, place.byte),
+        }
+    }
+
+    /// No here document waits for its body.
+    fn nothing_due(&self) -> Result<(), LexError>
+        ensures { IsClosed (due_in self.now) result }
+    {
+        match self.due.front() {
+            None => Ok(()),
+            Some(due) => Err(fault(FaultKind::OpenHere, due.line)),
+        }
+    }
+
+    fn last_word(&mut self, script: &[u8], before: Before, start: Place, place: Place) -> Result<(), LexError>
+        requires order { start.byte ≤ place.byte }
+        requires within { place.byte ≤ length script.now }
+        ensures { Ends script.now self.old self.new result (reading.ended (before_of before) (model.Word (slice_range script.now start.byte place.byte)) (place_of start) (due_in self.old) (place_of place)) }
+    {
+        let _ = self.word(script, before, start, place)?;
+        self.nothing_due()
+    }
+
+    fn last_operator(&mut self, script: &[u8], before: Before, start: Place, place: Place) -> Result<(), LexError>
+        requires order { start.byte ≤ place.byte }
+        requires within { place.byte ≤ length script.now }
+        requires apart { model.awaits_mark (before_of before) ≡ false }
+        ensures { Ends script.now self.old self.new result (reading.operated_last (before_of before) (dollars_in script.now self.old) (place_of start) (model.operator (slice_range script.now start.byte place.byte)) (due_in self.old) (place_of place)) }
+    {
+        let Some(kind) = operator(&script[start.byte..place.byte]) else {
+            return Err(fault(FaultKind::BadDescriptor, start.line));
+        };
+        self.bare_dollars()?;
+        self.lexeme(before, meant(before, kind), start, place)?;
+        self.nothing_due()
+    }
+
+    /// The last line of a body, which is the mark, if there is one.
+    fn last_line(&mut self, script: &[u8], body: usize, line: usize, end: usize) -> Result<(), LexError>
+        requires order { body ≤ line }
+        requires until { line ≤ end }
+        requires within { end ≤ length script.now }
+        ensures { (p : model.Place) → Ends script.now self.old self.new result (reading.finish (state_in script.now end self.old (State.Body body line)) (due_left self.old (State.Body body line)) p) }
+    {
+        let Some(due) = self.due.front() else {
+            return Ok(());
+        };
+        let last = &script[line..end];
+        if last.is_empty() || last != due.mark.as_slice() {
+            return Err(fault(FaultKind::OpenHere, due.line));
+        }
+        self.bodies.push(Span {
+            start: body,
+            stop: line,
+        })?;
+        let _ = self.due.pop_front();
+        self.nothing_due()
+    }
+
+    /// The tokens, with the bodies of the here documents.
+    pub fn tokens(&self) -> Result<Vec<Token>, AllocError>
+        ensures { IfOk result (λ v. (script : List ℕ) → tokens_of script v.items ≡ model.filled (tokens_in script self.now) (bodies_in script self.now)) }
+    {
+        filled(self.alloc, self.tokens.as_slice(), self.bodies.as_slice())
     }
 }
