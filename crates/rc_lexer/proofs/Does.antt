@@ -74,7 +74,7 @@ name_does script end text start place c k old mid new r h e t kept d =
     let text' = slice_range script start.byte place.byte in
     along script end old new r _ _
     (sym (ap (λ v. cond v (reading.goes [] (reading.Name (place_of start) (text ++ encode_utf8 c)) (due_in old)) (reading.ends model.DollarBefore (model.Name text) (place_of start) (due_in old) (place_of place) c k)) h
-      ∙ ap (λ z. reading.ends model.DollarBefore (model.Name z) (place_of start) (due_in old) (place_of place) c k) e))
+    ∙ ap (λ z. reading.ends model.DollarBefore (model.Name z) (place_of start) (due_in old) (place_of place) c k) e))
     (ends_does script end before.Dollar before.Name (model.Name text') start place c k old mid new r
     (record { tokens = t script; due = ap (map due_of) kept.due; behind = refl; dollars = kept.dollars; bodies = kept.bodies }) d)
 
@@ -98,7 +98,7 @@ pub bare_does : (script : List ℕ) (end : ℕ) (place : Place) (c : ℕ) (k : m
 bare_does script end place c k old mid new r h n s d =
     along script end old new r _ _
     (sym (ap (λ v. behind v (c == 36) (dollars_in script old) (due_in old) (place_of place) c k) h
-      ∙ ap (λ v. behind false v (dollars_in script old) (due_in old) (place_of place) c k) (no (c == 36) refl)))
+    ∙ ap (λ v. behind false v (dollars_in script old) (due_in old) (place_of place) c k) (no (c == 36) refl)))
     (emits script end (reading.bare (dollars_in script old)) (reading.begin model.Apart (due_in old) (place_of place) c k) old mid new r (s.tokens script) s.bodies
     (along script end mid new r _ _ (ap (λ q. reading.begin model.Apart (map due_of q) (place_of place) c k) s.due) d))
   where

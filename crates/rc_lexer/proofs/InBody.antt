@@ -28,7 +28,6 @@ use Rattle.rc_lexer.specs.Machine.{state_in, due_left, body_of, behind_first, li
 use Rattle.std.proofs.lemmas.Bool.{eqb-true}
 use Rattle.std.specs.Char.{encode_utf8}
 
-
 -- the first of the here documents that are due
 pub record First (d : Due) (due : List Due) : Type 0 where
   pub rest : List Due
@@ -54,7 +53,7 @@ pub other_line : (script : List ℕ) (body line place next : ℕ) (c : ℕ) (d :
     ≡ Ok (ts, bodies, body_of due (slice_range script body next) (slice_range script next next), behind_first due)
 other_line script body line place next c d due ts bodies p f h k e n =
     subst (λ z. behind_step ts bodies (reading.step (body_of z (slice_range script body line) (slice_range script line place)) (behind_first z) p c model.LineEnd)
-      ≡ Ok (ts, bodies, body_of z (slice_range script body next) (slice_range script next next), behind_first z)) (sym f.is)
+    ≡ Ok (ts, bodies, body_of z (slice_range script body next) (slice_range script next next), behind_first z)) (sym f.is)
     (ap (λ v. behind_step ts bodies (ended v (due_of d) (slice_range script body line) (slice_range script line place) (map due_of f.rest) c)) n
     ∙ ap (λ z. Ok (z, bodies ++ [], reading.Body (due_of d) (slice_range script body line ++ slice_range script line place ++ encode_utf8 c) [], map due_of f.rest)) (append-nil ts)
     ∙ ap (λ z. Ok (ts, z, reading.Body (due_of d) (slice_range script body line ++ slice_range script line place ++ encode_utf8 c) [], map due_of f.rest)) (append-nil bodies)

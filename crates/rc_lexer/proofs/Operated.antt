@@ -27,7 +27,6 @@ use Rattle.rc_lexer.specs.Machine.{state_in, due_left, lexeme_tokens, place_of, 
 use Rattle.std.proofs.lemmas.Bool.{eqb-true}
 use Rattle.std.specs.Char.{encode_utf8}
 
-
 operated_along : (script : List ℕ) (end : ℕ) (prev : model.Before) (dollars : List model.Token) (q : model.Place) (o o' : Option model.Lexeme) (due : List model.Due) (p : model.Place) (c : ℕ) (k : model.Class) (old new : Lexer) (r : Result State LexError) →
     o ≡ o' → Does script end old new r (reading.operated prev dollars q o' due p c k) → Does script end old new r (reading.operated prev dollars q o due p c k)
 operated_along script end prev dollars q o o' due p c k old new r e d = along script end old new r _ _ (sym (ap (λ z. reading.operated prev dollars q z due p c k) e)) d
@@ -50,12 +49,12 @@ pub dollar_does : (script : List ℕ) (end : ℕ) (prev : model.Before) (q place
 dollar_does script end prev q place kind o c k t old mid mid' new r e h ts kept mt md mb mq is d =
     let tok = model.token model.Dollar (place_of q) (place_of place) in
     let ds : dollars_in script mid' ≡ dollars_in script old ++ tok ∷ [] =
-        ap (tokens_of script) (md ∙ ap (λ z. z ++ t ∷ []) kept.dollars) ∙ map-append (token_of script) old.dollars.items (t ∷ []) ∙ ap (λ z. dollars_in script old ++ z ∷ []) is in
+    ap (tokens_of script) (md ∙ ap (λ z. z ++ t ∷ []) kept.dollars) ∙ map-append (token_of script) old.dollars.items (t ∷ []) ∙ ap (λ z. dollars_in script old ++ z ∷ []) is in
     operated_along script end prev (dollars_in script old) (place_of q) o (Some model.Dollar) (due_in old) (place_of place) c k old new r (e [] [] ∙ ap (λ z. Some (lexeme_of [] z [])) h)
     (emits script end (model.caret prev model.Dollar (place_of q)) (reading.behind_dollars (dollars_in script old ++ tok ∷ []) (due_in old) (place_of place) c k) old mid' new r
-      (ap (tokens_of script) mt ∙ ts script) (mb ∙ kept.bodies)
-      (along script end mid' new r _ _
-        (ap (λ z. reading.behind_dollars z (due_in mid') (place_of place) c k) ds ∙ ap (λ z. reading.behind_dollars (dollars_in script old ++ tok ∷ []) (map due_of z) (place_of place) c k) (mq ∙ kept.due)) d))
+    (ap (tokens_of script) mt ∙ ts script) (mb ∙ kept.bodies)
+    (along script end mid' new r _ _
+    (ap (λ z. reading.behind_dollars z (due_in mid') (place_of place) c k) ds ∙ ap (λ z. reading.behind_dollars (dollars_in script old ++ tok ∷ []) (map due_of z) (place_of place) c k) (mq ∙ kept.due)) d))
 
 -- a `$#` or a `$"`
 pub sigil_does : (script : List ℕ) (end : ℕ) (prev : model.Before) (q place : Place) (kind : TokenKind) (o : Option model.Lexeme) (c : ℕ) (k : model.Class) (t : Token) (slice : List ℕ) (old mid bared mid' new : Lexer) (r : Result State LexError) →
@@ -72,16 +71,19 @@ sigil_does script end prev q place kind o c k t slice old mid bared mid' new r e
         ap (tokens_of script) mt ∙ b.tokens script ∙ ap (λ z. z ++ reading.bare (dollars_in script mid)) (ts script)
         ∙ append_assoc (tokens_in script old) (model.caret prev model.Dollar (place_of q)) (reading.bare (dollars_in script mid))
         ∙ ap (λ z. tokens_in script old ++ (model.caret prev model.Dollar (place_of q) ++ reading.bare (tokens_of script z))) kept.dollars
+
     dollars : dollars_in script mid' ≡ token_of script t ∷ []
     dollars = ap (tokens_of script) (md ∙ ap (λ z. z ++ t ∷ []) b.dollars)
+
     at : (l : model.Lexeme) → lexeme_of script kind (slice) ≡ l →
         Does script end old new r (reading.emit (model.caret prev model.Dollar (place_of q) ++ reading.bare (dollars_in script old)) (reading.behind_dollars (model.token l (place_of q) (place_of place) ∷ []) (due_in old) (place_of place) c k))
     at l f =
         emits script end (model.caret prev model.Dollar (place_of q) ++ reading.bare (dollars_in script old)) (reading.behind_dollars (model.token l (place_of q) (place_of place) ∷ []) (due_in old) (place_of place) c k) old mid' new r
         tokens (mb ∙ b.bodies ∙ kept.bodies)
         (along script end mid' new r _ _
-          (ap (λ z. reading.behind_dollars z (due_in mid') (place_of place) c k) (dollars ∙ ap (λ z. z ∷ []) (is ∙ ap (λ z. model.token z (place_of q) (place_of place)) f))
-          ∙ ap (λ z. reading.behind_dollars (model.token l (place_of q) (place_of place) ∷ []) (map due_of z) (place_of place) c k) (mq ∙ b.due ∙ kept.due)) d)
+        (ap (λ z. reading.behind_dollars z (due_in mid') (place_of place) c k) (dollars ∙ ap (λ z. z ∷ []) (is ∙ ap (λ z. model.token z (place_of q) (place_of place)) f))
+        ∙ ap (λ z. reading.behind_dollars (model.token l (place_of q) (place_of place) ∷ []) (map due_of z) (place_of place) c k) (mq ∙ b.due ∙ kept.due)) d)
+
     by : (kind ≡ tk.DollarCount) ⊎ (kind ≡ tk.DollarFlat) → Does script end old new r (reading.operated prev (dollars_in script old) (place_of q) o (due_in old) (place_of place) c k)
     by (inl f) =
         operated_along script end prev (dollars_in script old) (place_of q) o (Some model.DollarCount) (due_in old) (place_of place) c k old new r (e [] [] ∙ ap (λ z. Some (lexeme_of [] z [])) f)
@@ -120,16 +122,16 @@ plain_does script end before after q place kind meant o c k old mid new r e a b 
     let l = lexeme_of script meant slice in
     operated_along script end (before_of before) (dollars_in script old) (place_of q) o (Some (lexeme_of script kind slice)) (due_in old) (place_of place) c k old new r (e script slice)
     (along script end old new r _ _
-      (ap (λ z. reading.ends (before_of before) z (place_of q) (due_in old) (place_of place) c k) (m script slice)
-      ∙ sym (plain kind a b f g script slice (before_of before) (dollars_in script old) (place_of q) (due_in old) (place_of place) c k))
-      (ends_does script end before after l q place c k old mid new r
-        (record {
-          tokens = ts script ∙ ap (λ z. tokens_in script old ++ z) (sym (tokens_apart (before_of before) l (place_of q) (place_of place) h));
-          due = ap (map due_of) kept.due ∙ sym (due_apart (before_of before) l (due_in old) h);
-          behind = n script slice;
-          dollars = kept.dollars;
-          bodies = kept.bodies;
-        }) d))
+    (ap (λ z. reading.ends (before_of before) z (place_of q) (due_in old) (place_of place) c k) (m script slice)
+    ∙ sym (plain kind a b f g script slice (before_of before) (dollars_in script old) (place_of q) (due_in old) (place_of place) c k))
+    (ends_does script end before after l q place c k old mid new r
+    (record {
+      tokens = ts script ∙ ap (λ z. tokens_in script old ++ z) (sym (tokens_apart (before_of before) l (place_of q) (place_of place) h));
+      due = ap (map due_of) kept.due ∙ sym (due_apart (before_of before) l (due_in old) h);
+      behind = n script slice;
+      dollars = kept.dollars;
+      bodies = kept.bodies;
+    }) d))
 
 -- an operator goes on, or ends
 abbrev stepped : Bool → model.Before → List model.Token → model.Place → List ℕ → List model.Due → model.Place → ℕ → model.Class → Step

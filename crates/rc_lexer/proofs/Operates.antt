@@ -78,6 +78,7 @@ goes_on xs c = by (ltb c 128) refl
     high h k =
         let none = ap (λ z. model.begins_operator (xs ++ z)) h.are ∙ high_begins_none xs h.first h.more h.high in
         record { same = none ∙ sym (high_begins_none xs c [] k); byte = λ e. let f : true ≡ false = sym e ∙ none in absurd cc }
+
     by : (v : Bool) → ltb c 128 ≡ v → GoesOn xs c
     by true e = let f = encode_ascii c (ltb-true c 128 e) in record { same = ap (λ z. model.begins_operator (xs ++ z)) f; byte = λ g. f }
     by false e = let k : 128 ≤ c = ltb-false c 128 e in high (encode_high c k) k

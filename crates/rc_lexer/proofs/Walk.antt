@@ -79,14 +79,14 @@ pub step_reads : (script bs : List ℕ) (rest more : List ℕ) (c : ℕ) (class 
     model.join (tokens_in script new) (bodies_in script new) (reading.run (state_in script next.byte new s') (due_left new s') (place_of next) (chars more)) ≡ whole
 step_reads script bs rest more c class place next old new s s' whole b e n k d w =
     let d' : Does script next.byte old new (Ok s') (reading.step (state_in script place.byte old s) (due_left old s) (place_of place) c (class_is class)) =
-        subst (λ z. Does z next.byte old new (Ok s') (reading.step (state_in z place.byte old s) (due_left old s) (place_of place) c (class_is class))) b d in
+    subst (λ z. Does z next.byte old new (Ok s') (reading.step (state_in z place.byte old s) (due_left old s) (place_of place) c (class_is class))) b d in
     let go : reading.State → List model.Due → model.Outcome = λ t due. reading.run t due (place_of next) (chars more) in
     let st = state_in script place.byte old s in
     sym (ap (λ z. reading.follow z go) d')
     ∙ sym (join_follow (tokens_in script old) (bodies_in script old) (reading.step st (due_left old s) (place_of place) c (class_is class)) go)
     ∙ ap (λ z. model.join (tokens_in script old) (bodies_in script old) (reading.follow (reading.step st (due_left old s) (place_of place) c z) go)) k
     ∙ ap (λ z. model.join (tokens_in script old) (bodies_in script old)
-        (reading.follow (reading.step st (due_left old s) (place_of place) c (model.class_of c)) (λ t due. reading.run t due z (chars more)))) n
+    (reading.follow (reading.step st (due_left old s) (place_of place) c (model.class_of c)) (λ t due. reading.run t due z (chars more)))) n
     ∙ ap (λ z. model.join (tokens_in script old) (bodies_in script old) (reading.run st (due_left old s) (place_of place) z)) (sym e)
     ∙ w
 

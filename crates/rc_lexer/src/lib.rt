@@ -11,6 +11,8 @@ ghost use Rattle.rc_lexer.specs.Machine.{place_of};
 
 mod machine;
 mod operators;
+#[cfg(test)]
+mod tests;
 
 use machine::{Before, Head, Lexer, Place, State, fault};
 use operators::class_of;
@@ -134,7 +136,11 @@ fn behind_char(place: Place, c: char) -> Place
 {
     Place {
         byte: place.byte + c.len_utf8(),
-        line: if c == '\n' { place.line + 1 } else { place.line },
+        line: if c == '\n' {
+            place.line + 1
+        } else {
+            place.line
+        },
     }
 }
 

@@ -162,7 +162,8 @@ fn meant(before: Before, kind: TokenKind) -> TokenKind
 {
     match (before, kind) {
         (Before::Name, TokenKind::LeftParen) => TokenKind::Subscript,
-        (_, TokenKind::Dollar | TokenKind::DollarCount | TokenKind::DollarFlat) => TokenKind::BareDollar,
+        (_, TokenKind::Dollar | TokenKind::DollarCount | TokenKind::DollarFlat) =>
+            TokenKind::BareDollar,
         _ => kind,
     }
 }
@@ -210,10 +211,7 @@ fn unquoted(alloc: Global, text: &[u8]) -> Result<Vec<u8>, AllocError>
 pub fn fault(kind: FaultKind, line: usize) -> LexError
     ensures { result ≡ LexError.Fault (record { kind = kind; line = line }) }
 {
-    LexError::Fault(LexFault {
-        kind,
-        line,
-    })
+    LexError::Fault(LexFault { kind, line })
 }
 
 /// The token with the next body, if it is a here document, and the bodies behind that.
@@ -326,7 +324,8 @@ impl Lexer {
             }
             Class::LineEnd => {
                 self.bare_here(before)?;
-                self.tokens.push(token(TokenKind::Newline, head.place, head.next))?;
+                self.tokens
+                    .push(token(TokenKind::Newline, head.place, head.next))?;
                 Ok(self.line(head.next.byte))
             }
         }
@@ -344,7 +343,13 @@ impl Lexer {
     }
 
     /// A token between two places, with a `^` where it wants one.
-    fn lexeme(&mut self, before: Before, kind: TokenKind, start: Place, stop: Place) -> Result<(), AllocError>
+    fn lexeme(
+        &mut self,
+        before: Before,
+        kind: TokenKind,
+        start: Place,
+        stop: Place,
+    ) -> Result<(), AllocError>
         ensures tokens { OnOk result ((script : List ℕ) → tokens_in script self.new ≡ tokens_in script self.old ++ lexeme_tokens script (before_of before) kind start stop) }
         ensures rest { OnOk result (Keeps self.old self.new) }
     {
@@ -356,7 +361,13 @@ impl Lexer {
     }
 
     /// A `<<` with its mark.
-    fn mark(&mut self, quoted: bool, mark: Vec<u8>, start: Place, stop: Place) -> Result<(), AllocError>
+    fn mark(
+        &mut self,
+        quoted: bool,
+        mark: Vec<u8>,
+        start: Place,
+        stop: Place,
+    ) -> Result<(), AllocError>
         ensures { OnOk result (Marked quoted mark.items start stop self.old self.new) }
     {
         let body = Span { start: 0, stop: 0 };
@@ -364,12 +375,19 @@ impl Lexer {
             mark,
             line: start.line,
         })?;
-        self.tokens.push(token(TokenKind::HereDoc(quoted, body), start, stop))?;
+        self.tokens
+            .push(token(TokenKind::HereDoc(quoted, body), start, stop))?;
         Ok(())
     }
 
     /// An unquoted word, and what it is for what follows.
-    fn word(&mut self, script: &[u8], before: Before, start: Place, stop: Place) -> Result<Before, LexError>
+    fn word(
+        &mut self,
+        script: &[u8],
+        before: Before,
+        start: Place,
+        stop: Place,
+    ) -> Result<Before, LexError>
         requires order { start.byte ≤ stop.byte }
         requires within { stop.byte ≤ length script.now }
         ensures { IfSpelled script.now before (model.Word (slice_range script.now start.byte stop.byte)) start stop self.old self.new result }
@@ -384,7 +402,13 @@ impl Lexer {
     }
 
     /// A quoted word, and what it is for what follows.
-    fn quoted(&mut self, script: &[u8], before: Before, start: Place, stop: Place) -> Result<Before, LexError>
+    fn quoted(
+        &mut self,
+        script: &[u8],
+        before: Before,
+        start: Place,
+        stop: Place,
+    ) -> Result<Before, LexError>
         requires order { start.byte ≤ stop.byte }
         requires within { stop.byte ≤ length script.now }
         ensures { IfSpelled script.now before (model.Quoted (model.unquoted_text (slice_range script.now start.byte stop.byte))) start stop self.old self.new result }
@@ -399,7 +423,13 @@ impl Lexer {
     }
 
     /// The character behind a word that is read so far.
-    fn in_word(&mut self, script: &[u8], before: Before, start: Place, head: Head) -> Result<State, LexError>
+    fn in_word(
+        &mut self,
+        script: &[u8],
+        before: Before,
+        start: Place,
+        head: Head,
+    ) -> Result<State, LexError>
         requires head { IsHead script.now head }
         requires order { start.byte ≤ head.place.byte }
         ensures does { Does script.now head.next.byte self.old self.new result (reading.in_word (before_of before) (place_of start) (slice_range script.now start.byte head.place.byte) (due_in self.old) (place_of head.place) head.c (class_is head.class)) }
@@ -430,7 +460,13 @@ impl Lexer {
     }
 
     /// The character behind a quoted word that it ends.
-    fn behind_quoted(&mut self, script: &[u8], before: Before, start: Place, head: Head) -> Result<State, LexError>
+    fn behind_quoted(
+        &mut self,
+        script: &[u8],
+        before: Before,
+        start: Place,
+        head: Head,
+    ) -> Result<State, LexError>
         requires head { IsHead script.now head }
         requires order { start.byte ≤ head.place.byte }
         ensures does { Does script.now head.next.byte self.old self.new result (reading.ends (before_of before) (model.Quoted (model.unquoted_text (slice_range script.now start.byte head.place.byte))) (place_of start) (due_in self.old) (place_of head.place) head.c (class_is head.class)) }
@@ -487,7 +523,13 @@ impl Lexer {
     }
 
     /// The character behind an operator that it ends.
-    fn operated(&mut self, script: &[u8], before: Before, start: Place, head: Head) -> Result<State, LexError>
+    fn operated(
+        &mut self,
+        script: &[u8],
+        before: Before,
+        start: Place,
+        head: Head,
+    ) -> Result<State, LexError>
         requires head { IsHead script.now head }
         requires order { start.byte ≤ head.place.byte }
         requires apart { model.awaits_mark (before_of before) ≡ false }
@@ -519,7 +561,13 @@ impl Lexer {
     }
 
     /// The character behind an operator that is read so far.
-    fn in_operator(&mut self, script: &[u8], before: Before, start: Place, head: Head) -> Result<State, LexError>
+    fn in_operator(
+        &mut self,
+        script: &[u8],
+        before: Before,
+        start: Place,
+        head: Head,
+    ) -> Result<State, LexError>
         requires head { IsHead script.now head }
         requires order { start.byte ≤ head.place.byte }
         requires apart { model.awaits_mark (before_of before) ≡ false }
@@ -533,7 +581,13 @@ impl Lexer {
     }
 
     /// The character in the body of a here document.
-    fn in_body(&mut self, script: &[u8], body: usize, line: usize, head: Head) -> Result<State, LexError>
+    fn in_body(
+        &mut self,
+        script: &[u8],
+        body: usize,
+        line: usize,
+        head: Head,
+    ) -> Result<State, LexError>
         requires head { IsHead script.now head }
         requires order { body ≤ line }
         requires within { line ≤ head.place.byte }
@@ -582,7 +636,9 @@ impl Lexer {
                 self.nothing_due()
             }
             State::Comment => self.nothing_due(),
-            State::Backslash(before, start) | State::Word(before, start) => self.last_word(script, before, start, place),
+            State::Backslash(before, start) | State::Word(before, start) => self.last_word(
+                script, before, start, place,
+            ),
             State::WordBackslash(before, start, _) => self.last_word(script, before, start, place),
             State::Name(start) => {
                 self.lexeme(Before::Dollar, TokenKind::Name, start, place)?;
@@ -608,7 +664,13 @@ impl Lexer {
         }
     }
 
-    fn last_word(&mut self, script: &[u8], before: Before, start: Place, place: Place) -> Result<(), LexError>
+    fn last_word(
+        &mut self,
+        script: &[u8],
+        before: Before,
+        start: Place,
+        place: Place,
+    ) -> Result<(), LexError>
         requires order { start.byte ≤ place.byte }
         requires within { place.byte ≤ length script.now }
         ensures { Ends script.now self.old self.new result (reading.ended (before_of before) (model.Word (slice_range script.now start.byte place.byte)) (place_of start) (due_in self.old) (place_of place)) }
@@ -617,7 +679,13 @@ impl Lexer {
         self.nothing_due()
     }
 
-    fn last_operator(&mut self, script: &[u8], before: Before, start: Place, place: Place) -> Result<(), LexError>
+    fn last_operator(
+        &mut self,
+        script: &[u8],
+        before: Before,
+        start: Place,
+        place: Place,
+    ) -> Result<(), LexError>
         requires order { start.byte ≤ place.byte }
         requires within { place.byte ≤ length script.now }
         requires apart { model.awaits_mark (before_of before) ≡ false }
@@ -632,7 +700,13 @@ impl Lexer {
     }
 
     /// The last line of a body, which is the mark, if there is one.
-    fn last_line(&mut self, script: &[u8], body: usize, line: usize, end: usize) -> Result<(), LexError>
+    fn last_line(
+        &mut self,
+        script: &[u8],
+        body: usize,
+        line: usize,
+        end: usize,
+    ) -> Result<(), LexError>
         requires order { body ≤ line }
         requires until { line ≤ end }
         requires within { end ≤ length script.now }

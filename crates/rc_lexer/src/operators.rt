@@ -25,7 +25,8 @@ pub fn class_of(c: char) -> Class
     ensures { class_is result ≡ class_of c }
 {
     match c {
-        ';' | '&' | '|' | '^' | '=' | '(' | ')' | '{' | '}' | '`' | '>' | '<' | '$' => Class::Operates,
+        ';' | '&' | '|' | '^' | '=' | '(' | ')' | '{' | '}' | '`' | '>' | '<' | '$' =>
+            Class::Operates,
         ' ' | '\t' => Class::Blank,
         '\n' => Class::LineEnd,
         '#' => Class::Hash,

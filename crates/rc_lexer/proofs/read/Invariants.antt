@@ -16,7 +16,7 @@ invariant-loop-c l = record {
   within : l.place.byte ≤ length l.script;
   lines : l.place.line ≤ l.place.byte + 1;
   stands : Stands l.script l.place.byte l.state;
-  utf8 : shadow (Utf8 l.rest)
+  utf8 : shadow (Utf8 l.rest);
 }
 
 abbrev pub decreases-loop-c : goal.decreases-loop-c

@@ -10,7 +10,7 @@ invariant-loop-c l = record {
   so_far : zero_line l.place.line (chars l.rest) ≡ zero_line 1 (chars l.script);
   place : l.place.byte + length l.rest ≡ length l.script;
   lines : l.place.line ≤ l.place.byte + 1;
-  utf8 : shadow (Utf8 l.rest)
+  utf8 : shadow (Utf8 l.rest);
 }
 
 abbrev pub decreases-loop-c : goal.decreases-loop-c
