@@ -155,3 +155,7 @@ unless_zero (Some line) o = Err (t.fault t.ZeroByte line)
 -- the tokens of a text, or its first fault
 abbrev pub lexed : List ℕ → Result (List Token) LexFault
 lexed text = unless_zero (zero_line 1 (chars text)) (run (Between t.Apart) [] t.first_place (chars text))
+
+-- the machine finds what the text is cut into, or its first fault, and nothing else comes of the text
+abbrev pub ReadingLaw : Type 0
+ReadingLaw = (text : List ℕ) → t.IsCut text (lexed text)

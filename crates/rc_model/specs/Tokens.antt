@@ -390,3 +390,8 @@ has_no_zero cs = list_all (λ c. not (c == 0)) cs
 pub data Lexes (text : List ℕ) : Result (List Token) LexFault → Type 0 where
   zero_byte : (cs rest : List ℕ) → chars text ≡ cs ++ 0 ∷ rest → has_no_zero cs ≡ true → Lexes text (Err (fault ZeroByte (behind_chars first_place cs).line))
   cut : (o : Outcome) → has_no_zero (chars text) ≡ true → Cuts Apart [] first_place (chars text) o → Lexes text (result_of o)
+
+-- this and nothing else comes of the text
+pub record IsCut (text : List ℕ) (read : Result (List Token) LexFault) : Type 0 where
+  pub found : Lexes text read
+  pub only : (other : Result (List Token) LexFault) → Lexes text other → other ≡ read

@@ -1,0 +1,28 @@
+-- Here documents and their bodies.
+use Rattle.std.proofs.Common.{◌≡◌, ◌≢◌, ℕ, Bool, true, false, cond, List, [], ◌∷◌, refl, sym, ap, ◌∙◌}
+use Rattle.std.proofs.Common.{length, arith, map}
+use Rattle.rc_model.specs.Tokens as model
+use Rattle.rc_lexer.specs.declared.Span.{Span}
+use Rattle.rc_lexer.specs.declared.TokenKind.{TokenKind}
+use Rattle.rc_lexer.specs.declared.TokenKind.TheVariants as tk
+use Rattle.rc_lexer.specs.Views.{lexeme_of}
+
+pub filled_nil : (ts : List model.Token) → model.filled ts [] ≡ ts
+filled_nil [] = refl
+filled_nil (t ∷ ts) = refl
+
+pub no_bodies : (t : model.Token) (ts : List model.Token) (bodies : List (List ℕ)) → bodies ≡ [] → model.filled (t ∷ ts) bodies ≡ t ∷ model.filled ts bodies
+no_bodies t ts bodies e = ap (model.filled (t ∷ ts)) e ∙ sym (ap (λ z. t ∷ z) (ap (model.filled ts) e ∙ filled_nil ts))
+
+pub no_here : (t : model.Token) (ts : List model.Token) (bodies : List (List ℕ)) → model.is_here t.lexeme ≡ false → model.filled (t ∷ ts) bodies ≡ t ∷ model.filled ts bodies
+no_here t ts [] h = ap (λ z. t ∷ z) (sym (filled_nil ts))
+no_here t ts (b ∷ bodies) h =
+    ap (λ v. cond v (record { lexeme = model.with_body t.lexeme b; start = t.start; stop = t.stop; line = t.line } ∷ model.filled ts bodies) (t ∷ model.filled ts (b ∷ bodies))) h
+
+pub other_kind : (kind : TokenKind) → ((quoted : Bool) (body : Span) → kind ≢ tk.HereDoc quoted body) → (script text : List ℕ) → model.is_here (lexeme_of script kind text) ≡ false
+other_kind (tk.HereDoc quoted body) h script text = absurd (h quoted body refl)
+other_kind kind h script text = refl
+
+pub none_left : {A B : Type 0} (f : A → B) (xs : List A) → length xs ≡ 0 → map f xs ≡ []
+none_left f [] h = refl
+none_left f (x ∷ xs) h = absurd (omega (arith, h))

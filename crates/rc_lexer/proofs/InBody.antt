@@ -1,0 +1,94 @@
+-- What the lexer does in the body of a here document.
+use Rattle.std.proofs.Common.{◌≡◌, ◌≢◌, ℕ, suc, ◌+◌, ◌-◌, ◌<◌, ◌≤◌, Bool, true, false, cond, not, ◌==◌, ◌||◌, List, [], ◌∷◌, ◌++◌, length, map, take, drop, refl, sym, ap, subst, ◌∙◌, append_assoc, arith}
+use Rattle.std.specs.Prelude.{Option, Some, None, Result, Ok, Err, slice_range, slice_index_or}
+use Rattle.std.proofs.lemmas.List.{append-nil, map-append}
+use Rattle.rc_model.specs.Tokens as model
+use Rattle.rc_model.specs.Reading as reading
+use Rattle.rc_model.specs.Reading.{Step}
+use Rattle.rc_lexer.specs.declared.LexError.{LexError}
+use Rattle.rc_lexer.specs.declared.LexError.TheVariants.{Fault, Memory}
+use Rattle.rc_lexer.specs.declared.operators.Class.{Class}
+use Rattle.rc_lexer.specs.declared.operators.Class.TheVariants as class
+use Rattle.rc_lexer.specs.declared.machine.Before.{Before}
+use Rattle.rc_lexer.specs.declared.machine.Place.{Place}
+use Rattle.rc_lexer.specs.declared.machine.State.{State}
+use Rattle.rc_lexer.specs.declared.machine.Lexer.{Lexer}
+use Rattle.rc_lexer.specs.Views.{slice_at}
+use Rattle.rc_lexer.specs.Classes.{class_is}
+use Rattle.rc_lexer.specs.declared.machine.Before.TheVariants as before
+use Rattle.rc_lexer.proofs.Does.{along}
+use Rattle.rc_lexer.proofs.Steps.{line_step, slice_empty}
+use Rattle.std.proofs.Math.Seq.{take-add}
+use Rattle.std.proofs.lemmas.List.{drop-drop}
+use Rattle.std.specs.Str.{bytes_eq}
+use Rattle.rc_lexer.specs.declared.Span.{Span}
+use Rattle.rc_lexer.specs.declared.machine.Due.{Due}
+use Rattle.rc_lexer.specs.declared.machine.State.TheVariants as state
+use Rattle.rc_lexer.specs.Machine.{state_in, due_left, body_of, behind_first, line_of, state_of, due_behind, place_of, before_of, due_of, due_in, tokens_in, dollars_in, bodies_in, behind_step, Does, Spelled, Keeps, Resolved}
+use Rattle.std.proofs.lemmas.Bool.{eqb-true}
+use Rattle.std.specs.Char.{encode_utf8}
+
+-- the first of the here documents that are due
+pub record First (d : Due) (due : List Due) : Type 0 where
+  pub rest : List Due
+  pub is : due ≡ d ∷ rest
+
+pub first : (d d' : Due) (due : List Due) → 0 < length due → d ≡ slice_index_or due 0 d → First d due
+first d d' [] h e = absurd (omega arith)
+first d d' (x ∷ xs) h e = record { rest = xs; is = ap (λ z. z ∷ xs) (sym e) }
+
+-- a newline behind a line that is not the mark
+abbrev ended : Bool → model.Due → List ℕ → List ℕ → List model.Due → ℕ → Step
+ended b d body line due c = cond b (reading.begin_line [] (body ∷ []) due) (reading.goes [] (reading.Body d (body ++ line ++ encode_utf8 c) []) due)
+
+slices_join : (script : List ℕ) (a b c : ℕ) → a ≤ b → b ≤ c → slice_range script a b ++ slice_range script b c ≡ slice_range script a c
+slices_join script a b c h k =
+    ap (λ z. take (b - a) (drop a script) ++ take (c - b) z) (sym (drop-drop (b - a) a script ∙ ap (λ n. drop n script) (omega arith)))
+    ∙ sym (take-add (b - a) (c - b) (drop a script)) ∙ ap (λ n. take n (drop a script)) (omega arith)
+
+-- a line that is not the mark
+pub other_line : (script : List ℕ) (body line place next : ℕ) (c : ℕ) (d : Due) (due : List Due) (ts : List model.Token) (bodies : List (List ℕ)) (p : model.Place) → First d due → body ≤ line → line ≤ place →
+    slice_range script body next ≡ slice_range script body place ++ encode_utf8 c → bytes_eq (slice_range script line place) d.mark.items ≡ false →
+    behind_step ts bodies (reading.step (body_of due (slice_range script body line) (slice_range script line place)) (behind_first due) p c model.LineEnd)
+    ≡ Ok (ts, bodies, body_of due (slice_range script body next) (slice_range script next next), behind_first due)
+other_line script body line place next c d due ts bodies p f h k e n =
+    subst (λ z. behind_step ts bodies (reading.step (body_of z (slice_range script body line) (slice_range script line place)) (behind_first z) p c model.LineEnd)
+    ≡ Ok (ts, bodies, body_of z (slice_range script body next) (slice_range script next next), behind_first z)) (sym f.is)
+    (ap (λ v. behind_step ts bodies (ended v (due_of d) (slice_range script body line) (slice_range script line place) (map due_of f.rest) c)) n
+    ∙ ap (λ z. Ok (z, bodies ++ [], reading.Body (due_of d) (slice_range script body line ++ slice_range script line place ++ encode_utf8 c) [], map due_of f.rest)) (append-nil ts)
+    ∙ ap (λ z. Ok (ts, z, reading.Body (due_of d) (slice_range script body line ++ slice_range script line place ++ encode_utf8 c) [], map due_of f.rest)) (append-nil bodies)
+    ∙ ap (λ z. Ok (ts, bodies, reading.Body (due_of d) z [], map due_of f.rest)) (ap (λ z. z ++ encode_utf8 c) (slices_join script body line place h k) ∙ sym e)
+    ∙ ap (λ z. Ok (ts, bodies, reading.Body (due_of d) (slice_range script body next) z, map due_of f.rest)) (sym (slice_empty script next)))
+
+-- a line that is the mark
+pub mark_line : (script : List ℕ) (body line place next : ℕ) (c : ℕ) (d : Due) (due due' : List Due) (s : State) (dollars ts : List model.Token) (bodies : List (List ℕ)) (bodies' : List (List ℕ)) (p : model.Place) → First d due →
+    bytes_eq (slice_range script line place) d.mark.items ≡ true → due' ≡ drop 1 due → s ≡ line_of due' next → bodies' ≡ bodies ++ slice_range script body line ∷ [] →
+    behind_step ts bodies (reading.step (body_of due (slice_range script body line) (slice_range script line place)) (behind_first due) p c model.LineEnd)
+    ≡ Ok (ts, bodies', state_of script next dollars due' s, due_behind due' s)
+mark_line script body line place next c d due due' s dollars ts bodies bodies' p f e g h b =
+    let r : due' ≡ f.rest = g ∙ ap (drop 1) f.is in
+    let is : s ≡ line_of f.rest next = h ∙ ap (λ z. line_of z next) r in
+    ap (λ z. behind_step ts bodies (reading.step (body_of z (slice_range script body line) (slice_range script line place)) (behind_first z) p c model.LineEnd)) f.is
+    ∙ ap (λ v. behind_step ts bodies (ended v (due_of d) (slice_range script body line) (slice_range script line place) (map due_of f.rest) c)) e
+    ∙ line_step script next dollars f.rest ts [] bodies (slice_range script body line ∷ [])
+    ∙ ap (λ z. Ok (z, bodies ++ slice_range script body line ∷ [], state_of script next dollars f.rest (line_of f.rest next), due_behind f.rest (line_of f.rest next))) (append-nil ts)
+    ∙ ap (λ z. Ok (ts, z, state_of script next dollars f.rest (line_of f.rest next), due_behind f.rest (line_of f.rest next))) (sym b)
+    ∙ ap (λ z. Ok (ts, bodies', state_of script next dollars f.rest z, due_behind f.rest z)) (sym is)
+    ∙ ap (λ z. Ok (ts, bodies', state_of script next dollars z s, due_behind z s)) (sym r)
+
+pub bodies_pushed : (script : List ℕ) (old new : List Span) (t : Span) → new ≡ old ++ t ∷ [] → map (slice_at script) new ≡ map (slice_at script) old ++ slice_at script t ∷ []
+bodies_pushed script old new t e = ap (map (slice_at script)) e ∙ map-append (slice_at script) old (t ∷ [])
+
+pub is_mark : (v : Bool) (line mark text : List ℕ) → text ≡ mark → v ≡ not (bytes_eq line text) → v ≡ false → bytes_eq line mark ≡ true
+is_mark v line mark text e f g = by (bytes_eq line mark) (sym g ∙ f ∙ ap (λ z. not (bytes_eq line z)) e)
+  where
+    by : (b : Bool) → false ≡ not b → b ≡ true
+    by true h = refl
+    by false h = absurd cc
+
+pub is_no_mark : (v : Bool) (line mark text : List ℕ) → text ≡ mark → v ≡ not (bytes_eq line text) → v ≡ true → bytes_eq line mark ≡ false
+is_no_mark v line mark text e f g = by (bytes_eq line mark) (sym g ∙ f ∙ ap (λ z. not (bytes_eq line z)) e)
+  where
+    by : (b : Bool) → true ≡ not b → b ≡ false
+    by false h = refl
+    by true h = absurd cc

@@ -1,0 +1,23 @@
+use Rattle.std.proofs.Common.{◌≡◌, ◌≤◌, ◌+◌, [], drop, length}
+use Rattle.std.specs.Str.{chars}
+use denote.Shadow.{shadow}
+use denote.Text.{Utf8}
+use Rattle.rc_model.specs.Tokens as model
+use Rattle.rc_model.specs.Reading as reading
+use Rattle.rc_lexer.specs.Machine.{place_of, tokens_in, bodies_in, state_in, due_left, Stands}
+use Rattle.rc_lexer.proofs.read.Given as goal
+
+abbrev pub invariant-loop-c : goal.invariant-loop-c
+invariant-loop-c l = record {
+  so_far :
+      model.join (tokens_in l.script l.lexer) (bodies_in l.script l.lexer) (reading.run (state_in l.script l.place.byte l.lexer l.state) (due_left l.lexer l.state) (place_of l.place) (chars l.rest))
+      ≡ reading.run (reading.Between model.Apart) [] model.first_place (chars l.script);
+  rest : drop l.place.byte l.script ≡ l.rest;
+  within : l.place.byte ≤ length l.script;
+  lines : l.place.line ≤ l.place.byte + 1;
+  stands : Stands l.script l.place.byte l.state;
+  utf8 : shadow (Utf8 l.rest);
+}
+
+abbrev pub decreases-loop-c : goal.decreases-loop-c
+decreases-loop-c l = length l.rest

@@ -1,0 +1,18 @@
+use Rattle.std.proofs.Common.{sym, ap, ◌∙◌, arith, length-append}
+use Rattle.std.proofs.lemmas.Str.{length-encode}
+use Rattle.std.specs.Char.{encode_utf8}
+use Rattle.std.specs.Str.{chars}
+use Rattle.rc_model.specs.Reading.{zero_line}
+use Rattle.rc_lexer.proofs.Walk.{zero_past, lines_past, left_past}
+use Rattle.rc_lexer.proofs.zero_line.Goals as goal
+
+pub loop-c-preserved : goal.loop-c-preserved
+loop-c-preserved c = record {
+  so_far =
+      ap (λ n. zero_line n (chars c.in-Some.more.now)) (ap (λ p. p.line) c.behind_char-place.ensures)
+      ∙ sym (zero_past c.loop-c.place.line c.in-Some.c (chars c.in-Some.more.now) c.if-c-eq0.false)
+      ∙ ap (zero_line c.loop-c.place.line) (sym c.in-Some.ensures.chars) ∙ c.loop-c.invariant.so_far;
+  place = left_past _ _ _ c.in-Some.c c.loop-c.place c.behind_char-place.result c.in-Some.ensures.bytes c.behind_char-place.ensures c.loop-c.invariant.place;
+  lines = lines_past c.in-Some.c c.loop-c.place c.behind_char-place.result c.behind_char-place.ensures c.loop-c.invariant.lines;
+  utf8 = c.in-Some.ensures.utf8;
+}

@@ -1,0 +1,13 @@
+-- How the definitions see the classes of characters.
+use Rattle.rc_model.specs.Tokens as model
+use Rattle.rc_lexer.specs.declared.operators.Class.{Class}
+use Rattle.rc_lexer.specs.declared.operators.Class.TheVariants.{Operates, Blank, LineEnd, Hash, Quote, Backslash, Ordinary}
+
+abbrev pub class_is : Class → model.Class
+class_is Operates = model.Operates
+class_is Blank = model.Blank
+class_is LineEnd = model.LineEnd
+class_is Hash = model.Hash
+class_is Quote = model.Quote
+class_is Backslash = model.Backslash
+class_is Ordinary = model.Ordinary

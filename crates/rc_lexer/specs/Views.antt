@@ -1,0 +1,63 @@
+-- How the definitions see this crate's tokens and faults. A token's text is the slice of the script at its span.
+use Rattle.std.specs.Prelude.{ℕ, List, map, slice_range}
+use Rattle.rc_model.specs.Calls as calls
+use Rattle.rc_model.specs.Tokens as model
+use Rattle.rc_model.specs.Tokens.{unquoted_text}
+use Rattle.rc_lexer.specs.declared.Span.{Span}
+use Rattle.rc_lexer.specs.declared.TokenKind.{TokenKind}
+use Rattle.rc_lexer.specs.declared.TokenKind.TheVariants.{Word, Quoted, Semicolon, Ampersand, Newline, AndAnd, OrOr, Bar, Caret, FreeCaret, Equals, LeftParen, RightParen}
+use Rattle.rc_lexer.specs.declared.TokenKind.TheVariants.{LeftBrace, RightBrace, Backquote, Input, Output, Append, CopyTo, HereDoc, Dollar, DollarCount, DollarFlat, Name, Subscript, BareDollar, BareHere}
+use Rattle.rc_lexer.specs.declared.Token.{Token}
+use Rattle.rc_lexer.specs.declared.FaultKind.{FaultKind}
+use Rattle.rc_lexer.specs.declared.FaultKind.TheVariants.{OpenQuote, OpenHere, BadDescriptor, ZeroByte}
+use Rattle.rc_lexer.specs.declared.LexFault.{LexFault}
+
+-- the slice of a script at a span
+abbrev pub slice_at : List ℕ → Span → List ℕ
+slice_at script span = slice_range script span.start span.stop
+
+-- what a token of this kind is, where the script says this at its span
+abbrev pub lexeme_of : List ℕ → TokenKind → List ℕ → model.Lexeme
+lexeme_of script Word text = model.Word text
+lexeme_of script Quoted text = model.Quoted (unquoted_text text)
+lexeme_of script Semicolon text = model.Semicolon
+lexeme_of script Ampersand text = model.Ampersand
+lexeme_of script Newline text = model.Newline
+lexeme_of script AndAnd text = model.AndAnd
+lexeme_of script OrOr text = model.OrOr
+lexeme_of script (Bar slot) text = model.Bar slot
+lexeme_of script Caret text = model.Caret
+lexeme_of script FreeCaret text = model.FreeCaret
+lexeme_of script Equals text = model.Equals
+lexeme_of script LeftParen text = model.LeftParen
+lexeme_of script RightParen text = model.RightParen
+lexeme_of script LeftBrace text = model.LeftBrace
+lexeme_of script RightBrace text = model.RightBrace
+lexeme_of script Backquote text = model.Backquote
+lexeme_of script Input text = model.Redirection calls.Read 0
+lexeme_of script (Output slot) text = model.Redirection calls.Write slot
+lexeme_of script (Append slot) text = model.Redirection calls.Append slot
+lexeme_of script (CopyTo to from) text = model.CopyTo to from
+lexeme_of script (HereDoc is_quoted body) text = model.HereDoc is_quoted (slice_at script body)
+lexeme_of script Dollar text = model.Dollar
+lexeme_of script DollarCount text = model.DollarCount
+lexeme_of script DollarFlat text = model.DollarFlat
+lexeme_of script Name text = model.Name text
+lexeme_of script Subscript text = model.Subscript
+lexeme_of script BareDollar text = model.BareDollar
+lexeme_of script BareHere text = model.BareHere
+
+abbrev pub token_of : List ℕ → Token → model.Token
+token_of script t = record { lexeme = lexeme_of script t.kind (slice_at script t.span); start = t.span.start; stop = t.span.stop; line = t.line }
+
+abbrev pub tokens_of : List ℕ → List Token → List model.Token
+tokens_of script ts = map (λ t. token_of script t) ts
+
+abbrev pub kind_of : FaultKind → model.FaultKind
+kind_of OpenQuote = model.OpenQuote
+kind_of OpenHere = model.OpenHere
+kind_of BadDescriptor = model.BadDescriptor
+kind_of ZeroByte = model.ZeroByte
+
+abbrev pub fault_of : LexFault → model.LexFault
+fault_of f = record { kind = kind_of f.kind; line = f.line }

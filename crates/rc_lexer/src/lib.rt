@@ -1,0 +1,189 @@
+//! The tokens of a script.
+#![tactic(auto)]
+
+ghost use Rattle.std.specs.Prelude.{◌≡◌, ◌≤◌, ◌<◌, ◌+◌, ◌^◌, MatchOption, Some, None, [], length};
+ghost use Rattle.std.specs.Str.{chars};
+ghost use Rattle.rc_model.specs.Tokens as model;
+ghost use Rattle.rc_model.specs.Reading as reading;
+ghost use Rattle.rc_lexer.specs.Answers.{Reads};
+ghost use Rattle.rc_lexer.specs.Lexed.{ReadTo};
+ghost use Rattle.rc_lexer.specs.Machine.{place_of};
+
+mod machine;
+mod operators;
+#[cfg(test)]
+mod tests;
+
+use machine::{Before, Head, Lexer, Place, State, fault};
+use operators::class_of;
+use rc_text::first_char;
+use std::alloc::{AllocError, AllocFailed, Global};
+
+/// A part of the script, in bytes.
+#[derive(Clone, Copy, Debug, PartialEq)]
+pub struct Span {
+    pub start: usize,
+    pub stop: usize,
+}
+
+/// What a token is. Its text is the slice of the script at its span.
+#[derive(Clone, Copy, Debug, PartialEq)]
+pub enum TokenKind {
+    Word,
+    Quoted,
+    Semicolon,
+    Ampersand,
+    Newline,
+    AndAnd,
+    OrOr,
+    /// `|`, with the descriptor that goes into the pipe.
+    Bar(u8),
+    Caret,
+    /// A `^` that is inserted between two tokens. Its span is empty.
+    FreeCaret,
+    Equals,
+    LeftParen,
+    RightParen,
+    LeftBrace,
+    RightBrace,
+    Backquote,
+    Input,
+    Output(u8),
+    Append(u8),
+    CopyTo(u8, u8),
+    /// `<<` with its mark, whether that is quoted, and where the body stands.
+    HereDoc(bool, Span),
+    Dollar,
+    DollarCount,
+    DollarFlat,
+    Name,
+    Subscript,
+    /// A `$` without a name.
+    BareDollar,
+    /// A `<<` without a mark.
+    BareHere,
+}
+
+/// A token, with the line where it begins. Lines count from 1.
+#[derive(Clone, Copy, Debug, PartialEq)]
+pub struct Token {
+    pub kind: TokenKind,
+    pub span: Span,
+    pub line: usize,
+}
+
+#[derive(Clone, Copy, Debug, PartialEq)]
+pub enum FaultKind {
+    OpenQuote,
+    OpenHere,
+    BadDescriptor,
+    ZeroByte,
+}
+
+/// Why a script has no tokens, and the line where that begins.
+#[derive(Clone, Copy, Debug, PartialEq)]
+pub struct LexFault {
+    pub kind: FaultKind,
+    pub line: usize,
+}
+
+#[derive(Debug, Drop)]
+pub enum LexError {
+    Fault(LexFault),
+    Memory,
+}
+
+/// The greatest length of a text.
+const LONGEST: usize = isize::MAX as usize;
+
+/// The tokens of the script, or its first fault. A byte 0 is looked for first.
+pub fn lex(alloc: Global, script: &str) -> Result<Vec<Token>, LexError>
+    ensures { Reads script.now result }
+{
+    // No memory holds a longer text. Shorter ones have fewer lines than a `usize` counts.
+    if script.len() > LONGEST {
+        return Err(LexError::Memory);
+    }
+    if let Some(line) = zero_line(script) {
+        return Err(fault(FaultKind::ZeroByte, line));
+    }
+    let lexer = read(alloc, script)?;
+    Ok(lexer.tokens()?)
+}
+
+/// The line of the first byte 0.
+fn zero_line(script: &str) -> Option<usize>
+    requires { length script.now < 2 ^ 63 }
+    ensures { MatchOption result (reading.zero_line 1 (chars script.now) ≡ None) (λ line. reading.zero_line 1 (chars script.now) ≡ Some line) }
+{
+    let mut place = Place { byte: 0, line: 1 };
+    let mut rest = script;
+    while let Some((c, more)) = first_char(rest) {
+        if c == '\0' {
+            return Some(place.line);
+        }
+        place = behind_char(place, c);
+        rest = more;
+    }
+    None
+}
+
+/// The place behind a character.
+fn behind_char(place: Place, c: char) -> Place
+    requires byte { place.byte < 2 ^ 63 }
+    requires line { place.line < 2 ^ 63 + 1 }
+    ensures { place_of result ≡ model.behind_char (place_of place) c }
+{
+    Place {
+        byte: place.byte + c.len_utf8(),
+        line: if c == '\n' {
+            place.line + 1
+        } else {
+            place.line
+        },
+    }
+}
+
+/// Reads the whole script.
+fn read(alloc: Global, script: &str) -> Result<Lexer, LexError>
+    requires { length script.now < 2 ^ 63 }
+    ensures { ReadTo script.now result (reading.run (reading.Between model.Apart) [] model.first_place (chars script.now)) }
+{
+    let mut lexer = Lexer::new(alloc);
+    let mut state = State::Between(Before::Apart);
+    let mut place = Place { byte: 0, line: 1 };
+    let mut rest = script;
+    while let Some((c, more)) = first_char(rest) {
+        let head = Head {
+            c,
+            class: class_of(c),
+            place,
+            next: behind_char(place, c),
+        };
+        state = lexer.step(script.as_bytes(), state, head)?;
+        place = head.next;
+        rest = more;
+    }
+    lexer.finish(script.as_bytes(), state, place)?;
+    Ok(lexer)
+}
+
+impl From<AllocError> for LexError {
+    ghost use Rattle.rc_lexer.specs.declared.LexError.TheVariants.{Memory};
+
+    ghost from_gives = { λ _ e. e ≡ Memory };
+
+    fn from(_: AllocError) -> Self {
+        LexError::Memory
+    }
+}
+
+impl<T: Drop> From<AllocFailed<T>> for LexError {
+    ghost use Rattle.rc_lexer.specs.declared.LexError.TheVariants.{Memory};
+
+    ghost from_gives = { λ _ e. e ≡ Memory };
+
+    fn from(_: AllocFailed<T>) -> Self {
+        LexError::Memory
+    }
+}

@@ -1,0 +1,736 @@
+//! The machine that reads a script character by character.
+#![tactic(auto)]
+
+ghost use Rattle.std.specs.Prelude.{false, ◌||◌, ◌==◌, ◌≡◌, ◌≢◌, ℕ, ◌≤◌, ◌↔◌, List, [], ◌∷◌, ◌++◌, map, length, slice_range, IfOk, OnOk, IsTrue};
+ghost use Rattle.rc_model.specs.Tokens as model;
+ghost use Rattle.rc_model.specs.Reading as reading;
+ghost use Rattle.rc_lexer.specs.Views.{lexeme_of, slice_at, token_of, tokens_of};
+ghost use Rattle.rc_lexer.specs.Classes.{class_is};
+ghost use Rattle.rc_lexer.specs.Machine.{IsClosed, bodies_in, Resolved, dollars_in, lexeme_tokens, Marked, place_of, before_of, due_in, due_left, state_in, Stands, IsHead, Does, Spelled, IfSpelled, Ends, Keeps, line_of, tokens_in};
+
+use crate::operators::{Class, begins_operator, is_name_char, operator};
+use crate::{FaultKind, LexError, LexFault, Span, Token, TokenKind};
+use std::alloc::{AllocError, Global};
+use std::collections::VecDeque;
+
+/// A place in the script: how many bytes stand before it, and its line.
+#[derive(Clone, Copy)]
+pub struct Place {
+    pub byte: usize,
+    pub line: usize,
+}
+
+/// What stands directly before a place.
+#[derive(Clone, Copy)]
+pub enum Before {
+    /// Nothing that matters to what follows.
+    Apart,
+    Word,
+    Quoted,
+    Name,
+    /// A `$` with its name still to come.
+    Dollar,
+    /// A `<<` between these places, with its mark still to come.
+    Here(Place, Place),
+}
+
+/// What has begun and has not ended, with the place where it began.
+#[derive(Clone, Copy)]
+pub enum State {
+    Between(Before),
+    Comment,
+    /// A backslash, which makes a newline a blank.
+    Backslash(Before, Place),
+    /// A word with a backslash behind it, at the second place.
+    WordBackslash(Before, Place, Place),
+    Word(Before, Place),
+    Name(Place),
+    Quoted(Before, Place),
+    /// A quoted word behind a quote that ends it if no other follows.
+    Closed(Before, Place),
+    Operator(Before, Place),
+    /// The body of the here document that is due first: where it begins, and where the line begins.
+    Body(usize, usize),
+}
+
+/// The character at hand.
+#[derive(Clone, Copy)]
+pub struct Head {
+    pub c: char,
+    pub class: Class,
+    pub place: Place,
+    pub next: Place,
+}
+
+/// A here document whose body is still to come.
+#[derive(Drop)]
+pub struct Due {
+    mark: Vec<u8>,
+    line: usize,
+}
+
+/// What is read so far.
+#[derive(Drop)]
+pub struct Lexer {
+    alloc: Global,
+    tokens: Vec<Token>,
+    /// The `$`s whose name is still to come.
+    dollars: Vec<Token>,
+    bodies: Vec<Span>,
+    due: VecDeque<Due>,
+}
+
+fn token(kind: TokenKind, start: Place, stop: Place) -> Token
+    ensures { result ≡ record { kind = kind; span = record { start = start.byte; stop = stop.byte }; line = start.line } }
+{
+    Token {
+        kind,
+        span: Span {
+            start: start.byte,
+            stop: stop.byte,
+        },
+        line: start.line,
+    }
+}
+
+/// Whether a `^` is inserted before the token.
+fn joins(before: Before, kind: TokenKind) -> bool
+    ensures { (script text : List ℕ) → result ≡ model.joins (before_of before) (lexeme_of script kind text) }
+{
+    let begins_part = matches!(
+        kind,
+        TokenKind::Quoted
+            | TokenKind::Backquote
+            | TokenKind::Dollar
+            | TokenKind::DollarCount
+            | TokenKind::DollarFlat
+            | TokenKind::BareDollar
+    );
+    match before {
+        Before::Word => begins_part,
+        Before::Quoted | Before::Name => begins_part || matches!(kind, TokenKind::Word),
+        _ => false,
+    }
+}
+
+fn behind_blank(before: Before) -> Before
+    ensures { before_of result ≡ model.behind_blank (before_of before) }
+{
+    match before {
+        Before::Here(start, stop) => Before::Here(start, stop),
+        _ => Before::Apart,
+    }
+}
+
+fn without_here(before: Before) -> Before
+    ensures value { before_of result ≡ reading.without_here (before_of before) }
+    ensures apart { model.awaits_mark (before_of result) ≡ false }
+{
+    match before {
+        Before::Here(_, _) => Before::Apart,
+        _ => before,
+    }
+}
+
+fn begins_name(before: Before, c: char) -> bool
+    ensures { result ≡ model.begins_name (before_of before) c }
+{
+    match before {
+        Before::Dollar => is_name_char(c),
+        _ => false,
+    }
+}
+
+/// What the token is for what follows.
+fn behind(before: Before, kind: TokenKind) -> Before
+    ensures { (script text : List ℕ) → before_of result ≡ model.as_before (before_of before) (lexeme_of script kind text) }
+{
+    match (before, kind) {
+        (Before::Here(_, _), _) => Before::Apart,
+        (Before::Dollar, TokenKind::Quoted) => Before::Name,
+        (_, TokenKind::Word) => Before::Word,
+        (_, TokenKind::Quoted) => Before::Quoted,
+        (_, TokenKind::Name) => Before::Name,
+        (_, TokenKind::Dollar | TokenKind::DollarCount | TokenKind::DollarFlat) => Before::Dollar,
+        _ => Before::Apart,
+    }
+}
+
+/// What the operator means here, where no name follows.
+fn meant(before: Before, kind: TokenKind) -> TokenKind
+    ensures { (script text : List ℕ) → lexeme_of script result text ≡ model.meant (before_of before) [] (lexeme_of script kind text) }
+{
+    match (before, kind) {
+        (Before::Name, TokenKind::LeftParen) => TokenKind::Subscript,
+        (_, TokenKind::Dollar | TokenKind::DollarCount | TokenKind::DollarFlat) =>
+            TokenKind::BareDollar,
+        _ => kind,
+    }
+}
+
+/// Whether a name begins with the character, quoted or not.
+fn names(c: char) -> bool
+    ensures { result ≡ (model.is_name_char c || (c == 39)) }
+{
+    is_name_char(c) || c == '\''
+}
+
+fn push_bare(tokens: &mut Vec<Token>, dollars: &[Token]) -> Result<(), AllocError>
+    ensures { OnOk result ((script : List ℕ) → tokens_of script tokens.new.items ≡ tokens_of script tokens.old.items ++ reading.bare (tokens_of script dollars.now)) }
+{
+    for dollar in dollars {
+        tokens.push(Token {
+            kind: TokenKind::BareDollar,
+            span: dollar.span,
+            line: dollar.line,
+        })?;
+    }
+    Ok(())
+}
+
+/// What a quoted word says, without its quotes.
+fn unquoted(alloc: Global, text: &[u8]) -> Result<Vec<u8>, AllocError>
+    ensures { IfOk result (λ v. v.items ≡ model.unquoted_text text.now) }
+{
+    let mut out = Vec::new(alloc);
+    let Some((_, rest)) = text.split_first() else {
+        return Ok(out);
+    };
+    let mut after_quote = false;
+    for b in rest {
+        if *b == b'\'' && !after_quote {
+            after_quote = true;
+        } else {
+            out.push(*b)?;
+            after_quote = false;
+        }
+    }
+    Ok(out)
+}
+
+pub fn fault(kind: FaultKind, line: usize) -> LexError
+    ensures { result ≡ LexError.Fault (record { kind = kind; line = line }) }
+{
+    LexError::Fault(LexFault { kind, line })
+}
+
+/// The token with the next body, if it is a here document, and the bodies behind that.
+fn with_body(token: Token, bodies: &[Span]) -> (Token, &[Span])
+    ensures { (script : List ℕ) (ts : List model.Token) → model.filled (token_of script token ∷ ts) (map (slice_at script) bodies.now) ≡ token_of script result.0 ∷ model.filled ts (map (slice_at script) result.1.now) }
+{
+    let TokenKind::HereDoc(quoted, _) = token.kind else {
+        return (token, bodies);
+    };
+    let Some((body, rest)) = bodies.split_first() else {
+        return (token, bodies);
+    };
+    let kind = TokenKind::HereDoc(quoted, *body);
+    let token = Token {
+        kind,
+        span: token.span,
+        line: token.line,
+    };
+    (token, rest)
+}
+
+/// Each here document takes the next body.
+fn filled(alloc: Global, tokens: &[Token], bodies: &[Span]) -> Result<Vec<Token>, AllocError>
+    ensures { IfOk result (λ v. (script : List ℕ) → tokens_of script v.items ≡ model.filled (tokens_of script tokens.now) (map (slice_at script) bodies.now)) }
+{
+    let mut out = Vec::new(alloc);
+    let mut left = bodies;
+    for token in tokens {
+        let (token, rest) = with_body(*token, left);
+        out.push(token)?;
+        left = rest;
+    }
+    Ok(out)
+}
+
+impl Lexer {
+    pub fn new(alloc: Global) -> Self
+        ensures tokens { result.tokens.items ≡ [] }
+        ensures bodies { result.bodies.items ≡ [] }
+        ensures due { result.due.items ≡ [] }
+    {
+        Lexer {
+            alloc,
+            tokens: Vec::new(alloc),
+            dollars: Vec::new(alloc),
+            bodies: Vec::new(alloc),
+            due: VecDeque::new(alloc),
+        }
+    }
+
+    /// Reads one more character.
+    pub fn step(&mut self, script: &[u8], state: State, head: Head) -> Result<State, LexError>
+        requires head { IsHead script.now head }
+        requires stands { Stands script.now head.place.byte state }
+        ensures does { Does script.now head.next.byte self.old self.new result (reading.step (state_in script.now head.place.byte self.old state) (due_left self.old state) (place_of head.place) head.c (class_is head.class)) }
+        ensures stands { IfOk result (λ s. Stands script.now head.next.byte s) }
+    {
+        match state {
+            State::Between(before) => self.begin(script, before, head),
+            State::Comment => match head.class {
+                Class::LineEnd => self.begin(script, Before::Apart, head),
+                _ => Ok(state),
+            },
+            State::Backslash(before, start) => match head.class {
+                Class::LineEnd => Ok(State::Between(behind_blank(before))),
+                _ => self.in_word(script, before, start, head),
+            },
+            State::WordBackslash(before, start, stop) => match head.class {
+                Class::LineEnd => {
+                    self.word(script, before, start, stop)?;
+                    Ok(State::Between(Before::Apart))
+                }
+                _ => self.in_word(script, before, start, head),
+            },
+            State::Word(before, start) => self.in_word(script, before, start, head),
+            State::Name(start) => self.in_name(script, start, head),
+            State::Quoted(before, start) => match head.class {
+                Class::Quote => Ok(State::Closed(before, start)),
+                _ => Ok(state),
+            },
+            State::Closed(before, start) => match head.class {
+                Class::Quote => Ok(State::Quoted(before, start)),
+                _ => self.behind_quoted(script, before, start, head),
+            },
+            State::Operator(before, start) => self.in_operator(script, before, start, head),
+            State::Body(body, line) => self.in_body(script, body, line, head),
+        }
+    }
+
+    /// What the character begins.
+    fn begin(&mut self, script: &[u8], before: Before, head: Head) -> Result<State, LexError>
+        requires { IsHead script.now head }
+        ensures does { Does script.now head.next.byte self.old self.new result (reading.begin (before_of before) (due_in self.old) (place_of head.place) head.c (class_is head.class)) }
+        ensures stands { IfOk result (λ s. Stands script.now head.next.byte s) }
+    {
+        match head.class {
+            Class::Blank => Ok(State::Between(behind_blank(before))),
+            Class::Quote => Ok(State::Quoted(before, head.place)),
+            Class::Backslash => Ok(State::Backslash(before, head.place)),
+            Class::Ordinary if begins_name(before, head.c) => Ok(State::Name(head.place)),
+            Class::Ordinary => Ok(State::Word(before, head.place)),
+            Class::Hash => {
+                self.bare_here(before)?;
+                Ok(State::Comment)
+            }
+            Class::Operates => {
+                self.bare_here(before)?;
+                self.dollars.clear();
+                Ok(State::Operator(without_here(before), head.place))
+            }
+            Class::LineEnd => {
+                self.bare_here(before)?;
+                self.tokens
+                    .push(token(TokenKind::Newline, head.place, head.next))?;
+                Ok(self.line(head.next.byte))
+            }
+        }
+    }
+
+    /// A `<<` whose mark does not come.
+    fn bare_here(&mut self, before: Before) -> Result<(), AllocError>
+        ensures tokens { OnOk result ((script : List ℕ) → tokens_in script self.new ≡ tokens_in script self.old ++ reading.bare_here (before_of before)) }
+        ensures rest { OnOk result (Keeps self.old self.new) }
+    {
+        if let Before::Here(start, stop) = before {
+            self.tokens.push(token(TokenKind::BareHere, start, stop))?;
+        }
+        Ok(())
+    }
+
+    /// A token between two places, with a `^` where it wants one.
+    fn lexeme(
+        &mut self,
+        before: Before,
+        kind: TokenKind,
+        start: Place,
+        stop: Place,
+    ) -> Result<(), AllocError>
+        ensures tokens { OnOk result ((script : List ℕ) → tokens_in script self.new ≡ tokens_in script self.old ++ lexeme_tokens script (before_of before) kind start stop) }
+        ensures rest { OnOk result (Keeps self.old self.new) }
+    {
+        if joins(before, kind) {
+            self.tokens.push(token(TokenKind::FreeCaret, start, start))?;
+        }
+        self.tokens.push(token(kind, start, stop))?;
+        Ok(())
+    }
+
+    /// A `<<` with its mark.
+    fn mark(
+        &mut self,
+        quoted: bool,
+        mark: Vec<u8>,
+        start: Place,
+        stop: Place,
+    ) -> Result<(), AllocError>
+        ensures { OnOk result (Marked quoted mark.items start stop self.old self.new) }
+    {
+        let body = Span { start: 0, stop: 0 };
+        self.due.push_back(Due {
+            mark,
+            line: start.line,
+        })?;
+        self.tokens
+            .push(token(TokenKind::HereDoc(quoted, body), start, stop))?;
+        Ok(())
+    }
+
+    /// An unquoted word, and what it is for what follows.
+    fn word(
+        &mut self,
+        script: &[u8],
+        before: Before,
+        start: Place,
+        stop: Place,
+    ) -> Result<Before, LexError>
+        requires order { start.byte ≤ stop.byte }
+        requires within { stop.byte ≤ length script.now }
+        ensures { IfSpelled script.now before (model.Word (slice_range script.now start.byte stop.byte)) start stop self.old self.new result }
+    {
+        if let Before::Here(begin, _) = before {
+            let mark = script[start.byte..stop.byte].to_vec(self.alloc)?;
+            self.mark(false, mark, begin, stop)?;
+            return Ok(Before::Apart);
+        }
+        self.lexeme(before, TokenKind::Word, start, stop)?;
+        Ok(behind(before, TokenKind::Word))
+    }
+
+    /// A quoted word, and what it is for what follows.
+    fn quoted(
+        &mut self,
+        script: &[u8],
+        before: Before,
+        start: Place,
+        stop: Place,
+    ) -> Result<Before, LexError>
+        requires order { start.byte ≤ stop.byte }
+        requires within { stop.byte ≤ length script.now }
+        ensures { IfSpelled script.now before (model.Quoted (model.unquoted_text (slice_range script.now start.byte stop.byte))) start stop self.old self.new result }
+    {
+        if let Before::Here(begin, _) = before {
+            let mark = unquoted(self.alloc, &script[start.byte..stop.byte])?;
+            self.mark(true, mark, begin, stop)?;
+            return Ok(Before::Apart);
+        }
+        self.lexeme(before, TokenKind::Quoted, start, stop)?;
+        Ok(behind(before, TokenKind::Quoted))
+    }
+
+    /// The character behind a word that is read so far.
+    fn in_word(
+        &mut self,
+        script: &[u8],
+        before: Before,
+        start: Place,
+        head: Head,
+    ) -> Result<State, LexError>
+        requires head { IsHead script.now head }
+        requires order { start.byte ≤ head.place.byte }
+        ensures does { Does script.now head.next.byte self.old self.new result (reading.in_word (before_of before) (place_of start) (slice_range script.now start.byte head.place.byte) (due_in self.old) (place_of head.place) head.c (class_is head.class)) }
+        ensures stands { IfOk result (λ s. Stands script.now head.next.byte s) }
+    {
+        match head.class {
+            Class::Ordinary => Ok(State::Word(before, start)),
+            Class::Backslash => Ok(State::WordBackslash(before, start, head.place)),
+            _ => {
+                let after = self.word(script, before, start, head.place)?;
+                self.begin(script, after, head)
+            }
+        }
+    }
+
+    /// The character behind a name that is read so far.
+    fn in_name(&mut self, script: &[u8], start: Place, head: Head) -> Result<State, LexError>
+        requires head { IsHead script.now head }
+        requires order { start.byte ≤ head.place.byte }
+        ensures does { Does script.now head.next.byte self.old self.new result (reading.step (reading.Name (place_of start) (slice_range script.now start.byte head.place.byte)) (due_in self.old) (place_of head.place) head.c (class_is head.class)) }
+        ensures stands { IfOk result (λ s. Stands script.now head.next.byte s) }
+    {
+        if is_name_char(head.c) {
+            return Ok(State::Name(start));
+        }
+        self.lexeme(Before::Dollar, TokenKind::Name, start, head.place)?;
+        self.begin(script, Before::Name, head)
+    }
+
+    /// The character behind a quoted word that it ends.
+    fn behind_quoted(
+        &mut self,
+        script: &[u8],
+        before: Before,
+        start: Place,
+        head: Head,
+    ) -> Result<State, LexError>
+        requires head { IsHead script.now head }
+        requires order { start.byte ≤ head.place.byte }
+        ensures does { Does script.now head.next.byte self.old self.new result (reading.ends (before_of before) (model.Quoted (model.unquoted_text (slice_range script.now start.byte head.place.byte))) (place_of start) (due_in self.old) (place_of head.place) head.c (class_is head.class)) }
+        ensures stands { IfOk result (λ s. Stands script.now head.next.byte s) }
+    {
+        let after = self.quoted(script, before, start, head.place)?;
+        self.begin(script, after, head)
+    }
+
+    /// A `^` before a `$` that wants one.
+    fn caret(&mut self, before: Before, start: Place) -> Result<(), AllocError>
+        ensures tokens { OnOk result ((script : List ℕ) → tokens_in script self.new ≡ tokens_in script self.old ++ model.caret (before_of before) model.Dollar (place_of start)) }
+        ensures rest { OnOk result (Keeps self.old self.new) }
+    {
+        if joins(before, TokenKind::Dollar) {
+            self.tokens.push(token(TokenKind::FreeCaret, start, start))?;
+        }
+        Ok(())
+    }
+
+    /// The `$`s have no name.
+    fn bare_dollars(&mut self) -> Result<(), AllocError>
+        ensures { OnOk result (Resolved reading.bare self.old self.new) }
+    {
+        push_bare(&mut self.tokens, self.dollars.as_slice())?;
+        self.dollars.clear();
+        Ok(())
+    }
+
+    /// The `$`s have a name.
+    fn named_dollars(&mut self) -> Result<(), AllocError>
+        ensures { OnOk result (Resolved (λ dollars. dollars) self.old self.new) }
+    {
+        self.tokens.extend_from_slice(self.dollars.as_slice())?;
+        self.dollars.clear();
+        Ok(())
+    }
+
+    /// The character behind `$`s whose name is still to come.
+    fn behind_dollars(&mut self, script: &[u8], head: Head) -> Result<State, LexError>
+        requires { IsHead script.now head }
+        ensures does { Does script.now head.next.byte self.old self.new result (reading.behind_dollars (dollars_in script.now self.old) (due_in self.old) (place_of head.place) head.c (class_is head.class)) }
+        ensures stands { IfOk result (λ s. Stands script.now head.next.byte s) }
+    {
+        if names(head.c) {
+            self.named_dollars()?;
+            return self.begin(script, Before::Dollar, head);
+        }
+        if head.c == '$' {
+            return Ok(State::Operator(Before::Dollar, head.place));
+        }
+        self.bare_dollars()?;
+        self.begin(script, Before::Apart, head)
+    }
+
+    /// The character behind an operator that it ends.
+    fn operated(
+        &mut self,
+        script: &[u8],
+        before: Before,
+        start: Place,
+        head: Head,
+    ) -> Result<State, LexError>
+        requires head { IsHead script.now head }
+        requires order { start.byte ≤ head.place.byte }
+        requires apart { model.awaits_mark (before_of before) ≡ false }
+        ensures does { Does script.now head.next.byte self.old self.new result (reading.operated (before_of before) (dollars_in script.now self.old) (place_of start) (model.operator (slice_range script.now start.byte head.place.byte)) (due_in self.old) (place_of head.place) head.c (class_is head.class)) }
+        ensures stands { IfOk result (λ s. Stands script.now head.next.byte s) }
+    {
+        let Some(kind) = operator(&script[start.byte..head.place.byte]) else {
+            return Err(fault(FaultKind::BadDescriptor, start.line));
+        };
+        match kind {
+            TokenKind::BareHere => self.begin(script, Before::Here(start, head.place), head),
+            TokenKind::Dollar => {
+                self.caret(before, start)?;
+                self.dollars.push(token(kind, start, head.place))?;
+                self.behind_dollars(script, head)
+            }
+            TokenKind::DollarCount | TokenKind::DollarFlat => {
+                self.caret(before, start)?;
+                self.bare_dollars()?;
+                self.dollars.push(token(kind, start, head.place))?;
+                self.behind_dollars(script, head)
+            }
+            _ => {
+                let meant = meant(before, kind);
+                self.lexeme(before, meant, start, head.place)?;
+                self.begin(script, behind(before, meant), head)
+            }
+        }
+    }
+
+    /// The character behind an operator that is read so far.
+    fn in_operator(
+        &mut self,
+        script: &[u8],
+        before: Before,
+        start: Place,
+        head: Head,
+    ) -> Result<State, LexError>
+        requires head { IsHead script.now head }
+        requires order { start.byte ≤ head.place.byte }
+        requires apart { model.awaits_mark (before_of before) ≡ false }
+        ensures does { Does script.now head.next.byte self.old self.new result (reading.step (reading.Operator (before_of before) (dollars_in script.now self.old) (place_of start) (slice_range script.now start.byte head.place.byte)) (due_in self.old) (place_of head.place) head.c (class_is head.class)) }
+        ensures stands { IfOk result (λ s. Stands script.now head.next.byte s) }
+    {
+        if begins_operator(&script[start.byte..head.next.byte]) {
+            return Ok(State::Operator(before, start));
+        }
+        self.operated(script, before, start, head)
+    }
+
+    /// The character in the body of a here document.
+    fn in_body(
+        &mut self,
+        script: &[u8],
+        body: usize,
+        line: usize,
+        head: Head,
+    ) -> Result<State, LexError>
+        requires head { IsHead script.now head }
+        requires order { body ≤ line }
+        requires within { line ≤ head.place.byte }
+        ensures does { Does script.now head.next.byte self.old self.new result (reading.step (state_in script.now head.place.byte self.old (State.Body body line)) (due_left self.old (State.Body body line)) (place_of head.place) head.c (class_is head.class)) }
+        ensures stands { IfOk result (λ s. Stands script.now head.next.byte s) }
+    {
+        let Some(due) = self.due.front() else {
+            return self.begin(script, Before::Apart, head);
+        };
+        match head.class {
+            Class::LineEnd => {
+                if &script[line..head.place.byte] != due.mark.as_slice() {
+                    return Ok(State::Body(body, head.next.byte));
+                }
+                self.bodies.push(Span {
+                    start: body,
+                    stop: line,
+                })?;
+                let _ = self.due.pop_front();
+                Ok(self.line(head.next.byte))
+            }
+            _ => Ok(State::Body(body, line)),
+        }
+    }
+
+    /// The state at the beginning of a line.
+    fn line(&self, at: usize) -> State
+        ensures { result ≡ line_of self.now.due.items at }
+    {
+        if self.due.is_empty() {
+            State::Between(Before::Apart)
+        } else {
+            State::Body(at, at)
+        }
+    }
+
+    /// The script ends in this state.
+    pub fn finish(&mut self, script: &[u8], state: State, place: Place) -> Result<(), LexError>
+        requires stands { Stands script.now place.byte state }
+        requires within { place.byte ≤ length script.now }
+        ensures { Ends script.now self.old self.new result (reading.finish (state_in script.now place.byte self.old state) (due_left self.old state) (place_of place)) }
+    {
+        match state {
+            State::Between(before) => {
+                self.bare_here(before)?;
+                self.nothing_due()
+            }
+            State::Comment => self.nothing_due(),
+            State::Backslash(before, start) | State::Word(before, start) => self.last_word(
+                script, before, start, place,
+            ),
+            State::WordBackslash(before, start, _) => self.last_word(script, before, start, place),
+            State::Name(start) => {
+                self.lexeme(Before::Dollar, TokenKind::Name, start, place)?;
+                self.nothing_due()
+            }
+            State::Quoted(_, start) => Err(fault(FaultKind::OpenQuote, start.line)),
+            State::Closed(before, start) => {
+                let _ = self.quoted(script, before, start, place)?;
+                self.nothing_due()
+            }
+            State::Operator(before, start) => self.last_operator(script, before, start, place),
+            State::Body(body, line) => self.last_line(script, body, line, place.byte),
+        }
+    }
+
+    /// No here document waits for its body.
+    fn nothing_due(&self) -> Result<(), LexError>
+        ensures { IsClosed (due_in self.now) result }
+    {
+        match self.due.front() {
+            None => Ok(()),
+            Some(due) => Err(fault(FaultKind::OpenHere, due.line)),
+        }
+    }
+
+    fn last_word(
+        &mut self,
+        script: &[u8],
+        before: Before,
+        start: Place,
+        place: Place,
+    ) -> Result<(), LexError>
+        requires order { start.byte ≤ place.byte }
+        requires within { place.byte ≤ length script.now }
+        ensures { Ends script.now self.old self.new result (reading.ended (before_of before) (model.Word (slice_range script.now start.byte place.byte)) (place_of start) (due_in self.old) (place_of place)) }
+    {
+        let _ = self.word(script, before, start, place)?;
+        self.nothing_due()
+    }
+
+    fn last_operator(
+        &mut self,
+        script: &[u8],
+        before: Before,
+        start: Place,
+        place: Place,
+    ) -> Result<(), LexError>
+        requires order { start.byte ≤ place.byte }
+        requires within { place.byte ≤ length script.now }
+        requires apart { model.awaits_mark (before_of before) ≡ false }
+        ensures { Ends script.now self.old self.new result (reading.operated_last (before_of before) (dollars_in script.now self.old) (place_of start) (model.operator (slice_range script.now start.byte place.byte)) (due_in self.old) (place_of place)) }
+    {
+        let Some(kind) = operator(&script[start.byte..place.byte]) else {
+            return Err(fault(FaultKind::BadDescriptor, start.line));
+        };
+        self.bare_dollars()?;
+        self.lexeme(before, meant(before, kind), start, place)?;
+        self.nothing_due()
+    }
+
+    /// The last line of a body, which is the mark, if there is one.
+    fn last_line(
+        &mut self,
+        script: &[u8],
+        body: usize,
+        line: usize,
+        end: usize,
+    ) -> Result<(), LexError>
+        requires order { body ≤ line }
+        requires until { line ≤ end }
+        requires within { end ≤ length script.now }
+        ensures { (p : model.Place) → Ends script.now self.old self.new result (reading.finish (state_in script.now end self.old (State.Body body line)) (due_left self.old (State.Body body line)) p) }
+    {
+        let Some(due) = self.due.front() else {
+            return Ok(());
+        };
+        let last = &script[line..end];
+        if last.is_empty() || last != due.mark.as_slice() {
+            return Err(fault(FaultKind::OpenHere, due.line));
+        }
+        self.bodies.push(Span {
+            start: body,
+            stop: line,
+        })?;
+        let _ = self.due.pop_front();
+        self.nothing_due()
+    }
+
+    /// The tokens, with the bodies of the here documents.
+    pub fn tokens(&self) -> Result<Vec<Token>, AllocError>
+        ensures { IfOk result (λ v. (script : List ℕ) → tokens_of script v.items ≡ model.filled (tokens_in script self.now) (bodies_in script self.now)) }
+    {
+        filled(self.alloc, self.tokens.as_slice(), self.bodies.as_slice())
+    }
+}

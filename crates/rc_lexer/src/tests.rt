@@ -1,0 +1,162 @@
+//! What no clause says: that these scripts have these tokens and faults.
+
+use crate::{FaultKind, LexError, LexFault, lex};
+use std::alloc::Global;
+use std::process::Abort;
+use std::test::Fail;
+
+fn shown(alloc: Global, script: &str) -> Result<String, LexError> {
+    let tokens = lex(alloc, script)?;
+    let mut out = String::new(alloc);
+    for t in &tokens {
+        if !out.is_empty() {
+            out.push(' ')?;
+        }
+        write!(out, "{:?}@{}..{}", t.kind, t.span.start, t.span.stop)?;
+        if t.line != 1 {
+            write!(out, "/{}", t.line)?;
+        }
+    }
+    Ok(out)
+}
+
+fn faults(rt: &impl Abort, alloc: Global, script: &str, kind: FaultKind, line: usize) {
+    match lex(alloc, script) {
+        Err(LexError::Fault(fault)) => assert_eq!(rt; fault, LexFault { kind, line }, "{script}"),
+        _ => assert!(rt; false, "{script}"),
+    }
+}
+
+#[test]
+fn words_and_names(rt: HostRuntime) -> Result<(), Fail> {
+    for (script, want) in [
+        ("", ""),
+        ("a\\\nb", "Word@0..1 Word@3..4/2"),
+        ("a\\b\\", "Word@0..4"),
+        ("a#b c", "Word@0..1"),
+        ("a #b\nc", "Word@0..1 Newline@4..5 Word@5..6/2"),
+        ("'it''s'", "Quoted@0..7"),
+        ("'a\nb' c", "Quoted@0..5 Word@6..7/2"),
+        ("$x.c", "Dollar@0..1 Name@1..2 FreeCaret@2..2 Word@2..4"),
+        ("x^$y", "Word@0..1 Caret@1..2 Dollar@2..3 Name@3..4"),
+        ("'a'b", "Quoted@0..3 FreeCaret@3..3 Word@3..4"),
+        ("a'b'", "Word@0..1 FreeCaret@1..1 Quoted@1..4"),
+        (
+            "(a)$x",
+            "LeftParen@0..1 Word@1..2 RightParen@2..3 Dollar@3..4 Name@4..5",
+        ),
+        (
+            "`{a}b",
+            "Backquote@0..1 LeftBrace@1..2 Word@2..3 RightBrace@3..4 Word@4..5",
+        ),
+        (
+            "a`{",
+            "Word@0..1 FreeCaret@1..1 Backquote@1..2 LeftBrace@2..3",
+        ),
+        ("$\"x", "DollarFlat@0..2 Name@2..3"),
+        ("$#*", "DollarCount@0..2 Name@2..3"),
+        ("$$x", "Dollar@0..1 Dollar@1..2 Name@2..3"),
+        ("$'a b'", "Dollar@0..1 Quoted@1..6"),
+        ("$x(", "Dollar@0..1 Name@1..2 Subscript@2..3"),
+        ("$x (", "Dollar@0..1 Name@1..2 LeftParen@3..4"),
+        ("$'x'(", "Dollar@0..1 Quoted@1..4 Subscript@4..5"),
+        ("'a'(", "Quoted@0..3 LeftParen@3..4"),
+        ("$$#x", "BareDollar@0..1 DollarCount@1..3 Name@3..4"),
+        (
+            "a$ $$ ",
+            "Word@0..1 FreeCaret@1..1 BareDollar@1..2 BareDollar@3..4 BareDollar@4..5",
+        ),
+        ("é$é", "Word@0..2 FreeCaret@2..2 BareDollar@2..3 Word@3..5"),
+        ("if not", "Word@0..2 Word@3..6"),
+        ("case$x", "Word@0..4 FreeCaret@4..4 Dollar@4..5 Name@5..6"),
+        (
+            "for(in in in)",
+            "Word@0..3 LeftParen@3..4 Word@4..6 Word@7..9 Word@10..12 RightParen@12..13",
+        ),
+    ] {
+        assert_eq!(rt; shown(rt.alloc(), script)?.as_str(), want, "{script}");
+    }
+    Ok(())
+}
+
+#[test]
+fn operators(rt: HostRuntime) -> Result<(), Fail> {
+    for (script, want) in [
+        (
+            "; & && || |",
+            "Semicolon@0..1 Ampersand@2..3 AndAnd@4..6 OrOr@7..9 Bar(1)@10..11",
+        ),
+        (
+            "^=(){}",
+            "Caret@0..1 Equals@1..2 LeftParen@2..3 RightParen@3..4 LeftBrace@4..5 RightBrace@5..6",
+        ),
+        ("|[1]|[2]", "Bar(1)@0..4 Bar(2)@4..8"),
+        (
+            "> >>< >>>",
+            "Output(1)@0..1 Append(1)@2..4 Input@4..5 Append(1)@6..8 Output(1)@8..9",
+        ),
+        (">[1]>[2]", "Output(1)@0..4 Output(2)@4..8"),
+        (">>[1]>>[2]", "Append(1)@0..5 Append(2)@5..10"),
+        ("<[0]f", "Input@0..4 Word@4..5"),
+        (">[1=2]>[2=1]", "CopyTo(1, 2)@0..6 CopyTo(2, 1)@6..12"),
+        ("&&&", "AndAnd@0..2 Ampersand@2..3"),
+        ("||[1]", "OrOr@0..2 Word@2..5"),
+    ] {
+        assert_eq!(rt; shown(rt.alloc(), script)?.as_str(), want, "{script}");
+    }
+    Ok(())
+}
+
+#[test]
+fn here_documents(rt: HostRuntime) -> Result<(), Fail> {
+    for (script, want) in [
+        (
+            "c <<A <<'B'\na\nA\nb\nB",
+            "Word@0..1 HereDoc(false, Span { start: 12, stop: 14 })@2..5 HereDoc(true, Span { start: 16, stop: 18 })@6..11 Newline@11..12",
+        ),
+        (
+            "<<[0] \\\n E;\nE\nb",
+            "HereDoc(false, Span { start: 12, stop: 12 })@0..10 Semicolon@10..11/2 Newline@11..12/2 Word@14..15/4",
+        ),
+        (
+            "<<E # <<F\nx\nE",
+            "HereDoc(false, Span { start: 10, stop: 12 })@0..3 Newline@9..10",
+        ),
+        (
+            "<<''\n\n",
+            "HereDoc(true, Span { start: 5, stop: 5 })@0..4 Newline@4..5",
+        ),
+        (
+            "<<E'x'\nE\n",
+            "HereDoc(false, Span { start: 7, stop: 7 })@0..3 Quoted@3..6 Newline@6..7",
+        ),
+        ("<< ;", "BareHere@0..2 Semicolon@3..4"),
+        ("<<<", "BareHere@0..2 Input@2..3"),
+        ("<<", "BareHere@0..2"),
+    ] {
+        assert_eq!(rt; shown(rt.alloc(), script)?.as_str(), want, "{script}");
+    }
+    Ok(())
+}
+
+#[test]
+fn first_faults(rt: HostRuntime) {
+    let alloc = rt.alloc();
+    faults(&rt, alloc, "echo 'a", FaultKind::OpenQuote, 1);
+    faults(&rt, alloc, "a\n'b\nc", FaultKind::OpenQuote, 2);
+    faults(&rt, alloc, "a >[3]f", FaultKind::BadDescriptor, 1);
+    faults(&rt, alloc, "\n\n>[2=]", FaultKind::BadDescriptor, 3);
+    faults(&rt, alloc, "|[a]", FaultKind::BadDescriptor, 1);
+    faults(&rt, alloc, "<[1]", FaultKind::BadDescriptor, 1);
+    faults(&rt, alloc, ">[", FaultKind::BadDescriptor, 1);
+    faults(&rt, alloc, "c <<E", FaultKind::OpenHere, 1);
+    faults(&rt, alloc, "x\nc <<E\n'", FaultKind::OpenHere, 2);
+    faults(&rt, alloc, "c <<A <<'\n' <<B\nA\n", FaultKind::OpenHere, 1);
+    faults(&rt, alloc, "c <<A\nA\nd <<B\n", FaultKind::OpenHere, 3);
+    faults(&rt, alloc, "c <<''\nx\n", FaultKind::OpenHere, 1);
+    faults(&rt, alloc, ">[3] 'a", FaultKind::BadDescriptor, 1);
+    faults(&rt, alloc, "c <<E\n>[3]\nE\n'a", FaultKind::OpenQuote, 4);
+    faults(&rt, alloc, "c <<E >[3]", FaultKind::BadDescriptor, 1);
+    faults(&rt, alloc, "c <<E 'a", FaultKind::OpenQuote, 1);
+    faults(&rt, alloc, "'a\n\0", FaultKind::ZeroByte, 2);
+}

@@ -1,0 +1,39 @@
+//! Texts of the shell.
+#![tactic(auto)]
+
+ghost use Rattle.std.specs.Prelude.{◌≡◌, ◌<◌, [], ◌∷◌, ◌++◌, length, string_bytes, IfOk, IfSome, MatchOption};
+ghost use Rattle.std.specs.Char.{encode_utf8};
+ghost use Rattle.std.specs.Str.{IsUtf8, chars};
+ghost use Rattle.rc_model.specs.Tokens.{quoted_text};
+
+use std::alloc::{AllocError, Global};
+
+/// The first character of the text, and what follows it.
+pub fn first_char(text: &str) -> Option<(char, &str)>
+    ensures chars { MatchOption result (chars text.now ≡ []) (λ x. chars text.now ≡ x.0 ∷ chars x.1.now) }
+    ensures bytes { MatchOption result (text.now ≡ []) (λ x. text.now ≡ encode_utf8 x.0 ++ x.1.now) }
+    ensures shorter { IfSome result (λ x. length x.1.now < length text.now) }
+    ensures utf8 { IfSome result (λ x. IsUtf8 x.1.now) }
+{
+    let mut rest = text.chars();
+    let first = rest.next()?;
+    Some((first, rest.as_str()))
+}
+
+/// The text as a quoted word.
+pub fn quote(alloc: Global, text: &str) -> Result<String, AllocError>
+    ensures { IfOk result (λ s. string_bytes s ≡ quoted_text text.now) }
+{
+    let mut quoted = String::new(alloc);
+    quoted.push('\'')?;
+    let mut rest = text;
+    while let Some((c, more)) = first_char(rest) {
+        if c == '\'' {
+            quoted.push('\'')?;
+        }
+        quoted.push(c)?;
+        rest = more;
+    }
+    quoted.push('\'')?;
+    Ok(quoted)
+}
