@@ -110,6 +110,24 @@ fn starts_the_shell(rt: HostRuntime) -> Result<(), Fail> {
 }
 
 #[test]
+fn want_of_memory_is_told(rt: HostRuntime) -> Result<(), Fail> {
+    let mut host = world(rt)?;
+    let launch = launch(rt.alloc(), "/bin/true", &["a", "b"], &["a=1", "b=2"])?;
+    let started = host.start(&launch);
+    if started == Err(Fault::NoMemory) {
+        return Err(Fail::from(AllocError));
+    }
+    assert!(rt; started == Ok(ChildNo(0)));
+    assert!(rt; host.wait(ChildNo(0)) == Ok(Ending::Code(0)));
+    let found = host.probe("/bin/true");
+    if found == Err(Fault::NoMemory) {
+        return Err(Fail::from(AllocError));
+    }
+    assert!(rt; found == Ok(Kind::Program));
+    Ok(())
+}
+
+#[test]
 fn numbers_children(rt: HostRuntime) -> Result<(), Fail> {
     let mut host = world(rt)?;
     let launch = launch(rt.alloc(), "/bin/true", &[], &[])?;

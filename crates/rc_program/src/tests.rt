@@ -65,6 +65,18 @@ fn runs_a_command(rt: HostRuntime) -> Result<(), Fail> {
 }
 
 #[test]
+fn want_of_memory_is_told(rt: HostRuntime) -> Result<(), Fail> {
+    let alloc = rt.alloc();
+    let mut tape = one_program(alloc, Ending::Code(3))?;
+    let ended = run_rc(alloc, &mut tape, &[], b"echo hello".as_slice());
+    if ended == Err(RunFault::NoMemory) {
+        return Err(Fail::from(AllocError));
+    }
+    assert_eq!(rt; ended, Ok(3));
+    Ok(())
+}
+
+#[test]
 fn ends_as_the_script(rt: HostRuntime) -> Result<(), Fail> {
     for (ending, want) in [
         (Ending::Code(0), 0),
