@@ -28,7 +28,7 @@ returns-in-Ok-Limit g c =
     let t = cmd_tree c.args.cmd.now in
     let s = state_of c.args.state in
     let start : config_of c.new-machine.result ≡ begin t s = begins t s (code_of c.in-Ok.code) (config_of c.new-machine.result) c.new-machine.ensures c.in-Ok.ensures in
-    told_limit c.args.limit t s _ _ (rw (c.in-Ok-Limit.field-0-is, start) at c.in-Ok-Limit.ensures)
+    told_limit c.args.limit t s _ _ (config_of c.run.new.self) (rw (c.in-Ok-Limit.field-0-is, start) at c.in-Ok-Limit.ensures)
 
 pub returns-in-Ok-Halted : goal.returns-in-Ok-Halted
 returns-in-Ok-Halted g c =

@@ -2,22 +2,25 @@ use Rattle.rc_model.specs.Machine.{Ended, Stuck}
 use Rattle.rc_shell.specs.Machines.{config_of}
 use Rattle.rc_shell.specs.States.{state_of}
 use Rattle.rc_world.specs.declared.types.Stop.TheVariants.{Halt, NoMemory}
-use Rattle.rc_shell.proofs.Runs.{ran_on, ran_over, left_within, halted, left_somewhere}
+use Rattle.rc_shell.proofs.Runs.{reached_start, reached_on, ran_over, left_within, halted, left_somewhere}
 use Rattle.rc_shell.proofs.machine.Machine.run.Goals as goal
 
+pub loop-init : goal.loop-init
+loop-init g c = reached_start (config_of c.args.self.now) (g.W.World.events c.args.world.now)
+
 pub loop-preserved : goal.loop-preserved
-loop-preserved g c = ran_on c.args.limit c.loop.counter _ _ _ _ _ c.loop-test.true c.loop.invariant (config_of c.step.new.self) (rw c.in-Ok-On.field-0-is at c.in-Ok-On.ensures)
+loop-preserved g c = reached_on c.loop.counter _ _ _ _ _ c.loop.invariant (config_of c.step.new.self) (rw c.in-Ok-On.field-0-is at c.in-Ok-On.ensures)
 
 pub returns-in-Ok-Ended : goal.returns-in-Ok-Ended
-returns-in-Ok-Ended g c = ran_over c.args.limit c.loop.counter _ _ _ _ _ c.loop-test.true c.loop.invariant (Ended (state_of c.step.new.self.state)) (rw c.in-Ok-Ended.field-0-is at c.in-Ok-Ended.ensures)
+returns-in-Ok-Ended g c = ran_over c.loop.counter _ _ _ _ _ c.loop.invariant c.args.limit c.loop-test.true (Ended (state_of c.step.new.self.state)) (rw c.in-Ok-Ended.field-0-is at c.in-Ok-Ended.ensures)
 
 pub unreachable-requires : goal.unreachable-requires
 unreachable-requires g c =
-    let f = ran_over c.args.limit c.loop.counter _ _ _ _ _ c.loop-test.true c.loop.invariant Stuck (rw c.in-Ok-Stuck.field-0-is at c.in-Ok-Stuck.ensures) in
+    let f = ran_over c.loop.counter _ _ _ _ _ c.loop.invariant c.args.limit c.loop-test.true Stuck (rw c.in-Ok-Stuck.field-0-is at c.in-Ok-Stuck.ensures) in
     c.requires c.args.limit f.trace f.goes
 
 pub returns-in-Err-Halt : goal.returns-in-Err-Halt
-returns-in-Err-Halt g c = halted _ _ _ (left_within c.args.limit c.loop.counter _ _ _ _ _ c.loop-test.true c.loop.invariant Halt (rw c.in-Err-Halt.field-0-is at c.in-Err-Halt.ensures))
+returns-in-Err-Halt g c = halted _ _ _ (left_within c.loop.counter _ _ _ _ _ c.loop.invariant c.args.limit c.loop-test.true Halt (rw c.in-Err-Halt.field-0-is at c.in-Err-Halt.ensures))
 
 pub returns-in-Err-NoMemory : goal.returns-in-Err-NoMemory
-returns-in-Err-NoMemory g c = left_somewhere _ _ _ (left_within c.args.limit c.loop.counter _ _ _ _ _ c.loop-test.true c.loop.invariant NoMemory (rw c.in-Err-NoMemory.field-0-is at c.in-Err-NoMemory.ensures))
+returns-in-Err-NoMemory g c = left_somewhere _ _ _ (left_within c.loop.counter _ _ _ _ _ c.loop.invariant c.args.limit c.loop-test.true NoMemory (rw c.in-Err-NoMemory.field-0-is at c.in-Err-NoMemory.ensures))
