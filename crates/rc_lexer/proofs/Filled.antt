@@ -1,5 +1,5 @@
 -- Here documents and their bodies.
-use Rattle.std.proofs.Common.{◌≡◌, ◌≢◌, ℕ, Bool, true, false, cond, List, [], ◌∷◌, refl, sym, ap, ◌∙◌}
+use Rattle.std.proofs.Common.{◌≡◌, ◌≢◌, ℕ, Bool, false, cond, List, [], ◌∷◌, refl, sym, ap, ◌∙◌}
 use Rattle.std.proofs.Common.{length, arith, map}
 use Rattle.rc_model.specs.Tokens as model
 use Rattle.rc_lexer.specs.declared.Span.{Span}

@@ -1,31 +1,19 @@
 -- What the lexer does in the body of a here document.
-use Rattle.std.proofs.Common.{◌≡◌, ◌≢◌, ℕ, suc, ◌+◌, ◌-◌, ◌<◌, ◌≤◌, Bool, true, false, cond, not, ◌==◌, ◌||◌, List, [], ◌∷◌, ◌++◌, length, map, take, drop, refl, sym, ap, subst, ◌∙◌, append_assoc, arith}
-use Rattle.std.specs.Prelude.{Option, Some, None, Result, Ok, Err, slice_range, slice_index_or}
+use Rattle.std.proofs.Common.{◌≡◌, ℕ, ◌-◌, ◌<◌, ◌≤◌, Bool, true, false, cond, not, List, [], ◌∷◌, ◌++◌, length, map, take, drop, refl, sym, ap, subst, ◌∙◌, arith}
+use Rattle.std.specs.Prelude.{Ok, slice_range, slice_index_or}
 use Rattle.std.proofs.lemmas.List.{append-nil, map-append}
 use Rattle.rc_model.specs.Tokens as model
 use Rattle.rc_model.specs.Reading as reading
 use Rattle.rc_model.specs.Reading.{Step}
-use Rattle.rc_lexer.specs.declared.LexError.{LexError}
-use Rattle.rc_lexer.specs.declared.LexError.TheVariants.{Fault, Memory}
-use Rattle.rc_lexer.specs.declared.operators.Class.{Class}
-use Rattle.rc_lexer.specs.declared.operators.Class.TheVariants as class
-use Rattle.rc_lexer.specs.declared.machine.Before.{Before}
-use Rattle.rc_lexer.specs.declared.machine.Place.{Place}
 use Rattle.rc_lexer.specs.declared.machine.State.{State}
-use Rattle.rc_lexer.specs.declared.machine.Lexer.{Lexer}
 use Rattle.rc_lexer.specs.Views.{slice_at}
-use Rattle.rc_lexer.specs.Classes.{class_is}
-use Rattle.rc_lexer.specs.declared.machine.Before.TheVariants as before
-use Rattle.rc_lexer.proofs.Does.{along}
 use Rattle.rc_lexer.proofs.Steps.{line_step, slice_empty}
 use Rattle.std.proofs.Math.Seq.{take-add}
 use Rattle.std.proofs.lemmas.List.{drop-drop}
 use Rattle.std.specs.Str.{bytes_eq}
 use Rattle.rc_lexer.specs.declared.Span.{Span}
 use Rattle.rc_lexer.specs.declared.machine.Due.{Due}
-use Rattle.rc_lexer.specs.declared.machine.State.TheVariants as state
-use Rattle.rc_lexer.specs.Machine.{state_in, due_left, body_of, behind_first, line_of, state_of, due_behind, place_of, before_of, due_of, due_in, tokens_in, dollars_in, bodies_in, behind_step, Does, Spelled, Keeps, Resolved}
-use Rattle.std.proofs.lemmas.Bool.{eqb-true}
+use Rattle.rc_lexer.specs.Machine.{body_of, behind_first, line_of, state_of, due_behind, due_of, behind_step}
 use Rattle.std.specs.Char.{encode_utf8}
 
 -- the first of the here documents that are due

@@ -1,21 +1,15 @@
 -- What the lexer does where an operator ends.
-use Rattle.std.proofs.Common.{◌≡◌, ◌≢◌, ℕ, suc, ◌+◌, ◌-◌, ◌<◌, ◌≤◌, Bool, true, false, cond, ◌==◌, ◌||◌, List, [], ◌∷◌, ◌++◌, length, map, refl, sym, ap, subst, ◌∙◌, append_assoc, ◌⊎◌, inl, inr}
-use Rattle.std.specs.Prelude.{Option, Some, None, Result, Ok, Err, slice_range}
+use Rattle.std.proofs.Common.{◌≡◌, ◌≢◌, ℕ, Bool, true, false, cond, List, [], ◌∷◌, ◌++◌, map, refl, sym, ap, ◌∙◌, append_assoc, ◌⊎◌, inl, inr}
+use Rattle.std.specs.Prelude.{Option, Some, Result, Ok, slice_range}
 use Rattle.std.proofs.lemmas.List.{append-nil, map-append}
 use Rattle.rc_model.specs.Tokens as model
 use Rattle.rc_model.specs.Reading as reading
 use Rattle.rc_model.specs.Reading.{Step}
 use Rattle.rc_lexer.specs.declared.LexError.{LexError}
-use Rattle.rc_lexer.specs.declared.LexError.TheVariants.{Fault, Memory}
-use Rattle.rc_lexer.specs.declared.operators.Class.{Class}
-use Rattle.rc_lexer.specs.declared.operators.Class.TheVariants as class
 use Rattle.rc_lexer.specs.declared.machine.Before.{Before}
 use Rattle.rc_lexer.specs.declared.machine.Place.{Place}
 use Rattle.rc_lexer.specs.declared.machine.State.{State}
 use Rattle.rc_lexer.specs.declared.machine.Lexer.{Lexer}
-use Rattle.rc_lexer.specs.Views.{slice_at}
-use Rattle.rc_lexer.specs.Classes.{class_is}
-use Rattle.rc_lexer.specs.declared.machine.Before.TheVariants as before
 use Rattle.rc_lexer.proofs.Does.{along, emits, ends_does}
 use Rattle.rc_lexer.proofs.Operates.{goes_on}
 use Rattle.rc_lexer.specs.declared.Token.{Token}
@@ -23,8 +17,7 @@ use Rattle.rc_lexer.specs.declared.TokenKind.{TokenKind}
 use Rattle.rc_lexer.specs.declared.TokenKind.TheVariants as tk
 use Rattle.rc_lexer.specs.declared.machine.State.TheVariants as state
 use Rattle.rc_lexer.specs.Views.{token_of, tokens_of, lexeme_of}
-use Rattle.rc_lexer.specs.Machine.{state_in, due_left, lexeme_tokens, place_of, before_of, due_of, due_in, tokens_in, dollars_in, bodies_in, behind_step, Does, Spelled, Keeps, Resolved}
-use Rattle.std.proofs.lemmas.Bool.{eqb-true}
+use Rattle.rc_lexer.specs.Machine.{lexeme_tokens, place_of, before_of, due_of, due_in, tokens_in, dollars_in, bodies_in, Does, Keeps, Resolved}
 use Rattle.std.specs.Char.{encode_utf8}
 
 operated_along : (script : List ℕ) (end : ℕ) (prev : model.Before) (dollars : List model.Token) (q : model.Place) (o o' : Option model.Lexeme) (due : List model.Due) (p : model.Place) (c : ℕ) (k : model.Class) (old new : Lexer) (r : Result State LexError) →

@@ -1,8 +1,7 @@
 -- What the lexer does at an operator.
-use Rattle.std.proofs.Common.{◌≡◌, ◌≢◌, ℕ, suc, ◌+◌, ◌-◌, ◌/◌, ◌%◌, ◌<◌, ◌≤◌, Bool, true, false, cond, ◌==◌, ◌||◌, ltb, List, [], ◌∷◌, ◌++◌, length, map, refl, sym, ap, subst, ◌∙◌, append_assoc, ◌⊎◌, inl, inr, arith}
-use Rattle.std.specs.Prelude.{Option, Some, None, Result, Ok, Err, slice_range, ◌&&◌}
+use Rattle.std.proofs.Common.{◌≡◌, ℕ, ◌+◌, ◌/◌, ◌%◌, ◌≤◌, Bool, true, false, cond, ◌==◌, ◌||◌, ltb, List, [], ◌∷◌, ◌++◌, refl, sym, ap, ◌∙◌, arith}
+use Rattle.std.specs.Prelude.{◌&&◌}
 use Rattle.std.specs.List.{list_any, list_all}
-use Rattle.std.proofs.lemmas.List.{append-nil, map-append}
 use Rattle.std.proofs.lemmas.Bool.{eqb-true, ltb-true, ltb-false}
 use Rattle.std.proofs.lemmas.Str.{encode_ascii}
 use Rattle.std.proofs.Math.Utf8.{encode}
@@ -10,8 +9,6 @@ use Rattle.std.specs.Char.{encode_utf8}
 use Rattle.rc_model.specs.Text.{begins_with}
 use Rattle.rc_model.specs.Tokens as model
 use Rattle.rc_model.specs.Tokens.{Lexeme}
-use Rattle.rc_model.specs.Reading as reading
-use Rattle.rc_model.specs.Reading.{Step}
 
 -- an operator is ASCII
 abbrev ascii : List ℕ → Bool

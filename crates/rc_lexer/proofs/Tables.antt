@@ -1,10 +1,10 @@
 -- A walk along the table of operators.
-use Rattle.std.proofs.Common.{◌≡◌, ℕ, zero, suc, ◌+◌, ◌<◌, Bool, true, false, cond, ◌==◌, ◌||◌, nat_eq, List, [], ◌∷◌, map, refl, sym, ap, ◌∙◌, length, take, drop, get_or, drop-cons, add-one, arith}
-use Rattle.std.specs.Prelude.{Option, Some, None, option_map, find, ◌&&◌}
+use Rattle.std.proofs.Common.{◌≡◌, ℕ, suc, ◌+◌, ◌<◌, Bool, true, false, cond, ◌==◌, ◌||◌, nat_eq, List, [], ◌∷◌, map, refl, sym, ap, ◌∙◌, length, drop, get_or, drop-cons, add-one}
+use Rattle.std.specs.Prelude.{Option, Some, option_map, find, ◌&&◌}
 use Rattle.std.specs.List.{list_any, starts_with}
 use Rattle.std.specs.Str.{bytes_eq}
 use Rattle.rc_model.specs.Text.{begins_with}
-use Rattle.rc_model.specs.Tokens.{Lexeme, operators, operator, begins_operator}
+use Rattle.rc_model.specs.Tokens.{Lexeme}
 
 starts_as : (text word : List ℕ) → starts_with nat_eq word text ≡ begins_with text word
 starts_as [] word = refl

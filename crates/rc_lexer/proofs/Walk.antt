@@ -1,8 +1,8 @@
 -- The walk along a script.
-use Rattle.std.proofs.Common.{◌≡◌, ◌≢◌, ℕ, suc, ◌+◌, ◌-◌, ◌<◌, ◌≤◌, Bool, true, false, cond, ◌==◌, List, [], ◌∷◌, ◌++◌, length, take, drop, refl, sym, ap, subst, ◌∙◌, append_assoc, arith, length-append}
+use Rattle.std.proofs.Common.{◌≡◌, ◌≢◌, ℕ, suc, ◌+◌, ◌-◌, ◌≤◌, Bool, true, false, cond, ◌==◌, List, [], ◌∷◌, ◌++◌, length, take, drop, refl, sym, ap, subst, ◌∙◌, arith, length-append}
 use Rattle.std.specs.Prelude.{Option, Some, None, Result, Ok, Err, slice_range}
-use Rattle.std.proofs.lemmas.List.{append-nil, drop-drop, length-drop}
-use Rattle.std.proofs.lemmas.Bool.{eqb-true, eqb-false}
+use Rattle.std.proofs.lemmas.List.{drop-drop, length-drop}
+use Rattle.std.proofs.lemmas.Bool.{eqb-true}
 use Rattle.std.proofs.lemmas.Str.{length-encode, len_utf8_bounds, drop_past_char}
 use Rattle.std.proofs.Math.Seq.{take-add, take-append_seam}
 use Rattle.std.specs.Char.{encode_utf8, len_utf8}
@@ -21,7 +21,7 @@ use Rattle.rc_lexer.specs.declared.machine.State.{State}
 use Rattle.rc_lexer.specs.declared.machine.Lexer.{Lexer}
 use Rattle.rc_lexer.specs.declared.Token.{Token}
 use Rattle.rc_lexer.specs.declared.FaultKind.TheVariants.{ZeroByte}
-use Rattle.rc_lexer.specs.Views.{tokens_of, fault_of}
+use Rattle.rc_lexer.specs.Views.{fault_of}
 use Rattle.std.specs.Prelude.{Vec}
 use Rattle.rc_lexer.specs.Answers.{Reads}
 use Rattle.rc_lexer.specs.Lexed.{ReadTo}

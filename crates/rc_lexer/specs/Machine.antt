@@ -5,8 +5,6 @@ use Rattle.rc_model.specs.Tokens as model
 use Rattle.rc_model.specs.Tokens.{Outcome, LexFault}
 use Rattle.rc_model.specs.Reading as reading
 use Rattle.rc_model.specs.Reading.{Step}
-use Rattle.rc_lexer.specs.declared.Span.{Span}
-use Rattle.rc_lexer.specs.declared.Token.{Token}
 use Rattle.rc_lexer.specs.declared.TokenKind.{TokenKind}
 use Rattle.rc_lexer.specs.declared.LexError.{LexError}
 use Rattle.rc_lexer.specs.declared.LexError.TheVariants.{Fault, Memory}

@@ -5,8 +5,10 @@ use Rattle.rc_model.specs.Tokens as model
 use Rattle.rc_model.specs.Tokens.{unquoted_text}
 use Rattle.rc_lexer.specs.declared.Span.{Span}
 use Rattle.rc_lexer.specs.declared.TokenKind.{TokenKind}
-use Rattle.rc_lexer.specs.declared.TokenKind.TheVariants.{Word, Quoted, Semicolon, Ampersand, Newline, AndAnd, OrOr, Bar, Caret, FreeCaret, Equals, LeftParen, RightParen}
-use Rattle.rc_lexer.specs.declared.TokenKind.TheVariants.{LeftBrace, RightBrace, Backquote, Input, Output, Append, CopyTo, HereDoc, Dollar, DollarCount, DollarFlat, Name, Subscript, BareDollar, BareHere}
+use Rattle.rc_lexer.specs.declared.TokenKind.TheVariants.{Word, Quoted, Semicolon, Ampersand, Newline, AndAnd, OrOr, Bar, Caret, FreeCaret, Equals}
+use Rattle.rc_lexer.specs.declared.TokenKind.TheVariants.{LeftParen, RightParen}
+use Rattle.rc_lexer.specs.declared.TokenKind.TheVariants.{LeftBrace, RightBrace, Backquote, Input, Output, Append, CopyTo, HereDoc, Dollar}
+use Rattle.rc_lexer.specs.declared.TokenKind.TheVariants.{DollarCount, DollarFlat, Name, Subscript, BareDollar, BareHere}
 use Rattle.rc_lexer.specs.declared.Token.{Token}
 use Rattle.rc_lexer.specs.declared.FaultKind.{FaultKind}
 use Rattle.rc_lexer.specs.declared.FaultKind.TheVariants.{OpenQuote, OpenHere, BadDescriptor, ZeroByte}

@@ -6,7 +6,8 @@ ghost use Rattle.rc_model.specs.Tokens as model;
 ghost use Rattle.rc_model.specs.Reading as reading;
 ghost use Rattle.rc_lexer.specs.Views.{lexeme_of, slice_at, token_of, tokens_of};
 ghost use Rattle.rc_lexer.specs.Classes.{class_is};
-ghost use Rattle.rc_lexer.specs.Machine.{IsClosed, bodies_in, Resolved, dollars_in, lexeme_tokens, Marked, place_of, before_of, due_in, due_left, state_in, Stands, IsHead, Does, Spelled, IfSpelled, Ends, Keeps, line_of, tokens_in};
+ghost use Rattle.rc_lexer.specs.Machine.{Does, Ends, IfSpelled, IsClosed, IsHead, Keeps, Marked, Resolved, Spelled, Stands};
+ghost use Rattle.rc_lexer.specs.Machine.{before_of, bodies_in, dollars_in, due_in, due_left, lexeme_tokens, line_of, place_of, state_in, tokens_in};
 
 use crate::operators::{Class, begins_operator, is_name_char, operator};
 use crate::{FaultKind, LexError, LexFault, Span, Token, TokenKind};
@@ -176,7 +177,8 @@ fn names(c: char) -> bool
 }
 
 fn push_bare(tokens: &mut Vec<Token>, dollars: &[Token]) -> Result<(), AllocError>
-    ensures { OnOk result ((script : List ℕ) → tokens_of script tokens.new.items ≡ tokens_of script tokens.old.items ++ reading.bare (tokens_of script dollars.now)) }
+    ensures { OnOk result ((script : List ℕ) → tokens_of script tokens.new.items
+        ≡ tokens_of script tokens.old.items ++ reading.bare (tokens_of script dollars.now)) }
 {
     for dollar in dollars {
         tokens.push(Token {
@@ -216,7 +218,8 @@ pub fn fault(kind: FaultKind, line: usize) -> LexError
 
 /// The token with the next body, if it is a here document, and the bodies behind that.
 fn with_body(token: Token, bodies: &[Span]) -> (Token, &[Span])
-    ensures { (script : List ℕ) (ts : List model.Token) → model.filled (token_of script token ∷ ts) (map (slice_at script) bodies.now) ≡ token_of script result.0 ∷ model.filled ts (map (slice_at script) result.1.now) }
+    ensures { (script : List ℕ) (ts : List model.Token) → model.filled (token_of script token ∷ ts) (map (slice_at script) bodies.now)
+        ≡ token_of script result.0 ∷ model.filled ts (map (slice_at script) result.1.now) }
 {
     let TokenKind::HereDoc(quoted, _) = token.kind else {
         return (token, bodies);
@@ -235,7 +238,8 @@ fn with_body(token: Token, bodies: &[Span]) -> (Token, &[Span])
 
 /// Each here document takes the next body.
 fn filled(alloc: Global, tokens: &[Token], bodies: &[Span]) -> Result<Vec<Token>, AllocError>
-    ensures { IfOk result (λ v. (script : List ℕ) → tokens_of script v.items ≡ model.filled (tokens_of script tokens.now) (map (slice_at script) bodies.now)) }
+    ensures { IfOk result (λ v. (script : List ℕ) → tokens_of script v.items
+        ≡ model.filled (tokens_of script tokens.now) (map (slice_at script) bodies.now)) }
 {
     let mut out = Vec::new(alloc);
     let mut left = bodies;
@@ -266,7 +270,9 @@ impl Lexer {
     pub fn step(&mut self, script: &[u8], state: State, head: Head) -> Result<State, LexError>
         requires head { IsHead script.now head }
         requires stands { Stands script.now head.place.byte state }
-        ensures does { Does script.now head.next.byte self.old self.new result (reading.step (state_in script.now head.place.byte self.old state) (due_left self.old state) (place_of head.place) head.c (class_is head.class)) }
+        ensures does { Does script.now head.next.byte self.old self.new result
+            (reading.step (state_in script.now head.place.byte self.old state) (due_left self.old state)
+            (place_of head.place) head.c (class_is head.class)) }
         ensures stands { IfOk result (λ s. Stands script.now head.next.byte s) }
     {
         match state {
@@ -304,7 +310,8 @@ impl Lexer {
     /// What the character begins.
     fn begin(&mut self, script: &[u8], before: Before, head: Head) -> Result<State, LexError>
         requires { IsHead script.now head }
-        ensures does { Does script.now head.next.byte self.old self.new result (reading.begin (before_of before) (due_in self.old) (place_of head.place) head.c (class_is head.class)) }
+        ensures does { Does script.now head.next.byte self.old self.new result
+            (reading.begin (before_of before) (due_in self.old) (place_of head.place) head.c (class_is head.class)) }
         ensures stands { IfOk result (λ s. Stands script.now head.next.byte s) }
     {
         match head.class {
@@ -333,7 +340,8 @@ impl Lexer {
 
     /// A `<<` whose mark does not come.
     fn bare_here(&mut self, before: Before) -> Result<(), AllocError>
-        ensures tokens { OnOk result ((script : List ℕ) → tokens_in script self.new ≡ tokens_in script self.old ++ reading.bare_here (before_of before)) }
+        ensures tokens { OnOk result ((script : List ℕ) → tokens_in script self.new
+            ≡ tokens_in script self.old ++ reading.bare_here (before_of before)) }
         ensures rest { OnOk result (Keeps self.old self.new) }
     {
         if let Before::Here(start, stop) = before {
@@ -350,7 +358,8 @@ impl Lexer {
         start: Place,
         stop: Place,
     ) -> Result<(), AllocError>
-        ensures tokens { OnOk result ((script : List ℕ) → tokens_in script self.new ≡ tokens_in script self.old ++ lexeme_tokens script (before_of before) kind start stop) }
+        ensures tokens { OnOk result ((script : List ℕ) → tokens_in script self.new
+            ≡ tokens_in script self.old ++ lexeme_tokens script (before_of before) kind start stop) }
         ensures rest { OnOk result (Keeps self.old self.new) }
     {
         if joins(before, kind) {
@@ -411,7 +420,8 @@ impl Lexer {
     ) -> Result<Before, LexError>
         requires order { start.byte ≤ stop.byte }
         requires within { stop.byte ≤ length script.now }
-        ensures { IfSpelled script.now before (model.Quoted (model.unquoted_text (slice_range script.now start.byte stop.byte))) start stop self.old self.new result }
+        ensures { IfSpelled script.now before (model.Quoted (model.unquoted_text (slice_range script.now start.byte stop.byte))) start stop
+            self.old self.new result }
     {
         if let Before::Here(begin, _) = before {
             let mark = unquoted(self.alloc, &script[start.byte..stop.byte])?;
@@ -432,7 +442,9 @@ impl Lexer {
     ) -> Result<State, LexError>
         requires head { IsHead script.now head }
         requires order { start.byte ≤ head.place.byte }
-        ensures does { Does script.now head.next.byte self.old self.new result (reading.in_word (before_of before) (place_of start) (slice_range script.now start.byte head.place.byte) (due_in self.old) (place_of head.place) head.c (class_is head.class)) }
+        ensures does { Does script.now head.next.byte self.old self.new result
+            (reading.in_word (before_of before) (place_of start) (slice_range script.now start.byte head.place.byte) (due_in self.old)
+            (place_of head.place) head.c (class_is head.class)) }
         ensures stands { IfOk result (λ s. Stands script.now head.next.byte s) }
     {
         match head.class {
@@ -449,7 +461,9 @@ impl Lexer {
     fn in_name(&mut self, script: &[u8], start: Place, head: Head) -> Result<State, LexError>
         requires head { IsHead script.now head }
         requires order { start.byte ≤ head.place.byte }
-        ensures does { Does script.now head.next.byte self.old self.new result (reading.step (reading.Name (place_of start) (slice_range script.now start.byte head.place.byte)) (due_in self.old) (place_of head.place) head.c (class_is head.class)) }
+        ensures does { Does script.now head.next.byte self.old self.new result
+            (reading.step (reading.Name (place_of start) (slice_range script.now start.byte head.place.byte)) (due_in self.old)
+            (place_of head.place) head.c (class_is head.class)) }
         ensures stands { IfOk result (λ s. Stands script.now head.next.byte s) }
     {
         if is_name_char(head.c) {
@@ -469,7 +483,9 @@ impl Lexer {
     ) -> Result<State, LexError>
         requires head { IsHead script.now head }
         requires order { start.byte ≤ head.place.byte }
-        ensures does { Does script.now head.next.byte self.old self.new result (reading.ends (before_of before) (model.Quoted (model.unquoted_text (slice_range script.now start.byte head.place.byte))) (place_of start) (due_in self.old) (place_of head.place) head.c (class_is head.class)) }
+        ensures does { Does script.now head.next.byte self.old self.new result
+            (reading.ends (before_of before) (model.Quoted (model.unquoted_text (slice_range script.now start.byte head.place.byte)))
+            (place_of start) (due_in self.old) (place_of head.place) head.c (class_is head.class)) }
         ensures stands { IfOk result (λ s. Stands script.now head.next.byte s) }
     {
         let after = self.quoted(script, before, start, head.place)?;
@@ -478,7 +494,8 @@ impl Lexer {
 
     /// A `^` before a `$` that wants one.
     fn caret(&mut self, before: Before, start: Place) -> Result<(), AllocError>
-        ensures tokens { OnOk result ((script : List ℕ) → tokens_in script self.new ≡ tokens_in script self.old ++ model.caret (before_of before) model.Dollar (place_of start)) }
+        ensures tokens { OnOk result ((script : List ℕ) → tokens_in script self.new
+            ≡ tokens_in script self.old ++ model.caret (before_of before) model.Dollar (place_of start)) }
         ensures rest { OnOk result (Keeps self.old self.new) }
     {
         if joins(before, TokenKind::Dollar) {
@@ -508,7 +525,8 @@ impl Lexer {
     /// The character behind `$`s whose name is still to come.
     fn behind_dollars(&mut self, script: &[u8], head: Head) -> Result<State, LexError>
         requires { IsHead script.now head }
-        ensures does { Does script.now head.next.byte self.old self.new result (reading.behind_dollars (dollars_in script.now self.old) (due_in self.old) (place_of head.place) head.c (class_is head.class)) }
+        ensures does { Does script.now head.next.byte self.old self.new result
+            (reading.behind_dollars (dollars_in script.now self.old) (due_in self.old) (place_of head.place) head.c (class_is head.class)) }
         ensures stands { IfOk result (λ s. Stands script.now head.next.byte s) }
     {
         if names(head.c) {
@@ -533,7 +551,9 @@ impl Lexer {
         requires head { IsHead script.now head }
         requires order { start.byte ≤ head.place.byte }
         requires apart { model.awaits_mark (before_of before) ≡ false }
-        ensures does { Does script.now head.next.byte self.old self.new result (reading.operated (before_of before) (dollars_in script.now self.old) (place_of start) (model.operator (slice_range script.now start.byte head.place.byte)) (due_in self.old) (place_of head.place) head.c (class_is head.class)) }
+        ensures does { Does script.now head.next.byte self.old self.new result
+            (reading.operated (before_of before) (dollars_in script.now self.old) (place_of start) (model.operator
+            (slice_range script.now start.byte head.place.byte)) (due_in self.old) (place_of head.place) head.c (class_is head.class)) }
         ensures stands { IfOk result (λ s. Stands script.now head.next.byte s) }
     {
         let Some(kind) = operator(&script[start.byte..head.place.byte]) else {
@@ -571,7 +591,9 @@ impl Lexer {
         requires head { IsHead script.now head }
         requires order { start.byte ≤ head.place.byte }
         requires apart { model.awaits_mark (before_of before) ≡ false }
-        ensures does { Does script.now head.next.byte self.old self.new result (reading.step (reading.Operator (before_of before) (dollars_in script.now self.old) (place_of start) (slice_range script.now start.byte head.place.byte)) (due_in self.old) (place_of head.place) head.c (class_is head.class)) }
+        ensures does { Does script.now head.next.byte self.old self.new result
+            (reading.step (reading.Operator (before_of before) (dollars_in script.now self.old) (place_of start)
+            (slice_range script.now start.byte head.place.byte)) (due_in self.old) (place_of head.place) head.c (class_is head.class)) }
         ensures stands { IfOk result (λ s. Stands script.now head.next.byte s) }
     {
         if begins_operator(&script[start.byte..head.next.byte]) {
@@ -591,7 +613,9 @@ impl Lexer {
         requires head { IsHead script.now head }
         requires order { body ≤ line }
         requires within { line ≤ head.place.byte }
-        ensures does { Does script.now head.next.byte self.old self.new result (reading.step (state_in script.now head.place.byte self.old (State.Body body line)) (due_left self.old (State.Body body line)) (place_of head.place) head.c (class_is head.class)) }
+        ensures does { Does script.now head.next.byte self.old self.new result
+            (reading.step (state_in script.now head.place.byte self.old (State.Body body line)) (due_left self.old (State.Body body line))
+            (place_of head.place) head.c (class_is head.class)) }
         ensures stands { IfOk result (λ s. Stands script.now head.next.byte s) }
     {
         let Some(due) = self.due.front() else {
@@ -628,7 +652,8 @@ impl Lexer {
     pub fn finish(&mut self, script: &[u8], state: State, place: Place) -> Result<(), LexError>
         requires stands { Stands script.now place.byte state }
         requires within { place.byte ≤ length script.now }
-        ensures { Ends script.now self.old self.new result (reading.finish (state_in script.now place.byte self.old state) (due_left self.old state) (place_of place)) }
+        ensures { Ends script.now self.old self.new result
+            (reading.finish (state_in script.now place.byte self.old state) (due_left self.old state) (place_of place)) }
     {
         match state {
             State::Between(before) => {
@@ -673,7 +698,9 @@ impl Lexer {
     ) -> Result<(), LexError>
         requires order { start.byte ≤ place.byte }
         requires within { place.byte ≤ length script.now }
-        ensures { Ends script.now self.old self.new result (reading.ended (before_of before) (model.Word (slice_range script.now start.byte place.byte)) (place_of start) (due_in self.old) (place_of place)) }
+        ensures { Ends script.now self.old self.new result
+            (reading.ended (before_of before) (model.Word (slice_range script.now start.byte place.byte)) (place_of start) (due_in self.old)
+            (place_of place)) }
     {
         let _ = self.word(script, before, start, place)?;
         self.nothing_due()
@@ -689,7 +716,9 @@ impl Lexer {
         requires order { start.byte ≤ place.byte }
         requires within { place.byte ≤ length script.now }
         requires apart { model.awaits_mark (before_of before) ≡ false }
-        ensures { Ends script.now self.old self.new result (reading.operated_last (before_of before) (dollars_in script.now self.old) (place_of start) (model.operator (slice_range script.now start.byte place.byte)) (due_in self.old) (place_of place)) }
+        ensures { Ends script.now self.old self.new result
+            (reading.operated_last (before_of before) (dollars_in script.now self.old) (place_of start) (model.operator
+            (slice_range script.now start.byte place.byte)) (due_in self.old) (place_of place)) }
     {
         let Some(kind) = operator(&script[start.byte..place.byte]) else {
             return Err(fault(FaultKind::BadDescriptor, start.line));
@@ -710,7 +739,8 @@ impl Lexer {
         requires order { body ≤ line }
         requires until { line ≤ end }
         requires within { end ≤ length script.now }
-        ensures { (p : model.Place) → Ends script.now self.old self.new result (reading.finish (state_in script.now end self.old (State.Body body line)) (due_left self.old (State.Body body line)) p) }
+        ensures { (p : model.Place) → Ends script.now self.old self.new result
+            (reading.finish (state_in script.now end self.old (State.Body body line)) (due_left self.old (State.Body body line)) p) }
     {
         let Some(due) = self.due.front() else {
             return Ok(());
@@ -729,7 +759,8 @@ impl Lexer {
 
     /// The tokens, with the bodies of the here documents.
     pub fn tokens(&self) -> Result<Vec<Token>, AllocError>
-        ensures { IfOk result (λ v. (script : List ℕ) → tokens_of script v.items ≡ model.filled (tokens_in script self.now) (bodies_in script self.now)) }
+        ensures { IfOk result (λ v. (script : List ℕ) → tokens_of script v.items
+            ≡ model.filled (tokens_in script self.now) (bodies_in script self.now)) }
     {
         filled(self.alloc, self.tokens.as_slice(), self.bodies.as_slice())
     }

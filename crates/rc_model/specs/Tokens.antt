@@ -283,11 +283,13 @@ due_after prev l due = due
 
 -- The characters are this lexeme, where that stands before them and this behind.
 pub data Spells : Before → List ℕ → List ℕ → Lexeme → Type 0 where
-  word : (prev : Before) (c : ℕ) (cs rest : List ℕ) → begins_name prev c ≡ false → Run word_goes_on (c ∷ cs) rest → Spells prev (c ∷ cs) rest (Word (encode_utf8_all (c ∷ cs)))
+  word : (prev : Before) (c : ℕ) (cs rest : List ℕ) → begins_name prev c ≡ false → Run word_goes_on (c ∷ cs) rest →
+      Spells prev (c ∷ cs) rest (Word (encode_utf8_all (c ∷ cs)))
   name : (c : ℕ) (cs rest : List ℕ) → Run name_goes_on (c ∷ cs) rest → Spells DollarBefore (c ∷ cs) rest (Name (encode_utf8_all (c ∷ cs)))
   quoted : (prev : Before) (cs rest : List ℕ) → InQuotes cs → begins_with (39 ∷ []) rest ≡ false →
       Spells prev (39 ∷ cs ++ 39 ∷ []) rest (Quoted (unquoted_text (encode_utf8_all (39 ∷ cs ++ 39 ∷ []))))
-  operated : (prev : Before) (cs rest : List ℕ) (l : Lexeme) → awaits_mark prev ≡ false → operator cs ≡ Some l → l ≢ BareHere → goes_on cs rest ≡ false → Spells prev cs rest (meant prev rest l)
+  operated : (prev : Before) (cs rest : List ℕ) (l : Lexeme) → awaits_mark prev ≡ false → operator cs ≡ Some l → l ≢ BareHere → goes_on cs rest ≡ false →
+      Spells prev cs rest (meant prev rest l)
 
 -- The text begins with the body of a here document and with its end, a line that is the mark. That line may be the last one, without a newline.
 pub data Body (mark : List ℕ) : List ℕ → List ℕ → List ℕ → Type 0 where
@@ -311,7 +313,8 @@ pub data Bodies : List Due → List ℕ → List ℕ → List (List ℕ) → Typ
 -- One of the bodies has no end: the first such here document begins at this line.
 pub data OpenBody : List Due → List ℕ → ℕ → Type 0 where
   first : (d : Due) (due : List Due) (text : List ℕ) → NoBody d.mark text → OpenBody (d ∷ due) text d.line
-  later : (d : Due) (due : List Due) (body end text : List ℕ) (line : ℕ) → Body d.mark body end text → OpenBody due text line → OpenBody (d ∷ due) (body ++ end ++ text) line
+  later : (d : Due) (due : List Due) (body end text : List ℕ) (line : ℕ) → Body d.mark body end text → OpenBody due text line →
+      OpenBody (d ∷ due) (body ++ end ++ text) line
 
 -- what a text is cut into: its tokens, and the bodies of its here documents in the order of their marks
 abbrev pub Outcome : Type 0
@@ -348,17 +351,21 @@ pub data Cuts : Before → List Due → Place → List ℕ → Outcome → Type 
       Cuts Apart due (behind_chars p (35 ∷ cs)) rest o → Cuts prev due p (35 ∷ cs ++ rest) o
   -- a word, a name, an operator
   lexeme : (prev : Before) (due : List Due) (p : Place) (cs rest : List ℕ) (l : Lexeme) (o : Outcome) → Spells prev cs rest l →
-      Cuts (as_before prev l) (due_after prev l due) (behind_chars p cs) rest o → Cuts prev due p (cs ++ rest) (join (tokens_of prev l p (behind_chars p cs)) [] o)
+      Cuts (as_before prev l) (due_after prev l due) (behind_chars p cs) rest o →
+      Cuts prev due p (cs ++ rest) (join (tokens_of prev l p (behind_chars p cs)) [] o)
   open_quote : (prev : Before) (due : List Due) (p : Place) (cs : List ℕ) → InQuotes cs → Cuts prev due p (39 ∷ cs) (Err (fault OpenQuote p.line))
-  bad_descriptor : (prev : Before) (due : List Due) (p : Place) (c : ℕ) (cs rest : List ℕ) → awaits_mark prev ≡ false → begins_operator (c ∷ cs) ≡ true → operator (c ∷ cs) ≡ None →
+  bad_descriptor : (prev : Before) (due : List Due) (p : Place) (c : ℕ) (cs rest : List ℕ) → awaits_mark prev ≡ false → begins_operator (c ∷ cs) ≡ true →
+      operator (c ∷ cs) ≡ None →
       goes_on (c ∷ cs) rest ≡ false → Cuts prev due p (c ∷ cs ++ rest) (Err (fault BadDescriptor p.line))
   -- a `<<`, and one without a mark
-  here : (prev : Before) (due : List Due) (p : Place) (cs rest : List ℕ) (o : Outcome) → awaits_mark prev ≡ false → operator cs ≡ Some BareHere → goes_on cs rest ≡ false →
+  here : (prev : Before) (due : List Due) (p : Place) (cs rest : List ℕ) (o : Outcome) → awaits_mark prev ≡ false → operator cs ≡ Some BareHere →
+      goes_on cs rest ≡ false →
       Cuts (HereBefore p (behind_chars p cs)) due (behind_chars p cs) rest o → Cuts prev due p (cs ++ rest) o
   no_mark : (begin end : Place) (due : List Due) (p : Place) (text : List ℕ) (o : Outcome) → mark_goes_on text ≡ false →
       Cuts Apart due p text o → Cuts (HereBefore begin end) due p text (join (token BareHere begin end ∷ []) [] o)
   -- a newline with the bodies that are due
-  newline : (prev : Before) (due : List Due) (p : Place) (cs rest : List ℕ) (bodies : List (List ℕ)) (o : Outcome) → awaits_mark prev ≡ false → Bodies due cs rest bodies →
+  newline : (prev : Before) (due : List Due) (p : Place) (cs rest : List ℕ) (bodies : List (List ℕ)) (o : Outcome) → awaits_mark prev ≡ false →
+      Bodies due cs rest bodies →
       Cuts Apart [] (behind_chars p (10 ∷ cs)) rest o → Cuts prev due p (10 ∷ cs ++ rest) (join (token Newline p (behind_char p 10) ∷ []) bodies o)
   open_body : (prev : Before) (due : List Due) (p : Place) (rest : List ℕ) (line : ℕ) → awaits_mark prev ≡ false → OpenBody due rest line →
       Cuts prev due p (10 ∷ rest) (Err (fault OpenHere line))

@@ -1,6 +1,4 @@
-use Rattle.std.proofs.Common.{sym, ap, ◌∙◌, arith, length-append}
-use Rattle.std.proofs.lemmas.Str.{length-encode}
-use Rattle.std.specs.Char.{encode_utf8}
+use Rattle.std.proofs.Common.{sym, ap, ◌∙◌}
 use Rattle.std.specs.Str.{chars}
 use Rattle.rc_model.specs.Reading.{zero_line}
 use Rattle.rc_lexer.proofs.Walk.{zero_past, lines_past, left_past}

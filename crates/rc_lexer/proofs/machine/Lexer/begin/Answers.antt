@@ -1,4 +1,4 @@
-use Rattle.std.proofs.Common.{refl, sym, ap, ◌∙◌, ◌++◌, ◌∷◌, [], map}
+use Rattle.std.proofs.Common.{refl, ap, ◌∙◌, ◌++◌, ◌∷◌, [], map}
 use Rattle.rc_model.specs.Tokens as model
 use Rattle.rc_model.specs.Reading as reading
 use Rattle.rc_lexer.specs.Views.{slice_at, token_of}
