@@ -1,6 +1,6 @@
 //! Runs on Linux.
 use super::HostWorld;
-use rc_world::{ChildNo, Ending, Fault, Handle, Kind, Launch, Program, Slot, Slots, World};
+use rc_world::{ChildNo, Ending, Fault, Handle, Kind, Launch, Mode, Program, Slot, Slots, World};
 use std::alloc::{AllocError, Global};
 use std::test::Fail;
 
@@ -42,6 +42,19 @@ fn run(rt: HostRuntime, launch: &Launch) -> Result<Result<Ending, Fault>, AllocE
         Ok(child) => Ok(host.wait(child)),
         Err(fault) => Ok(Err(fault)),
     }
+}
+
+#[test]
+fn refuses_what_has_not_come_yet(rt: HostRuntime) -> Result<(), Fail> {
+    let mut host = world(rt)?;
+    assert!(rt; host.open("/", Mode::Read) == Err(Fault::Other));
+    assert!(rt; host.here("text") == Err(Fault::Other));
+    assert!(rt; host.pipe() == Err(Fault::Other));
+    assert!(rt; host.close(Handle(0)) == Err(Fault::Other));
+    assert!(rt; host.read(Handle(0)).err() == Some(Fault::Other));
+    assert!(rt; host.list("/").err() == Some(Fault::Other));
+    assert!(rt; host.chdir("/") == Err(Fault::Other));
+    Ok(())
 }
 
 #[test]

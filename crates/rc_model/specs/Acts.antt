@@ -10,6 +10,7 @@ use Rattle.rc_model.specs.State.{State, value_of, with_status}
 use Rattle.rc_model.specs.Shell.{Shell, ◌>>=◌, ◌>>◌, pure, call, say, get, change, exits}
 use Rattle.rc_model.specs.Image.{entries}
 
+-- the status becomes this
 abbrev pub set_status : List ℕ → Shell (Unit {0})
 set_status text = change (λ s. with_status s text)
 
@@ -45,6 +46,7 @@ is_path name = starts_with nat_eq name (codes "/") || starts_with nat_eq name (c
 abbrev pub candidate : List ℕ → List ℕ → List ℕ
 candidate dir name = if (length dir == 0) || bytes_eq dir (codes ".") then codes "./" ++ name else dir ++ 47 ∷ name
 
+-- whether a program stands there
 abbrev pub is_program : Option Kind → Bool
 is_program (Some Program) = true
 is_program _ = false
@@ -95,11 +97,13 @@ run_found slots name args (Some path) = do
   a ← call (start (launch_of slots path args s))
   wait_started slots name (as_child a)
 
+-- a program is looked for, started and waited for
 abbrev pub run_program : Slots → List ℕ → List (List ℕ) → Shell (Unit {0})
 run_program slots name args = do
   path ← find_program name
   run_found slots name args path
 
+-- the names of the built-in commands
 abbrev pub builtin_names : List (List ℕ)
 builtin_names = codes "." ∷ codes "builtin" ∷ codes "cd" ∷ codes "eval" ∷ codes "exec" ∷ codes "exit" ∷ codes "shift" ∷ codes "wait" ∷ codes "whatis" ∷ []
 

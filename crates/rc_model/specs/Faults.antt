@@ -1,6 +1,7 @@
 -- Why a script is not accepted.
 use Rattle.std.specs.Prelude.{ℕ}
 
+-- why a script is not accepted
 pub data FaultKind : Type 0 where
   -- more than 1,048,576 bytes
   TooLong : FaultKind

@@ -6,10 +6,11 @@ use Rattle.rc_model.specs.Tree.{Node, Many, cmd, arg, item, none, more, Seq, Sim
 use Rattle.rc_model.specs.Shell.{Shell, ◌>>=◌, ◌>>◌, pure, skip, stops}
 use Rattle.rc_model.specs.Acts.{not_yet, expanded, run_words}
 
+-- what a command does
 abbrev pub Runner : Type 0
 Runner = Shell (Unit {0})
 
--- a called body runs in turns of its own
+-- how a called body is run
 abbrev pub Caller : Type 0
 Caller = Slots → Node cmd → Runner
 

@@ -14,6 +14,7 @@ pub data Reading : Type 0 where
   Accepted : Node cmd → Reading
   Refused : SyntaxFault → Reading
 
+-- the script is refused at this line
 abbrev pub refusal : FaultKind → ℕ → Reading
 refusal kind line = Refused (record { kind = kind; line = line })
 
@@ -67,11 +68,13 @@ class_at Plain c cs = if escapes c cs then Space else class c
 class_at Comment c cs = if c == 10 then End else Further
 class_at Escaped c cs = Further
 
+-- the place behind some bytes
 abbrev pub place_after : Place → ℕ → List ℕ → Place
 place_after Plain c cs = if escapes c cs then Escaped else (if c == 35 then Comment else Plain)
 place_after Comment c cs = if c == 10 then Plain else Comment
 place_after Escaped c cs = Plain
 
+-- the line behind a byte
 abbrev pub line_after : ℕ → ℕ → ℕ
 line_after line c = if c == 10 then suc line else line
 
@@ -95,6 +98,7 @@ pieces place line (c ∷ cs) = piece (class_at place c cs) c line (pieces (place
 
 -- What pieces a plain script has.
 
+-- the keywords
 abbrev pub keywords : List (List ℕ)
 keywords = codes "for" ∷ codes "in" ∷ codes "while" ∷ codes "if" ∷ codes "not" ∷ codes "switch" ∷ codes "fn" ∷ codes "~" ∷ codes "!" ∷ codes "@" ∷ []
 
@@ -133,12 +137,15 @@ commands words (Stray line ∷ ps) = commands words ps
 
 -- What is read.
 
+-- a word as an argument
 abbrev pub word_arg : List ℕ → Node arg
 word_arg text = Lit text false
 
+-- the words of a command as an item
 abbrev pub command_item : List (List ℕ) → Node item
 command_item words = Item (Simple (nodes word_arg words)) false
 
+-- the tree of commands
 abbrev pub script_tree : List (List (List ℕ)) → Node cmd
 script_tree commands = Seq (nodes command_item commands)
 
@@ -147,6 +154,7 @@ abbrev pub outcome : Option ℕ → List (List (List ℕ)) → Reading
 outcome None commands = Accepted (script_tree commands)
 outcome (Some line) commands = refusal Unexpected line
 
+-- what comes of the pieces of a text
 abbrev pub reading_of_pieces : List Piece → Reading
 reading_of_pieces ps = outcome (misfit true ps) (commands [] ps)
 
@@ -163,15 +171,18 @@ reading_of_text script (Some place) = refusal ZeroByte (line_of script place)
 abbrev pub longest_script : ℕ
 longest_script = 1048576
 
+-- what comes of a script
 unfoldable pub reading : List ℕ → Reading
 reading script =
     if nat_lt longest_script (length script) then refusal TooLong 0
     else (if is_utf8 script then reading_of_text script (position (λ b. b == 0) script)
     else refusal NotText (line_of script (utf8_valid_len script)))
 
+-- the script is accepted, and this is its tree
 abbrev pub IsAccepted : List ℕ → Node cmd → Type 0
 IsAccepted script tree = reading script ≡ Accepted tree
 
+-- the script is refused for this
 abbrev pub IsRefused : List ℕ → SyntaxFault → Type 0
 IsRefused script fault = reading script ≡ Refused fault
 

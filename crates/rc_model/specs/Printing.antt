@@ -37,6 +37,7 @@ literal text quoted = if quoted then quoted_text text else text
 abbrev pub bar : (slot : ℕ) → List ℕ
 bar slot = if slot == 2 then codes " |[2] " else codes " | "
 
+-- how `&&` and `||` are written
 abbrev pub sign : Logic → List ℕ
 sign And = codes " && "
 sign Or = codes " || "
@@ -47,6 +48,7 @@ opening Read slot = codes "< "
 opening Write slot = if slot == 2 then codes ">[2] " else codes "> "
 opening Append slot = if slot == 2 then codes ">>[2] " else codes ">> "
 
+-- a copy of a descriptor
 abbrev pub copying : (to from : ℕ) → List ℕ
 copying to from = if to == 2 then codes ">[2=1]" else codes ">[1=2]"
 
@@ -69,6 +71,7 @@ stands_first (t.Brace body) begins = true
 stands_first (t.Switch subject branches) begins = true
 stands_first _ begins = false
 
+-- the empty command
 abbrev pub is_empty : Node t.cmd → Bool
 is_empty t.Empty = true
 is_empty _ = false

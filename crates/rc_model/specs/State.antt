@@ -7,10 +7,7 @@ use Rattle.std.specs.BTreeMap.{insert_entry}
 use Rattle.rc_model.specs.Text.{text_cmp, spaced}
 use Rattle.rc_model.specs.Tree.{Node, cmd}
 
--- a value is a list of texts
-abbrev pub Value : Type 0
-Value = List (List ℕ)
-
+-- the state of a shell
 pub record State : Type 0 where
   -- each name with its values: the top one is visible, a local covers those below
   pub variables : List (List ℕ × List (List (List ℕ)))
@@ -27,6 +24,7 @@ pub record State : Type 0 where
 abbrev pub new_state : State
 new_state = record { variables = []; locals = []; functions = []; status = []; flag = false; background = [] }
 
+-- the name of the status
 abbrev pub status_name : List ℕ
 status_name = codes "status"
 
@@ -48,6 +46,7 @@ covered (v ∷ vs) = vs
 abbrev pub value_of : State → List ℕ → List (List ℕ)
 value_of s name = if bytes_eq name status_name then s.status ∷ [] else visible (values_of s name)
 
+-- a decimal digit
 abbrev pub is_digit : ℕ → Bool
 is_digit c = nat_le 48 c && nat_le c 57
 
@@ -59,6 +58,7 @@ is_name_char c = is_digit c || ((nat_le 65 c && nat_le c 90) || (nat_le 97 c && 
 abbrev pub is_name : List ℕ → Bool
 is_name name = list_all is_name_char name && not (list_all is_digit name)
 
+-- the state with this status
 abbrev pub with_status : State → List ℕ → State
 with_status s text = record s { status = text }
 
@@ -82,6 +82,7 @@ end_local s (name ∷ names) =
     then record s { locals = names }
     else record s { locals = names; variables = put_values s.variables name (covered (values_of s name)) }
 
+-- the innermost local is closed
 abbrev pub pop_local : State → State
 pop_local s = end_local s s.locals
 

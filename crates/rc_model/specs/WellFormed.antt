@@ -53,9 +53,11 @@ abbrev mutual
 abbrev pub has_some : {s : Sort} → Many s → Bool
 has_some ns = nat_lt 0 (count ns)
 
+-- a list of two or more
 abbrev pub has_several : {s : Sort} → Many s → Bool
 has_several ns = nat_lt 1 (count ns)
 
+-- a list of 1 to 63 stages
 abbrev pub has_stages : {s : Sort} → Many s → Bool
 has_stages ns = nat_lt 0 (count ns) && nat_lt (count ns) 64
 

@@ -185,8 +185,14 @@ fn a_limit_counts_instructions(rt: HostRuntime) -> Result<(), Fail> {
     let answers = [FOUND, CHILD, ENDED];
     check(&rt, b"echo hello", answers, 7, ECHO_HELLO, "limit")?;
     check(&rt, b"echo hello", [], 6, "", "limit")?;
-    check(&rt, b"", [], 1, "", "ended, ")?;
+    check(&rt, b"", [], 0, "", "limit")?;
     check(&rt, b"# note", [], 0, "", "limit")
+}
+
+#[test]
+fn a_script_of_no_command_calls_nothing(rt: HostRuntime) -> Result<(), Fail> {
+    check(&rt, b"", [], 1, "", "ended, ")?;
+    check(&rt, b"# note", [], 1, "", "ended, ")
 }
 
 #[test]
