@@ -49,6 +49,51 @@ abbrev mutual
   depths none = 0
   depths (more n ns) = max (depth n) (depths ns)
 
+-- the greatest number of stages of one pipeline
+abbrev mutual
+  pub most_stages : {s : Sort} → Node s → ℕ
+  most_stages t.Empty = 0
+  most_stages (t.Seq items) = most_stages_in items
+  most_stages (t.Simple words) = most_stages_in words
+  most_stages (t.Assign pairs body) = max (most_stages_in pairs) (most_stages body)
+  most_stages (t.Redirect redirs body) = max (most_stages_in redirs) (most_stages body)
+  most_stages (t.Pipeline stages last) = max (suc (count stages)) (max (most_stages_in stages) (most_stages last))
+  most_stages (t.AndOr first links) = max (most_stages first) (most_stages_in links)
+  most_stages (t.Not body) = most_stages body
+  most_stages (t.Subshell body) = most_stages body
+  most_stages (t.If condition body) = max (most_stages condition) (most_stages body)
+  most_stages (t.IfNot body) = most_stages body
+  most_stages (t.While condition body) = max (most_stages condition) (most_stages body)
+  most_stages (t.ForAll name body) = max (most_stages name) (most_stages body)
+  most_stages (t.For name words body) = max (most_stages name) (max (most_stages_in words) (most_stages body))
+  most_stages (t.Switch subject branches) = max (most_stages subject) (most_stages_in branches)
+  most_stages (t.Match subject patterns) = max (most_stages subject) (most_stages_in patterns)
+  most_stages (t.Define names body) = max (most_stages_in names) (most_stages body)
+  most_stages (t.Undefine names) = most_stages_in names
+  most_stages (t.Brace body) = most_stages body
+  most_stages (t.Lit text quoted) = 0
+  most_stages (t.Concat parts) = most_stages_in parts
+  most_stages (t.Paren words) = most_stages_in words
+  most_stages (t.Var name) = most_stages name
+  most_stages (t.Count name) = most_stages name
+  most_stages (t.Flat name) = most_stages name
+  most_stages (t.Sub name subscripts) = max (most_stages name) (most_stages_in subscripts)
+  most_stages (t.Back body) = most_stages body
+  most_stages (t.Item body background) = most_stages body
+  most_stages (t.Pair name value) = max (most_stages name) (most_stages value)
+  most_stages (t.Stage body slot) = most_stages body
+  most_stages (t.Link logic body) = most_stages body
+  most_stages (t.Branch patterns body) = max (most_stages_in patterns) (most_stages body)
+  most_stages (t.Open mode slot path) = most_stages path
+  most_stages (t.Copy to from) = 0
+  most_stages (t.Here pieces) = 0
+  most_stages (t.Text text) = 0
+  most_stages (t.Name text) = 0
+
+  pub most_stages_in : {s : Sort} → Many s → ℕ
+  most_stages_in none = 0
+  most_stages_in (more n ns) = max (most_stages n) (most_stages_in ns)
+
 -- a list has a member; it has two; it has 1 to 63
 abbrev pub has_some : {s : Sort} → Many s → Bool
 has_some ns = nat_lt 0 (count ns)
