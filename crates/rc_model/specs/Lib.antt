@@ -17,3 +17,7 @@ pub mod Faults
 pub mod PlainScripts
 pub mod WellFormed
 pub mod Printing
+pub mod HereDocs
+pub mod Grammar
+pub mod Descent
+pub mod ParsingLaws

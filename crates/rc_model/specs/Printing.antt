@@ -54,14 +54,14 @@ copying to from = if to == 2 then codes ">[2=1]" else codes ">[1=2]"
 
 -- the text of an argument, and that of a list of them, begins with the unquoted word `case`
 abbrev mutual
-  pub is_case : Node t.arg → Bool
-  is_case (t.Lit text quoted) = not quoted && bytes_eq text (codes "case")
-  is_case (t.Concat parts) = begin_with_case parts
-  is_case _ = false
+  pub begins_with_case : Node t.arg → Bool
+  begins_with_case (t.Lit text quoted) = not quoted && bytes_eq text (codes "case")
+  begins_with_case (t.Concat parts) = begin_with_case parts
+  begins_with_case _ = false
 
   pub begin_with_case : Many t.arg → Bool
   begin_with_case none = false
-  begin_with_case (more word words) = is_case word
+  begin_with_case (more word words) = begins_with_case word
 
 -- Redirections stand behind this command; before every other. A simple command that would make a case line of an item that begins with it
 -- has them before it.

@@ -4,7 +4,7 @@ use Rattle.std.specs.declared.vec.Vec.{Vec}
 use Rattle.std.specs.declared.boxed.Box.{Box}
 use Rattle.std.specs.declared.string.String.{String}
 use Rattle.std.proofs.Common.{◌≡◌, refl, sym, ◌∙◌, ℕ, Bool, false, List, [], ◌∷◌}
-use Rattle.rc_model.specs.Printing.{is_empty, stands_first, is_case, body_lines, Line}
+use Rattle.rc_model.specs.Printing.{is_empty, stands_first, begins_with_case, body_lines, Line}
 use Rattle.rc_tree.specs.declared.Cmd.{Cmd}
 use Rattle.rc_tree.specs.declared.Cmd.TheVariants as c
 use Rattle.rc_tree.specs.declared.Arg.{Arg}
@@ -20,13 +20,13 @@ unfolding cmd_tree
 not_empty c.Empty h = absurd (h refl)
 not_empty _ h = refl
 
-pub not_case : (x : Arg) → ((s : String Global) (q : Bool) → x ≡ a.Lit s q → ⊥) → ((v : Vec Arg Global) → x ≡ a.Concat v → ⊥) →
-    is_case (arg_tree x) ≡ false
+pub not_begins : (x : Arg) → ((s : String Global) (q : Bool) → x ≡ a.Lit s q → ⊥) → ((v : Vec Arg Global) → x ≡ a.Concat v → ⊥) →
+    begins_with_case (arg_tree x) ≡ false
 unfolding arg_tree views.out-Arg views.roll-Arg denote.Hole.Carrier.out
-not_case (a.Lit s q) l h = absurd (l s q refl)
-not_case (a.Concat' s k) l h = absurd (h (rows.shown-the_row-Arg-0 s k) (sym (views.roll-out-Arg (a.Concat' s k))
+not_begins (a.Lit s q) l h = absurd (l s q refl)
+not_begins (a.Concat' s k) l h = absurd (h (rows.shown-the_row-Arg-0 s k) (sym (views.roll-out-Arg (a.Concat' s k))
     ∙ views.rolls-Concat (rows.shown-the_row-Arg-0 s k)))
-not_case _ l h = refl
+not_begins _ l h = refl
 
 pub not_first : (x : Cmd) (begins : Bool) → ((v : Vec Arg Global) → x ≡ c.Simple v → ⊥) → ((n : Arg) (v : Vec Branch Global) → x ≡ c.Switch n v → ⊥) →
     ((b : Box Cmd Global) → x ≡ c.Brace b → ⊥) → stands_first (cmd_tree x) begins ≡ false

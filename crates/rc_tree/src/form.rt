@@ -1,7 +1,7 @@
 //! What the text of a command depends on besides the texts of its parts.
 
 ghost use Rattle.std.specs.Prelude.{◌≡◌, ◌++◌, OnOk, string_bytes, codes, if◌then◌else◌};
-ghost use Rattle.rc_model.specs.Printing.{is_empty, stands_first, is_case, begin_with_case, literal, bar, sign, opening, copying};
+ghost use Rattle.rc_model.specs.Printing.{is_empty, stands_first, begins_with_case, begin_with_case, literal, bar, sign, opening, copying};
 ghost use Rattle.rc_world.specs.Views.{mode_of};
 ghost use Rattle.rc_tree.specs.View.{cmd_tree, arg_tree, args_tree, logic_of};
 
@@ -26,10 +26,10 @@ pub fn stands_first(cmd: &Cmd, begins: bool) -> bool
     }
 }
 
-#[cycle(case)]
+#[cycle(begin)]
 #[tactic(auto, using(crate::specs::View::tree_walks))]
-fn is_case(arg: &Arg) -> bool
-    ensures { result ≡ is_case (arg_tree arg.now) }
+fn begins_with_case(arg: &Arg) -> bool
+    ensures { result ≡ begins_with_case (arg_tree arg.now) }
 {
     match arg {
         Arg::Lit { text, quoted } => !*quoted && text.as_str() == "case",
@@ -38,13 +38,13 @@ fn is_case(arg: &Arg) -> bool
     }
 }
 
-#[cycle(case)]
+#[cycle(begin)]
 #[tactic(auto, using(crate::specs::View::tree_walks))]
 fn begin_with_case(words: &[Arg]) -> bool
     ensures { result ≡ begin_with_case (args_tree words.now) }
 {
     match words {
-        [first, ..] => is_case(first),
+        [first, ..] => begins_with_case(first),
         [] => false,
     }
 }

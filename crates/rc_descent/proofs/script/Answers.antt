@@ -1,0 +1,11 @@
+use Rattle.rc_descent.proofs.Scripts.{found_by, only_by, none_by, stages_by, levels_by}
+use Rattle.rc_descent.proofs.script.Goals as goal
+
+pub returns : goal.returns
+returns c = record {
+  found = found_by _ _ c.tree.ensures;
+  only = only_by _ _ c.tree.ensures;
+  none = none_by _ _ c.tree.ensures;
+  stages = stages_by _ _ c.tree.ensures;
+  levels = levels_by _ _ c.tree.ensures;
+}

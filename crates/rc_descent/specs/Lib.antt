@@ -1,0 +1,4 @@
+pub mod Keywords
+pub mod Lexemes
+pub mod Reading
+pub mod Begun

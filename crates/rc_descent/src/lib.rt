@@ -1,0 +1,57 @@
+//! The parser: the tree of a script.
+#![tactic(auto)]
+
+ghost use Rattle.std.specs.Prelude.{◌≡◌, ◌<◌, ◌⊎◌, false, IfOk};
+ghost use Rattle.rc_model.specs.Tree.{Node, cmd};
+ghost use Rattle.rc_model.specs.WellFormed.{depth, most_stages, is_sound};
+ghost use Rattle.rc_model.specs.Grammar.{IsScript, IsAccepted};
+ghost use Rattle.rc_model.specs.Descent.{script_tree};
+ghost use Rattle.rc_tree.specs.View.{cmd_tree};
+ghost use Rattle.rc_descent.specs.Lexemes.{lexemes_of};
+ghost use Rattle.rc_descent.specs.Reading.{Gives, HasFault};
+
+mod here;
+mod lexeme;
+mod read;
+mod refusal;
+#[cfg(test)]
+mod tests;
+
+pub use lexeme::Lexeme;
+use rc_tree::{Cmd, well_formed};
+pub use refusal::{Fault, Refusal};
+use std::alloc::Global;
+
+/// How many levels a tree may have.
+const LEVELS: usize = 200;
+
+/// The tree of these lexemes.
+pub fn script(alloc: Global, lexemes: &[Lexeme]) -> Result<Cmd, Refusal>
+    // What is found is the tree of an accepted script.
+    ensures found { IfOk result (λ c. IsAccepted (lexemes_of lexemes.now) (cmd_tree c)) }
+    // It has no other tree.
+    ensures only { IfOk result (λ c. (other : Node cmd) → IsScript (lexemes_of lexemes.now) other → other ≡ cmd_tree c) }
+    // Where a token is unexpected or an `if not` misplaced, there is no tree of any size.
+    ensures none { HasFault result Fault.Unexpected ⊎ HasFault result Fault.IfNot → (tree : Node cmd) → IsScript (lexemes_of lexemes.now) tree → ⊥ }
+    // Too many stages are found only where a pipeline has them, and too many levels only where the tree has them.
+    ensures stages { HasFault result Fault.TooManyStages → (tree : Node cmd) → IsScript (lexemes_of lexemes.now) tree → 64 < most_stages tree }
+    ensures levels { HasFault result Fault.TooDeep → (tree : Node cmd) → IsScript (lexemes_of lexemes.now) tree → (200 < depth tree) ⊎ (is_sound tree ≡ false) }
+{
+    tree(alloc, lexemes)
+}
+
+/// The tree that the descent finds.
+#[tactic(auto, using(rc_tree::specs::View::tree_Seq, crate::proofs::Scripts::script_fits, crate::proofs::Scripts::script_unfit, crate::proofs::Scripts::script_fails, crate::proofs::Scripts::script_goes_on, std::proofs::lemmas::Grind::common_steps))]
+fn tree(alloc: Global, lexemes: &[Lexeme]) -> Result<Cmd, Refusal>
+    ensures { Gives (λ c. cmd_tree c) result (script_tree LEVELS (lexemes_of lexemes.now)) }
+{
+    let (items, rest) = read::list(alloc, LEVELS, false, lexemes)?;
+    if rest.len() != 0 {
+        return Err(Refusal::Fault(Fault::Unexpected, rest.len()));
+    }
+    let tree = Cmd::Seq(items);
+    if !well_formed(&tree) {
+        return Err(Refusal::Fault(Fault::TooDeep, lexemes.len()));
+    }
+    Ok(tree)
+}

@@ -1,0 +1,32 @@
+-- The laws between the grammar and the descent.
+use Rattle.std.specs.Prelude.{◌≡◌, ℕ, ◌<◌, ◌≤◌, ◌⊎◌, false, List, Ok, Err}
+use Rattle.rc_model.specs.Tokens.{Lexeme}
+use Rattle.rc_model.specs.Tree.{Node}
+use Rattle.rc_model.specs.Tree as t
+use Rattle.rc_model.specs.WellFormed.{depth, most_stages, is_sound}
+use Rattle.rc_model.specs.Grammar.{IsScript, IsAccepted}
+use Rattle.rc_model.specs.Descent.{Fault, Unexpected, IfNot, TooDeep, TooManyStages, script_tree}
+
+-- what is found is the tree of an accepted script
+abbrev pub FindsOnlyTrees : Type 0
+FindsOnlyTrees = (levels : ℕ) (ts : List Lexeme) (tree : Node t.cmd) → script_tree levels ts ≡ Ok tree → IsAccepted ts tree
+
+-- each tree of an accepted script is found
+abbrev pub FindsEachTree : Type 0
+FindsEachTree = (levels : ℕ) (ts : List Lexeme) (tree : Node t.cmd) → 200 ≤ levels → IsAccepted ts tree → script_tree levels ts ≡ Ok tree
+
+-- an accepted script has no other tree
+abbrev pub HasOneTree : Type 0
+HasOneTree = (ts : List Lexeme) (tree other : Node t.cmd) → IsAccepted ts tree → IsScript ts other → other ≡ tree
+
+-- where a token is unexpected, or an `if not` is misplaced, there is no tree of any size
+abbrev pub HasNoTree : Type 0
+HasNoTree = (levels : ℕ) (ts : List Lexeme) (tree : Node t.cmd) → (script_tree levels ts ≡ Err Unexpected) ⊎ (script_tree levels ts ≡ Err IfNot) → IsScript ts tree → ⊥
+
+-- too many stages are found only where a pipeline has them
+abbrev pub HasTooManyStages : Type 0
+HasTooManyStages = (levels : ℕ) (ts : List Lexeme) (tree : Node t.cmd) → script_tree levels ts ≡ Err TooManyStages → IsScript ts tree → 64 < most_stages tree
+
+-- and too many levels only where the tree has them, or isn't sound
+abbrev pub IsTooDeep : Type 0
+IsTooDeep = (levels : ℕ) (ts : List Lexeme) (tree : Node t.cmd) → 200 ≤ levels → script_tree levels ts ≡ Err TooDeep → IsScript ts tree → (200 < depth tree) ⊎ (is_sound tree ≡ false)

@@ -1,0 +1,12 @@
+pub mod Gives
+pub mod Pieces
+pub mod Fixed
+pub mod Quotes
+pub mod Words
+pub mod Names
+pub mod Lines
+pub mod Trees
+pub mod Tokens
+pub mod Written
+pub mod Good
+pub mod Scripts
