@@ -326,7 +326,7 @@ pipeline_of (more s ss) last = t.Pipeline (more s ss) last
 abbrev pub pipe_turn : Readers → (Many t.stage → Node t.cmd → Reader (Node t.cmd)) → Many t.stage → Node t.cmd → Reader (Node t.cmd)
 pipe_turn deeper go_on stages last (Bar slot ∷ ts) =
     if nat_lt (count stages) 63 then (deeper a_piped (past_newlines ts) >>= λ p.
-        (if p.0.1 then go_on (snoc stages (t.Stage last slot)) p.0.0 p.1 else Ok (pipeline_of (snoc stages (t.Stage last slot)) p.0.0, p.1)))
+    (if p.0.1 then go_on (snoc stages (t.Stage last slot)) p.0.0 p.1 else Ok (pipeline_of (snoc stages (t.Stage last slot)) p.0.0, p.1)))
     else Err TooManyStages
 pipe_turn deeper go_on stages last ts = Ok (pipeline_of stages last, ts)
 

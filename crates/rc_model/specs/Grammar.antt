@@ -232,7 +232,6 @@ pub data Phrase : (l : Level) → List Lexeme → Out l → List Lexeme → Type
   bare_name : {text : List ℕ} {rest : List Lexeme} → Phrase name (Name text ∷ rest) (t.Lit text false) rest
   quoted_name : {text : List ℕ} {rest : List Lexeme} → Phrase name (Quoted text ∷ rest) (t.Lit text true) rest
   named_name : {ts rest : List Lexeme} {n : Node t.arg} → Phrase name ts n rest → Phrase name (Dollar ∷ ts) (t.Var n) rest
-
   -- part = word | quoted | "(" {arg} ")" | "`" brace | "$" name | "$" name SUB {arg} ")" | "$#" name | '$"' name
   word_part : {text : List ℕ} {rest : List Lexeme} → Phrase part (Word text ∷ rest) (t.Lit text false) rest
   quoted_part : {text : List ℕ} {rest : List Lexeme} → Phrase part (Quoted text ∷ rest) (t.Lit text true) rest
@@ -243,43 +242,35 @@ pub data Phrase : (l : Level) → List Lexeme → Out l → List Lexeme → Type
       Phrase part (Dollar ∷ ts) (t.Sub n as') rest
   count_part : {ts rest : List Lexeme} {n : Node t.arg} → Phrase name ts n rest → Phrase part (DollarCount ∷ ts) (t.Count n) rest
   flat_part : {ts rest : List Lexeme} {n : Node t.arg} → Phrase name ts n rest → Phrase part (DollarFlat ∷ ts) (t.Flat n) rest
-
   -- arg = part { "^" part }
   joined : {inside : Bool} {ts mid rest : List Lexeme} {a : Node t.arg} {as' : Many t.arg} → Phrase part ts a mid → Phrase (parts inside) mid as' rest →
       Phrase (arg inside) ts (concat_of a as') rest
   no_caret : {inside : Bool} {rest : List Lexeme} → after_caret (past_blanks inside rest) ≡ None → Phrase (parts inside) rest none rest
   caret : {inside : Bool} {ts next mid rest : List Lexeme} {a : Node t.arg} {as' : Many t.arg} → after_caret (past_blanks inside ts) ≡ Some next →
       Phrase part (past_blanks inside next) a mid → Phrase (parts inside) mid as' rest → Phrase (parts inside) ts (more a as') rest
-
   -- {arg} ")", where newlines are blanks
   no_member : {rest : List Lexeme} → Phrase members (RightParen ∷ rest) none rest
   blank_member : {ts rest : List Lexeme} {as' : Many t.arg} → Phrase members ts as' rest → Phrase members (Newline ∷ ts) as' rest
   member : {ts mid rest : List Lexeme} {a : Node t.arg} {as' : Many t.arg} → Phrase (arg true) ts a mid → Phrase members mid as' rest → Phrase members ts (more a as') rest
-
   -- {arg}
   no_word : {rest : List Lexeme} → begins_arg rest ≡ false → Phrase words rest none rest
   word : {ts mid rest : List Lexeme} {a : Node t.arg} {as' : Many t.arg} → Phrase (arg false) ts a mid → Phrase words mid as' rest → Phrase words ts (more a as') rest
-
   -- redir = (">" | ">>" | "<" with descriptor) arg | copy | here
   open_redir : {mode : Mode} {slot : ℕ} {ts rest : List Lexeme} {a : Node t.arg} → Phrase (arg false) ts a rest → Phrase redir (Redirection mode slot ∷ ts) (t.Open mode slot a) rest
   copy_redir : {to from : ℕ} {rest : List Lexeme} → Phrase redir (CopyTo to from ∷ rest) (t.Copy to from) rest
   here_redir : {quoted : Bool} {text : List ℕ} {rest : List Lexeme} → Phrase redir (HereDoc quoted text ∷ rest) (t.Here (pieces_of quoted text)) rest
-
   -- {redir}
   no_redir : {rest : List Lexeme} → begins_redir rest ≡ false → Phrase redirs rest none rest
   redir_more : {ts mid rest : List Lexeme} {r : Node t.redir} {rs : Many t.redir} → Phrase redir ts r mid → Phrase redirs mid rs rest → Phrase redirs ts (more r rs) rest
-
   -- {arg | redir}
   simple_end : {rest : List Lexeme} → begins_arg rest ≡ false → begins_redir rest ≡ false → Phrase simple rest (none, none) rest
   simple_word : {ts mid rest : List Lexeme} {a : Node t.arg} {x : Many t.arg × Many t.redir} → Phrase (arg false) ts a mid → Phrase simple mid x rest →
       Phrase simple ts (more a x.0, x.1) rest
   simple_redir : {ts mid rest : List Lexeme} {r : Node t.redir} {x : Many t.arg × Many t.redir} → Phrase redir ts r mid → Phrase simple mid x rest →
       Phrase simple ts (x.0, more r x.1) rest
-
   -- brace = "{" list "}"      paren = "(" list ")"
   braced : {ts rest : List Lexeme} {is : Many t.item} → Phrase (items false false) ts is (RightBrace ∷ rest) → Phrase brace (LeftBrace ∷ ts) (t.Seq is) rest
   parenthesised : {ts rest : List Lexeme} {is : Many t.item} → Phrase (items false false) ts is (RightParen ∷ rest) → Phrase paren (LeftParen ∷ ts) (t.Seq is) rest
-
   -- stage = first { arg | redir } | brace {redir} | "switch" arg {NL} "{" cases "}" {redir} | "~" arg {arg} | "fn" arg {arg} [brace]
   simple_stage : {ts mid rest : List Lexeme} {a : Node t.arg} {x : Many t.arg × Many t.redir} → begins_first ts ≡ true → Phrase (arg false) ts a mid → begins_value mid ≡ false →
       Phrase simple mid x rest → Phrase stage ts (redirect x.1 (t.Simple (more a x.0))) rest
@@ -293,7 +284,6 @@ pub data Phrase : (l : Level) → List Lexeme → Out l → List Lexeme → Type
       Phrase (arg false) (past_caret ts) a mid → Phrase words mid as' next → Phrase brace next c rest → Phrase stage (Word text ∷ ts) (t.Define (more a as') c) rest
   undefine_stage : {text : List ℕ} {ts mid rest : List Lexeme} {a : Node t.arg} {as' : Many t.arg} → keyword text ≡ FnWord → Phrase (arg false) (past_caret ts) a mid →
       Phrase words mid as' rest → begins_brace rest ≡ false → Phrase stage (Word text ∷ ts) (t.Undefine (more a as')) rest
-
   -- pipe = stage { bar {NL} stage } [ bar {NL} tail ], where the tail begins with `!`, `@`, a redirection, a control word or an assignment
   piped : {ts mid rest : List Lexeme} {c : Node t.cmd} {ss : Many t.stage} → Phrase stage ts c mid → Phrase bars mid ss rest → Phrase pipe ts (pipeline c ss) rest
   no_bar : {rest : List Lexeme} → begins_bar rest ≡ false → Phrase bars rest none rest
@@ -301,7 +291,6 @@ pub data Phrase : (l : Level) → List Lexeme → Out l → List Lexeme → Type
       Phrase bars (Bar slot ∷ ts) (more (t.Stage c slot) ss) rest
   bar_leading : {slot : ℕ} {ts rest : List Lexeme} {c : Node t.cmd} → Phrase (leading false) (past_newlines ts) c rest → Phrase bars (Bar slot ∷ ts) (more (t.Stage c slot) none) rest
   bar_assigned : {slot : ℕ} {ts rest : List Lexeme} {c : Node t.cmd} → Phrase assigned (past_newlines ts) c rest → Phrase bars (Bar slot ∷ ts) (more (t.Stage c slot) none) rest
-
   -- "!" oper | "@" oper | redir {redir} [oper]
   not_leading : {after_if : Bool} {text : List ℕ} {ts rest : List Lexeme} {c : Node t.cmd} → keyword text ≡ BangWord → Phrase (operand false) (past_caret ts) c rest →
       Phrase (leading after_if) (Word text ∷ ts) (t.Not c) rest
@@ -324,7 +313,6 @@ pub data Phrase : (l : Level) → List Lexeme → Out l → List Lexeme → Type
   for_leading : {after_if : Bool} {text next_text : List ℕ} {ts head mid list next rest : List Lexeme} {a : Node t.arg} {as' : Many t.arg} {d : Node t.cmd} → keyword text ≡ ForWord →
       past_caret ts ≡ LeftParen ∷ head → Phrase (arg true) (past_newlines head) a mid → past_newlines mid ≡ Word next_text ∷ list → keyword next_text ≡ InWord →
       Phrase members (past_caret list) as' next → Phrase body next d rest → Phrase (leading after_if) (Word text ∷ ts) (t.For a as' d) rest
-
   -- first "=" arg {first "=" arg} [oper], where the operand doesn't begin with an assignment
   assignment : {ts next mid rest : List Lexeme} {a v : Node t.arg} {x : Many t.pair × Node t.cmd} → begins_first ts ≡ true → Phrase (arg false) ts a (Equals ∷ next) →
       Phrase (arg false) next v mid → Phrase values mid x rest → Phrase assigned ts (t.Assign (more (t.Pair a v) x.0) x.1) rest
@@ -333,7 +321,6 @@ pub data Phrase : (l : Level) → List Lexeme → Out l → List Lexeme → Type
   values_alone : {rest : List Lexeme} → begins_command rest ≡ false → Phrase values rest (none, t.Empty) rest
   values_leading : {ts rest : List Lexeme} {c : Node t.cmd} → Phrase (leading false) ts c rest → Phrase values ts (none, c) rest
   values_pipe : {ts rest : List Lexeme} {c : Node t.cmd} → Phrase pipe ts c rest → Phrase values ts (none, c) rest
-
   -- oper
   leading_operand : {after_if : Bool} {ts rest : List Lexeme} {c : Node t.cmd} → Phrase (leading after_if) ts c rest → Phrase (operand after_if) ts c rest
   assigned_operand : {after_if : Bool} {ts rest : List Lexeme} {c : Node t.cmd} → Phrase assigned ts c rest → Phrase (operand after_if) ts c rest
@@ -341,7 +328,6 @@ pub data Phrase : (l : Level) → List Lexeme → Out l → List Lexeme → Type
   -- [oper]
   no_operand : {rest : List Lexeme} → begins_command rest ≡ false → Phrase optional rest t.Empty rest
   one_operand : {ts rest : List Lexeme} {c : Node t.cmd} → Phrase (operand false) ts c rest → Phrase optional ts c rest
-
   -- cmd = oper { ("&&" | "||") {NL} oper }
   linked : {after_if : Bool} {ts mid rest : List Lexeme} {c : Node t.cmd} {ls : Many t.link} → Phrase (operand after_if) ts c mid → Phrase links mid ls rest →
       Phrase (command after_if) ts (and_or c ls) rest
@@ -350,11 +336,9 @@ pub data Phrase : (l : Level) → List Lexeme → Out l → List Lexeme → Type
       Phrase links (AndAnd ∷ ts) (more (t.Link t.And c) ls) rest
   or_link : {ts mid rest : List Lexeme} {c : Node t.cmd} {ls : Many t.link} → Phrase (operand false) (past_newlines ts) c mid → Phrase links mid ls rest →
       Phrase links (OrOr ∷ ts) (more (t.Link t.Or c) ls) rest
-
   -- {NL} [cmd], with no `&&` or `||` behind it: a control form is always the last operand
   no_body : {ts : List Lexeme} → begins_command (past_newlines ts) ≡ false → begins_link (past_newlines ts) ≡ false → Phrase body ts t.Empty (past_newlines ts)
   one_body : {ts rest : List Lexeme} {c : Node t.cmd} → Phrase (command false) (past_newlines ts) c rest → Phrase body ts c rest
-
   -- list = [cmd] { (";" | "&" | NL) [cmd] }, where "&" needs a command before it
   no_item : {in_switch after_if : Bool} {rest : List Lexeme} → ends in_switch rest ≡ true → Phrase (items in_switch after_if) rest none rest
   semicolon_item : {in_switch after_if : Bool} {ts rest : List Lexeme} {is : Many t.item} → Phrase (items in_switch after_if) ts is rest →
@@ -370,7 +354,6 @@ pub data Phrase : (l : Level) → List Lexeme → Out l → List Lexeme → Type
       Phrase (after in_switch after_if) (Newline ∷ ts) (false, is) rest
   after_background : {in_switch after_if : Bool} {ts rest : List Lexeme} {is : Many t.item} → Phrase (items in_switch false) ts is rest →
       Phrase (after in_switch after_if) (Ampersand ∷ ts) (true, is) rest
-
   -- cases: a list whose items may be case lines, the first item one      case = "case" {arg}, ended by ";", NL or "}"
   no_branch : {rest : List Lexeme} → Phrase branches (RightBrace ∷ rest) none (RightBrace ∷ rest)
   semicolon_branch : {ts rest : List Lexeme} {bs : Many t.branch} → Phrase branches ts bs rest → Phrase branches (Semicolon ∷ ts) bs rest
