@@ -20,4 +20,6 @@ pub mod Printing
 pub mod HereDocs
 pub mod Grammar
 pub mod Descent
+pub mod Spelling
+pub mod Accepted
 pub mod ParsingLaws

@@ -1,9 +1,13 @@
 -- The laws between the grammar and the descent.
-use Rattle.std.specs.Prelude.{◌≡◌, ℕ, ◌<◌, ◌≤◌, ◌⊎◌, false, List, Ok, Err}
-use Rattle.rc_model.specs.Tokens.{Lexeme}
+use Rattle.std.specs.Prelude.{◌≡◌, ℕ, ◌<◌, ◌≤◌, ◌⊎◌, true, false, List, length, Ok, Err, IsUtf8}
+use Rattle.rc_model.specs.Tokens.{Lexeme, Token, Lexes}
+use Rattle.rc_model.specs.Spelling.{AreSpelled}
 use Rattle.rc_model.specs.Tree.{Node}
 use Rattle.rc_model.specs.Tree as t
-use Rattle.rc_model.specs.WellFormed.{depth, most_stages, is_sound}
+use Rattle.rc_model.specs.WellFormed.{depth, most_stages, is_sound, well_formed}
+use Rattle.rc_model.specs.Printing.{has_here, printed}
+use Rattle.rc_model.specs.Accepted.{lexemes, longest_script}
+use Rattle.rc_model.specs.Accepted as script
 use Rattle.rc_model.specs.Grammar.{IsScript, IsAccepted}
 use Rattle.rc_model.specs.Descent.{Fault, Unexpected, IfNot, TooDeep, TooManyStages, script_tree}
 
@@ -30,3 +34,12 @@ HasTooManyStages = (levels : ℕ) (ts : List Lexeme) (tree : Node t.cmd) → scr
 -- and too many levels only where the tree has them, or isn't sound
 abbrev pub IsTooDeep : Type 0
 IsTooDeep = (levels : ℕ) (ts : List Lexeme) (tree : Node t.cmd) → 200 ≤ levels → script_tree levels ts ≡ Err TooDeep → IsScript ts tree → (200 < depth tree) ⊎ (is_sound tree ≡ false)
+
+-- a tree of spelled lexemes is sound, unless it has too many stages
+abbrev pub HasSoundTrees : Type 0
+HasSoundTrees = (ts : List Lexeme) (tree : Node t.cmd) → AreSpelled ts → IsScript ts tree → most_stages tree ≤ 64 → is_sound tree ≡ true
+
+-- each tree of a text that is well formed and has no here document is that of its print, where that isn't too long
+abbrev pub RoundTrip : Type 0
+RoundTrip = (text : List ℕ) (tokens : List Token) (tree : Node t.cmd) → IsUtf8 text → Lexes text (Ok tokens) → IsScript (lexemes tokens) tree →
+    well_formed tree ≡ true → has_here tree ≡ false → length (printed tree) ≤ longest_script → script.IsAccepted (printed tree) tree

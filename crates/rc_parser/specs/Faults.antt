@@ -3,7 +3,7 @@ use Rattle.std.specs.Prelude.{◌≡◌, ℕ, List}
 use Rattle.rc_model.specs.Faults as model
 use Rattle.rc_model.specs.PlainScripts.{Reading, Refused, IsRefused}
 use Rattle.rc_parser.specs.declared.fault.FaultKind.{FaultKind}
-use Rattle.rc_parser.specs.declared.fault.FaultKind.TheVariants.{TooLong, NotText, ZeroByte, OpenQuote, BadDescriptor, OpenHere, Unexpected, MisplacedIfNot}
+use Rattle.rc_parser.specs.declared.fault.FaultKind.TheVariants.{TooLong, NotText, ZeroByte, OpenQuote, BadDescriptor, OpenHere, Unexpected, IfNot}
 use Rattle.rc_parser.specs.declared.fault.FaultKind.TheVariants.{TooDeep, TooManyStages}
 use Rattle.rc_parser.specs.declared.fault.SyntaxFault.{SyntaxFault}
 use Rattle.rc_parser.specs.declared.fault.ParseError.{ParseError}
@@ -17,7 +17,7 @@ kind_of OpenQuote = model.OpenQuote
 kind_of BadDescriptor = model.BadDescriptor
 kind_of OpenHere = model.OpenHere
 kind_of Unexpected = model.Unexpected
-kind_of MisplacedIfNot = model.MisplacedIfNot
+kind_of IfNot = model.IfNot
 kind_of TooDeep = model.TooDeep
 kind_of TooManyStages = model.TooManyStages
 

@@ -21,7 +21,7 @@ pub enum FaultKind {
     /// A token fits no script at its place.
     Unexpected,
     /// An `if not` does not follow an `if`.
-    MisplacedIfNot,
+    IfNot,
     TooDeep,
     TooManyStages,
 }

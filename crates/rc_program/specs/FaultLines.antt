@@ -15,7 +15,7 @@ kind_words kind.OpenQuote = codes "open quote"
 kind_words kind.BadDescriptor = codes "bad descriptor"
 kind_words kind.OpenHere = codes "open here document"
 kind_words kind.Unexpected = codes "unexpected"
-kind_words kind.MisplacedIfNot = codes "misplaced if not"
+kind_words kind.IfNot = codes "misplaced if not"
 kind_words kind.TooDeep = codes "too deep"
 kind_words kind.TooManyStages = codes "too many stages"
 

@@ -80,7 +80,7 @@ fn kind_words(kind: FaultKind) -> &'static str
         FaultKind::BadDescriptor => "bad descriptor",
         FaultKind::OpenHere => "open here document",
         FaultKind::Unexpected => "unexpected",
-        FaultKind::MisplacedIfNot => "misplaced if not",
+        FaultKind::IfNot => "misplaced if not",
         FaultKind::TooDeep => "too deep",
         FaultKind::TooManyStages => "too many stages",
     }
