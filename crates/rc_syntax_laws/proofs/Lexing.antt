@@ -1,6 +1,6 @@
 -- The machine and the cut agree on each text.
 use Rattle.std.proofs.Common.{◌≡◌, ℕ, suc, Bool, true, false, cond, not, ◌==◌, List, [], ◌∷◌, ◌++◌, refl, sym, ap, subst, ◌∙◌}
-use Rattle.std.specs.Prelude.{Option, Some, None, Result, Err, unwrap_or, ◌&&◌}
+use Rattle.std.specs.Prelude.{Option, Some, None, Result, Ok, Err, unwrap_or, ◌&&◌}
 use Rattle.std.specs.Str.{chars}
 use Rattle.std.proofs.lemmas.Bool.{eqb-true}
 use Rattle.rc_model.specs.Tokens as t
@@ -71,3 +71,15 @@ only {text = text} (t.cut o h c) =
 
 pub law : ReadingLaw
 law text = record { found = found_by text (zero_line 1 (chars text)) refl; only = λ other l. only l }
+
+-- a text has one reading
+pub one_reading : {text : List ℕ} {a b : Result (List Token) LexFault} → t.Lexes text a → t.Lexes text b → a ≡ b
+one_reading x y = only x ∙ sym (only y)
+
+-- and one list of tokens
+pub one_cut : {text : List ℕ} {xs ys : List Token} → t.Lexes text (Ok xs) → t.Lexes text (Ok ys) → xs ≡ ys
+one_cut x y = ap (λ r. tokens_or r []) (one_reading x y)
+  where
+    tokens_or : Result (List Token) LexFault → List Token → List Token
+    tokens_or (Ok ts) other = ts
+    tokens_or (Err f) other = other

@@ -6,3 +6,6 @@ pub mod BodyRuns
 pub mod CutRuns
 pub mod Total
 pub mod Lexing
+pub mod Quotes
+pub mod Texts
+pub mod Spelled
