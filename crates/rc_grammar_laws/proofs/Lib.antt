@@ -4,3 +4,7 @@ pub mod Soundness
 pub mod Completeness
 pub mod Narrow
 pub mod Laws
+pub mod Zeros
+pub mod Bodies
+pub mod Passed
+pub mod Sound

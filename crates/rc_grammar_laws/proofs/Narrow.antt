@@ -1,9 +1,9 @@
 -- A sound tree has at most 64 stages in each pipeline.
-use Rattle.std.proofs.Common.{◌≡◌, ◌≤◌, Bool, true, false, ◌&&◌, refl, arith, nat_lt}
+use Rattle.std.proofs.Common.{◌≡◌, ◌≤◌, Bool, true, false, ◌&&◌, refl, arith, nat_lt, nat_le}
 use Rattle.std.proofs.lemmas.Bool.{ltb-true}
 use Rattle.rc_model.specs.Tree.{Node, Many, Sort, none, more, count}
 use Rattle.rc_model.specs.Tree as t
-use Rattle.rc_model.specs.WellFormed.{is_sound, are_sound, most_stages, most_stages_in, has_some, has_several, has_stages, is_output, opens}
+use Rattle.rc_model.specs.WellFormed.{depth, is_sound, are_sound, well_formed, most_stages, most_stages_in, has_some, has_several, has_stages, is_output, opens}
 
 pub and_first : (a b : Bool) → (a && b) ≡ true → a ≡ true
 and_first true b h = refl
@@ -59,3 +59,7 @@ mutual
   pub sound_narrow_all : {s : Sort} (ns : Many s) → are_sound ns ≡ true → most_stages_in ns ≤ 64
   sound_narrow_all none h = omega arith
   sound_narrow_all (more n ns) h = let x0 = sound_narrow n (and_first (is_sound n) (are_sound ns) h) in let x1 = sound_narrow_all ns (and_second (is_sound n) (are_sound ns) h) in omega arith
+
+-- so has a well formed one
+pub formed_narrow : (c : Node t.cmd) → well_formed c ≡ true → most_stages c ≤ 64
+formed_narrow c h = sound_narrow c (and_first (is_sound c) (nat_le (depth c) 200) h)

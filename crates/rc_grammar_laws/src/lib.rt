@@ -1,7 +1,7 @@
 //! The laws of the grammar: the descent finds the trees of the grammar and no others, and a script has one at most.
 #![tactic(auto)]
 
-ghost use Rattle.rc_model.specs.ParsingLaws.{FindsOnlyTrees, FindsEachTree, HasOneTree, HasNoTree, HasTooManyStages, IsTooDeep};
+ghost use Rattle.rc_model.specs.ParsingLaws.{FindsOnlyTrees, FindsEachTree, HasOneTree, HasNoTree, HasTooManyStages, IsTooDeep, HasSoundTrees};
 
 /// What the descent finds is the tree of an accepted script.
 pub fn finds_only_trees()
@@ -31,4 +31,9 @@ pub fn has_too_many_stages()
 /// Too many levels are found only where the tree has them.
 pub fn is_too_deep()
     ensures { IsTooDeep }
+{}
+
+/// A tree of spelled lexemes is sound, unless it has too many stages.
+pub fn has_sound_trees()
+    ensures { HasSoundTrees }
 {}
