@@ -8,5 +8,4 @@ pub mod Lines
 pub mod Trees
 pub mod Tokens
 pub mod Written
-pub mod Good
 pub mod Scripts

@@ -3,7 +3,7 @@ use Rattle.std.proofs.Common.{◌≡◌, ◌≢◌, refl, ap, sym, ◌∙◌, su
 use Rattle.std.proofs.Common.{append_assoc}
 use Rattle.std.proofs.lemmas.Bool.{and_parts}
 use Rattle.std.proofs.lemmas.Bool.Decides.{nat_tests}
-use Rattle.std.proofs.lemmas.Str.{encode_ascii, encodes-append}
+use Rattle.std.proofs.lemmas.Str.{encodes-append}
 use Rattle.std.specs.List.{list_all}
 use Rattle.std.specs.Str.{chars}
 use lib.Utf8.{encode, encodes, scalars, low_scalar}
@@ -11,6 +11,7 @@ use Rattle.rc_model.specs.Text.{begins_with}
 use Rattle.rc_model.specs.Tokens.{has_no_zero, Lexeme, Run, name_goes_on, is_name_char, begins_operator, goes_on, names, Before, Apart}
 use Rattle.rc_model.specs.Tokens.{DollarBefore, NameBefore}
 use Rattle.rc_model.specs.Tokens as k
+use Rattle.rc_syntax_laws.proofs.Texts.{name_char_low, name_encodes}
 use Rattle.rc_print_laws.proofs.Gives.{Gives, lexeme}
 use Rattle.rc_print_laws.proofs.Pieces.{Piece, IsApart, apart, IsCalm, calm_name, Anything, scalars-append, clean-append, Ends, at_end}
 use Rattle.rc_print_laws.proofs.Pieces.{at_space, at_semicolon, at_caret, at_equals, at_paren, at_brace}
@@ -51,21 +52,12 @@ pub record NamePiece (text : List ℕ) (ls : List Lexeme) : Type 0 where
   pub alone : (rest : List ℕ) → goes_on (36 ∷ []) (chars ++ rest) ≡ false
   pub cuts : (rest : List ℕ) (more : List Lexeme) → NameEnds rest → Gives NameBefore rest more → Gives DollarBefore (chars ++ rest) (ls ++ more)
 
--- name characters are ASCII, and neither `#` nor `"`
-name_char_low : (c : ℕ) → is_name_char c ≡ true → c < 128
-name_char_low c e = grind (arith, nat_tests)
-
+-- name characters are neither `#` nor `"`
 name_char_sharp : (c : ℕ) → is_name_char c ≡ true → (c == 35) ≡ false
 name_char_sharp c e = grind (arith, nat_tests)
 
 name_char_double : (c : ℕ) → is_name_char c ≡ true → (c == 34) ≡ false
 name_char_double c e = grind (arith, nat_tests)
-
-pub name_encodes : (text : List ℕ) → list_all is_name_char text ≡ true → encodes text ≡ text
-name_encodes [] e = refl
-name_encodes (c ∷ cs) e =
-    let p = and_parts (is_name_char c) (list_all is_name_char cs) e in
-    ap (λ l. l ++ encodes cs) (encode_ascii c (name_char_low c p.0)) ∙ ap (λ l. c ∷ l) (name_encodes cs p.1)
 
 name_scalars : (text : List ℕ) → list_all is_name_char text ≡ true → scalars text ≡ true
 name_scalars [] e = refl

@@ -4,9 +4,9 @@ use Rattle.rc_model.specs.Tree.{Node, cmd}
 use Rattle.rc_model.specs.Tokens.{Token, Lexes}
 use Rattle.rc_model.specs.Grammar.{IsScript}
 use Rattle.rc_print_laws.specs.Lexemes.{IsWritable}
-use Rattle.rc_print_laws.proofs.Good.{good_tokens}
+use Rattle.rc_syntax_laws.proofs.Spelled.{spelled_tokens}
 use Rattle.rc_print_laws.proofs.Written.{script_written}
 
 pub written_trees : (text : List ℕ) (tokens : List Token) (c : Node cmd) → IsUtf8 text → Lexes text (Ok tokens) →
     IsScript (map (λ t. t.lexeme) tokens) c → IsWritable c
-written_trees text tokens c u r s = script_written (map (λ t. t.lexeme) tokens) c s (good_tokens text tokens u r)
+written_trees text tokens c u r s = script_written (map (λ t. t.lexeme) tokens) c s (spelled_tokens text tokens u r)

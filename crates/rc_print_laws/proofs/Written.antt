@@ -1,36 +1,14 @@
--- A tree that good lexemes have can be written.
-use Rattle.std.proofs.Common.{◌≡◌, sym, subst, Bool, true, false, List, [], ◌∷◌, Some}
+-- A tree of spelled lexemes can be written.
+use Rattle.std.proofs.Common.{sym, subst, List, ◌∷◌}
 use Rattle.rc_model.specs.Tree.{Node, Many, none, more}
 use Rattle.rc_model.specs.Tree as t
 use Rattle.rc_model.specs.Tokens.{Lexeme}
 use Rattle.rc_model.specs.Tokens as k
-use Rattle.rc_model.specs.Grammar.{Level, Out, Phrase, past_newlines, past_caret, past_blanks, after_caret, concat_of, redirect, stages_of}
-use Rattle.rc_model.specs.Grammar.{last_of, pipeline, and_or}
+use Rattle.rc_model.specs.Grammar.{Level, Out, Phrase, past_blanks, concat_of, redirect, stages_of, last_of, pipeline, and_or}
 use Rattle.rc_model.specs.Grammar as g
-use Rattle.rc_print_laws.specs.Lexemes.{IsWritable, IsWritableName, AreWritable, AreGood}
-
-past_newlines_good : (ts : List Lexeme) → AreGood ts → AreGood (past_newlines ts)
-past_newlines_good [] w = w
-past_newlines_good (k.Newline ∷ ts) w = past_newlines_good ts w.1
-past_newlines_good (l ∷ ts) w = w
-
-past_blanks_good : (inside : Bool) (ts : List Lexeme) → AreGood ts → AreGood (past_blanks inside ts)
-past_blanks_good true ts w = past_newlines_good ts w
-past_blanks_good false ts w = w
-
-past_caret_good : (ts : List Lexeme) → AreGood ts → AreGood (past_caret ts)
-past_caret_good [] w = w
-past_caret_good (k.FreeCaret ∷ ts) w = w.1
-past_caret_good (l ∷ ts) w = w
-
-some_same : {a b : List Lexeme} → Some a ≡ Some b → a ≡ b
-some_same e = cc
-
-after_caret_good : (ts next : List Lexeme) → after_caret ts ≡ Some next → AreGood ts → AreGood next
-after_caret_good [] next e w = cc
-after_caret_good (k.Caret ∷ ts) next e w = subst AreGood (some_same e) w.1
-after_caret_good (k.FreeCaret ∷ ts) next e w = subst AreGood (some_same e) w.1
-after_caret_good (l ∷ ts) next e w = cc
+use Rattle.rc_model.specs.Spelling.{AreSpelled}
+use Rattle.rc_grammar_laws.proofs.Passed.{past_newlines_spelled, past_blanks_spelled, past_caret_spelled, after_caret_spelled}
+use Rattle.rc_print_laws.specs.Lexemes.{IsWritable, IsWritableName, AreWritable}
 
 -- what is said of the tree of each level
 abbrev pub Writes : (l : Level) → Out l → Type 0
@@ -85,7 +63,7 @@ unfolding IsWritable
 and_or_writes c none w v = w
 and_or_writes c (more l ls) w v = (w, v)
 
-pub written : {l : Level} {ts rest : List Lexeme} {x : Out l} → Phrase l ts x rest → AreGood ts → Writes l x × AreGood rest
+pub written : {l : Level} {ts rest : List Lexeme} {x : Out l} → Phrase l ts x rest → AreSpelled ts → Writes l x × AreSpelled rest
 unfolding IsWritable IsWritableName AreWritable
 written g.bare_name w = (w.0, w.1)
 written g.quoted_name w = (w.0, w.1)
@@ -101,8 +79,8 @@ written (g.flat_part p) w = written p w.1
 written (g.joined {a = a} {as' = as'} p q) w = let b = written p w in let c = written q b.1 in (concat_writes a as' b.0 c.0, c.1)
 written (g.no_caret e) w = (tt, w)
 written (g.caret {inside = inside} {ts = ts} {next = next} e p q) w =
-    let n = after_caret_good (past_blanks inside ts) next e (past_blanks_good inside ts w) in
-    let b = written p (past_blanks_good inside next n) in
+    let n = after_caret_spelled (past_blanks inside ts) next e (past_blanks_spelled inside ts w) in
+    let b = written p (past_blanks_spelled inside next n) in
     let c = written q b.1 in
     ((b.0, c.0), c.1)
 written g.no_member w = (tt, w.1)
@@ -126,42 +104,42 @@ written (g.simple_stage {a = a} {x = x} e p f q) w =
     (redirect_writes x.1 (t.Simple (more a x.0)) c.0.1 (b.0, c.0.0), c.1)
 written (g.brace_stage {c = c} {rs = rs} p q) w = let b = written p w in let d = written q b.1 in (redirect_writes rs (t.Brace c) d.0 b.0, d.1)
 written (g.switch_stage {ts = ts} {mid = mid} {inner = inner} {a = a} {bs = bs} {rs = rs} kw p e q r) w =
-    let b = written p (past_caret_good ts w.1) in
-    let open' : AreGood (k.LeftBrace ∷ inner) = subst AreGood e (past_newlines_good mid b.1) in
+    let b = written p (past_caret_spelled ts w.1) in
+    let open' : AreSpelled (k.LeftBrace ∷ inner) = subst AreSpelled e (past_newlines_spelled mid b.1) in
     let c = written q open'.1 in
     let d = written r c.1.1 in
     (redirect_writes rs (t.Switch a bs) d.0 (b.0, c.0), d.1)
-written (g.match_stage {ts = ts} kw p q) w = let b = written p (past_caret_good ts w.1) in let c = written q b.1 in ((b.0, c.0), c.1)
+written (g.match_stage {ts = ts} kw p q) w = let b = written p (past_caret_spelled ts w.1) in let c = written q b.1 in ((b.0, c.0), c.1)
 written (g.define_stage {ts = ts} kw p q r) w =
-    let b = written p (past_caret_good ts w.1) in
+    let b = written p (past_caret_spelled ts w.1) in
     let c = written q b.1 in
     let d = written r c.1 in
     (((b.0, c.0), d.0), d.1)
-written (g.undefine_stage {ts = ts} kw p q e) w = let b = written p (past_caret_good ts w.1) in let c = written q b.1 in ((b.0, c.0), c.1)
+written (g.undefine_stage {ts = ts} kw p q e) w = let b = written p (past_caret_spelled ts w.1) in let c = written q b.1 in ((b.0, c.0), c.1)
 written (g.piped {c = c} {ss = ss} p q) w = let b = written p w in let d = written q b.1 in (pipeline_writes c ss b.0 d.0, d.1)
 written (g.no_bar e) w = (tt, w)
-written (g.bar_stage {ts = ts} p q) w = let b = written p (past_newlines_good ts w.1) in let c = written q b.1 in (((w.0, b.0), c.0), c.1)
-written (g.bar_leading {ts = ts} p) w = let b = written p (past_newlines_good ts w.1) in (((w.0, b.0), tt), b.1)
-written (g.bar_assigned {ts = ts} p) w = let b = written p (past_newlines_good ts w.1) in (((w.0, b.0), tt), b.1)
-written (g.not_leading {ts = ts} kw p) w = written p (past_caret_good ts w.1)
-written (g.subshell_leading {ts = ts} kw p) w = written p (past_caret_good ts w.1)
+written (g.bar_stage {ts = ts} p q) w = let b = written p (past_newlines_spelled ts w.1) in let c = written q b.1 in (((w.0, b.0), c.0), c.1)
+written (g.bar_leading {ts = ts} p) w = let b = written p (past_newlines_spelled ts w.1) in (((w.0, b.0), tt), b.1)
+written (g.bar_assigned {ts = ts} p) w = let b = written p (past_newlines_spelled ts w.1) in (((w.0, b.0), tt), b.1)
+written (g.not_leading {ts = ts} kw p) w = written p (past_caret_spelled ts w.1)
+written (g.subshell_leading {ts = ts} kw p) w = written p (past_caret_spelled ts w.1)
 written (g.redir_leading p q r) w = let b = written p w in let c = written q b.1 in let d = written r c.1 in (((b.0, c.0), d.0), d.1)
-written (g.if_leading {ts = ts} kw p q) w = let b = written p (past_caret_good ts w.1) in let c = written q b.1 in ((b.0, c.0), c.1)
-written (g.while_leading {ts = ts} kw p q) w = let b = written p (past_caret_good ts w.1) in let c = written q b.1 in ((b.0, c.0), c.1)
+written (g.if_leading {ts = ts} kw p q) w = let b = written p (past_caret_spelled ts w.1) in let c = written q b.1 in ((b.0, c.0), c.1)
+written (g.while_leading {ts = ts} kw p q) w = let b = written p (past_caret_spelled ts w.1) in let c = written q b.1 in ((b.0, c.0), c.1)
 written (g.if_not_leading {next_text = text} {ts = ts} {next = next} kw e f p) w =
-    let not' : AreGood (k.Word text ∷ next) = subst AreGood e (past_caret_good ts w.1) in
-    written p (past_caret_good next not'.1)
+    let not' : AreSpelled (k.Word text ∷ next) = subst AreSpelled e (past_caret_spelled ts w.1) in
+    written p (past_caret_spelled next not'.1)
 written (g.for_all_leading {ts = ts} {head = head} {mid = mid} {next = next} kw e p f q) w =
-    let open' : AreGood (k.LeftParen ∷ head) = subst AreGood e (past_caret_good ts w.1) in
-    let b = written p (past_newlines_good head open'.1) in
-    let close' : AreGood (k.RightParen ∷ next) = subst AreGood f (past_newlines_good mid b.1) in
+    let open' : AreSpelled (k.LeftParen ∷ head) = subst AreSpelled e (past_caret_spelled ts w.1) in
+    let b = written p (past_newlines_spelled head open'.1) in
+    let close' : AreSpelled (k.RightParen ∷ next) = subst AreSpelled f (past_newlines_spelled mid b.1) in
     let c = written q close'.1 in
     ((b.0, c.0), c.1)
 written (g.for_leading {next_text = text} {ts = ts} {head = head} {mid = mid} {list = list} kw e p f i q r) w =
-    let open' : AreGood (k.LeftParen ∷ head) = subst AreGood e (past_caret_good ts w.1) in
-    let b = written p (past_newlines_good head open'.1) in
-    let in' : AreGood (k.Word text ∷ list) = subst AreGood f (past_newlines_good mid b.1) in
-    let c = written q (past_caret_good list in'.1) in
+    let open' : AreSpelled (k.LeftParen ∷ head) = subst AreSpelled e (past_caret_spelled ts w.1) in
+    let b = written p (past_newlines_spelled head open'.1) in
+    let in' : AreSpelled (k.Word text ∷ list) = subst AreSpelled f (past_newlines_spelled mid b.1) in
+    let c = written q (past_caret_spelled list in'.1) in
     let d = written r c.1 in
     ((b.0, (c.0, d.0)), d.1)
 written (g.assignment e p q r) w = let b = written p w in let c = written q b.1.1 in let d = written r c.1 in ((((b.0, c.0), d.0.0), d.0.1), d.1)
@@ -176,10 +154,10 @@ written (g.no_operand e) w = (tt, w)
 written (g.one_operand p) w = written p w
 written (g.linked {c = c} {ls = ls} p q) w = let b = written p w in let d = written q b.1 in (and_or_writes c ls b.0 d.0, d.1)
 written (g.no_link e) w = (tt, w)
-written (g.and_link {ts = ts} p q) w = let b = written p (past_newlines_good ts w.1) in let c = written q b.1 in ((b.0, c.0), c.1)
-written (g.or_link {ts = ts} p q) w = let b = written p (past_newlines_good ts w.1) in let c = written q b.1 in ((b.0, c.0), c.1)
-written (g.no_body {ts = ts} e f) w = (tt, past_newlines_good ts w)
-written (g.one_body {ts = ts} p) w = written p (past_newlines_good ts w)
+written (g.and_link {ts = ts} p q) w = let b = written p (past_newlines_spelled ts w.1) in let c = written q b.1 in ((b.0, c.0), c.1)
+written (g.or_link {ts = ts} p q) w = let b = written p (past_newlines_spelled ts w.1) in let c = written q b.1 in ((b.0, c.0), c.1)
+written (g.no_body {ts = ts} e f) w = (tt, past_newlines_spelled ts w)
+written (g.one_body {ts = ts} p) w = written p (past_newlines_spelled ts w)
 written (g.no_item e) w = (tt, w)
 written (g.semicolon_item p) w = written p w.1
 written (g.newline_item p) w = written p w.1
@@ -192,12 +170,12 @@ written g.no_branch w = (tt, w)
 written (g.semicolon_branch p) w = written p w.1
 written (g.newline_branch p) w = written p w.1
 written (g.one_branch {ts = ts} kw p e q r) w =
-    let b = written p (past_caret_good ts w.1) in
+    let b = written p (past_caret_spelled ts w.1) in
     let c = written q b.1 in
     let d = written r c.1 in
     (((b.0, c.0), d.0), d.1)
 
 -- a script's tree can be written
-pub script_written : (ts : List Lexeme) (c : Node t.cmd) → g.IsScript ts c → AreGood ts → IsWritable c
+pub script_written : (ts : List Lexeme) (c : Node t.cmd) → g.IsScript ts c → AreSpelled ts → IsWritable c
 unfolding IsWritable
 script_written ts c s w = subst IsWritable (sym s.2) (written s.1 w).0

@@ -1,13 +1,12 @@
 -- The lexemes of a printed tree, and the trees whose texts can be written so.
-use Rattle.std.specs.Prelude.{◌≡◌, ◌≢◌, ℕ, Bool, true, false, if◌then◌else◌, List, [], ◌∷◌, ◌++◌, codes, IsUtf8}
-use Rattle.std.specs.List.{list_all}
-use Rattle.std.specs.Str.{chars}
+use Rattle.std.specs.Prelude.{◌≡◌, ℕ, Bool, true, false, if◌then◌else◌, List, [], ◌∷◌, ◌++◌, codes}
 use Rattle.rc_model.specs.Tokens.{Lexeme, Word, Quoted, Semicolon, Ampersand, AndAnd, OrOr, Bar, Caret, Equals}
 use Rattle.rc_model.specs.Tokens.{LeftParen, RightParen, LeftBrace, RightBrace, Backquote, Redirection, CopyTo}
-use Rattle.rc_model.specs.Tokens.{Dollar, DollarCount, DollarFlat, Name, Subscript, Run, word_goes_on, is_name_char, has_no_zero}
+use Rattle.rc_model.specs.Tokens.{Dollar, DollarCount, DollarFlat, Name, Subscript}
 use Rattle.rc_model.specs.Tree.{Node, Many, none, more, Logic, And, Or}
 use Rattle.rc_model.specs.Tree as t
 use Rattle.rc_model.specs.WellFormed.{is_output, opens, copies}
+use Rattle.rc_model.specs.Spelling.{IsText, IsWord, IsName}
 use Rattle.rc_model.specs.Printing.{is_empty, stands_first}
 
 -- a line of a list: its lexemes, and whether it runs in the background
@@ -132,18 +131,6 @@ unfoldable mutual
   branch_items (t.Seq items) = item_lines items true true
   branch_items _ = []
 
--- text without byte 0
-abbrev pub IsText : List ℕ → Type 0
-IsText text = IsUtf8 text × (has_no_zero (chars text) ≡ true)
-
--- an unquoted word: its characters are a longest run, none of them an operator, a blank or a quote
-abbrev pub IsWord : List ℕ → Type 0
-IsWord text = IsText text × ((text ≢ []) × Run word_goes_on (chars text) [])
-
--- a name that is not quoted
-abbrev pub IsName : List ℕ → Type 0
-IsName text = (text ≢ []) × (list_all is_name_char text ≡ true)
-
 abbrev pub IsLiteral : List ℕ → (quoted : Bool) → Type 0
 IsLiteral text true = IsText text
 IsLiteral text false = IsWord text
@@ -201,17 +188,3 @@ unfoldable mutual
   pub AreWritable : {s : t.Sort} → Many s → Type 0
   AreWritable none = Unit {0}
   AreWritable (more n ns) = IsWritable n × AreWritable ns
-
--- lexemes of which trees can be made that can be written
-abbrev pub IsGood : Lexeme → Type 0
-IsGood (Word text) = IsWord text
-IsGood (Quoted text) = IsText text
-IsGood (Name text) = IsName text
-IsGood (Bar slot) = is_output slot ≡ true
-IsGood (Redirection mode slot) = opens mode slot ≡ true
-IsGood (CopyTo to from) = copies to from ≡ true
-IsGood _ = Unit {0}
-
-abbrev pub AreGood : List Lexeme → Type 0
-AreGood [] = Unit {0}
-AreGood (l ∷ ls) = IsGood l × AreGood ls
