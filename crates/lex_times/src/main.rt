@@ -1,27 +1,39 @@
-//! How long the lexer takes. With an argument it reads scripts of doubled lengths and prints the times.
+//! How long the lexer takes: `lex_times KIND BYTES` reads one text, and prints the microseconds of the processor.
 #![tactic(auto)]
 
+use anyhow::Context;
 use rc_lexer::lex;
 use std::alloc::{AllocError, Global};
 use std::env;
-use std::rt::Runtime;
 use std::time::CpuClock;
 
-/// What the scripts are made of.
-const PIECES: [(&str, &str); 6] = [
+/// What the texts are made of.
+const PIECES: [(&str, &str); 8] = [
     ("words", "word other.word "),
     ("quotes", "'it''s' 'a b' "),
     ("operators", "a&&b|[2]c>[1=2];\n"),
     ("dollars", "$$$x$#y$\"z $$ "),
-    ("here documents", "<<E\nline of it\nE\n"),
-    ("a long body", "<<E\n"),
+    ("one-run-of-dollars", "$"),
+    ("here-documents", "<<E\nline of it\nE\n"),
+    ("marks-on-one-line", "<<E "),
+    ("one-long-body", "<<E\n"),
 ];
 
-/// A script of at least this many bytes.
-fn script(alloc: Global, piece: &str, size: u32) -> Result<String, AllocError> {
+/// What a text of this kind is made of.
+fn piece(kind: &str) -> Option<&'static str> {
+    for (name, piece) in PIECES {
+        if name == kind {
+            return Some(piece);
+        }
+    }
+    None
+}
+
+/// A text of at least this many bytes.
+fn text(alloc: Global, piece: &str, size: usize) -> Result<String, AllocError> {
     let mut text = String::new(alloc);
     for _ in 0..size {
-        if text.len() >= size as usize {
+        if text.len() >= size {
             break;
         }
         text.push_str(piece)?;
@@ -29,44 +41,22 @@ fn script(alloc: Global, piece: &str, size: u32) -> Result<String, AllocError> {
     Ok(text)
 }
 
-/// The microseconds of the processor that the lexer takes, the least of nine times.
+/// The microseconds of the processor that the lexer takes.
 fn time(rt: &impl CpuClock, alloc: Global, text: &str) -> anyhow::Result<u128> {
-    let mut least = u128::MAX;
-    for _ in 0..9 {
-        let start = rt.thread_cpu_time()?;
-        let _ = lex(alloc, text).is_ok();
-        least = least.min(rt.thread_cpu_time()?.saturating_sub(start).as_micros());
-    }
-    Ok(least)
-}
-
-fn measure<R: Runtime + CpuClock>(
-    rt: &R,
-    alloc: Global,
-    name: &str,
-    piece: &str,
-) -> anyhow::Result<()> {
-    let mut before = 0;
-    for size in [131_072, 262_144, 524_288, 1_048_576] {
-        let text = script(alloc, piece, size)?;
-        let micros = time(rt, alloc, text.as_str())?;
-        let percent = if before == 0 {
-            0
-        } else {
-            micros.saturating_mul(100) / before
-        };
-        rt.println(format_args!("{name}, {size} bytes: {micros} us, {percent} % of the half"))?;
-        before = micros;
-    }
-    Ok(())
+    let start = rt.thread_cpu_time()?;
+    let _ = lex(alloc, text).is_ok();
+    Ok(rt.thread_cpu_time()?.saturating_sub(start).as_micros())
 }
 
 fn main(rt: HostRuntime) -> anyhow::Result<()> {
-    if env::args(&rt)?.count() < 2 {
+    let mut args = env::args(&rt)?;
+    let _ = args.next();
+    let (Some(kind), Some(size)) = (args.next(), args.next()) else {
         return Ok(());
-    }
-    for (name, piece) in PIECES {
-        measure(&rt, rt.alloc(), name, piece)?;
-    }
+    };
+    let piece = piece(kind.as_str()).context("no such kind of text")?;
+    let text = text(rt.alloc(), piece, size.as_str().parse()?)?;
+    let micros = time(&rt, rt.alloc(), text.as_str())?;
+    println!(rt; "{micros}")?;
     Ok(())
 }

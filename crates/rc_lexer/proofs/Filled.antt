@@ -1,6 +1,8 @@
 -- Here documents and their bodies.
-use Rattle.std.proofs.Common.{◌≡◌, ◌≢◌, ℕ, Bool, false, cond, List, [], ◌∷◌, refl, sym, ap, ◌∙◌}
-use Rattle.std.proofs.Common.{length, arith, map}
+use Rattle.std.proofs.Common.{◌≡◌, ◌≢◌, ℕ, ◌+◌, ◌<◌, Bool, false, cond, List, [], ◌∷◌, ◌++◌, refl, sym, ap, ◌∙◌}
+use Rattle.std.proofs.Common.{length, arith, map, take, drop, get_or, append_assoc}
+use Rattle.std.proofs.lemmas.List.{at_drop_more, take_more_set, drop-set-lt, map-append}
+use Rattle.std.proofs.Math.ListN.{set}
 use Rattle.rc_model.specs.Tokens as model
 use Rattle.rc_lexer.specs.declared.Span.{Span}
 use Rattle.rc_lexer.specs.declared.TokenKind.{TokenKind}
@@ -26,3 +28,17 @@ other_kind kind h script text = refl
 pub none_left : {A B : Type 0} (f : A → B) (xs : List A) → length xs ≡ 0 → map f xs ≡ []
 none_left f [] h = refl
 none_left f (x ∷ xs) h = absurd (omega (arith, h))
+
+-- one token of a list is filled in its place
+pub filled_step : {A : Type 0} (f : A → model.Token) (xs : List A) (i : ℕ) (d y : A) (bodies rest : List (List ℕ)) (whole : List model.Token) → i < length xs →
+    ((ts : List model.Token) → model.filled (f (get_or xs i d) ∷ ts) bodies ≡ f y ∷ model.filled ts rest) →
+    map f (take i xs) ++ model.filled (map f (drop i xs)) bodies ≡ whole →
+    map f (take (i + 1) (set xs i y)) ++ model.filled (map f (drop (i + 1) (set xs i y))) rest ≡ whole
+filled_step f xs i d y bodies rest whole h step e =
+    ap (λ z. map f z ++ model.filled (map f (drop (i + 1) (set xs i y))) rest) (take_more_set xs i y h)
+    ∙ ap (λ z. map f (take i xs ++ y ∷ []) ++ model.filled (map f z) rest) (drop-set-lt (i + 1) xs i y (omega arith))
+    ∙ ap (λ z. z ++ model.filled (map f (drop (i + 1) xs)) rest) (map-append f (take i xs) (y ∷ []))
+    ∙ append_assoc (map f (take i xs)) (f y ∷ []) (model.filled (map f (drop (i + 1) xs)) rest)
+    ∙ ap (λ z. map f (take i xs) ++ z) (sym (step (map f (drop (i + 1) xs))))
+    ∙ ap (λ z. map f (take i xs) ++ z) (sym (at_drop_more (λ z. model.filled (map f z) bodies) xs i d h))
+    ∙ e

@@ -108,7 +108,7 @@ pub fn lex(alloc: Global, script: &str) -> Result<Vec<Token>, LexError>
         return Err(fault(FaultKind::ZeroByte, line));
     }
     let lexer = read(alloc, script)?;
-    Ok(lexer.tokens()?)
+    Ok(lexer.tokens())
 }
 
 /// The line of the first byte 0.

@@ -237,18 +237,16 @@ fn with_body(token: Token, bodies: &[Span]) -> (Token, &[Span])
 }
 
 /// Each here document takes the next body.
-fn filled(alloc: Global, tokens: &[Token], bodies: &[Span]) -> Result<Vec<Token>, AllocError>
-    ensures { IfOk result (λ v. (script : List ℕ) → tokens_of script v.items
-        ≡ model.filled (tokens_of script tokens.now) (map (slice_at script) bodies.now)) }
+fn fill(tokens: &mut [Token], bodies: &[Span])
+    ensures { (script : List ℕ) → tokens_of script tokens.new
+        ≡ model.filled (tokens_of script tokens.old) (map (slice_at script) bodies.now) }
 {
-    let mut out = Vec::new(alloc);
     let mut left = bodies;
-    for token in tokens {
-        let (token, rest) = with_body(*token, left);
-        out.push(token)?;
+    for token in tokens.iter_mut() {
+        let (filled, rest) = with_body(*token, left);
+        *token = filled;
         left = rest;
     }
-    Ok(out)
 }
 
 impl Lexer {
@@ -758,10 +756,18 @@ impl Lexer {
     }
 
     /// The tokens, with the bodies of the here documents.
-    pub fn tokens(&self) -> Result<Vec<Token>, AllocError>
-        ensures { IfOk result (λ v. (script : List ℕ) → tokens_of script v.items
-            ≡ model.filled (tokens_in script self.now) (bodies_in script self.now)) }
+    pub fn tokens(self) -> Vec<Token>
+        ensures { (script : List ℕ) → tokens_of script result.items
+            ≡ model.filled (tokens_in script self) (bodies_in script self) }
     {
-        filled(self.alloc, self.tokens.as_slice(), self.bodies.as_slice())
+        let Lexer {
+            alloc: _,
+            mut tokens,
+            dollars: _,
+            bodies,
+            due: _,
+        } = self;
+        fill(tokens.as_mut_slice(), bodies.as_slice());
+        tokens
     }
 }
