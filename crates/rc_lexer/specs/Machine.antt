@@ -7,7 +7,7 @@ use Rattle.rc_model.specs.Reading as reading
 use Rattle.rc_model.specs.Reading.{Step}
 use Rattle.rc_lexer.specs.declared.TokenKind.{TokenKind}
 use Rattle.rc_lexer.specs.declared.LexError.{LexError}
-use Rattle.rc_lexer.specs.declared.LexError.TheVariants.{Fault, Memory}
+use Rattle.rc_lexer.specs.declared.LexError.TheVariants.{Fault, NoMemory}
 use Rattle.rc_lexer.specs.declared.machine.Place.{Place}
 use Rattle.rc_lexer.specs.declared.machine.Before.{Before}
 use Rattle.rc_lexer.specs.declared.machine.Before.TheVariants as before
@@ -107,7 +107,7 @@ abbrev pub Does : List ℕ → ℕ → Lexer → Lexer → Result State LexError
 Does script end old new (Ok s) x =
     behind_step (tokens_in script old) (bodies_in script old) x ≡ Ok (tokens_in script new, bodies_in script new, state_in script end new s, due_left new s)
 Does script end old new (Err (Fault f)) x = x ≡ Err (fault_of f)
-Does script end old new (Err Memory) x = Unit {0}
+Does script end old new (Err NoMemory) x = Unit {0}
 
 -- the lexer has read a lexeme between two places, and this stands behind it
 pub record Spelled (script : List ℕ) (before after : Before) (l : model.Lexeme) (p q : Place) (old new : Lexer) : Type 0 where
@@ -120,13 +120,13 @@ pub record Spelled (script : List ℕ) (before after : Before) (l : model.Lexeme
 abbrev pub IfSpelled : List ℕ → Before → model.Lexeme → Place → Place → Lexer → Lexer → Result Before LexError → Type 0
 IfSpelled script before l p q old new (Ok after) = Spelled script before after l p q old new
 IfSpelled script before l p q old new (Err (Fault f)) = ⊥
-IfSpelled script before l p q old new (Err Memory) = Unit {0}
+IfSpelled script before l p q old new (Err NoMemory) = Unit {0}
 
 -- the lexer is at the end
 abbrev pub Ends : List ℕ → Lexer → Lexer → Result (Unit {0}) LexError → Outcome → Type 0
 Ends script old new (Ok u) o = model.join (tokens_in script old) (bodies_in script old) o ≡ Ok (tokens_in script new, bodies_in script new)
 Ends script old new (Err (Fault f)) o = o ≡ Err (fault_of f)
-Ends script old new (Err Memory) o = Unit {0}
+Ends script old new (Err NoMemory) o = Unit {0}
 
 -- nothing but the tokens has changed
 pub record Keeps (old new : Lexer) : Type 0 where
@@ -163,4 +163,4 @@ pub record Resolved (seen : List model.Token → List model.Token) (old new : Le
 abbrev pub IsClosed : List model.Due → Result (Unit {0}) LexError → Type 0
 IsClosed due (Ok u) = reading.closed [] [] due ≡ Ok ([], [])
 IsClosed due (Err (Fault f)) = reading.closed [] [] due ≡ Err (fault_of f)
-IsClosed due (Err Memory) = ⊥
+IsClosed due (Err NoMemory) = ⊥

@@ -11,9 +11,13 @@ returns-then-ne-clause-does c =
     let script = c.args.script.now in
     let old = c.args.self.now in
     let head = c.args.head in
-    ap (λ k. behind_step (tokens_in script old) (bodies_in script old) (reading.step (body_of old.due.items (slice_range script c.args.body c.args.line) (slice_range script c.args.line head.place.byte)) (behind_first old.due.items) (place_of head.place) head.c (class_is k))) c.in-LineEnd.is
-    ∙ other_line script c.args.body c.args.line head.place.byte head.next.byte head.c c.in-Some.due.now old.due.items (tokens_in script old) (bodies_in script old) (place_of head.place)
-    (first _ c.in-Some.due.now _ c.in-Some.ensures.item.3.0 c.in-Some.ensures.lookup) c.requires.order c.requires.within (c.requires.head.reads _ (omega (arith, c.requires.order, c.requires.within)))
+    ap (λ k. behind_step (tokens_in script old) (bodies_in script old)
+    (reading.step (body_of old.due.items (slice_range script c.args.body c.args.line) (slice_range script c.args.line head.place.byte))
+    (behind_first old.due.items) (place_of head.place) head.c (class_is k))) c.in-LineEnd.is
+    ∙ other_line script c.args.body c.args.line head.place.byte head.next.byte head.c c.in-Some.due.now old.due.items (tokens_in script old)
+    (bodies_in script old) (place_of head.place)
+    (first _ c.in-Some.due.now _ c.in-Some.ensures.item.3.0 c.in-Some.ensures.lookup) c.requires.order c.requires.within
+    (c.requires.head.reads _ (omega (arith, c.requires.order, c.requires.within)))
     (is_no_mark _ _ _ _ c.as_slice.ensures.value c.ne.ensures c.if-ne.true)
 
 pub returns-in_ok-push-in-LineEnd-clause-does : goal.returns-in_ok-push-in-LineEnd-clause-does
@@ -21,7 +25,10 @@ returns-in_ok-push-in-LineEnd-clause-does c =
     let script = c.args.script.now in
     let old = c.args.self.now in
     let head = c.args.head in
-    ap (λ k. behind_step (tokens_in script old) (bodies_in script old) (reading.step (body_of old.due.items (slice_range script c.args.body c.args.line) (slice_range script c.args.line head.place.byte)) (behind_first old.due.items) (place_of head.place) head.c (class_is k))) c.in-LineEnd.is
-    ∙ mark_line script c.args.body c.args.line head.place.byte head.next.byte head.c c.in-Some.due.now old.due.items _ _ (dollars_in script old) (tokens_in script old) (bodies_in script old) _ (place_of head.place)
+    ap (λ k. behind_step (tokens_in script old) (bodies_in script old)
+    (reading.step (body_of old.due.items (slice_range script c.args.body c.args.line) (slice_range script c.args.line head.place.byte))
+    (behind_first old.due.items) (place_of head.place) head.c (class_is k))) c.in-LineEnd.is
+    ∙ mark_line script c.args.body c.args.line head.place.byte head.next.byte head.c c.in-Some.due.now old.due.items _ _ (dollars_in script old)
+    (tokens_in script old) (bodies_in script old) _ (place_of head.place)
     (first _ c.in-Some.due.now _ c.in-Some.ensures.item.3.0 c.in-Some.ensures.lookup) (is_mark _ _ _ _ c.as_slice.ensures.value c.ne.ensures c.if-ne.false)
     c.pop_front.ensures.rest c.line.ensures (bodies_pushed script _ _ _ c.in_ok-push-in-LineEnd.ensures.items)
