@@ -157,13 +157,13 @@ stepped b prev dollars q cs due p c k = cond b (reading.goes [] (reading.Operato
 pub operator_goes : (script : List ℕ) (end : ℕ) (before : Before) (q : Place) (cs : List ℕ) (p : model.Place) (c : ℕ) (k : model.Class) (old : Lexer)
     (b : Bool) →
     slice_range script q.byte end ≡ cs ++ encode_utf8 c → b ≡ model.begins_operator (slice_range script q.byte end) → b ≡ true →
-    Does script end old old (Ok (state.Operator before q)) (reading.step (reading.Operator (before_of before) (dollars_in script old) (place_of q) cs)
+    Does script end old old (Ok (state.Operator (record { before = before; start = q }))) (reading.step (reading.Operator (before_of before) (dollars_in script old) (place_of q) cs)
     (due_in old) p c k)
 operator_goes script end before q cs p c k old b e f h =
     let begins : model.begins_operator (cs ++ encode_utf8 c) ≡ true = ap model.begins_operator (sym e) ∙ sym f ∙ h in
     let g = goes_on cs c in
     let text : cs ++ c ∷ [] ≡ slice_range script q.byte end = sym (e ∙ ap (λ z. cs ++ z) (g.byte begins)) in
-    along script end old old (Ok (state.Operator before q)) _ _
+    along script end old old (Ok (state.Operator (record { before = before; start = q }))) _ _
     (sym (ap (λ v. stepped v (before_of before) (dollars_in script old) (place_of q) cs (due_in old) p c k) (sym g.same ∙ begins)))
     (ap (λ z. Ok (z, bodies_in script old ++ [], reading.Operator (before_of before) (dollars_in script old) (place_of q) (cs ++ c ∷ []), due_in old))
     (append-nil (tokens_in script old))

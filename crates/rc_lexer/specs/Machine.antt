@@ -54,13 +54,14 @@ body_of (d ∷ due) body line = reading.Body (due_of d) body line
 abbrev pub state_of : List ℕ → ℕ → List model.Token → List Due → State → reading.State
 state_of script end dollars due (Between b) = reading.Between (before_of b)
 state_of script end dollars due Comment = reading.Comment
-state_of script end dollars due (Backslash b p) = reading.Backslash (before_of b) (place_of p)
-state_of script end dollars due (WordBackslash b p q) = reading.WordBackslash (before_of b) (place_of p) (slice_range script p.byte q.byte) (place_of q)
-state_of script end dollars due (Word b p) = reading.Word (before_of b) (place_of p) (slice_range script p.byte end)
+state_of script end dollars due (Backslash b) = reading.Backslash (before_of b.before) (place_of b.start)
+state_of script end dollars due (WordBackslash b q) =
+    reading.WordBackslash (before_of b.before) (place_of b.start) (slice_range script b.start.byte q.byte) (place_of q)
+state_of script end dollars due (Word b) = reading.Word (before_of b.before) (place_of b.start) (slice_range script b.start.byte end)
 state_of script end dollars due (Name p) = reading.Name (place_of p) (slice_range script p.byte end)
-state_of script end dollars due (Quoted b p) = reading.Quoted (before_of b) (place_of p) (slice_range script p.byte end)
-state_of script end dollars due (Closed b p) = reading.Closed (before_of b) (place_of p) (slice_range script p.byte end)
-state_of script end dollars due (Operator b p) = reading.Operator (before_of b) dollars (place_of p) (slice_range script p.byte end)
+state_of script end dollars due (Quoted b) = reading.Quoted (before_of b.before) (place_of b.start) (slice_range script b.start.byte end)
+state_of script end dollars due (Closed b) = reading.Closed (before_of b.before) (place_of b.start) (slice_range script b.start.byte end)
+state_of script end dollars due (Operator b) = reading.Operator (before_of b.before) dollars (place_of b.start) (slice_range script b.start.byte end)
 state_of script end dollars due (Body b l) = body_of due (slice_range script b l) (slice_range script l end)
 
 -- the here documents that are due behind the one whose body is read
@@ -80,13 +81,14 @@ due_left l s = due_behind l.due.items s
 
 -- the state says what stands in the script before this byte
 abbrev pub Stands : List ℕ → ℕ → State → Type 0
-Stands script end (Backslash b p) = (p.byte ≤ end) × (slice_range script p.byte end ≡ 92 ∷ [])
-Stands script end (WordBackslash b p q) = (p.byte ≤ q.byte) × (q.byte ≤ end) × (slice_range script p.byte end ≡ slice_range script p.byte q.byte ++ 92 ∷ [])
-Stands script end (Word b p) = p.byte ≤ end
+Stands script end (Backslash b) = (b.start.byte ≤ end) × (slice_range script b.start.byte end ≡ 92 ∷ [])
+Stands script end (WordBackslash b q) =
+    (b.start.byte ≤ q.byte) × (q.byte ≤ end) × (slice_range script b.start.byte end ≡ slice_range script b.start.byte q.byte ++ 92 ∷ [])
+Stands script end (Word b) = b.start.byte ≤ end
 Stands script end (Name p) = p.byte ≤ end
-Stands script end (Quoted b p) = p.byte ≤ end
-Stands script end (Closed b p) = p.byte ≤ end
-Stands script end (Operator b p) = (p.byte ≤ end) × (model.awaits_mark (before_of b) ≡ false)
+Stands script end (Quoted b) = b.start.byte ≤ end
+Stands script end (Closed b) = b.start.byte ≤ end
+Stands script end (Operator b) = (b.start.byte ≤ end) × (model.awaits_mark (before_of b.before) ≡ false)
 Stands script end (Body b l) = (b ≤ l) × (l ≤ end)
 Stands script end s = Unit {0}
 

@@ -35,30 +35,30 @@ pub enum Before {
     Here(Place, Place),
 }
 
-/// What has begun and has not ended, with the place where it began.
+/// What stands before a part of the script, and where that part begins.
+#[derive(Clone, Copy)]
+pub struct Begun {
+    pub before: Before,
+    pub start: Place,
+}
+
+/// What has begun and has not ended.
 #[derive(Clone, Copy)]
 pub enum State {
     Between(Before),
     Comment,
     /// A backslash, which makes a newline a blank.
-    Backslash(Before, Place),
-    /// A word with a backslash behind it, at the second place.
-    WordBackslash(Before, Place, Place),
-    Word(Before, Place),
+    Backslash(Begun),
+    /// A word with a backslash behind it, at this place.
+    WordBackslash(Begun, Place),
+    Word(Begun),
     Name(Place),
-    Quoted(Before, Place),
+    Quoted(Begun),
     /// A quoted word behind a quote that ends it if no other follows.
-    Closed(Before, Place),
-    Operator(Before, Place),
+    Closed(Begun),
+    Operator(Begun),
     /// The body of the here document that is due first: where it begins, and where the line begins.
     Body(usize, usize),
-}
-
-/// What has begun: what stands before it, and where it began.
-#[derive(Clone, Copy)]
-struct Begun {
-    before: Before,
-    start: Place,
 }
 
 /// The character at hand.
@@ -286,32 +286,28 @@ impl Lexer {
                 Class::LineEnd => self.begin(script, Before::Apart, head),
                 _ => Ok(state),
             },
-            State::Backslash(before, start) => match head.class {
-                Class::LineEnd => Ok(State::Between(behind_blank(before))),
-                _ => self.in_word(script, Begun { before, start }, head),
+            State::Backslash(begun) => match head.class {
+                Class::LineEnd => Ok(State::Between(behind_blank(begun.before))),
+                _ => self.in_word(script, begun, head),
             },
-            State::WordBackslash(before, start, stop) => match head.class {
+            State::WordBackslash(begun, stop) => match head.class {
                 Class::LineEnd => {
-                    self.word(script, Begun { before, start }, stop)?;
+                    self.word(script, begun, stop)?;
                     Ok(State::Between(Before::Apart))
                 }
-                _ => self.in_word(script, Begun { before, start }, head),
+                _ => self.in_word(script, begun, head),
             },
-            State::Word(before, start) => self.in_word(script, Begun { before, start }, head),
+            State::Word(begun) => self.in_word(script, begun, head),
             State::Name(start) => self.in_name(script, start, head),
-            State::Quoted(before, start) => match head.class {
-                Class::Quote => Ok(State::Closed(before, start)),
+            State::Quoted(begun) => match head.class {
+                Class::Quote => Ok(State::Closed(begun)),
                 _ => Ok(state),
             },
-            State::Closed(before, start) => match head.class {
-                Class::Quote => Ok(State::Quoted(before, start)),
-                _ => self.behind_quoted(script, Begun { before, start }, head),
+            State::Closed(begun) => match head.class {
+                Class::Quote => Ok(State::Quoted(begun)),
+                _ => self.behind_quoted(script, begun, head),
             },
-            State::Operator(before, start) => self.in_operator(
-                script,
-                Begun { before, start },
-                head,
-            ),
+            State::Operator(begun) => self.in_operator(script, begun, head),
             State::Body(body, line) => self.in_body(script, body, line, head),
         }
     }
@@ -323,12 +319,16 @@ impl Lexer {
             (reading.begin (before_of before) (due_in self.old) (place_of head.place) head.c (class_is head.class)) }
         ensures stands { IfOk result (λ s. Stands script.now head.next.byte s) }
     {
+        let fresh = Begun {
+            before,
+            start: head.place,
+        };
         match head.class {
             Class::Blank => Ok(State::Between(behind_blank(before))),
-            Class::Quote => Ok(State::Quoted(before, head.place)),
-            Class::Backslash => Ok(State::Backslash(before, head.place)),
+            Class::Quote => Ok(State::Quoted(fresh)),
+            Class::Backslash => Ok(State::Backslash(fresh)),
             Class::Ordinary if begins_name(before, head.c) => Ok(State::Name(head.place)),
-            Class::Ordinary => Ok(State::Word(before, head.place)),
+            Class::Ordinary => Ok(State::Word(fresh)),
             Class::Hash => {
                 self.bare_here(before)?;
                 Ok(State::Comment)
@@ -336,7 +336,10 @@ impl Lexer {
             Class::Operates => {
                 self.bare_here(before)?;
                 self.dollars.clear();
-                Ok(State::Operator(without_here(before), head.place))
+                Ok(State::Operator(Begun {
+                    before: without_here(before),
+                    start: head.place,
+                }))
             }
             Class::LineEnd => {
                 self.bare_here(before)?;
@@ -439,8 +442,8 @@ impl Lexer {
         ensures stands { IfOk result (λ s. Stands script.now head.next.byte s) }
     {
         match head.class {
-            Class::Ordinary => Ok(State::Word(begun.before, begun.start)),
-            Class::Backslash => Ok(State::WordBackslash(begun.before, begun.start, head.place)),
+            Class::Ordinary => Ok(State::Word(begun)),
+            Class::Backslash => Ok(State::WordBackslash(begun, head.place)),
             _ => {
                 let after = self.word(script, begun, head.place)?;
                 self.begin(script, after, head)
@@ -519,7 +522,10 @@ impl Lexer {
             return self.begin(script, Before::Dollar, head);
         }
         if head.c == '$' {
-            return Ok(State::Operator(Before::Dollar, head.place));
+            return Ok(State::Operator(Begun {
+                before: Before::Dollar,
+                start: head.place,
+            }));
         }
         self.bare_dollars()?;
         self.begin(script, Before::Apart, head)
@@ -570,7 +576,7 @@ impl Lexer {
         ensures stands { IfOk result (λ s. Stands script.now head.next.byte s) }
     {
         if begins_operator(&script[begun.start.byte..head.next.byte]) {
-            return Ok(State::Operator(begun.before, begun.start));
+            return Ok(State::Operator(begun));
         }
         self.operated(script, begun, head)
     }
@@ -634,30 +640,18 @@ impl Lexer {
                 self.nothing_due()
             }
             State::Comment => self.nothing_due(),
-            State::Backslash(before, start) | State::Word(before, start) => self.last_word(
-                script,
-                Begun { before, start },
-                place,
-            ),
-            State::WordBackslash(before, start, _) => self.last_word(
-                script,
-                Begun { before, start },
-                place,
-            ),
+            State::Backslash(begun) | State::Word(begun) => self.last_word(script, begun, place),
+            State::WordBackslash(begun, _) => self.last_word(script, begun, place),
             State::Name(start) => {
                 self.lexeme(Before::Dollar, TokenKind::Name, start, place)?;
                 self.nothing_due()
             }
-            State::Quoted(_, start) => Err(fault(FaultKind::OpenQuote, start.line)),
-            State::Closed(before, start) => {
-                let _ = self.quoted(script, Begun { before, start }, place)?;
+            State::Quoted(begun) => Err(fault(FaultKind::OpenQuote, begun.start.line)),
+            State::Closed(begun) => {
+                let _ = self.quoted(script, begun, place)?;
                 self.nothing_due()
             }
-            State::Operator(before, start) => self.last_operator(
-                script,
-                Begun { before, start },
-                place,
-            ),
+            State::Operator(begun) => self.last_operator(script, begun, place),
             State::Body(body, line) => self.last_line(script, body, line, place.byte),
         }
     }
