@@ -157,7 +157,8 @@ stepped b prev dollars q cs due p c k = cond b (reading.goes [] (reading.Operato
 pub operator_goes : (script : List ℕ) (end : ℕ) (before : Before) (q : Place) (cs : List ℕ) (p : model.Place) (c : ℕ) (k : model.Class) (old : Lexer)
     (b : Bool) →
     slice_range script q.byte end ≡ cs ++ encode_utf8 c → b ≡ model.begins_operator (slice_range script q.byte end) → b ≡ true →
-    Does script end old old (Ok (state.Operator (record { before = before; start = q }))) (reading.step (reading.Operator (before_of before) (dollars_in script old) (place_of q) cs)
+    Does script end old old (Ok (state.Operator (record { before = before; start = q })))
+    (reading.step (reading.Operator (before_of before) (dollars_in script old) (place_of q) cs)
     (due_in old) p c k)
 operator_goes script end before q cs p c k old b e f h =
     let begins : model.begins_operator (cs ++ encode_utf8 c) ≡ true = ap model.begins_operator (sym e) ∙ sym f ∙ h in

@@ -35,7 +35,7 @@ fn faults(rt: &impl Abort, alloc: Global, script: &str, kind: FaultKind, line: u
 }
 
 #[test]
-fn words_and_names(rt: HostRuntime) -> Result<(), Fail> {
+fn words_and_comments(rt: HostRuntime) -> Result<(), Fail> {
     let cases = [
         ("", ""),
         ("a\\\nb", "Word@0..1 Word@3..4/2"),
@@ -46,6 +46,31 @@ fn words_and_names(rt: HostRuntime) -> Result<(), Fail> {
         ("'#'#'", "Quoted@0..3"),
         ("'it''s'", "Quoted@0..7"),
         ("'a\nb' c", "Quoted@0..5 Word@6..7/2"),
+        ("'a'(", "Quoted@0..3 LeftParen@3..4"),
+    ];
+    tokens(&rt, rt.alloc(), &cases)?;
+    Ok(())
+}
+
+#[test]
+fn names_and_subscripts(rt: HostRuntime) -> Result<(), Fail> {
+    let cases = [
+        ("$\"x", "DollarFlat@0..2 Name@2..3"),
+        ("$#*", "DollarCount@0..2 Name@2..3"),
+        ("$$x", "Dollar@0..1 Dollar@1..2 Name@2..3"),
+        ("$'a b'", "Dollar@0..1 Quoted@1..6"),
+        ("$x(", "Dollar@0..1 Name@1..2 Subscript@2..3"),
+        ("$x (", "Dollar@0..1 Name@1..2 LeftParen@3..4"),
+        ("$'x'(", "Dollar@0..1 Quoted@1..4 Subscript@4..5"),
+        ("$$#x", "BareDollar@0..1 DollarCount@1..3 Name@3..4"),
+    ];
+    tokens(&rt, rt.alloc(), &cases)?;
+    Ok(())
+}
+
+#[test]
+fn free_carets(rt: HostRuntime) -> Result<(), Fail> {
+    let cases = [
         ("$x.c", "Dollar@0..1 Name@1..2 FreeCaret@2..2 Word@2..4"),
         (
             "$x$y",
@@ -71,20 +96,19 @@ fn words_and_names(rt: HostRuntime) -> Result<(), Fail> {
             "a`{",
             "Word@0..1 FreeCaret@1..1 Backquote@1..2 LeftBrace@2..3",
         ),
-        ("$\"x", "DollarFlat@0..2 Name@2..3"),
-        ("$#*", "DollarCount@0..2 Name@2..3"),
-        ("$$x", "Dollar@0..1 Dollar@1..2 Name@2..3"),
-        ("$'a b'", "Dollar@0..1 Quoted@1..6"),
-        ("$x(", "Dollar@0..1 Name@1..2 Subscript@2..3"),
-        ("$x (", "Dollar@0..1 Name@1..2 LeftParen@3..4"),
-        ("$'x'(", "Dollar@0..1 Quoted@1..4 Subscript@4..5"),
-        ("'a'(", "Quoted@0..3 LeftParen@3..4"),
-        ("$$#x", "BareDollar@0..1 DollarCount@1..3 Name@3..4"),
         (
             "a$ $$ ",
             "Word@0..1 FreeCaret@1..1 BareDollar@1..2 BareDollar@3..4 BareDollar@4..5",
         ),
         ("é$é", "Word@0..2 FreeCaret@2..2 BareDollar@2..3 Word@3..5"),
+    ];
+    tokens(&rt, rt.alloc(), &cases)?;
+    Ok(())
+}
+
+#[test]
+fn keywords_are_words(rt: HostRuntime) -> Result<(), Fail> {
+    let cases = [
         (
             "echo for while fn",
             "Word@0..4 Word@5..8 Word@9..14 Word@15..17",
