@@ -16,12 +16,15 @@ filled_nil (t ∷ ts) = refl
 pub no_bodies : (t : model.Token) (ts : List model.Token) (bodies : List (List ℕ)) → bodies ≡ [] → model.filled (t ∷ ts) bodies ≡ t ∷ model.filled ts bodies
 no_bodies t ts bodies e = ap (model.filled (t ∷ ts)) e ∙ sym (ap (λ z. t ∷ z) (ap (model.filled ts) e ∙ filled_nil ts))
 
-pub no_here : (t : model.Token) (ts : List model.Token) (bodies : List (List ℕ)) → model.is_here t.lexeme ≡ false → model.filled (t ∷ ts) bodies ≡ t ∷ model.filled ts bodies
+pub no_here : (t : model.Token) (ts : List model.Token) (bodies : List (List ℕ)) → model.is_here t.lexeme ≡ false →
+    model.filled (t ∷ ts) bodies ≡ t ∷ model.filled ts bodies
 no_here t ts [] h = ap (λ z. t ∷ z) (sym (filled_nil ts))
 no_here t ts (b ∷ bodies) h =
-    ap (λ v. cond v (record { lexeme = model.with_body t.lexeme b; start = t.start; stop = t.stop; line = t.line } ∷ model.filled ts bodies) (t ∷ model.filled ts (b ∷ bodies))) h
+    ap (λ v. cond v (record { lexeme = model.with_body t.lexeme b; start = t.start; stop = t.stop; line = t.line } ∷ model.filled ts bodies)
+    (t ∷ model.filled ts (b ∷ bodies))) h
 
-pub other_kind : (kind : TokenKind) → ((quoted : Bool) (body : Span) → kind ≢ tk.HereDoc quoted body) → (script text : List ℕ) → model.is_here (lexeme_of script kind text) ≡ false
+pub other_kind : (kind : TokenKind) → ((quoted : Bool) (body : Span) → kind ≢ tk.HereDoc quoted body) → (script text : List ℕ) →
+    model.is_here (lexeme_of script kind text) ≡ false
 other_kind (tk.HereDoc quoted body) h script text = absurd (h quoted body refl)
 other_kind kind h script text = refl
 
