@@ -73,6 +73,7 @@ says o ts fault left e none stages levels = record { none = λ h. none (either h
   where
     at : {other : Fault} → fault ≡ other → HasFault o other
     at {other = other} h = (left, e ∙ ap (λ f. Err (refusal.Fault f left)) h)
+
     either : (fault ≡ descent.Unexpected) ⊎ (fault ≡ descent.IfNot) → HasFault o descent.Unexpected ⊎ HasFault o descent.IfNot
     either (inl h) = inl (at h)
     either (inr h) = inr (at h)
