@@ -214,3 +214,10 @@ fn first_faults(rt: HostRuntime) {
     faults(&rt, alloc, "'a\n\0", FaultKind::ZeroByte, 2);
     faults(&rt, alloc, ">[3]\nc <<E\n\0", FaultKind::ZeroByte, 3);
 }
+
+#[test]
+fn want_of_memory_is_told(rt: HostRuntime) -> Result<(), Fail> {
+    let tokens = lex(rt.alloc(), "$x <<'E'\nb\nE\n")?;
+    assert_eq!(rt; tokens.len(), 4);
+    Ok(())
+}
