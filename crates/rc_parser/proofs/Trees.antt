@@ -7,7 +7,7 @@ use Rattle.std.specs.Prelude.{nat_le}
 use Rattle.rc_model.specs.Tokens.{Token, Lexes}
 use Rattle.rc_model.specs.Tokens as t
 use Rattle.rc_model.specs.Tree.{Node, cmd}
-use Rattle.rc_model.specs.WellFormed.{depth, most_stages, is_sound, well_formed}
+use Rattle.rc_model.specs.WellFormed.{depth, most_stages, is_sound}
 use Rattle.rc_model.specs.Spelling.{AreSpelled}
 use Rattle.rc_model.specs.Faults as model
 use Rattle.rc_model.specs.Accepted.{HasTokens, IsAccepted, IsRefused, lexemes, longest_script}
@@ -73,6 +73,7 @@ says o ts fault left e none stages levels = record { none = λ h. none (either h
   where
     at : {other : Fault} → fault ≡ other → HasFault o other
     at {other = other} h = (left, e ∙ ap (λ f. Err (refusal.Fault f left)) h)
+
     either : (fault ≡ descent.Unexpected) ⊎ (fault ≡ descent.IfNot) → HasFault o descent.Unexpected ⊎ HasFault o descent.IfNot
     either (inl h) = inl (at h)
     either (inr h) = inr (at h)

@@ -47,6 +47,6 @@ fn tokens(alloc: Global, script: &[u8]) -> Result<Vec<Token>, ParseError>
     match rc_lexer::lex(alloc, text) {
         Ok(tokens) => Ok(tokens),
         Err(LexError::Fault(fault)) => Err(ParseError::Fault(fault::of_lexer(fault))),
-        Err(LexError::Memory) => Err(ParseError::NoMemory),
+        Err(LexError::NoMemory) => Err(ParseError::NoMemory),
     }
 }

@@ -80,6 +80,12 @@ fn keeps_limits(rt: HostRuntime) -> Result<(), Fail> {
     assert!(rt; parse(rt.alloc(), wide.as_slice()).is_ok());
     wide.push(b'|')?;
     wide.push(b'a')?;
-    check_fault(&rt, rt.alloc(), wide.as_slice(), FaultKind::TooManyStages, 64);
+    check_fault(
+        &rt,
+        rt.alloc(),
+        wide.as_slice(),
+        FaultKind::TooManyStages,
+        64,
+    );
     Ok(())
 }
