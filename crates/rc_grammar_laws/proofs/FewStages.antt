@@ -1,7 +1,7 @@
 -- What is read has at most 64 stages in each pipeline.
-use Rattle.std.proofs.Common.{◌≡◌, ℕ, zero, suc, ◌<◌, ◌≤◌, max, Bool, true, false, not, ◌&&◌, List, [], ◌∷◌, length, Option, Some, None, Ok, Err, if◌then◌else◌, refl, sym, ap, subst, ◌∙◌, arith, nat_lt}
+use Rattle.std.proofs.Common.{◌≡◌, ℕ, zero, suc, ◌≤◌, max, Bool, true, false, not, ◌&&◌, List, ◌∷◌, length, Option, Some, None, Ok, Err, if◌then◌else◌, refl, subst, arith, nat_lt}
 use Rattle.std.proofs.lemmas.Bool.{ltb-true}
-use Rattle.rc_model.specs.Tokens.{Lexeme, Word, Quoted, Semicolon, Ampersand, Newline, AndAnd, OrOr, Bar, Equals}
+use Rattle.rc_model.specs.Tokens.{Lexeme, Word, Quoted, Semicolon, Newline, AndAnd, OrOr, Bar, Equals}
 use Rattle.rc_model.specs.Tokens.{LeftParen, RightParen, LeftBrace, RightBrace, Backquote, Redirection, CopyTo, HereDoc}
 use Rattle.rc_model.specs.Tokens.{Dollar, DollarCount, DollarFlat, Name, Subscript}
 use Rattle.rc_model.specs.Tree.{Sort, Node, Many, none, more, count, snoc}
@@ -522,5 +522,6 @@ few_stages_read levels ts rest is h = narrow (subst (λ o. Few wide_in o) h (s.l
   where
     s : Small (λ n ts. d.read levels n ts)
     s = read_few levels
+
     narrow : Few {A = Many t.item} wide_in (Ok (is, rest)) → most_stages_in is ≤ 64
     narrow m = m.few

@@ -133,7 +133,7 @@ is_too_deep levels ts tree le h p =
     (λ js rest e. few_stages_read levels ts rest js e) le h) [
       | inl k ↦ inl k
       | inr k ↦ elim (not_formed (is_sound tree) (depth tree) (subst (λ z. well_formed z ≡ false) (sym p.2) k.0)) [
-          | inl far ↦ inl far
-          | inr unsound ↦ inr (unsound, subst (λ z. most_stages z ≤ 64) (sym p.2) k.1)
-        ]
+        | inl far ↦ inl far
+        | inr unsound ↦ inr (unsound, subst (λ z. most_stages z ≤ 64) (sym p.2) k.1)
+      ]
     ]

@@ -1,10 +1,9 @@
 -- Steps of the lexer, in words of the machine.
-use Rattle.std.proofs.Common.{◌≡◌, ℕ, suc, ◌+◌, ◌-◌, ◌<◌, Bool, List, [], ◌∷◌, ◌++◌, length, map, take, drop, get_or, drop-cons, add-one, refl, sym}
+use Rattle.std.proofs.Common.{◌≡◌, ℕ, ◌-◌, List, [], ◌∷◌, ◌++◌, map, take, drop, refl, sym}
 use Rattle.std.proofs.Common.{ap, ◌∙◌, append_assoc, arith}
 use Rattle.std.specs.Prelude.{Ok, slice_range}
 use Rattle.std.proofs.lemmas.List.{append-nil, map-append}
 use Rattle.rc_model.specs.Tokens as model
-use Rattle.rc_model.specs.Tokens.{without_quotes}
 use Rattle.rc_model.specs.Reading as reading
 use Rattle.rc_model.specs.Reading.{Step}
 use Rattle.rc_lexer.specs.declared.Token.{Token}
@@ -12,13 +11,6 @@ use Rattle.rc_lexer.specs.declared.machine.State.{State}
 use Rattle.rc_lexer.specs.declared.machine.Due.{Due}
 use Rattle.rc_lexer.specs.Views.{token_of, tokens_of}
 use Rattle.rc_lexer.specs.Machine.{due_of, state_of, due_behind, behind_step, line_of}
-
--- one more byte of a quoted word
-pub unquoted_step : (out out' rest : List ℕ) (i d : ℕ) (aq aq' : Bool) (whole : List ℕ) → i < length rest → out ++ without_quotes aq (drop i rest) ≡ whole →
-    out' ++ without_quotes aq' (drop (suc i) rest) ≡ out ++ without_quotes aq (get_or rest i d ∷ drop (suc i) rest) →
-    out' ++ without_quotes aq' (drop (i + 1) rest) ≡ whole
-unquoted_step out out' rest i d aq aq' whole h e f =
-    ap (λ n. out' ++ without_quotes aq' (drop n rest)) (add-one i) ∙ f ∙ ap (λ z. out ++ without_quotes aq z) (sym (drop-cons rest i d h)) ∙ e
 
 pub slice_empty : (xs : List ℕ) (a : ℕ) → slice_range xs a a ≡ []
 slice_empty xs a = ap (λ n. take n (drop a xs)) (none a)

@@ -11,6 +11,7 @@ ghost use Rattle.rc_lexer.specs.Machine.{before_of, bodies_in, dollars_in, due_i
 
 use crate::operators::{Class, begins_operator, is_name_char, operator};
 use crate::{FaultKind, LexError, LexFault, Span, Token, TokenKind};
+use rc_text::unquote;
 use std::alloc::{AllocError, Global};
 use std::collections::VecDeque;
 
@@ -195,26 +196,6 @@ fn push_bare(tokens: &mut Vec<Token>, dollars: &[Token]) -> Result<(), AllocErro
         })?;
     }
     Ok(())
-}
-
-/// What a quoted word says, without its quotes.
-fn unquoted(alloc: Global, text: &[u8]) -> Result<Vec<u8>, AllocError>
-    ensures { IfOk result (λ v. v.items ≡ model.unquoted_text text.now) }
-{
-    let mut out = Vec::new(alloc);
-    let Some((_, rest)) = text.split_first() else {
-        return Ok(out);
-    };
-    let mut after_quote = false;
-    for b in rest {
-        if *b == b'\'' && !after_quote {
-            after_quote = true;
-        } else {
-            out.push(*b)?;
-            after_quote = false;
-        }
-    }
-    Ok(out)
 }
 
 pub fn fault(kind: FaultKind, line: usize) -> LexError
@@ -424,7 +405,7 @@ impl Lexer {
             self.old self.new result }
     {
         if let Before::Here(begin, _) = begun.before {
-            let mark = unquoted(self.alloc, &script[begun.start.byte..stop.byte])?;
+            let mark = unquote(self.alloc, &script[begun.start.byte..stop.byte])?;
             self.mark(true, mark, begin, stop)?;
             return Ok(Before::Apart);
         }

@@ -1,12 +1,11 @@
 -- The lexemes of tokens, one after the other.
-use Rattle.std.proofs.Common.{◌≡◌, ℕ, List, [], ◌∷◌, ◌++◌, drop, refl, sym, ap, subst, ◌∙◌, append_assoc}
+use Rattle.std.proofs.Common.{◌≡◌, ℕ, List, [], ◌∷◌, ◌++◌, refl, sym, ap, subst, ◌∙◌, append_assoc}
 use Rattle.std.proofs.Common.{◌<◌, true, arith}
 use Rattle.std.proofs.lemmas.Bool.{and_parts}
 use Rattle.std.proofs.lemmas.Bool.Decides.{nat_tests}
 use Rattle.std.proofs.lemmas.Str.{IsUtf8-from_ascii}
 use Rattle.std.proofs.lemmas.Str.Ascii.{IsAscii-nil, IsAscii-cons}
 use Rattle.std.specs.List.{list_all}
-use Rattle.std.specs.Prelude.{map}
 use Rattle.std.specs.Str.{IsUtf8, IsAscii}
 use Rattle.rc_model.specs.Tokens.{is_name_char}
 use Rattle.rc_model.specs.Spelling.{IsSpelled, AreSpelled}

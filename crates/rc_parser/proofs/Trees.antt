@@ -7,7 +7,7 @@ use Rattle.std.specs.Prelude.{nat_le}
 use Rattle.rc_model.specs.Tokens.{Token, Lexes}
 use Rattle.rc_model.specs.Tokens as t
 use Rattle.rc_model.specs.Tree.{Node, cmd}
-use Rattle.rc_model.specs.WellFormed.{depth, most_stages, is_sound, well_formed}
+use Rattle.rc_model.specs.WellFormed.{depth, most_stages, is_sound}
 use Rattle.rc_model.specs.Spelling.{AreSpelled}
 use Rattle.rc_model.specs.Faults as model
 use Rattle.rc_model.specs.Accepted.{HasTokens, IsAccepted, IsRefused, lexemes, longest_script}

@@ -174,9 +174,29 @@ wait 7
 #[test]
 fn other_forms_are_not_yet(rt: HostRuntime) -> Result<(), Fail> {
     for script in [
-        "a *", "a $x", "a b^c", "a (b)", "a `{b}", "a &", "a | b", "a && b", "! a", "@ a",
-        "x=1", "a >f", "{a}", "if(a) b", "while(a) b", "for(i) a", "switch a {}", "~ a a",
-        "fn f {a}", "fn f", "cd /", "'cd' /", "a <<E\nE\n",
+        "a *",
+        "a $x",
+        "a b^c",
+        "a (b)",
+        "a `{b}",
+        "a &",
+        "a | b",
+        "a && b",
+        "! a",
+        "@ a",
+        "x=1",
+        "a >f",
+        "{a}",
+        "if(a) b",
+        "while(a) b",
+        "for(i) a",
+        "switch a {}",
+        "~ a a",
+        "fn f {a}",
+        "fn f",
+        "cd /",
+        "'cd' /",
+        "a <<E\nE\n",
     ] {
         check(
             &rt,

@@ -1,4 +1,4 @@
-use Rattle.std.proofs.Common.{◌≡◌, Err, ◌∙◌, ap, sym, subst}
+use Rattle.std.proofs.Common.{Err, ◌∙◌, ap, sym, subst}
 use Rattle.rc_descent.specs.Lexemes.{lexemes_of}
 use Rattle.rc_lexer.specs.Views.{tokens_of}
 use Rattle.rc_model.specs.Accepted.{lexemes}
