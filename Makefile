@@ -1,5 +1,5 @@
 # make           builds ./rc and runs `echo hello` through it
-# make test      proves, builds and tests everything
+# make test      proves, builds and tests everything, and reads the examples
 # make install   copies the shell to PREFIX/bin
 
 RT = rt
@@ -14,10 +14,15 @@ rc: build
 build:
 	cd crates/rc_main && $(RT) run < /dev/null
 
-test:
+test: lay-examples
 	$(RT) ci
+
+# rc_examples reads what lies in its data/
+lay-examples:
+	mkdir -p crates/rc_examples/data
+	cp examples/*.rc crates/rc_examples/data
 
 install: rc
 	install -D -m 755 rc $(DESTDIR)$(PREFIX)/bin/rc
 
-.PHONY: hello build test install
+.PHONY: hello build test lay-examples install

@@ -70,5 +70,5 @@ pub stages_by : (o : Result Cmd Refusal) (ts : List model.Lexeme) → Gives (λ 
 stages_by o ts h e tree p = laws.has_too_many_stages 200 ts tree (fault_by o f.TooManyStages ts h e) p
 
 pub levels_by : (o : Result Cmd Refusal) (ts : List model.Lexeme) → Gives (λ c. cmd_tree c) o (d.script_tree 200 ts) → HasFault o f.TooDeep → (tree : Node t.cmd) → IsScript ts tree →
-    (200 < depth tree) ⊎ (is_sound tree ≡ false)
+    (200 < depth tree) ⊎ ((is_sound tree ≡ false) × (most_stages tree ≤ 64))
 levels_by o ts h e tree p = laws.is_too_deep 200 ts tree (omega arith) (fault_by o f.TooDeep ts h e) p

@@ -20,7 +20,7 @@ fault_of f.TooManyStages = d.TooManyStages
 -- What a function returned, seen by view, is what the descent gives, unless memory ran out.
 abbrev pub Fails : {Y : Type 0} → Refusal → Result Y d.Fault → Type 0
 Fails (r.Fault fault left) read = read ≡ Err (fault_of fault)
-Fails r.Memory read = Unit {0}
+Fails r.NoMemory read = Unit {0}
 
 abbrev pub Gives : {X Y : Type 0} → (X → Y) → Result X Refusal → Result Y d.Fault → Type 0
 Gives view (Ok x) read = read ≡ Ok (view x)

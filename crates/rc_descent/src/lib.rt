@@ -1,7 +1,7 @@
 //! The parser: the tree of a script.
 #![tactic(auto)]
 
-ghost use Rattle.std.specs.Prelude.{◌≡◌, ◌<◌, ◌⊎◌, false, IfOk};
+ghost use Rattle.std.specs.Prelude.{◌≡◌, ◌<◌, ◌≤◌, ◌⊎◌, false, IfOk};
 ghost use Rattle.rc_model.specs.Tree.{Node, cmd};
 ghost use Rattle.rc_model.specs.WellFormed.{depth, most_stages, is_sound};
 ghost use Rattle.rc_model.specs.Grammar.{IsScript, IsAccepted};
@@ -33,9 +33,11 @@ pub fn script(alloc: Global, lexemes: &[Lexeme]) -> Result<Cmd, Refusal>
     ensures only { IfOk result (λ c. (other : Node cmd) → IsScript (lexemes_of lexemes.now) other → other ≡ cmd_tree c) }
     // Where a token is unexpected or an `if not` misplaced, there is no tree of any size.
     ensures none { HasFault result Fault.Unexpected ⊎ HasFault result Fault.IfNot → (tree : Node cmd) → IsScript (lexemes_of lexemes.now) tree → ⊥ }
-    // Too many stages are found only where a pipeline has them, and too many levels only where the tree has them.
+    // Too many stages are found only where a pipeline has them.
     ensures stages { HasFault result Fault.TooManyStages → (tree : Node cmd) → IsScript (lexemes_of lexemes.now) tree → 64 < most_stages tree }
-    ensures levels { HasFault result Fault.TooDeep → (tree : Node cmd) → IsScript (lexemes_of lexemes.now) tree → (200 < depth tree) ⊎ (is_sound tree ≡ false) }
+    // Too many levels are found only where the tree has them, or where its lexemes aren't those of a text.
+    ensures levels { HasFault result Fault.TooDeep → (tree : Node cmd) → IsScript (lexemes_of lexemes.now) tree →
+        (200 < depth tree) ⊎ ((is_sound tree ≡ false) × (most_stages tree ≤ 64)) }
 {
     tree(alloc, lexemes)
 }

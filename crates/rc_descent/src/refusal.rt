@@ -18,25 +18,25 @@ pub enum Fault {
 #[derive(Debug, Drop)]
 pub enum Refusal {
     Fault(Fault, usize),
-    Memory,
+    NoMemory,
 }
 
 impl From<AllocError> for Refusal {
-    ghost use Rattle.rc_descent.specs.declared.refusal.Refusal.TheVariants.{Memory};
+    ghost use Rattle.rc_descent.specs.declared.refusal.Refusal.TheVariants.{NoMemory};
 
-    ghost from_gives = { λ _ e. e ≡ Memory };
+    ghost from_gives = { λ _ e. e ≡ NoMemory };
 
     fn from(_: AllocError) -> Self {
-        Refusal::Memory
+        Refusal::NoMemory
     }
 }
 
 impl<T: Drop> From<AllocFailed<T>> for Refusal {
-    ghost use Rattle.rc_descent.specs.declared.refusal.Refusal.TheVariants.{Memory};
+    ghost use Rattle.rc_descent.specs.declared.refusal.Refusal.TheVariants.{NoMemory};
 
-    ghost from_gives = { λ _ e. e ≡ Memory };
+    ghost from_gives = { λ _ e. e ≡ NoMemory };
 
     fn from(_: AllocFailed<T>) -> Self {
-        Refusal::Memory
+        Refusal::NoMemory
     }
 }

@@ -4,7 +4,7 @@ use Rattle.std.proofs.lemmas.Bool.{leb-true, leb-false}
 use Rattle.rc_model.specs.Tokens.{Lexeme}
 use Rattle.rc_model.specs.Tree.{Node, Many}
 use Rattle.rc_model.specs.Tree as t
-use Rattle.rc_model.specs.WellFormed.{depth, most_stages, is_sound, well_formed}
+use Rattle.rc_model.specs.WellFormed.{depth, most_stages, most_stages_in, is_sound, well_formed}
 use Rattle.rc_model.specs.Grammar.{IsScript}
 use Rattle.rc_model.specs.Descent as d
 use Rattle.rc_model.specs.Descent.{Fault, Read}
@@ -12,6 +12,7 @@ use Rattle.rc_model.specs.ParsingLaws.{FindsOnlyTrees, FindsEachTree, HasOneTree
 use Rattle.rc_grammar_laws.proofs.Lists.{done, ok_same, if_ok}
 use Rattle.rc_grammar_laws.proofs.Soundness.{read_sound}
 use Rattle.rc_grammar_laws.proofs.Completeness.{Meets, read_good}
+use Rattle.rc_grammar_laws.proofs.FewStages.{few_stages_read}
 use Rattle.rc_grammar_laws.proofs.Narrow.{and_first, and_second, sound_narrow}
 
 whole_found : (o : Read (Many t.item)) (tree : Node t.cmd) → d.whole o ≡ Ok tree → (is : Many t.item) × (o ≡ Ok (is, [])) × (tree ≡ t.Seq is) × (well_formed tree ≡ true)
@@ -110,22 +111,29 @@ not_formed : (a : Bool) (n : ℕ) → (a && nat_le n 200) ≡ false → (200 < n
 not_formed true n h = inl (leb-false n 200 h)
 not_formed false n h = inr refl
 
-whole_deep : (levels tall wide : ℕ) (o : Read (Many t.item)) (is : Many t.item) → Meets levels tall wide o (is, []) → 200 ≤ levels → d.whole o ≡ Err d.TooDeep →
-    (200 < tall) ⊎ (well_formed (t.Seq is) ≡ false)
-whole_deep levels tall wide (Ok y) is m le h = formed_deep (well_formed (t.Seq is)) refl (subst (λ z. d.whole (Ok z) ≡ Err d.TooDeep) m.met h)
+whole_deep : (levels tall wide : ℕ) (o : Read (Many t.item)) (is : Many t.item) → Meets levels tall wide o (is, []) →
+    ((js : Many t.item) (rest : List Lexeme) → o ≡ Ok (js, rest) → most_stages_in js ≤ 64) → 200 ≤ levels → d.whole o ≡ Err d.TooDeep →
+    (200 < tall) ⊎ ((well_formed (t.Seq is) ≡ false) × (most_stages_in is ≤ 64))
+whole_deep levels tall wide (Ok y) is m few le h =
+    formed_deep (well_formed (t.Seq is)) refl (subst (λ z. d.whole (Ok z) ≡ Err d.TooDeep) m.met h)
   where
-    formed_deep : (b : Bool) → well_formed (t.Seq is) ≡ b → (if b then done (t.Seq is) else Err d.TooDeep) ≡ Err d.TooDeep → (200 < tall) ⊎ (well_formed (t.Seq is) ≡ false)
+    formed_deep : (b : Bool) → well_formed (t.Seq is) ≡ b → (if b then done (t.Seq is) else Err d.TooDeep) ≡ Err d.TooDeep →
+        (200 < tall) ⊎ ((well_formed (t.Seq is) ≡ false) × (most_stages_in is ≤ 64))
     formed_deep true e k = absurd cc
-    formed_deep false e k = inr e
-whole_deep levels tall wide (Err d.Unexpected) is m le h = absurd m.met
-whole_deep levels tall wide (Err d.IfNot) is m le h = absurd m.met
-whole_deep levels tall wide (Err d.TooDeep) is m le h = let e = m.met in inl (omega arith)
-whole_deep levels tall wide (Err d.TooManyStages) is m le h = absurd cc
+    formed_deep false e k = inr (e, few is [] (ap (λ z. Ok z) m.met))
+whole_deep levels tall wide (Err d.Unexpected) is m few le h = absurd m.met
+whole_deep levels tall wide (Err d.IfNot) is m few le h = absurd m.met
+whole_deep levels tall wide (Err d.TooDeep) is m few le h = let e = m.met in inl (omega arith)
+whole_deep levels tall wide (Err d.TooManyStages) is m few le h = absurd cc
 
 pub is_too_deep : IsTooDeep
 unfolding d.script_tree
 is_too_deep levels ts tree le h p =
-    elim (whole_deep levels (depth tree) (most_stages tree) (d.read levels (d.a_list false) ts) p.0 (script_meets levels ts tree p) le h) [
+    elim (whole_deep levels (depth tree) (most_stages tree) (d.read levels (d.a_list false) ts) p.0 (script_meets levels ts tree p)
+    (λ js rest e. few_stages_read levels ts rest js e) le h) [
       | inl k ↦ inl k
-      | inr k ↦ not_formed (is_sound tree) (depth tree) (subst (λ z. well_formed z ≡ false) (sym p.2) k)
+      | inr k ↦ elim (not_formed (is_sound tree) (depth tree) (subst (λ z. well_formed z ≡ false) (sym p.2) k.0)) [
+        | inl far ↦ inl far
+        | inr unsound ↦ inr (unsound, subst (λ z. most_stages z ≤ 64) (sym p.2) k.1)
+      ]
     ]

@@ -3,6 +3,7 @@ pub mod Lists
 pub mod Soundness
 pub mod Completeness
 pub mod Narrow
+pub mod FewStages
 pub mod Laws
 pub mod Zeros
 pub mod Bodies

@@ -1,5 +1,6 @@
 -- What a launch asks of Linux: the program, its arguments and its environment.
-use Rattle.std.specs.Prelude.{◌≡◌, ℕ, ◌<◌, ◌==◌, List, [], length, SomeIndex, slice_index_or, fold, string_bytes, Option, Some, None, option_map, true, if◌then◌else◌}
+use Rattle.std.specs.Prelude.{◌≡◌, ℕ, ◌<◌, ◌==◌, List, [], length, SomeIndex, slice_index_or, fold, string_bytes}
+use Rattle.std.specs.Prelude.{Option, Some, None, option_map, true, if◌then◌else◌}
 use Rattle.std.specs.List.{before_first, after_first, position_or_len}
 use Rattle.std.specs.Str.{bytes_eq}
 use Rattle.std.specs.Process.{clears_env, command_var}

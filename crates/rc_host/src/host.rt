@@ -43,6 +43,27 @@ impl HostWorld {
     }
 }
 
+/// A call that is not served.
+#[derive(Drop)]
+enum Unserved {
+    Open,
+    Here,
+    Pipe,
+    Close,
+    Read,
+    List,
+    Chdir,
+}
+
+impl Unserved {
+    /// Nothing is done: each is refused alike.
+    fn refuse<T>(self) -> Result<T, Fault>
+        ensures { result ≡ Err Other }
+    {
+        Err(Fault::Other)
+    }
+}
+
 impl World for HostWorld {
     ghost events = { λ _. None };
 
@@ -50,35 +71,35 @@ impl World for HostWorld {
         ensures refused { result ≡ Err Other }
         ensures same { self.new ≡ self.old }
     {
-        Err(Fault::Other)
+        Unserved::Open.refuse()
     }
 
     fn here(&mut self, _text: &str) -> Result<Handle, Fault>
         ensures refused { result ≡ Err Other }
         ensures same { self.new ≡ self.old }
     {
-        Err(Fault::Other)
+        Unserved::Here.refuse()
     }
 
     fn pipe(&mut self) -> Result<(Handle, Handle), Fault>
         ensures refused { result ≡ Err Other }
         ensures same { self.new ≡ self.old }
     {
-        Err(Fault::Other)
+        Unserved::Pipe.refuse()
     }
 
     fn close(&mut self, _handle: Handle) -> Result<(), Fault>
         ensures refused { result ≡ Err Other }
         ensures same { self.new ≡ self.old }
     {
-        Err(Fault::Other)
+        Unserved::Close.refuse()
     }
 
     fn read(&mut self, _handle: Handle) -> Result<Vec<u8>, Fault>
         ensures refused { result ≡ Err Other }
         ensures same { self.new ≡ self.old }
     {
-        Err(Fault::Other)
+        Unserved::Read.refuse()
     }
 
     fn write(&mut self, slot: Slot, text: &[u8]) -> Result<(), Fault>
@@ -127,7 +148,7 @@ impl World for HostWorld {
         ensures refused { result ≡ Err Other }
         ensures same { self.new ≡ self.old }
     {
-        Err(Fault::Other)
+        Unserved::List.refuse()
     }
 
     fn probe(&mut self, path: &str) -> Result<Kind, Fault>
@@ -142,7 +163,7 @@ impl World for HostWorld {
         ensures refused { result ≡ Err Other }
         ensures same { self.new ≡ self.old }
     {
-        Err(Fault::Other)
+        Unserved::Chdir.refuse()
     }
 }
 

@@ -5,7 +5,7 @@ use Rattle.rc_model.specs.Tokens as model
 use Rattle.rc_model.specs.Reading as reading
 use Rattle.rc_model.specs.Reading.{Step}
 use Rattle.rc_lexer.specs.declared.LexError.{LexError}
-use Rattle.rc_lexer.specs.declared.LexError.TheVariants.{Fault, Memory}
+use Rattle.rc_lexer.specs.declared.LexError.TheVariants.{Fault, NoMemory}
 use Rattle.rc_lexer.specs.declared.operators.Class.{Class}
 use Rattle.rc_lexer.specs.declared.operators.Class.TheVariants as class
 use Rattle.rc_lexer.specs.declared.machine.Before.{Before}
@@ -24,55 +24,66 @@ behind_emit ts us bodies (Ok x) = ap (λ z. Ok (z, bodies ++ x.1, x.2, x.3)) (sy
 behind_emit ts us bodies (Err f) = refl
 
 -- the tokens of a step come behind those so far
-pub emits : (script : List ℕ) (end : ℕ) (us : List model.Token) (x : Step) (old mid new : Lexer) (r : Result State LexError) → tokens_in script mid ≡ tokens_in script old ++ us →
+pub emits : (script : List ℕ) (end : ℕ) (us : List model.Token) (x : Step) (old mid new : Lexer) (r : Result State LexError) →
+    tokens_in script mid ≡ tokens_in script old ++ us →
     mid.bodies.items ≡ old.bodies.items → Does script end mid new r x → Does script end old new r (reading.emit us x)
 emits script end us x old mid new (Ok s) t b d =
     behind_emit (tokens_in script old) us (bodies_in script old) x
     ∙ ap (λ z. behind_step z (bodies_in script old) x) (sym t) ∙ ap (λ z. behind_step (tokens_in script mid) (map (slice_at script) z) x) (sym b) ∙ d
 emits script end us x old mid new (Err (Fault f)) t b d = ap (reading.emit us) d
-emits script end us x old mid new (Err Memory) t b d = d
+emits script end us x old mid new (Err NoMemory) t b d = d
 
-pub along : (script : List ℕ) (end : ℕ) (old new : Lexer) (r : Result State LexError) (x y : Step) → x ≡ y → Does script end old new r x → Does script end old new r y
+pub along : (script : List ℕ) (end : ℕ) (old new : Lexer) (r : Result State LexError) (x y : Step) → x ≡ y → Does script end old new r x →
+    Does script end old new r y
 along script end old new r x y e d = subst (λ z. Does script end old new r z) e d
 
 -- a lexeme ends, and the character begins something
-pub ends_does : (script : List ℕ) (end : ℕ) (before after : Before) (l : model.Lexeme) (start place : Place) (c : ℕ) (k : model.Class) (old mid new : Lexer) (r : Result State LexError) →
+pub ends_does : (script : List ℕ) (end : ℕ) (before after : Before) (l : model.Lexeme) (start place : Place) (c : ℕ) (k : model.Class)
+    (old mid new : Lexer) (r : Result State LexError) →
     Spelled script before after l start place old mid → Does script end mid new r (reading.begin (before_of after) (due_in mid) (place_of place) c k) →
     Does script end old new r (reading.ends (before_of before) l (place_of start) (due_in old) (place_of place) c k)
 ends_does script end before after l start place c k old mid new r s d =
-    emits script end (model.tokens_of (before_of before) l (place_of start) (place_of place)) (reading.begin (model.as_before (before_of before) l) (model.due_after (before_of before) l (due_in old)) (place_of place) c k)
+    emits script end (model.tokens_of (before_of before) l (place_of start) (place_of place))
+    (reading.begin (model.as_before (before_of before) l) (model.due_after (before_of before) l (due_in old)) (place_of place) c k)
     old mid new r s.tokens s.bodies
-    (along script end mid new r _ _ (ap (λ b. reading.begin b (due_in mid) (place_of place) c k) s.behind ∙ ap (λ q. reading.begin (model.as_before (before_of before) l) q (place_of place) c k) s.due) d)
+    (along script end mid new r _ _ (ap (λ b. reading.begin b (due_in mid) (place_of place) c k) s.behind
+    ∙ ap (λ q. reading.begin (model.as_before (before_of before) l) q (place_of place) c k) s.due) d)
 
 -- a character that ends a word
-in_word_other : (prev : model.Before) (q : model.Place) (text : List ℕ) (due : List model.Due) (p : model.Place) (c : ℕ) (k : Class) → k ≢ class.Ordinary → k ≢ class.Backslash →
+in_word_other : (prev : model.Before) (q : model.Place) (text : List ℕ) (due : List model.Due) (p : model.Place) (c : ℕ) (k : Class) →
+    k ≢ class.Ordinary → k ≢ class.Backslash →
     reading.ends prev (model.Word text) q due p c (class_is k) ≡ reading.in_word prev q text due p c (class_is k)
 in_word_other prev q text due p c class.Ordinary h j = absurd (h refl)
 in_word_other prev q text due p c class.Backslash h j = absurd (j refl)
 in_word_other prev q text due p c k h j = refl
 
-pub word_does : (script : List ℕ) (end : ℕ) (before after : Before) (text : List ℕ) (start place : Place) (c : ℕ) (k : Class) (old mid new : Lexer) (r : Result State LexError) →
+pub word_does : (script : List ℕ) (end : ℕ) (before after : Before) (text : List ℕ) (start place : Place) (c : ℕ) (k : Class) (old mid new : Lexer)
+    (r : Result State LexError) →
     k ≢ class.Ordinary → k ≢ class.Backslash →
-    Spelled script before after (model.Word text) start place old mid → Does script end mid new r (reading.begin (before_of after) (due_in mid) (place_of place) c (class_is k)) →
+    Spelled script before after (model.Word text) start place old mid →
+    Does script end mid new r (reading.begin (before_of after) (due_in mid) (place_of place) c (class_is k)) →
     Does script end old new r (reading.in_word (before_of before) (place_of start) text (due_in old) (place_of place) c (class_is k))
 word_does script end before after text start place c k old mid new r h j s d =
     along script end old new r _ _ (in_word_other (before_of before) (place_of start) text (due_in old) (place_of place) c k h j)
     (ends_does script end before after (model.Word text) start place c (class_is k) old mid new r s d)
 
 -- a `^` before a `$`
-pub caret_is : (b : Bool) (prev : model.Before) (p : model.Place) → model.joins prev model.Dollar ≡ b → model.caret prev model.Dollar p ≡ cond b (model.token model.FreeCaret p p ∷ []) []
+pub caret_is : (b : Bool) (prev : model.Before) (p : model.Place) → model.joins prev model.Dollar ≡ b →
+    model.caret prev model.Dollar p ≡ cond b (model.token model.FreeCaret p p ∷ []) []
 caret_is b prev p h = ap (λ v. cond v (model.token model.FreeCaret p p ∷ []) []) h
 
 -- a name ends, and the character begins something
 pub name_does : (script : List ℕ) (end : ℕ) (text : List ℕ) (start place : Place) (c : ℕ) (k : model.Class) (old mid new : Lexer) (r : Result State LexError) →
     model.is_name_char c ≡ false → text ≡ slice_range script start.byte place.byte →
-    ((script' : List ℕ) → tokens_in script' mid ≡ tokens_in script' old ++ model.token (model.Name (slice_range script' start.byte place.byte)) (place_of start) (place_of place) ∷ []) → Keeps old mid →
+    ((script' : List ℕ) → tokens_in script' mid ≡ tokens_in script' old
+    ++ model.token (model.Name (slice_range script' start.byte place.byte)) (place_of start) (place_of place) ∷ []) → Keeps old mid →
     Does script end mid new r (reading.begin model.NameBefore (due_in mid) (place_of place) c k) →
     Does script end old new r (reading.step (reading.Name (place_of start) text) (due_in old) (place_of place) c k)
 name_does script end text start place c k old mid new r h e t kept d =
     let text' = slice_range script start.byte place.byte in
     along script end old new r _ _
-    (sym (ap (λ v. cond v (reading.goes [] (reading.Name (place_of start) (text ++ encode_utf8 c)) (due_in old)) (reading.ends model.DollarBefore (model.Name text) (place_of start) (due_in old) (place_of place) c k)) h
+    (sym (ap (λ v. cond v (reading.goes [] (reading.Name (place_of start) (text ++ encode_utf8 c)) (due_in old))
+    (reading.ends model.DollarBefore (model.Name text) (place_of start) (due_in old) (place_of place) c k)) h
     ∙ ap (λ z. reading.ends model.DollarBefore (model.Name z) (place_of start) (due_in old) (place_of place) c k) e))
     (ends_does script end before.Dollar before.Name (model.Name text') start place c k old mid new r
     (record { tokens = t script; due = ap (map due_of) kept.due; behind = refl; dollars = kept.dollars; bodies = kept.bodies }) d)
@@ -81,10 +92,12 @@ name_does script end text start place c k old mid new r h e t kept d =
 abbrev behind : Bool → Bool → List model.Token → List model.Due → model.Place → ℕ → model.Class → Step
 behind a b dollars due p c k =
     cond a (reading.emit dollars (reading.begin model.DollarBefore due p c k))
-    (cond b (reading.goes [] (reading.Operator model.DollarBefore dollars p (c ∷ [])) due) (reading.emit (reading.bare dollars) (reading.begin model.Apart due p c k)))
+    (cond b (reading.goes [] (reading.Operator model.DollarBefore dollars p (c ∷ [])) due)
+    (reading.emit (reading.bare dollars) (reading.begin model.Apart due p c k)))
 
 pub named_does : (script : List ℕ) (end : ℕ) (place : Place) (c : ℕ) (k : model.Class) (old mid new : Lexer) (r : Result State LexError) →
-    (model.is_name_char c || (c == 39)) ≡ true → Resolved (λ dollars. dollars) old mid → Does script end mid new r (reading.begin model.DollarBefore (due_in mid) (place_of place) c k) →
+    (model.is_name_char c || (c == 39)) ≡ true → Resolved (λ dollars. dollars) old mid →
+    Does script end mid new r (reading.begin model.DollarBefore (due_in mid) (place_of place) c k) →
     Does script end old new r (reading.behind_dollars (dollars_in script old) (due_in old) (place_of place) c k)
 named_does script end place c k old mid new r h s d =
     along script end old new r _ _ (sym (ap (λ v. behind v (c == 36) (dollars_in script old) (due_in old) (place_of place) c k) h))
@@ -92,13 +105,15 @@ named_does script end place c k old mid new r h s d =
     (along script end mid new r _ _ (ap (λ q. reading.begin model.DollarBefore (map due_of q) (place_of place) c k) s.due) d))
 
 pub bare_does : (script : List ℕ) (end : ℕ) (place : Place) (c : ℕ) (k : model.Class) (old mid new : Lexer) (r : Result State LexError) →
-    (model.is_name_char c || (c == 39)) ≡ false → c ≢ 36 → Resolved reading.bare old mid → Does script end mid new r (reading.begin model.Apart (due_in mid) (place_of place) c k) →
+    (model.is_name_char c || (c == 39)) ≡ false → c ≢ 36 → Resolved reading.bare old mid →
+    Does script end mid new r (reading.begin model.Apart (due_in mid) (place_of place) c k) →
     Does script end old new r (reading.behind_dollars (dollars_in script old) (due_in old) (place_of place) c k)
 bare_does script end place c k old mid new r h n s d =
     along script end old new r _ _
     (sym (ap (λ v. behind v (c == 36) (dollars_in script old) (due_in old) (place_of place) c k) h
     ∙ ap (λ v. behind false v (dollars_in script old) (due_in old) (place_of place) c k) (no (c == 36) refl)))
-    (emits script end (reading.bare (dollars_in script old)) (reading.begin model.Apart (due_in old) (place_of place) c k) old mid new r (s.tokens script) s.bodies
+    (emits script end (reading.bare (dollars_in script old)) (reading.begin model.Apart (due_in old) (place_of place) c k) old mid new r
+    (s.tokens script) s.bodies
     (along script end mid new r _ _ (ap (λ q. reading.begin model.Apart (map due_of q) (place_of place) c k) s.due) d))
   where
     no : (b : Bool) → (c == 36) ≡ b → (c == 36) ≡ false

@@ -1,5 +1,6 @@
 -- What the lexer does in the body of a here document.
-use Rattle.std.proofs.Common.{◌≡◌, ℕ, ◌-◌, ◌<◌, ◌≤◌, Bool, true, false, cond, not, List, [], ◌∷◌, ◌++◌, length, map, take, drop, refl, sym, ap, subst, ◌∙◌, arith}
+use Rattle.std.proofs.Common.{◌≡◌, ℕ, ◌-◌, ◌<◌, ◌≤◌, Bool, true, false, cond, not, List, [], ◌∷◌, ◌++◌, length, map, take, drop, refl, sym, ap, subst}
+use Rattle.std.proofs.Common.{◌∙◌, arith}
 use Rattle.std.specs.Prelude.{Ok, slice_range, slice_index_or}
 use Rattle.std.proofs.lemmas.List.{append-nil, map-append}
 use Rattle.rc_model.specs.Tokens as model
@@ -35,36 +36,57 @@ slices_join script a b c h k =
     ∙ sym (take-add (b - a) (c - b) (drop a script)) ∙ ap (λ n. take n (drop a script)) (omega arith)
 
 -- a line that is not the mark
-pub other_line : (script : List ℕ) (body line place next : ℕ) (c : ℕ) (d : Due) (due : List Due) (ts : List model.Token) (bodies : List (List ℕ)) (p : model.Place) → First d due → body ≤ line → line ≤ place →
+pub other_line : (script : List ℕ) (body line place next : ℕ) (c : ℕ) (d : Due) (due : List Due) (ts : List model.Token) (bodies : List (List ℕ))
+    (p : model.Place) → First d due → body ≤ line → line ≤ place →
     slice_range script body next ≡ slice_range script body place ++ encode_utf8 c → bytes_eq (slice_range script line place) d.mark.items ≡ false →
     behind_step ts bodies (reading.step (body_of due (slice_range script body line) (slice_range script line place)) (behind_first due) p c model.LineEnd)
     ≡ Ok (ts, bodies, body_of due (slice_range script body next) (slice_range script next next), behind_first due)
 other_line script body line place next c d due ts bodies p f h k e n =
-    subst (λ z. behind_step ts bodies (reading.step (body_of z (slice_range script body line) (slice_range script line place)) (behind_first z) p c model.LineEnd)
+    subst (λ z. behind_step ts bodies (reading.step (body_of z (slice_range script body line) (slice_range script line place)) (behind_first z) p c
+    model.LineEnd)
     ≡ Ok (ts, bodies, body_of z (slice_range script body next) (slice_range script next next), behind_first z)) (sym f.is)
     (ap (λ v. behind_step ts bodies (ended v (due_of d) (slice_range script body line) (slice_range script line place) (map due_of f.rest) c)) n
-    ∙ ap (λ z. Ok (z, bodies ++ [], reading.Body (due_of d) (slice_range script body line ++ slice_range script line place ++ encode_utf8 c) [], map due_of f.rest)) (append-nil ts)
-    ∙ ap (λ z. Ok (ts, z, reading.Body (due_of d) (slice_range script body line ++ slice_range script line place ++ encode_utf8 c) [], map due_of f.rest)) (append-nil bodies)
+    ∙ ap (λ z. Ok (
+      z,
+      bodies ++ [],
+      reading.Body (due_of d) (slice_range script body line ++ slice_range script line place ++ encode_utf8 c) [],
+      map due_of f.rest,
+    )) (append-nil ts)
+    ∙ ap (λ z. Ok (
+      ts,
+      z,
+      reading.Body (due_of d) (slice_range script body line ++ slice_range script line place ++ encode_utf8 c) [],
+      map due_of f.rest,
+    )) (append-nil bodies)
     ∙ ap (λ z. Ok (ts, bodies, reading.Body (due_of d) z [], map due_of f.rest)) (ap (λ z. z ++ encode_utf8 c) (slices_join script body line place h k) ∙ sym e)
     ∙ ap (λ z. Ok (ts, bodies, reading.Body (due_of d) (slice_range script body next) z, map due_of f.rest)) (sym (slice_empty script next)))
 
 -- a line that is the mark
-pub mark_line : (script : List ℕ) (body line place next : ℕ) (c : ℕ) (d : Due) (due due' : List Due) (s : State) (dollars ts : List model.Token) (bodies : List (List ℕ)) (bodies' : List (List ℕ)) (p : model.Place) → First d due →
-    bytes_eq (slice_range script line place) d.mark.items ≡ true → due' ≡ drop 1 due → s ≡ line_of due' next → bodies' ≡ bodies ++ slice_range script body line ∷ [] →
+pub mark_line : (script : List ℕ) (body line place next : ℕ) (c : ℕ) (d : Due) (due due' : List Due) (s : State) (dollars ts : List model.Token)
+    (bodies : List (List ℕ)) (bodies' : List (List ℕ)) (p : model.Place) → First d due →
+    bytes_eq (slice_range script line place) d.mark.items ≡ true → due' ≡ drop 1 due → s ≡ line_of due' next →
+    bodies' ≡ bodies ++ slice_range script body line ∷ [] →
     behind_step ts bodies (reading.step (body_of due (slice_range script body line) (slice_range script line place)) (behind_first due) p c model.LineEnd)
     ≡ Ok (ts, bodies', state_of script next dollars due' s, due_behind due' s)
 mark_line script body line place next c d due due' s dollars ts bodies bodies' p f e g h b =
     let r : due' ≡ f.rest = g ∙ ap (drop 1) f.is in
     let is : s ≡ line_of f.rest next = h ∙ ap (λ z. line_of z next) r in
-    ap (λ z. behind_step ts bodies (reading.step (body_of z (slice_range script body line) (slice_range script line place)) (behind_first z) p c model.LineEnd)) f.is
+    ap (λ z. behind_step ts bodies (reading.step (body_of z (slice_range script body line) (slice_range script line place)) (behind_first z) p c
+    model.LineEnd)) f.is
     ∙ ap (λ v. behind_step ts bodies (ended v (due_of d) (slice_range script body line) (slice_range script line place) (map due_of f.rest) c)) e
     ∙ line_step script next dollars f.rest ts [] bodies (slice_range script body line ∷ [])
-    ∙ ap (λ z. Ok (z, bodies ++ slice_range script body line ∷ [], state_of script next dollars f.rest (line_of f.rest next), due_behind f.rest (line_of f.rest next))) (append-nil ts)
+    ∙ ap (λ z. Ok (
+      z,
+      bodies ++ slice_range script body line ∷ [],
+      state_of script next dollars f.rest (line_of f.rest next),
+      due_behind f.rest (line_of f.rest next),
+    )) (append-nil ts)
     ∙ ap (λ z. Ok (ts, z, state_of script next dollars f.rest (line_of f.rest next), due_behind f.rest (line_of f.rest next))) (sym b)
     ∙ ap (λ z. Ok (ts, bodies', state_of script next dollars f.rest z, due_behind f.rest z)) (sym is)
     ∙ ap (λ z. Ok (ts, bodies', state_of script next dollars z s, due_behind z s)) (sym r)
 
-pub bodies_pushed : (script : List ℕ) (old new : List Span) (t : Span) → new ≡ old ++ t ∷ [] → map (slice_at script) new ≡ map (slice_at script) old ++ slice_at script t ∷ []
+pub bodies_pushed : (script : List ℕ) (old new : List Span) (t : Span) → new ≡ old ++ t ∷ [] →
+    map (slice_at script) new ≡ map (slice_at script) old ++ slice_at script t ∷ []
 bodies_pushed script old new t e = ap (map (slice_at script)) e ∙ map-append (slice_at script) old (t ∷ [])
 
 pub is_mark : (v : Bool) (line mark text : List ℕ) → text ≡ mark → v ≡ not (bytes_eq line text) → v ≡ false → bytes_eq line mark ≡ true

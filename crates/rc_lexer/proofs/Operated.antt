@@ -20,40 +20,51 @@ use Rattle.rc_lexer.specs.Views.{token_of, tokens_of, lexeme_of}
 use Rattle.rc_lexer.specs.Machine.{lexeme_tokens, place_of, before_of, due_of, due_in, tokens_in, dollars_in, bodies_in, Does, Keeps, Resolved}
 use Rattle.std.specs.Char.{encode_utf8}
 
-operated_along : (script : List ℕ) (end : ℕ) (prev : model.Before) (dollars : List model.Token) (q : model.Place) (o o' : Option model.Lexeme) (due : List model.Due) (p : model.Place) (c : ℕ) (k : model.Class) (old new : Lexer) (r : Result State LexError) →
+operated_along : (script : List ℕ) (end : ℕ) (prev : model.Before) (dollars : List model.Token) (q : model.Place) (o o' : Option model.Lexeme)
+    (due : List model.Due) (p : model.Place) (c : ℕ) (k : model.Class) (old new : Lexer) (r : Result State LexError) →
     o ≡ o' → Does script end old new r (reading.operated prev dollars q o' due p c k) → Does script end old new r (reading.operated prev dollars q o due p c k)
-operated_along script end prev dollars q o o' due p c k old new r e d = along script end old new r _ _ (sym (ap (λ z. reading.operated prev dollars q z due p c k) e)) d
+operated_along script end prev dollars q o o' due p c k old new r e d =
+    along script end old new r _ _ (sym (ap (λ z. reading.operated prev dollars q z due p c k) e)) d
 
 -- a `<<`
-pub here_does : (script : List ℕ) (end : ℕ) (prev : model.Before) (dollars : List model.Token) (q : model.Place) (kind : TokenKind) (o : Option model.Lexeme) (due : List model.Due) (p : model.Place) (c : ℕ) (k : model.Class) (old new : Lexer) (r : Result State LexError) →
+pub here_does : (script : List ℕ) (end : ℕ) (prev : model.Before) (dollars : List model.Token) (q : model.Place) (kind : TokenKind)
+    (o : Option model.Lexeme) (due : List model.Due) (p : model.Place) (c : ℕ) (k : model.Class) (old new : Lexer) (r : Result State LexError) →
     ((s slice : List ℕ) → o ≡ Some (lexeme_of s kind slice)) → kind ≡ tk.BareHere → Does script end old new r (reading.begin (model.HereBefore q p) due p c k) →
     Does script end old new r (reading.operated prev dollars q o due p c k)
 here_does script end prev dollars q kind o due p c k old new r e h d =
     operated_along script end prev dollars q o (Some model.BareHere) due p c k old new r (e [] [] ∙ ap (λ z. Some (lexeme_of [] z [])) h) d
 
 -- a `$`
-pub dollar_does : (script : List ℕ) (end : ℕ) (prev : model.Before) (q place : Place) (kind : TokenKind) (o : Option model.Lexeme) (c : ℕ) (k : model.Class) (t : Token) (old mid mid' new : Lexer) (r : Result State LexError) →
+pub dollar_does : (script : List ℕ) (end : ℕ) (prev : model.Before) (q place : Place) (kind : TokenKind) (o : Option model.Lexeme) (c : ℕ)
+    (k : model.Class) (t : Token) (old mid mid' new : Lexer) (r : Result State LexError) →
     ((s slice : List ℕ) → o ≡ Some (lexeme_of s kind slice)) → kind ≡ tk.Dollar →
     ((s : List ℕ) → tokens_in s mid ≡ tokens_in s old ++ model.caret prev model.Dollar (place_of q)) → Keeps old mid →
-    mid'.tokens.items ≡ mid.tokens.items → mid'.dollars.items ≡ mid.dollars.items ++ t ∷ [] → mid'.bodies.items ≡ mid.bodies.items → mid'.due.items ≡ mid.due.items →
+    mid'.tokens.items ≡ mid.tokens.items → mid'.dollars.items ≡ mid.dollars.items ++ t ∷ [] → mid'.bodies.items ≡ mid.bodies.items →
+    mid'.due.items ≡ mid.due.items →
     token_of script t ≡ model.token model.Dollar (place_of q) (place_of place) →
     Does script end mid' new r (reading.behind_dollars (dollars_in script mid') (due_in mid') (place_of place) c k) →
     Does script end old new r (reading.operated prev (dollars_in script old) (place_of q) o (due_in old) (place_of place) c k)
 dollar_does script end prev q place kind o c k t old mid mid' new r e h ts kept mt md mb mq is d =
     let tok = model.token model.Dollar (place_of q) (place_of place) in
     let ds : dollars_in script mid' ≡ dollars_in script old ++ tok ∷ [] =
-    ap (tokens_of script) (md ∙ ap (λ z. z ++ t ∷ []) kept.dollars) ∙ map-append (token_of script) old.dollars.items (t ∷ []) ∙ ap (λ z. dollars_in script old ++ z ∷ []) is in
-    operated_along script end prev (dollars_in script old) (place_of q) o (Some model.Dollar) (due_in old) (place_of place) c k old new r (e [] [] ∙ ap (λ z. Some (lexeme_of [] z [])) h)
-    (emits script end (model.caret prev model.Dollar (place_of q)) (reading.behind_dollars (dollars_in script old ++ tok ∷ []) (due_in old) (place_of place) c k) old mid' new r
+    ap (tokens_of script) (md ∙ ap (λ z. z ++ t ∷ []) kept.dollars) ∙ map-append (token_of script) old.dollars.items (t ∷ [])
+    ∙ ap (λ z. dollars_in script old ++ z ∷ []) is in
+    operated_along script end prev (dollars_in script old) (place_of q) o (Some model.Dollar) (due_in old) (place_of place) c k old new r
+    (e [] [] ∙ ap (λ z. Some (lexeme_of [] z [])) h)
+    (emits script end (model.caret prev model.Dollar (place_of q))
+    (reading.behind_dollars (dollars_in script old ++ tok ∷ []) (due_in old) (place_of place) c k) old mid' new r
     (ap (tokens_of script) mt ∙ ts script) (mb ∙ kept.bodies)
     (along script end mid' new r _ _
-    (ap (λ z. reading.behind_dollars z (due_in mid') (place_of place) c k) ds ∙ ap (λ z. reading.behind_dollars (dollars_in script old ++ tok ∷ []) (map due_of z) (place_of place) c k) (mq ∙ kept.due)) d))
+    (ap (λ z. reading.behind_dollars z (due_in mid') (place_of place) c k) ds
+    ∙ ap (λ z. reading.behind_dollars (dollars_in script old ++ tok ∷ []) (map due_of z) (place_of place) c k) (mq ∙ kept.due)) d))
 
 -- a `$#` or a `$"`
-pub sigil_does : (script : List ℕ) (end : ℕ) (prev : model.Before) (q place : Place) (kind : TokenKind) (o : Option model.Lexeme) (c : ℕ) (k : model.Class) (t : Token) (slice : List ℕ) (old mid bared mid' new : Lexer) (r : Result State LexError) →
+pub sigil_does : (script : List ℕ) (end : ℕ) (prev : model.Before) (q place : Place) (kind : TokenKind) (o : Option model.Lexeme) (c : ℕ)
+    (k : model.Class) (t : Token) (slice : List ℕ) (old mid bared mid' new : Lexer) (r : Result State LexError) →
     ((s slice : List ℕ) → o ≡ Some (lexeme_of s kind slice)) → (kind ≡ tk.DollarCount) ⊎ (kind ≡ tk.DollarFlat) →
     ((s : List ℕ) → tokens_in s mid ≡ tokens_in s old ++ model.caret prev model.Dollar (place_of q)) → Keeps old mid → Resolved reading.bare mid bared →
-    mid'.tokens.items ≡ bared.tokens.items → mid'.dollars.items ≡ bared.dollars.items ++ t ∷ [] → mid'.bodies.items ≡ bared.bodies.items → mid'.due.items ≡ bared.due.items →
+    mid'.tokens.items ≡ bared.tokens.items → mid'.dollars.items ≡ bared.dollars.items ++ t ∷ [] → mid'.bodies.items ≡ bared.bodies.items →
+    mid'.due.items ≡ bared.due.items →
     token_of script t ≡ model.token (lexeme_of script kind (slice)) (place_of q) (place_of place) →
     Does script end mid' new r (reading.behind_dollars (dollars_in script mid') (due_in mid') (place_of place) c k) →
     Does script end old new r (reading.operated prev (dollars_in script old) (place_of q) o (due_in old) (place_of place) c k)
@@ -69,33 +80,42 @@ sigil_does script end prev q place kind o c k t slice old mid bared mid' new r e
     dollars = ap (tokens_of script) (md ∙ ap (λ z. z ++ t ∷ []) b.dollars)
 
     at : (l : model.Lexeme) → lexeme_of script kind (slice) ≡ l →
-        Does script end old new r (reading.emit (model.caret prev model.Dollar (place_of q) ++ reading.bare (dollars_in script old)) (reading.behind_dollars (model.token l (place_of q) (place_of place) ∷ []) (due_in old) (place_of place) c k))
+        Does script end old new r (reading.emit (model.caret prev model.Dollar (place_of q) ++ reading.bare (dollars_in script old))
+        (reading.behind_dollars (model.token l (place_of q) (place_of place) ∷ []) (due_in old) (place_of place) c k))
     at l f =
-        emits script end (model.caret prev model.Dollar (place_of q) ++ reading.bare (dollars_in script old)) (reading.behind_dollars (model.token l (place_of q) (place_of place) ∷ []) (due_in old) (place_of place) c k) old mid' new r
+        emits script end (model.caret prev model.Dollar (place_of q) ++ reading.bare (dollars_in script old))
+        (reading.behind_dollars (model.token l (place_of q) (place_of place) ∷ []) (due_in old) (place_of place) c k) old mid' new r
         tokens (mb ∙ b.bodies ∙ kept.bodies)
         (along script end mid' new r _ _
-        (ap (λ z. reading.behind_dollars z (due_in mid') (place_of place) c k) (dollars ∙ ap (λ z. z ∷ []) (is ∙ ap (λ z. model.token z (place_of q) (place_of place)) f))
+        (ap (λ z. reading.behind_dollars z (due_in mid') (place_of place) c k)
+        (dollars ∙ ap (λ z. z ∷ []) (is ∙ ap (λ z. model.token z (place_of q) (place_of place)) f))
         ∙ ap (λ z. reading.behind_dollars (model.token l (place_of q) (place_of place) ∷ []) (map due_of z) (place_of place) c k) (mq ∙ b.due ∙ kept.due)) d)
 
-    by : (kind ≡ tk.DollarCount) ⊎ (kind ≡ tk.DollarFlat) → Does script end old new r (reading.operated prev (dollars_in script old) (place_of q) o (due_in old) (place_of place) c k)
+    by : (kind ≡ tk.DollarCount) ⊎ (kind ≡ tk.DollarFlat) → Does script end old new r
+        (reading.operated prev (dollars_in script old) (place_of q) o (due_in old) (place_of place) c k)
     by (inl f) =
-        operated_along script end prev (dollars_in script old) (place_of q) o (Some model.DollarCount) (due_in old) (place_of place) c k old new r (e [] [] ∙ ap (λ z. Some (lexeme_of [] z [])) f)
+        operated_along script end prev (dollars_in script old) (place_of q) o (Some model.DollarCount) (due_in old) (place_of place) c k old new r
+        (e [] [] ∙ ap (λ z. Some (lexeme_of [] z [])) f)
         (at model.DollarCount (ap (λ z. lexeme_of script z (slice)) f))
     by (inr f) =
-        operated_along script end prev (dollars_in script old) (place_of q) o (Some model.DollarFlat) (due_in old) (place_of place) c k old new r (e [] [] ∙ ap (λ z. Some (lexeme_of [] z [])) f)
+        operated_along script end prev (dollars_in script old) (place_of q) o (Some model.DollarFlat) (due_in old) (place_of place) c k old new r
+        (e [] [] ∙ ap (λ z. Some (lexeme_of [] z [])) f)
         (at model.DollarFlat (ap (λ z. lexeme_of script z (slice)) f))
 
 -- any other operator
-plain : (kind : TokenKind) → kind ≢ tk.BareHere → kind ≢ tk.Dollar → kind ≢ tk.DollarCount → kind ≢ tk.DollarFlat → (script slice : List ℕ) (prev : model.Before) (dollars : List model.Token) (q : model.Place)
+plain : (kind : TokenKind) → kind ≢ tk.BareHere → kind ≢ tk.Dollar → kind ≢ tk.DollarCount → kind ≢ tk.DollarFlat →
+    (script slice : List ℕ) (prev : model.Before) (dollars : List model.Token) (q : model.Place)
     (due : List model.Due) (p : model.Place) (c : ℕ) (k : model.Class) →
-    reading.operated prev dollars q (Some (lexeme_of script kind slice)) due p c k ≡ reading.ends prev (model.meant prev [] (lexeme_of script kind slice)) q due p c k
+    reading.operated prev dollars q (Some (lexeme_of script kind slice)) due p c k
+    ≡ reading.ends prev (model.meant prev [] (lexeme_of script kind slice)) q due p c k
 plain tk.BareHere a b d e script slice prev dollars q due p c k = absurd (a refl)
 plain tk.Dollar a b d e script slice prev dollars q due p c k = absurd (b refl)
 plain tk.DollarCount a b d e script slice prev dollars q due p c k = absurd (d refl)
 plain tk.DollarFlat a b d e script slice prev dollars q due p c k = absurd (e refl)
 plain kind a b d e script slice prev dollars q due p c k = refl
 
-tokens_apart : (prev : model.Before) (l : model.Lexeme) (p q : model.Place) → model.awaits_mark prev ≡ false → model.tokens_of prev l p q ≡ model.caret prev l p ++ model.token l p q ∷ []
+tokens_apart : (prev : model.Before) (l : model.Lexeme) (p q : model.Place) → model.awaits_mark prev ≡ false →
+    model.tokens_of prev l p q ≡ model.caret prev l p ++ model.token l p q ∷ []
 tokens_apart (model.HereBefore b e) l p q h = absurd cc
 tokens_apart prev l p q h = refl
 
@@ -103,8 +123,10 @@ due_apart : (prev : model.Before) (l : model.Lexeme) (due : List model.Due) → 
 due_apart (model.HereBefore b e) l due h = absurd cc
 due_apart prev l due h = refl
 
-pub plain_does : (script : List ℕ) (end : ℕ) (before after : Before) (q place : Place) (kind meant : TokenKind) (o : Option model.Lexeme) (c : ℕ) (k : model.Class) (old mid new : Lexer) (r : Result State LexError) →
-    ((s slice : List ℕ) → o ≡ Some (lexeme_of s kind slice)) → kind ≢ tk.BareHere → kind ≢ tk.Dollar → kind ≢ tk.DollarCount → kind ≢ tk.DollarFlat → model.awaits_mark (before_of before) ≡ false →
+pub plain_does : (script : List ℕ) (end : ℕ) (before after : Before) (q place : Place) (kind meant : TokenKind) (o : Option model.Lexeme) (c : ℕ)
+    (k : model.Class) (old mid new : Lexer) (r : Result State LexError) →
+    ((s slice : List ℕ) → o ≡ Some (lexeme_of s kind slice)) → kind ≢ tk.BareHere → kind ≢ tk.Dollar → kind ≢ tk.DollarCount → kind ≢ tk.DollarFlat →
+    model.awaits_mark (before_of before) ≡ false →
     ((s slice : List ℕ) → lexeme_of s meant slice ≡ model.meant (before_of before) [] (lexeme_of s kind slice)) →
     ((s slice : List ℕ) → before_of after ≡ model.as_before (before_of before) (lexeme_of s meant slice)) →
     ((s : List ℕ) → tokens_in s mid ≡ tokens_in s old ++ lexeme_tokens s (before_of before) meant q place) → Keeps old mid →
@@ -113,7 +135,8 @@ pub plain_does : (script : List ℕ) (end : ℕ) (before after : Before) (q plac
 plain_does script end before after q place kind meant o c k old mid new r e a b f g h m n ts kept d =
     let slice = slice_range script q.byte place.byte in
     let l = lexeme_of script meant slice in
-    operated_along script end (before_of before) (dollars_in script old) (place_of q) o (Some (lexeme_of script kind slice)) (due_in old) (place_of place) c k old new r (e script slice)
+    operated_along script end (before_of before) (dollars_in script old) (place_of q) o (Some (lexeme_of script kind slice)) (due_in old)
+    (place_of place) c k old new r (e script slice)
     (along script end old new r _ _
     (ap (λ z. reading.ends (before_of before) z (place_of q) (due_in old) (place_of place) c k) (m script slice)
     ∙ sym (plain kind a b f g script slice (before_of before) (dollars_in script old) (place_of q) (due_in old) (place_of place) c k))
@@ -128,24 +151,33 @@ plain_does script end before after q place kind meant o c k old mid new r e a b 
 
 -- an operator goes on, or ends
 abbrev stepped : Bool → model.Before → List model.Token → model.Place → List ℕ → List model.Due → model.Place → ℕ → model.Class → Step
-stepped b prev dollars q cs due p c k = cond b (reading.goes [] (reading.Operator prev dollars q (cs ++ c ∷ [])) due) (reading.operated prev dollars q (model.operator cs) due p c k)
+stepped b prev dollars q cs due p c k = cond b (reading.goes [] (reading.Operator prev dollars q (cs ++ c ∷ [])) due)
+    (reading.operated prev dollars q (model.operator cs) due p c k)
 
-pub operator_goes : (script : List ℕ) (end : ℕ) (before : Before) (q : Place) (cs : List ℕ) (p : model.Place) (c : ℕ) (k : model.Class) (old : Lexer) (b : Bool) →
+pub operator_goes : (script : List ℕ) (end : ℕ) (before : Before) (q : Place) (cs : List ℕ) (p : model.Place) (c : ℕ) (k : model.Class) (old : Lexer)
+    (b : Bool) →
     slice_range script q.byte end ≡ cs ++ encode_utf8 c → b ≡ model.begins_operator (slice_range script q.byte end) → b ≡ true →
-    Does script end old old (Ok (state.Operator before q)) (reading.step (reading.Operator (before_of before) (dollars_in script old) (place_of q) cs) (due_in old) p c k)
+    Does script end old old (Ok (state.Operator (record { before = before; start = q })))
+    (reading.step (reading.Operator (before_of before) (dollars_in script old) (place_of q) cs)
+    (due_in old) p c k)
 operator_goes script end before q cs p c k old b e f h =
     let begins : model.begins_operator (cs ++ encode_utf8 c) ≡ true = ap model.begins_operator (sym e) ∙ sym f ∙ h in
     let g = goes_on cs c in
     let text : cs ++ c ∷ [] ≡ slice_range script q.byte end = sym (e ∙ ap (λ z. cs ++ z) (g.byte begins)) in
-    along script end old old (Ok (state.Operator before q)) _ _ (sym (ap (λ v. stepped v (before_of before) (dollars_in script old) (place_of q) cs (due_in old) p c k) (sym g.same ∙ begins)))
-    (ap (λ z. Ok (z, bodies_in script old ++ [], reading.Operator (before_of before) (dollars_in script old) (place_of q) (cs ++ c ∷ []), due_in old)) (append-nil (tokens_in script old))
-    ∙ ap (λ z. Ok (tokens_in script old, z, reading.Operator (before_of before) (dollars_in script old) (place_of q) (cs ++ c ∷ []), due_in old)) (append-nil (bodies_in script old))
+    along script end old old (Ok (state.Operator (record { before = before; start = q }))) _ _
+    (sym (ap (λ v. stepped v (before_of before) (dollars_in script old) (place_of q) cs (due_in old) p c k) (sym g.same ∙ begins)))
+    (ap (λ z. Ok (z, bodies_in script old ++ [], reading.Operator (before_of before) (dollars_in script old) (place_of q) (cs ++ c ∷ []), due_in old))
+    (append-nil (tokens_in script old))
+    ∙ ap (λ z. Ok (tokens_in script old, z, reading.Operator (before_of before) (dollars_in script old) (place_of q) (cs ++ c ∷ []), due_in old))
+    (append-nil (bodies_in script old))
     ∙ ap (λ z. Ok (tokens_in script old, bodies_in script old, reading.Operator (before_of before) (dollars_in script old) (place_of q) z, due_in old)) text)
 
-pub operator_ends : (script : List ℕ) (end : ℕ) (before : Before) (q : Place) (cs : List ℕ) (p : model.Place) (c : ℕ) (k : model.Class) (old new : Lexer) (r : Result State LexError) (b : Bool) →
+pub operator_ends : (script : List ℕ) (end : ℕ) (before : Before) (q : Place) (cs : List ℕ) (p : model.Place) (c : ℕ) (k : model.Class)
+    (old new : Lexer) (r : Result State LexError) (b : Bool) →
     slice_range script q.byte end ≡ cs ++ encode_utf8 c → b ≡ model.begins_operator (slice_range script q.byte end) → b ≡ false →
     Does script end old new r (reading.operated (before_of before) (dollars_in script old) (place_of q) (model.operator cs) (due_in old) p c k) →
     Does script end old new r (reading.step (reading.Operator (before_of before) (dollars_in script old) (place_of q) cs) (due_in old) p c k)
 operator_ends script end before q cs p c k old new r b e f h d =
     along script end old new r _ _
-    (sym (ap (λ v. stepped v (before_of before) (dollars_in script old) (place_of q) cs (due_in old) p c k) (sym (goes_on cs c).same ∙ ap model.begins_operator (sym e) ∙ sym f ∙ h))) d
+    (sym (ap (λ v. stepped v (before_of before) (dollars_in script old) (place_of q) cs (due_in old) p c k)
+    (sym (goes_on cs c).same ∙ ap model.begins_operator (sym e) ∙ sym f ∙ h))) d

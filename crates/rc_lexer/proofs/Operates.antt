@@ -33,11 +33,13 @@ begins_high (x ∷ xs) b bs (c ∷ cs) h a = by (x == c) (ltb c 128) a (begins_h
     by true true g f = f g
     by true false g f = absurd cc
 
-none_begins_high : (xs : List ℕ) (b : ℕ) (bs : List ℕ) → 128 ≤ b → (os : List (List ℕ × Lexeme)) → list_all (λ o. ascii o.0) os ≡ true → list_any (λ o. begins_with (xs ++ b ∷ bs) o.0) os ≡ false
+none_begins_high : (xs : List ℕ) (b : ℕ) (bs : List ℕ) → 128 ≤ b → (os : List (List ℕ × Lexeme)) → list_all (λ o. ascii o.0) os ≡ true →
+    list_any (λ o. begins_with (xs ++ b ∷ bs) o.0) os ≡ false
 none_begins_high xs b bs h [] a = refl
 none_begins_high xs b bs h (o ∷ os) a = by (ascii o.0) refl a (none_begins_high xs b bs h os)
   where
-    by : (v : Bool) → ascii o.0 ≡ v → (v && list_all (λ p. ascii p.0) os) ≡ true → (list_all (λ p. ascii p.0) os ≡ true → list_any (λ p. begins_with (xs ++ b ∷ bs) p.0) os ≡ false) →
+    by : (v : Bool) → ascii o.0 ≡ v → (v && list_all (λ p. ascii p.0) os) ≡ true →
+        (list_all (λ p. ascii p.0) os ≡ true → list_any (λ p. begins_with (xs ++ b ∷ bs) p.0) os ≡ false) →
         (begins_with (xs ++ b ∷ bs) o.0 || list_any (λ p. begins_with (xs ++ b ∷ bs) p.0) os) ≡ false
     by true e g f = ap (λ v. v || list_any (λ p. begins_with (xs ++ b ∷ bs) p.0) os) (begins_high xs b bs o.0 h e) ∙ f g
     by false e g f = absurd cc
@@ -57,11 +59,19 @@ unfolding encode
 encode_high c h = by (ltb c 128) refl (ltb c 2048) (ltb c 65536)
   where
     by : (x : Bool) → ltb c 128 ≡ x → (y z : Bool) →
-        High (cond x (c ∷ []) (cond y ((192 + c / 64) ∷ (128 + c % 64) ∷ []) (cond z ((224 + c / 4096) ∷ (128 + c / 64 % 64) ∷ (128 + c % 64) ∷ []) ((240 + c / 262144) ∷ (128 + c / 4096 % 64) ∷ (128 + c / 64 % 64) ∷ (128 + c % 64) ∷ []))))
+        High (cond x (c ∷ []) (cond y ((192 + c / 64) ∷ (128 + c % 64) ∷ [])
+        (cond z ((224 + c / 4096) ∷ (128 + c / 64 % 64) ∷ (128 + c % 64) ∷ [])
+        ((240 + c / 262144) ∷ (128 + c / 4096 % 64) ∷ (128 + c / 64 % 64) ∷ (128 + c % 64) ∷ []))))
     by true e y z = absurd (omega (arith, ltb-true c 128 e))
     by false e true z = record { first = 192 + c / 64; more = (128 + c % 64) ∷ []; are = refl; high = omega arith }
     by false e false true = record { first = 224 + c / 4096; more = (128 + c / 64 % 64) ∷ (128 + c % 64) ∷ []; are = refl; high = omega arith }
-    by false e false false = record { first = 240 + c / 262144; more = (128 + c / 4096 % 64) ∷ (128 + c / 64 % 64) ∷ (128 + c % 64) ∷ []; are = refl; high = omega arith }
+    by false e false false = record {
+      first = 240 + c / 262144;
+      more = (128 + c / 4096 % 64) ∷ (128 + c / 64 % 64) ∷ (128 + c % 64) ∷ [];
+      are =
+          refl;
+      high = omega arith;
+    }
 
 -- an operator goes on with a character as it does with its bytes, and then those are the character
 pub record GoesOn (xs : List ℕ) (c : ℕ) : Type 0 where

@@ -1,9 +1,9 @@
 -- Steps of the lexer, in words of the machine.
-use Rattle.std.proofs.Common.{◌≡◌, ℕ, suc, ◌+◌, ◌-◌, ◌<◌, Bool, List, [], ◌∷◌, ◌++◌, length, map, take, drop, get_or, drop-cons, add-one, refl, sym, ap, ◌∙◌, append_assoc, arith}
+use Rattle.std.proofs.Common.{◌≡◌, ℕ, ◌-◌, List, [], ◌∷◌, ◌++◌, map, take, drop, refl, sym}
+use Rattle.std.proofs.Common.{ap, ◌∙◌, append_assoc, arith}
 use Rattle.std.specs.Prelude.{Ok, slice_range}
 use Rattle.std.proofs.lemmas.List.{append-nil, map-append}
 use Rattle.rc_model.specs.Tokens as model
-use Rattle.rc_model.specs.Tokens.{without_quotes}
 use Rattle.rc_model.specs.Reading as reading
 use Rattle.rc_model.specs.Reading.{Step}
 use Rattle.rc_lexer.specs.declared.Token.{Token}
@@ -12,30 +12,27 @@ use Rattle.rc_lexer.specs.declared.machine.Due.{Due}
 use Rattle.rc_lexer.specs.Views.{token_of, tokens_of}
 use Rattle.rc_lexer.specs.Machine.{due_of, state_of, due_behind, behind_step, line_of}
 
--- one more byte of a quoted word
-pub unquoted_step : (out out' rest : List ℕ) (i d : ℕ) (aq aq' : Bool) (whole : List ℕ) → i < length rest → out ++ without_quotes aq (drop i rest) ≡ whole →
-    out' ++ without_quotes aq' (drop (suc i) rest) ≡ out ++ without_quotes aq (get_or rest i d ∷ drop (suc i) rest) → out' ++ without_quotes aq' (drop (i + 1) rest) ≡ whole
-unquoted_step out out' rest i d aq aq' whole h e f =
-    ap (λ n. out' ++ without_quotes aq' (drop n rest)) (add-one i) ∙ f ∙ ap (λ z. out ++ without_quotes aq z) (sym (drop-cons rest i d h)) ∙ e
-
 pub slice_empty : (xs : List ℕ) (a : ℕ) → slice_range xs a a ≡ []
 slice_empty xs a = ap (λ n. take n (drop a xs)) (none a)
   where
     none : (n : ℕ) → n - n ≡ 0
     none n = omega arith
 
-pub tokens_pushed : (script : List ℕ) (old new : List Token) (t : Token) → new ≡ old ++ t ∷ [] → tokens_of script new ≡ tokens_of script old ++ token_of script t ∷ []
+pub tokens_pushed : (script : List ℕ) (old new : List Token) (t : Token) → new ≡ old ++ t ∷ [] →
+    tokens_of script new ≡ tokens_of script old ++ token_of script t ∷ []
 tokens_pushed script old new t e = ap (tokens_of script) e ∙ map-append (token_of script) old (t ∷ [])
 
 -- the beginning of a line
 pub line_step : (script : List ℕ) (at : ℕ) (dollars : List model.Token) (due : List Due) (ts us : List model.Token) (bodies more : List (List ℕ)) →
-    behind_step ts bodies (reading.begin_line us more (map due_of due)) ≡ Ok (ts ++ us, bodies ++ more, state_of script at dollars due (line_of due at), due_behind due (line_of due at))
+    behind_step ts bodies (reading.begin_line us more (map due_of due))
+    ≡ Ok (ts ++ us, bodies ++ more, state_of script at dollars due (line_of due at), due_behind due (line_of due at))
 line_step script at dollars [] ts us bodies more = refl
 line_step script at dollars (d ∷ due) ts us bodies more =
     ap (λ z. Ok (ts ++ us, bodies ++ more, reading.Body (due_of d) z z, map due_of due)) (sym (slice_empty script at))
 
 -- a newline token
-pub newline_step : (script : List ℕ) (at end : ℕ) (dollars : List model.Token) (due due' : List Due) (s : State) (ts bare ts' ts'' : List model.Token) (nl : model.Token) (bodies bodies' : List (List ℕ)) →
+pub newline_step : (script : List ℕ) (at end : ℕ) (dollars : List model.Token) (due due' : List Due) (s : State) (ts bare ts' ts'' : List model.Token)
+    (nl : model.Token) (bodies bodies' : List (List ℕ)) →
     at ≡ end → due' ≡ due → s ≡ line_of due' at → ts' ≡ ts ++ bare → ts'' ≡ ts' ++ nl ∷ [] → bodies' ≡ bodies →
     behind_step ts bodies (reading.begin_line (bare ++ nl ∷ []) [] (map due_of due)) ≡ Ok (ts'', bodies', state_of script end dollars due' s, due_behind due' s)
 newline_step script at end dollars due due' s ts bare ts' ts'' nl bodies bodies' a d e f g h =

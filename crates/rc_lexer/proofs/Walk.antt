@@ -1,5 +1,6 @@
 -- The walk along a script.
-use Rattle.std.proofs.Common.{◌≡◌, ◌≢◌, ℕ, suc, ◌+◌, ◌-◌, ◌≤◌, Bool, true, false, cond, ◌==◌, List, [], ◌∷◌, ◌++◌, length, take, drop, refl, sym, ap, subst, ◌∙◌, arith, length-append}
+use Rattle.std.proofs.Common.{◌≡◌, ◌≢◌, ℕ, suc, ◌+◌, ◌-◌, ◌≤◌, Bool, true, false, cond, ◌==◌, List, [], ◌∷◌, ◌++◌, length, take, drop, refl, sym, ap}
+use Rattle.std.proofs.Common.{subst, ◌∙◌, arith, length-append}
 use Rattle.std.specs.Prelude.{Option, Some, None, Result, Ok, Err, slice_range}
 use Rattle.std.proofs.lemmas.List.{drop-drop, length-drop}
 use Rattle.std.proofs.lemmas.Bool.{eqb-true}
@@ -14,7 +15,7 @@ use Rattle.rc_model.specs.Reading.{Step}
 use Rattle.rc_syntax_laws.proofs.Steps.{join_join}
 use Rattle.rc_syntax_laws.proofs.Lexing.{law}
 use Rattle.rc_lexer.specs.declared.LexError.{LexError}
-use Rattle.rc_lexer.specs.declared.LexError.TheVariants.{Fault, Memory}
+use Rattle.rc_lexer.specs.declared.LexError.TheVariants.{Fault, NoMemory}
 use Rattle.rc_lexer.specs.declared.operators.Class.{Class}
 use Rattle.rc_lexer.specs.declared.machine.Place.{Place}
 use Rattle.rc_lexer.specs.declared.machine.State.{State}
@@ -32,7 +33,8 @@ use Rattle.rc_lexer.specs.Machine.{place_of, tokens_in, bodies_in, state_in, due
 pub zero_past : (line c : ℕ) (cs : List ℕ) → c ≢ 0 → reading.zero_line line (c ∷ cs) ≡ reading.zero_line (cond (c == 10) (suc line) line) cs
 zero_past line c cs h = by (c == 0) refl
   where
-    by : (b : Bool) → (c == 0) ≡ b → cond b (Some line) (reading.zero_line (cond (c == 10) (suc line) line) cs) ≡ reading.zero_line (cond (c == 10) (suc line) line) cs
+    by : (b : Bool) → (c == 0) ≡ b → cond b (Some line) (reading.zero_line (cond (c == 10) (suc line) line) cs)
+        ≡ reading.zero_line (cond (c == 10) (suc line) line) cs
     by true e = absurd (h (eqb-true c 0 e))
     by false e = refl
 
@@ -53,8 +55,10 @@ slice_grows script more a at c next h k e n =
     ∙ ap (λ z. slice_range script a at ++ z) (ap (λ m. take m (encode_utf8 c ++ more)) (sym (length-encode c)) ∙ take-append_seam (encode_utf8 c) more)
 
 -- the character at hand stands in the script
-pub head_is : (script bs rest more : List ℕ) (c : ℕ) (class : Class) (place next : Place) → bs ≡ script → place.byte ≤ length script → drop place.byte script ≡ rest → rest ≡ encode_utf8 c ++ more →
-    place_of next ≡ model.behind_char (place_of place) c → class_is class ≡ model.class_of c → IsHead bs (record { c = c; class = class; place = place; next = next })
+pub head_is : (script bs rest more : List ℕ) (c : ℕ) (class : Class) (place next : Place) → bs ≡ script → place.byte ≤ length script →
+    drop place.byte script ≡ rest → rest ≡ encode_utf8 c ++ more →
+    place_of next ≡ model.behind_char (place_of place) c → class_is class ≡ model.class_of c →
+    IsHead bs (record { c = c; class = class; place = place; next = next })
 head_is script bs rest more c class place next b h e f n k =
     let byte : next.byte ≡ place.byte + len_utf8 c = ap (λ z. z.byte) n in
     let d : drop place.byte script ≡ encode_utf8 c ++ more = e ∙ f in
@@ -72,11 +76,14 @@ join_follow ts bodies (Ok x) f = sym (join_join ts x.0 bodies x.1 (f x.2 x.3))
 join_follow ts bodies (Err e) f = refl
 
 -- one more character is read
-pub step_reads : (script bs : List ℕ) (rest more : List ℕ) (c : ℕ) (class : Class) (place next : Place) (old new : Lexer) (s s' : State) (whole : model.Outcome) → bs ≡ script →
+pub step_reads : (script bs : List ℕ) (rest more : List ℕ) (c : ℕ) (class : Class) (place next : Place) (old new : Lexer) (s s' : State)
+    (whole : model.Outcome) → bs ≡ script →
     chars rest ≡ c ∷ chars more → place_of next ≡ model.behind_char (place_of place) c → class_is class ≡ model.class_of c →
     Does bs next.byte old new (Ok s') (reading.step (state_in bs place.byte old s) (due_left old s) (place_of place) c (class_is class)) →
-    model.join (tokens_in script old) (bodies_in script old) (reading.run (state_in script place.byte old s) (due_left old s) (place_of place) (chars rest)) ≡ whole →
-    model.join (tokens_in script new) (bodies_in script new) (reading.run (state_in script next.byte new s') (due_left new s') (place_of next) (chars more)) ≡ whole
+    model.join (tokens_in script old) (bodies_in script old)
+    (reading.run (state_in script place.byte old s) (due_left old s) (place_of place) (chars rest)) ≡ whole →
+    model.join (tokens_in script new) (bodies_in script new)
+    (reading.run (state_in script next.byte new s') (due_left new s') (place_of next) (chars more)) ≡ whole
 step_reads script bs rest more c class place next old new s s' whole b e n k d w =
     let d' : Does script next.byte old new (Ok s') (reading.step (state_in script place.byte old s) (due_left old s) (place_of place) c (class_is class)) =
     subst (λ z. Does z next.byte old new (Ok s') (reading.step (state_in z place.byte old s) (due_left old s) (place_of place) c (class_is class))) b d in
@@ -90,18 +97,23 @@ step_reads script bs rest more c class place next old new s s' whole b e n k d w
     ∙ ap (λ z. model.join (tokens_in script old) (bodies_in script old) (reading.run st (due_left old s) (place_of place) z)) (sym e)
     ∙ w
 
-pub rest_past : (script rest more : List ℕ) (c : ℕ) (place next : Place) → drop place.byte script ≡ rest → rest ≡ encode_utf8 c ++ more → place_of next ≡ model.behind_char (place_of place) c → drop next.byte script ≡ more
+pub rest_past : (script rest more : List ℕ) (c : ℕ) (place next : Place) → drop place.byte script ≡ rest → rest ≡ encode_utf8 c ++ more →
+    place_of next ≡ model.behind_char (place_of place) c → drop next.byte script ≡ more
 rest_past script rest more c place next e f n = ap (λ z. drop z.byte script) n ∙ drop_past_char script more place.byte c (e ∙ f)
 
 -- what comes of a script
-lexed_is : (script : List ℕ) (z : Option ℕ) (o : model.Outcome) → reading.zero_line 1 (chars script) ≡ z → reading.run (reading.Between model.Apart) [] model.first_place (chars script) ≡ o →
+lexed_is : (script : List ℕ) (z : Option ℕ) (o : model.Outcome) → reading.zero_line 1 (chars script) ≡ z →
+    reading.run (reading.Between model.Apart) [] model.first_place (chars script) ≡ o →
     model.IsCut script (reading.unless_zero z o)
-lexed_is script z o e f = subst (λ x. model.IsCut script x) (ap (λ x. reading.unless_zero x (reading.run (reading.Between model.Apart) [] model.first_place (chars script))) e ∙ ap (reading.unless_zero z) f) (law script)
+lexed_is script z o e f =
+    subst (λ x. model.IsCut script x) (ap (λ x. reading.unless_zero x (reading.run (reading.Between model.Apart) [] model.first_place (chars script)))
+    e ∙ ap (reading.unless_zero z) f) (law script)
 
 pub zero_is : (script : List ℕ) (line : ℕ) → reading.zero_line 1 (chars script) ≡ Some line → model.IsCut script (Err (model.fault model.ZeroByte line))
 zero_is script line e = lexed_is script (Some line) _ e refl
 
-pub fault_is : (script : List ℕ) (f : LexFault) → reading.zero_line 1 (chars script) ≡ None → reading.run (reading.Between model.Apart) [] model.first_place (chars script) ≡ Err f → model.IsCut script (Err f)
+pub fault_is : (script : List ℕ) (f : LexFault) → reading.zero_line 1 (chars script) ≡ None →
+    reading.run (reading.Between model.Apart) [] model.first_place (chars script) ≡ Err f → model.IsCut script (Err f)
 fault_is script f z e = lexed_is script None (Err f) z e
 
 pub tokens_are : (script : List ℕ) (ts us : List model.Token) (bodies : List (List ℕ)) → reading.zero_line 1 (chars script) ≡ None →
@@ -120,19 +132,22 @@ pub left_past : (script rest more : List ℕ) (c : ℕ) (place next : Place) →
     place.byte + length rest ≡ length script → next.byte + length more ≡ length script
 left_past script rest more c place next e n h = omega (arith, ap (λ z. z.byte) n, ap length e, length-append (encode_utf8 c) more, length-encode c)
 
-pub char_within : (script rest more : List ℕ) (c : ℕ) (place next : Place) → place.byte ≤ length script → drop place.byte script ≡ rest → rest ≡ encode_utf8 c ++ more → place_of next ≡ model.behind_char (place_of place) c →
+pub char_within : (script rest more : List ℕ) (c : ℕ) (place next : Place) → place.byte ≤ length script → drop place.byte script ≡ rest →
+    rest ≡ encode_utf8 c ++ more → place_of next ≡ model.behind_char (place_of place) c →
     next.byte ≤ length script
 char_within script rest more c place next h e f n = let fits = char_fits script more place.byte c h (e ∙ f) in omega (arith, ap (λ z. z.byte) n)
 
 -- the error of a reading
-pub error_is : {Z : Type 0} (script : List ℕ) (r : Result (Vec Token Z) LexError) (e e' : LexError) → reading.zero_line 1 (chars script) ≡ None → r ≡ Err e' → e' ≡ e →
+pub error_is : {Z : Type 0} (script : List ℕ) (r : Result (Vec Token Z) LexError) (e e' : LexError) → reading.zero_line 1 (chars script) ≡ None →
+    r ≡ Err e' → e' ≡ e →
     ReadTo script (Err e) (reading.run (reading.Between model.Apart) [] model.first_place (chars script)) → Reads script r
 error_is {Z} script r e e' z p q h = subst (λ x. Reads {Z = Z} script x) (sym (p ∙ ap (λ x. Err x) q)) (by e h)
   where
     by : (d : LexError) → ReadTo script (Err d) (reading.run (reading.Between model.Apart) [] model.first_place (chars script)) → Reads {Z = Z} script (Err d)
     by (Fault f) k = fault_is script (fault_of f) z k
-    by Memory k = k
+    by NoMemory k = k
 
-pub zero_error : {Z : Type 0} (script : List ℕ) (r : Result (Vec Token Z) LexError) (e : LexError) (line : ℕ) → r ≡ Err e → e ≡ Fault (record { kind = ZeroByte; line = line }) →
+pub zero_error : {Z : Type 0} (script : List ℕ) (r : Result (Vec Token Z) LexError) (e : LexError) (line : ℕ) → r ≡ Err e →
+    e ≡ Fault (record { kind = ZeroByte; line = line }) →
     reading.zero_line 1 (chars script) ≡ Some line → Reads script r
 zero_error {Z} script r e line p q h = subst (λ x. Reads {Z = Z} script x) (sym (p ∙ ap (λ x. Err x) q)) (zero_is script line h)

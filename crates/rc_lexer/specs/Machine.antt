@@ -7,7 +7,7 @@ use Rattle.rc_model.specs.Reading as reading
 use Rattle.rc_model.specs.Reading.{Step}
 use Rattle.rc_lexer.specs.declared.TokenKind.{TokenKind}
 use Rattle.rc_lexer.specs.declared.LexError.{LexError}
-use Rattle.rc_lexer.specs.declared.LexError.TheVariants.{Fault, Memory}
+use Rattle.rc_lexer.specs.declared.LexError.TheVariants.{Fault, NoMemory}
 use Rattle.rc_lexer.specs.declared.machine.Place.{Place}
 use Rattle.rc_lexer.specs.declared.machine.Before.{Before}
 use Rattle.rc_lexer.specs.declared.machine.Before.TheVariants as before
@@ -54,13 +54,14 @@ body_of (d ∷ due) body line = reading.Body (due_of d) body line
 abbrev pub state_of : List ℕ → ℕ → List model.Token → List Due → State → reading.State
 state_of script end dollars due (Between b) = reading.Between (before_of b)
 state_of script end dollars due Comment = reading.Comment
-state_of script end dollars due (Backslash b p) = reading.Backslash (before_of b) (place_of p)
-state_of script end dollars due (WordBackslash b p q) = reading.WordBackslash (before_of b) (place_of p) (slice_range script p.byte q.byte) (place_of q)
-state_of script end dollars due (Word b p) = reading.Word (before_of b) (place_of p) (slice_range script p.byte end)
+state_of script end dollars due (Backslash b) = reading.Backslash (before_of b.before) (place_of b.start)
+state_of script end dollars due (WordBackslash b q) =
+    reading.WordBackslash (before_of b.before) (place_of b.start) (slice_range script b.start.byte q.byte) (place_of q)
+state_of script end dollars due (Word b) = reading.Word (before_of b.before) (place_of b.start) (slice_range script b.start.byte end)
 state_of script end dollars due (Name p) = reading.Name (place_of p) (slice_range script p.byte end)
-state_of script end dollars due (Quoted b p) = reading.Quoted (before_of b) (place_of p) (slice_range script p.byte end)
-state_of script end dollars due (Closed b p) = reading.Closed (before_of b) (place_of p) (slice_range script p.byte end)
-state_of script end dollars due (Operator b p) = reading.Operator (before_of b) dollars (place_of p) (slice_range script p.byte end)
+state_of script end dollars due (Quoted b) = reading.Quoted (before_of b.before) (place_of b.start) (slice_range script b.start.byte end)
+state_of script end dollars due (Closed b) = reading.Closed (before_of b.before) (place_of b.start) (slice_range script b.start.byte end)
+state_of script end dollars due (Operator b) = reading.Operator (before_of b.before) dollars (place_of b.start) (slice_range script b.start.byte end)
 state_of script end dollars due (Body b l) = body_of due (slice_range script b l) (slice_range script l end)
 
 -- the here documents that are due behind the one whose body is read
@@ -80,13 +81,14 @@ due_left l s = due_behind l.due.items s
 
 -- the state says what stands in the script before this byte
 abbrev pub Stands : List ℕ → ℕ → State → Type 0
-Stands script end (Backslash b p) = (p.byte ≤ end) × (slice_range script p.byte end ≡ 92 ∷ [])
-Stands script end (WordBackslash b p q) = (p.byte ≤ q.byte) × (q.byte ≤ end) × (slice_range script p.byte end ≡ slice_range script p.byte q.byte ++ 92 ∷ [])
-Stands script end (Word b p) = p.byte ≤ end
+Stands script end (Backslash b) = (b.start.byte ≤ end) × (slice_range script b.start.byte end ≡ 92 ∷ [])
+Stands script end (WordBackslash b q) =
+    (b.start.byte ≤ q.byte) × (q.byte ≤ end) × (slice_range script b.start.byte end ≡ slice_range script b.start.byte q.byte ++ 92 ∷ [])
+Stands script end (Word b) = b.start.byte ≤ end
 Stands script end (Name p) = p.byte ≤ end
-Stands script end (Quoted b p) = p.byte ≤ end
-Stands script end (Closed b p) = p.byte ≤ end
-Stands script end (Operator b p) = (p.byte ≤ end) × (model.awaits_mark (before_of b) ≡ false)
+Stands script end (Quoted b) = b.start.byte ≤ end
+Stands script end (Closed b) = b.start.byte ≤ end
+Stands script end (Operator b) = (b.start.byte ≤ end) × (model.awaits_mark (before_of b.before) ≡ false)
 Stands script end (Body b l) = (b ≤ l) × (l ≤ end)
 Stands script end s = Unit {0}
 
@@ -107,7 +109,7 @@ abbrev pub Does : List ℕ → ℕ → Lexer → Lexer → Result State LexError
 Does script end old new (Ok s) x =
     behind_step (tokens_in script old) (bodies_in script old) x ≡ Ok (tokens_in script new, bodies_in script new, state_in script end new s, due_left new s)
 Does script end old new (Err (Fault f)) x = x ≡ Err (fault_of f)
-Does script end old new (Err Memory) x = Unit {0}
+Does script end old new (Err NoMemory) x = Unit {0}
 
 -- the lexer has read a lexeme between two places, and this stands behind it
 pub record Spelled (script : List ℕ) (before after : Before) (l : model.Lexeme) (p q : Place) (old new : Lexer) : Type 0 where
@@ -120,13 +122,13 @@ pub record Spelled (script : List ℕ) (before after : Before) (l : model.Lexeme
 abbrev pub IfSpelled : List ℕ → Before → model.Lexeme → Place → Place → Lexer → Lexer → Result Before LexError → Type 0
 IfSpelled script before l p q old new (Ok after) = Spelled script before after l p q old new
 IfSpelled script before l p q old new (Err (Fault f)) = ⊥
-IfSpelled script before l p q old new (Err Memory) = Unit {0}
+IfSpelled script before l p q old new (Err NoMemory) = Unit {0}
 
 -- the lexer is at the end
 abbrev pub Ends : List ℕ → Lexer → Lexer → Result (Unit {0}) LexError → Outcome → Type 0
 Ends script old new (Ok u) o = model.join (tokens_in script old) (bodies_in script old) o ≡ Ok (tokens_in script new, bodies_in script new)
 Ends script old new (Err (Fault f)) o = o ≡ Err (fault_of f)
-Ends script old new (Err Memory) o = Unit {0}
+Ends script old new (Err NoMemory) o = Unit {0}
 
 -- nothing but the tokens has changed
 pub record Keeps (old new : Lexer) : Type 0 where
@@ -163,4 +165,4 @@ pub record Resolved (seen : List model.Token → List model.Token) (old new : Le
 abbrev pub IsClosed : List model.Due → Result (Unit {0}) LexError → Type 0
 IsClosed due (Ok u) = reading.closed [] [] due ≡ Ok ([], [])
 IsClosed due (Err (Fault f)) = reading.closed [] [] due ≡ Err (fault_of f)
-IsClosed due (Err Memory) = ⊥
+IsClosed due (Err NoMemory) = ⊥

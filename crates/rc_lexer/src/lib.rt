@@ -90,7 +90,7 @@ pub struct LexFault {
 #[derive(Debug, Drop)]
 pub enum LexError {
     Fault(LexFault),
-    Memory,
+    NoMemory,
 }
 
 /// The greatest length of a text.
@@ -102,13 +102,13 @@ pub fn lex(alloc: Global, script: &str) -> Result<Vec<Token>, LexError>
 {
     // No memory holds a longer text. Shorter ones have fewer lines than a `usize` counts.
     if script.len() > LONGEST {
-        return Err(LexError::Memory);
+        return Err(LexError::NoMemory);
     }
     if let Some(line) = zero_line(script) {
         return Err(fault(FaultKind::ZeroByte, line));
     }
     let lexer = read(alloc, script)?;
-    Ok(lexer.tokens()?)
+    Ok(lexer.tokens())
 }
 
 /// The line of the first byte 0.
@@ -169,21 +169,21 @@ fn read(alloc: Global, script: &str) -> Result<Lexer, LexError>
 }
 
 impl From<AllocError> for LexError {
-    ghost use Rattle.rc_lexer.specs.declared.LexError.TheVariants.{Memory};
+    ghost use Rattle.rc_lexer.specs.declared.LexError.TheVariants.{NoMemory};
 
-    ghost from_gives = { λ _ e. e ≡ Memory };
+    ghost from_gives = { λ _ e. e ≡ NoMemory };
 
     fn from(_: AllocError) -> Self {
-        LexError::Memory
+        LexError::NoMemory
     }
 }
 
 impl<T: Drop> From<AllocFailed<T>> for LexError {
-    ghost use Rattle.rc_lexer.specs.declared.LexError.TheVariants.{Memory};
+    ghost use Rattle.rc_lexer.specs.declared.LexError.TheVariants.{NoMemory};
 
-    ghost from_gives = { λ _ e. e ≡ Memory };
+    ghost from_gives = { λ _ e. e ≡ NoMemory };
 
     fn from(_: AllocFailed<T>) -> Self {
-        LexError::Memory
+        LexError::NoMemory
     }
 }

@@ -11,6 +11,7 @@ ghost use Rattle.rc_lexer.specs.Machine.{before_of, bodies_in, dollars_in, due_i
 
 use crate::operators::{Class, begins_operator, is_name_char, operator};
 use crate::{FaultKind, LexError, LexFault, Span, Token, TokenKind};
+use rc_text::unquote;
 use std::alloc::{AllocError, Global};
 use std::collections::VecDeque;
 
@@ -35,21 +36,28 @@ pub enum Before {
     Here(Place, Place),
 }
 
-/// What has begun and has not ended, with the place where it began.
+/// What stands before a part of the script, and where that part begins.
+#[derive(Clone, Copy)]
+pub struct Begun {
+    pub before: Before,
+    pub start: Place,
+}
+
+/// What has begun and has not ended.
 #[derive(Clone, Copy)]
 pub enum State {
     Between(Before),
     Comment,
     /// A backslash, which makes a newline a blank.
-    Backslash(Before, Place),
-    /// A word with a backslash behind it, at the second place.
-    WordBackslash(Before, Place, Place),
-    Word(Before, Place),
+    Backslash(Begun),
+    /// A word with a backslash behind it, at this place.
+    WordBackslash(Begun, Place),
+    Word(Begun),
     Name(Place),
-    Quoted(Before, Place),
+    Quoted(Begun),
     /// A quoted word behind a quote that ends it if no other follows.
-    Closed(Before, Place),
-    Operator(Before, Place),
+    Closed(Begun),
+    Operator(Begun),
     /// The body of the here document that is due first: where it begins, and where the line begins.
     Body(usize, usize),
 }
@@ -190,26 +198,6 @@ fn push_bare(tokens: &mut Vec<Token>, dollars: &[Token]) -> Result<(), AllocErro
     Ok(())
 }
 
-/// What a quoted word says, without its quotes.
-fn unquoted(alloc: Global, text: &[u8]) -> Result<Vec<u8>, AllocError>
-    ensures { IfOk result (λ v. v.items ≡ model.unquoted_text text.now) }
-{
-    let mut out = Vec::new(alloc);
-    let Some((_, rest)) = text.split_first() else {
-        return Ok(out);
-    };
-    let mut after_quote = false;
-    for b in rest {
-        if *b == b'\'' && !after_quote {
-            after_quote = true;
-        } else {
-            out.push(*b)?;
-            after_quote = false;
-        }
-    }
-    Ok(out)
-}
-
 pub fn fault(kind: FaultKind, line: usize) -> LexError
     ensures { result ≡ LexError.Fault (record { kind = kind; line = line }) }
 {
@@ -237,18 +225,16 @@ fn with_body(token: Token, bodies: &[Span]) -> (Token, &[Span])
 }
 
 /// Each here document takes the next body.
-fn filled(alloc: Global, tokens: &[Token], bodies: &[Span]) -> Result<Vec<Token>, AllocError>
-    ensures { IfOk result (λ v. (script : List ℕ) → tokens_of script v.items
-        ≡ model.filled (tokens_of script tokens.now) (map (slice_at script) bodies.now)) }
+fn fill(tokens: &mut [Token], bodies: &[Span])
+    ensures { (script : List ℕ) → tokens_of script tokens.new
+        ≡ model.filled (tokens_of script tokens.old) (map (slice_at script) bodies.now) }
 {
-    let mut out = Vec::new(alloc);
     let mut left = bodies;
-    for token in tokens {
-        let (token, rest) = with_body(*token, left);
-        out.push(token)?;
+    for token in tokens.iter_mut() {
+        let (filled, rest) = with_body(*token, left);
+        *token = filled;
         left = rest;
     }
-    Ok(out)
 }
 
 impl Lexer {
@@ -281,28 +267,28 @@ impl Lexer {
                 Class::LineEnd => self.begin(script, Before::Apart, head),
                 _ => Ok(state),
             },
-            State::Backslash(before, start) => match head.class {
-                Class::LineEnd => Ok(State::Between(behind_blank(before))),
-                _ => self.in_word(script, before, start, head),
+            State::Backslash(begun) => match head.class {
+                Class::LineEnd => Ok(State::Between(behind_blank(begun.before))),
+                _ => self.in_word(script, begun, head),
             },
-            State::WordBackslash(before, start, stop) => match head.class {
+            State::WordBackslash(begun, stop) => match head.class {
                 Class::LineEnd => {
-                    self.word(script, before, start, stop)?;
+                    self.word(script, begun, stop)?;
                     Ok(State::Between(Before::Apart))
                 }
-                _ => self.in_word(script, before, start, head),
+                _ => self.in_word(script, begun, head),
             },
-            State::Word(before, start) => self.in_word(script, before, start, head),
+            State::Word(begun) => self.in_word(script, begun, head),
             State::Name(start) => self.in_name(script, start, head),
-            State::Quoted(before, start) => match head.class {
-                Class::Quote => Ok(State::Closed(before, start)),
+            State::Quoted(begun) => match head.class {
+                Class::Quote => Ok(State::Closed(begun)),
                 _ => Ok(state),
             },
-            State::Closed(before, start) => match head.class {
-                Class::Quote => Ok(State::Quoted(before, start)),
-                _ => self.behind_quoted(script, before, start, head),
+            State::Closed(begun) => match head.class {
+                Class::Quote => Ok(State::Quoted(begun)),
+                _ => self.behind_quoted(script, begun, head),
             },
-            State::Operator(before, start) => self.in_operator(script, before, start, head),
+            State::Operator(begun) => self.in_operator(script, begun, head),
             State::Body(body, line) => self.in_body(script, body, line, head),
         }
     }
@@ -314,12 +300,16 @@ impl Lexer {
             (reading.begin (before_of before) (due_in self.old) (place_of head.place) head.c (class_is head.class)) }
         ensures stands { IfOk result (λ s. Stands script.now head.next.byte s) }
     {
+        let fresh = Begun {
+            before,
+            start: head.place,
+        };
         match head.class {
             Class::Blank => Ok(State::Between(behind_blank(before))),
-            Class::Quote => Ok(State::Quoted(before, head.place)),
-            Class::Backslash => Ok(State::Backslash(before, head.place)),
+            Class::Quote => Ok(State::Quoted(fresh)),
+            Class::Backslash => Ok(State::Backslash(fresh)),
             Class::Ordinary if begins_name(before, head.c) => Ok(State::Name(head.place)),
-            Class::Ordinary => Ok(State::Word(before, head.place)),
+            Class::Ordinary => Ok(State::Word(fresh)),
             Class::Hash => {
                 self.bare_here(before)?;
                 Ok(State::Comment)
@@ -327,7 +317,10 @@ impl Lexer {
             Class::Operates => {
                 self.bare_here(before)?;
                 self.dollars.clear();
-                Ok(State::Operator(without_here(before), head.place))
+                Ok(State::Operator(Begun {
+                    before: without_here(before),
+                    start: head.place,
+                }))
             }
             Class::LineEnd => {
                 self.bare_here(before)?;
@@ -390,68 +383,50 @@ impl Lexer {
     }
 
     /// An unquoted word, and what it is for what follows.
-    fn word(
-        &mut self,
-        script: &[u8],
-        before: Before,
-        start: Place,
-        stop: Place,
-    ) -> Result<Before, LexError>
-        requires order { start.byte ≤ stop.byte }
+    fn word(&mut self, script: &[u8], begun: Begun, stop: Place) -> Result<Before, LexError>
+        requires order { begun.start.byte ≤ stop.byte }
         requires within { stop.byte ≤ length script.now }
-        ensures { IfSpelled script.now before (model.Word (slice_range script.now start.byte stop.byte)) start stop self.old self.new result }
+        ensures { IfSpelled script.now begun.before (model.Word (slice_range script.now begun.start.byte stop.byte)) begun.start stop self.old self.new result }
     {
-        if let Before::Here(begin, _) = before {
-            let mark = script[start.byte..stop.byte].to_vec(self.alloc)?;
+        if let Before::Here(begin, _) = begun.before {
+            let mark = script[begun.start.byte..stop.byte].to_vec(self.alloc)?;
             self.mark(false, mark, begin, stop)?;
             return Ok(Before::Apart);
         }
-        self.lexeme(before, TokenKind::Word, start, stop)?;
-        Ok(behind(before, TokenKind::Word))
+        self.lexeme(begun.before, TokenKind::Word, begun.start, stop)?;
+        Ok(behind(begun.before, TokenKind::Word))
     }
 
     /// A quoted word, and what it is for what follows.
-    fn quoted(
-        &mut self,
-        script: &[u8],
-        before: Before,
-        start: Place,
-        stop: Place,
-    ) -> Result<Before, LexError>
-        requires order { start.byte ≤ stop.byte }
+    fn quoted(&mut self, script: &[u8], begun: Begun, stop: Place) -> Result<Before, LexError>
+        requires order { begun.start.byte ≤ stop.byte }
         requires within { stop.byte ≤ length script.now }
-        ensures { IfSpelled script.now before (model.Quoted (model.unquoted_text (slice_range script.now start.byte stop.byte))) start stop
+        ensures { IfSpelled script.now begun.before (model.Quoted (model.unquoted_text (slice_range script.now begun.start.byte stop.byte))) begun.start stop
             self.old self.new result }
     {
-        if let Before::Here(begin, _) = before {
-            let mark = unquoted(self.alloc, &script[start.byte..stop.byte])?;
+        if let Before::Here(begin, _) = begun.before {
+            let mark = unquote(self.alloc, &script[begun.start.byte..stop.byte])?;
             self.mark(true, mark, begin, stop)?;
             return Ok(Before::Apart);
         }
-        self.lexeme(before, TokenKind::Quoted, start, stop)?;
-        Ok(behind(before, TokenKind::Quoted))
+        self.lexeme(begun.before, TokenKind::Quoted, begun.start, stop)?;
+        Ok(behind(begun.before, TokenKind::Quoted))
     }
 
     /// The character behind a word that is read so far.
-    fn in_word(
-        &mut self,
-        script: &[u8],
-        before: Before,
-        start: Place,
-        head: Head,
-    ) -> Result<State, LexError>
+    fn in_word(&mut self, script: &[u8], begun: Begun, head: Head) -> Result<State, LexError>
         requires head { IsHead script.now head }
-        requires order { start.byte ≤ head.place.byte }
+        requires order { begun.start.byte ≤ head.place.byte }
         ensures does { Does script.now head.next.byte self.old self.new result
-            (reading.in_word (before_of before) (place_of start) (slice_range script.now start.byte head.place.byte) (due_in self.old)
+            (reading.in_word (before_of begun.before) (place_of begun.start) (slice_range script.now begun.start.byte head.place.byte) (due_in self.old)
             (place_of head.place) head.c (class_is head.class)) }
         ensures stands { IfOk result (λ s. Stands script.now head.next.byte s) }
     {
         match head.class {
-            Class::Ordinary => Ok(State::Word(before, start)),
-            Class::Backslash => Ok(State::WordBackslash(before, start, head.place)),
+            Class::Ordinary => Ok(State::Word(begun)),
+            Class::Backslash => Ok(State::WordBackslash(begun, head.place)),
             _ => {
-                let after = self.word(script, before, start, head.place)?;
+                let after = self.word(script, begun, head.place)?;
                 self.begin(script, after, head)
             }
         }
@@ -474,21 +449,15 @@ impl Lexer {
     }
 
     /// The character behind a quoted word that it ends.
-    fn behind_quoted(
-        &mut self,
-        script: &[u8],
-        before: Before,
-        start: Place,
-        head: Head,
-    ) -> Result<State, LexError>
+    fn behind_quoted(&mut self, script: &[u8], begun: Begun, head: Head) -> Result<State, LexError>
         requires head { IsHead script.now head }
-        requires order { start.byte ≤ head.place.byte }
+        requires order { begun.start.byte ≤ head.place.byte }
         ensures does { Does script.now head.next.byte self.old self.new result
-            (reading.ends (before_of before) (model.Quoted (model.unquoted_text (slice_range script.now start.byte head.place.byte)))
-            (place_of start) (due_in self.old) (place_of head.place) head.c (class_is head.class)) }
+            (reading.ends (before_of begun.before) (model.Quoted (model.unquoted_text (slice_range script.now begun.start.byte head.place.byte)))
+            (place_of begun.start) (due_in self.old) (place_of head.place) head.c (class_is head.class)) }
         ensures stands { IfOk result (λ s. Stands script.now head.next.byte s) }
     {
-        let after = self.quoted(script, before, start, head.place)?;
+        let after = self.quoted(script, begun, head.place)?;
         self.begin(script, after, head)
     }
 
@@ -534,72 +503,63 @@ impl Lexer {
             return self.begin(script, Before::Dollar, head);
         }
         if head.c == '$' {
-            return Ok(State::Operator(Before::Dollar, head.place));
+            return Ok(State::Operator(Begun {
+                before: Before::Dollar,
+                start: head.place,
+            }));
         }
         self.bare_dollars()?;
         self.begin(script, Before::Apart, head)
     }
 
     /// The character behind an operator that it ends.
-    fn operated(
-        &mut self,
-        script: &[u8],
-        before: Before,
-        start: Place,
-        head: Head,
-    ) -> Result<State, LexError>
+    fn operated(&mut self, script: &[u8], begun: Begun, head: Head) -> Result<State, LexError>
         requires head { IsHead script.now head }
-        requires order { start.byte ≤ head.place.byte }
-        requires apart { model.awaits_mark (before_of before) ≡ false }
+        requires order { begun.start.byte ≤ head.place.byte }
+        requires apart { model.awaits_mark (before_of begun.before) ≡ false }
         ensures does { Does script.now head.next.byte self.old self.new result
-            (reading.operated (before_of before) (dollars_in script.now self.old) (place_of start) (model.operator
-            (slice_range script.now start.byte head.place.byte)) (due_in self.old) (place_of head.place) head.c (class_is head.class)) }
+            (reading.operated (before_of begun.before) (dollars_in script.now self.old) (place_of begun.start) (model.operator
+            (slice_range script.now begun.start.byte head.place.byte)) (due_in self.old) (place_of head.place) head.c (class_is head.class)) }
         ensures stands { IfOk result (λ s. Stands script.now head.next.byte s) }
     {
-        let Some(kind) = operator(&script[start.byte..head.place.byte]) else {
-            return Err(fault(FaultKind::BadDescriptor, start.line));
+        let Some(kind) = operator(&script[begun.start.byte..head.place.byte]) else {
+            return Err(fault(FaultKind::BadDescriptor, begun.start.line));
         };
         match kind {
-            TokenKind::BareHere => self.begin(script, Before::Here(start, head.place), head),
+            TokenKind::BareHere => self.begin(script, Before::Here(begun.start, head.place), head),
             TokenKind::Dollar => {
-                self.caret(before, start)?;
-                self.dollars.push(token(kind, start, head.place))?;
+                self.caret(begun.before, begun.start)?;
+                self.dollars.push(token(kind, begun.start, head.place))?;
                 self.behind_dollars(script, head)
             }
             TokenKind::DollarCount | TokenKind::DollarFlat => {
-                self.caret(before, start)?;
+                self.caret(begun.before, begun.start)?;
                 self.bare_dollars()?;
-                self.dollars.push(token(kind, start, head.place))?;
+                self.dollars.push(token(kind, begun.start, head.place))?;
                 self.behind_dollars(script, head)
             }
             _ => {
-                let meant = meant(before, kind);
-                self.lexeme(before, meant, start, head.place)?;
-                self.begin(script, behind(before, meant), head)
+                let meant = meant(begun.before, kind);
+                self.lexeme(begun.before, meant, begun.start, head.place)?;
+                self.begin(script, behind(begun.before, meant), head)
             }
         }
     }
 
     /// The character behind an operator that is read so far.
-    fn in_operator(
-        &mut self,
-        script: &[u8],
-        before: Before,
-        start: Place,
-        head: Head,
-    ) -> Result<State, LexError>
+    fn in_operator(&mut self, script: &[u8], begun: Begun, head: Head) -> Result<State, LexError>
         requires head { IsHead script.now head }
-        requires order { start.byte ≤ head.place.byte }
-        requires apart { model.awaits_mark (before_of before) ≡ false }
+        requires order { begun.start.byte ≤ head.place.byte }
+        requires apart { model.awaits_mark (before_of begun.before) ≡ false }
         ensures does { Does script.now head.next.byte self.old self.new result
-            (reading.step (reading.Operator (before_of before) (dollars_in script.now self.old) (place_of start)
-            (slice_range script.now start.byte head.place.byte)) (due_in self.old) (place_of head.place) head.c (class_is head.class)) }
+            (reading.step (reading.Operator (before_of begun.before) (dollars_in script.now self.old) (place_of begun.start)
+            (slice_range script.now begun.start.byte head.place.byte)) (due_in self.old) (place_of head.place) head.c (class_is head.class)) }
         ensures stands { IfOk result (λ s. Stands script.now head.next.byte s) }
     {
-        if begins_operator(&script[start.byte..head.next.byte]) {
-            return Ok(State::Operator(before, start));
+        if begins_operator(&script[begun.start.byte..head.next.byte]) {
+            return Ok(State::Operator(begun));
         }
-        self.operated(script, before, start, head)
+        self.operated(script, begun, head)
     }
 
     /// The character in the body of a here document.
@@ -661,20 +621,18 @@ impl Lexer {
                 self.nothing_due()
             }
             State::Comment => self.nothing_due(),
-            State::Backslash(before, start) | State::Word(before, start) => self.last_word(
-                script, before, start, place,
-            ),
-            State::WordBackslash(before, start, _) => self.last_word(script, before, start, place),
+            State::Backslash(begun) | State::Word(begun) => self.last_word(script, begun, place),
+            State::WordBackslash(begun, _) => self.last_word(script, begun, place),
             State::Name(start) => {
                 self.lexeme(Before::Dollar, TokenKind::Name, start, place)?;
                 self.nothing_due()
             }
-            State::Quoted(_, start) => Err(fault(FaultKind::OpenQuote, start.line)),
-            State::Closed(before, start) => {
-                let _ = self.quoted(script, before, start, place)?;
+            State::Quoted(begun) => Err(fault(FaultKind::OpenQuote, begun.start.line)),
+            State::Closed(begun) => {
+                let _ = self.quoted(script, begun, place)?;
                 self.nothing_due()
             }
-            State::Operator(before, start) => self.last_operator(script, before, start, place),
+            State::Operator(begun) => self.last_operator(script, begun, place),
             State::Body(body, line) => self.last_line(script, body, line, place.byte),
         }
     }
@@ -689,42 +647,30 @@ impl Lexer {
         }
     }
 
-    fn last_word(
-        &mut self,
-        script: &[u8],
-        before: Before,
-        start: Place,
-        place: Place,
-    ) -> Result<(), LexError>
-        requires order { start.byte ≤ place.byte }
+    fn last_word(&mut self, script: &[u8], begun: Begun, place: Place) -> Result<(), LexError>
+        requires order { begun.start.byte ≤ place.byte }
         requires within { place.byte ≤ length script.now }
         ensures { Ends script.now self.old self.new result
-            (reading.ended (before_of before) (model.Word (slice_range script.now start.byte place.byte)) (place_of start) (due_in self.old)
+            (reading.ended (before_of begun.before) (model.Word (slice_range script.now begun.start.byte place.byte)) (place_of begun.start) (due_in self.old)
             (place_of place)) }
     {
-        let _ = self.word(script, before, start, place)?;
+        let _ = self.word(script, begun, place)?;
         self.nothing_due()
     }
 
-    fn last_operator(
-        &mut self,
-        script: &[u8],
-        before: Before,
-        start: Place,
-        place: Place,
-    ) -> Result<(), LexError>
-        requires order { start.byte ≤ place.byte }
+    fn last_operator(&mut self, script: &[u8], begun: Begun, place: Place) -> Result<(), LexError>
+        requires order { begun.start.byte ≤ place.byte }
         requires within { place.byte ≤ length script.now }
-        requires apart { model.awaits_mark (before_of before) ≡ false }
+        requires apart { model.awaits_mark (before_of begun.before) ≡ false }
         ensures { Ends script.now self.old self.new result
-            (reading.operated_last (before_of before) (dollars_in script.now self.old) (place_of start) (model.operator
-            (slice_range script.now start.byte place.byte)) (due_in self.old) (place_of place)) }
+            (reading.operated_last (before_of begun.before) (dollars_in script.now self.old) (place_of begun.start) (model.operator
+            (slice_range script.now begun.start.byte place.byte)) (due_in self.old) (place_of place)) }
     {
-        let Some(kind) = operator(&script[start.byte..place.byte]) else {
-            return Err(fault(FaultKind::BadDescriptor, start.line));
+        let Some(kind) = operator(&script[begun.start.byte..place.byte]) else {
+            return Err(fault(FaultKind::BadDescriptor, begun.start.line));
         };
         self.bare_dollars()?;
-        self.lexeme(before, meant(before, kind), start, place)?;
+        self.lexeme(begun.before, meant(begun.before, kind), begun.start, place)?;
         self.nothing_due()
     }
 
@@ -758,10 +704,18 @@ impl Lexer {
     }
 
     /// The tokens, with the bodies of the here documents.
-    pub fn tokens(&self) -> Result<Vec<Token>, AllocError>
-        ensures { IfOk result (λ v. (script : List ℕ) → tokens_of script v.items
-            ≡ model.filled (tokens_in script self.now) (bodies_in script self.now)) }
+    pub fn tokens(self) -> Vec<Token>
+        ensures { (script : List ℕ) → tokens_of script result.items
+            ≡ model.filled (tokens_in script self) (bodies_in script self) }
     {
-        filled(self.alloc, self.tokens.as_slice(), self.bodies.as_slice())
+        let Lexer {
+            alloc: _,
+            mut tokens,
+            dollars: _,
+            bodies,
+            due: _,
+        } = self;
+        fill(tokens.as_mut_slice(), bodies.as_slice());
+        tokens
     }
 }

@@ -20,6 +20,13 @@ fn shown(alloc: Global, script: &str) -> Result<String, LexError> {
     Ok(out)
 }
 
+fn tokens(rt: &impl Abort, alloc: Global, cases: &[(&str, &str)]) -> Result<(), LexError> {
+    for (script, want) in cases {
+        assert_eq!(rt; shown(alloc, script)?.as_str(), *want, "{script}");
+    }
+    Ok(())
+}
+
 fn faults(rt: &impl Abort, alloc: Global, script: &str, kind: FaultKind, line: usize) {
     match lex(alloc, script) {
         Err(LexError::Fault(fault)) => assert_eq!(rt; fault, LexFault { kind, line }, "{script}"),
@@ -28,16 +35,52 @@ fn faults(rt: &impl Abort, alloc: Global, script: &str, kind: FaultKind, line: u
 }
 
 #[test]
-fn words_and_names(rt: HostRuntime) -> Result<(), Fail> {
-    for (script, want) in [
+fn words_and_comments(rt: HostRuntime) -> Result<(), Fail> {
+    let cases = [
         ("", ""),
         ("a\\\nb", "Word@0..1 Word@3..4/2"),
         ("a\\b\\", "Word@0..4"),
+        ("a\tb c", "Word@0..1 Word@2..3 Word@4..5"),
         ("a#b c", "Word@0..1"),
         ("a #b\nc", "Word@0..1 Newline@4..5 Word@5..6/2"),
+        ("'#'#'", "Quoted@0..3"),
         ("'it''s'", "Quoted@0..7"),
         ("'a\nb' c", "Quoted@0..5 Word@6..7/2"),
+        ("'a'(", "Quoted@0..3 LeftParen@3..4"),
+    ];
+    tokens(&rt, rt.alloc(), &cases)?;
+    Ok(())
+}
+
+#[test]
+fn names_and_subscripts(rt: HostRuntime) -> Result<(), Fail> {
+    let cases = [
+        ("$\"x", "DollarFlat@0..2 Name@2..3"),
+        ("$#*", "DollarCount@0..2 Name@2..3"),
+        ("$$x", "Dollar@0..1 Dollar@1..2 Name@2..3"),
+        ("$'a b'", "Dollar@0..1 Quoted@1..6"),
+        ("$x(", "Dollar@0..1 Name@1..2 Subscript@2..3"),
+        ("$x (", "Dollar@0..1 Name@1..2 LeftParen@3..4"),
+        ("$'x'(", "Dollar@0..1 Quoted@1..4 Subscript@4..5"),
+        ("$$#x", "BareDollar@0..1 DollarCount@1..3 Name@3..4"),
+    ];
+    tokens(&rt, rt.alloc(), &cases)?;
+    Ok(())
+}
+
+#[test]
+fn free_carets(rt: HostRuntime) -> Result<(), Fail> {
+    let cases = [
         ("$x.c", "Dollar@0..1 Name@1..2 FreeCaret@2..2 Word@2..4"),
+        (
+            "$x$y",
+            "Dollar@0..1 Name@1..2 FreeCaret@2..2 Dollar@2..3 Name@3..4",
+        ),
+        (
+            "$x'a'`{",
+            "Dollar@0..1 Name@1..2 FreeCaret@2..2 Quoted@2..5 FreeCaret@5..5 Backquote@5..6 LeftBrace@6..7",
+        ),
+        ("x=$y", "Word@0..1 Equals@1..2 Dollar@2..3 Name@3..4"),
         ("x^$y", "Word@0..1 Caret@1..2 Dollar@2..3 Name@3..4"),
         ("'a'b", "Quoted@0..3 FreeCaret@3..3 Word@3..4"),
         ("a'b'", "Word@0..1 FreeCaret@1..1 Quoted@1..4"),
@@ -53,35 +96,38 @@ fn words_and_names(rt: HostRuntime) -> Result<(), Fail> {
             "a`{",
             "Word@0..1 FreeCaret@1..1 Backquote@1..2 LeftBrace@2..3",
         ),
-        ("$\"x", "DollarFlat@0..2 Name@2..3"),
-        ("$#*", "DollarCount@0..2 Name@2..3"),
-        ("$$x", "Dollar@0..1 Dollar@1..2 Name@2..3"),
-        ("$'a b'", "Dollar@0..1 Quoted@1..6"),
-        ("$x(", "Dollar@0..1 Name@1..2 Subscript@2..3"),
-        ("$x (", "Dollar@0..1 Name@1..2 LeftParen@3..4"),
-        ("$'x'(", "Dollar@0..1 Quoted@1..4 Subscript@4..5"),
-        ("'a'(", "Quoted@0..3 LeftParen@3..4"),
-        ("$$#x", "BareDollar@0..1 DollarCount@1..3 Name@3..4"),
         (
             "a$ $$ ",
             "Word@0..1 FreeCaret@1..1 BareDollar@1..2 BareDollar@3..4 BareDollar@4..5",
         ),
         ("é$é", "Word@0..2 FreeCaret@2..2 BareDollar@2..3 Word@3..5"),
+    ];
+    tokens(&rt, rt.alloc(), &cases)?;
+    Ok(())
+}
+
+#[test]
+fn keywords_are_words(rt: HostRuntime) -> Result<(), Fail> {
+    let cases = [
+        (
+            "echo for while fn",
+            "Word@0..4 Word@5..8 Word@9..14 Word@15..17",
+        ),
         ("if not", "Word@0..2 Word@3..6"),
+        ("! ~ @", "Word@0..1 Word@2..3 Word@4..5"),
         ("case$x", "Word@0..4 FreeCaret@4..4 Dollar@4..5 Name@5..6"),
         (
             "for(in in in)",
             "Word@0..3 LeftParen@3..4 Word@4..6 Word@7..9 Word@10..12 RightParen@12..13",
         ),
-    ] {
-        assert_eq!(rt; shown(rt.alloc(), script)?.as_str(), want, "{script}");
-    }
+    ];
+    tokens(&rt, rt.alloc(), &cases)?;
     Ok(())
 }
 
 #[test]
 fn operators(rt: HostRuntime) -> Result<(), Fail> {
-    for (script, want) in [
+    let cases = [
         (
             "; & && || |",
             "Semicolon@0..1 Ampersand@2..3 AndAnd@4..6 OrOr@7..9 Bar(1)@10..11",
@@ -101,18 +147,21 @@ fn operators(rt: HostRuntime) -> Result<(), Fail> {
         (">[1=2]>[2=1]", "CopyTo(1, 2)@0..6 CopyTo(2, 1)@6..12"),
         ("&&&", "AndAnd@0..2 Ampersand@2..3"),
         ("||[1]", "OrOr@0..2 Word@2..5"),
-    ] {
-        assert_eq!(rt; shown(rt.alloc(), script)?.as_str(), want, "{script}");
-    }
+    ];
+    tokens(&rt, rt.alloc(), &cases)?;
     Ok(())
 }
 
 #[test]
 fn here_documents(rt: HostRuntime) -> Result<(), Fail> {
-    for (script, want) in [
+    let cases = [
         (
             "c <<A <<'B'\na\nA\nb\nB",
             "Word@0..1 HereDoc(false, Span { start: 12, stop: 14 })@2..5 HereDoc(true, Span { start: 16, stop: 18 })@6..11 Newline@11..12",
+        ),
+        (
+            "c <<E\n$x^y $$ $z\nE\n",
+            "Word@0..1 HereDoc(false, Span { start: 6, stop: 17 })@2..5 Newline@5..6",
         ),
         (
             "<<[0] \\\n E;\nE\nb",
@@ -133,9 +182,8 @@ fn here_documents(rt: HostRuntime) -> Result<(), Fail> {
         ("<< ;", "BareHere@0..2 Semicolon@3..4"),
         ("<<<", "BareHere@0..2 Input@2..3"),
         ("<<", "BareHere@0..2"),
-    ] {
-        assert_eq!(rt; shown(rt.alloc(), script)?.as_str(), want, "{script}");
-    }
+    ];
+    tokens(&rt, rt.alloc(), &cases)?;
     Ok(())
 }
 
@@ -149,6 +197,8 @@ fn first_faults(rt: HostRuntime) {
     faults(&rt, alloc, "|[a]", FaultKind::BadDescriptor, 1);
     faults(&rt, alloc, "<[1]", FaultKind::BadDescriptor, 1);
     faults(&rt, alloc, ">[", FaultKind::BadDescriptor, 1);
+    faults(&rt, alloc, ">>[1=2]", FaultKind::BadDescriptor, 1);
+    faults(&rt, alloc, "c <<[1]E\nE\n", FaultKind::BadDescriptor, 1);
     faults(&rt, alloc, "c <<E", FaultKind::OpenHere, 1);
     faults(&rt, alloc, "x\nc <<E\n'", FaultKind::OpenHere, 2);
     faults(&rt, alloc, "c <<A <<'\n' <<B\nA\n", FaultKind::OpenHere, 1);
@@ -158,5 +208,16 @@ fn first_faults(rt: HostRuntime) {
     faults(&rt, alloc, "c <<E\n>[3]\nE\n'a", FaultKind::OpenQuote, 4);
     faults(&rt, alloc, "c <<E >[3]", FaultKind::BadDescriptor, 1);
     faults(&rt, alloc, "c <<E 'a", FaultKind::OpenQuote, 1);
+    faults(&rt, alloc, "'a\nb' >[3]\n'c", FaultKind::BadDescriptor, 2);
+    faults(&rt, alloc, "\n'a\n>[3]", FaultKind::OpenQuote, 2);
+    faults(&rt, alloc, "\0", FaultKind::ZeroByte, 1);
     faults(&rt, alloc, "'a\n\0", FaultKind::ZeroByte, 2);
+    faults(&rt, alloc, ">[3]\nc <<E\n\0", FaultKind::ZeroByte, 3);
+}
+
+#[test]
+fn want_of_memory_is_told(rt: HostRuntime) -> Result<(), Fail> {
+    let tokens = lex(rt.alloc(), "$x <<'E'\nb\nE\n")?;
+    assert_eq!(rt; tokens.len(), 4);
+    Ok(())
 }

@@ -14,7 +14,6 @@ pub mod Layout
 pub mod Machine
 pub mod Script
 pub mod Faults
-pub mod PlainScripts
 pub mod WellFormed
 pub mod Printing
 pub mod HereDocs

@@ -31,9 +31,10 @@ HasNoTree = (levels : ℕ) (ts : List Lexeme) (tree : Node t.cmd) → (script_tr
 abbrev pub HasTooManyStages : Type 0
 HasTooManyStages = (levels : ℕ) (ts : List Lexeme) (tree : Node t.cmd) → script_tree levels ts ≡ Err TooManyStages → IsScript ts tree → 64 < most_stages tree
 
--- and too many levels only where the tree has them, or isn't sound
+-- and too many levels only where the tree has them, or isn't sound although no pipeline has too many stages
 abbrev pub IsTooDeep : Type 0
-IsTooDeep = (levels : ℕ) (ts : List Lexeme) (tree : Node t.cmd) → 200 ≤ levels → script_tree levels ts ≡ Err TooDeep → IsScript ts tree → (200 < depth tree) ⊎ (is_sound tree ≡ false)
+IsTooDeep = (levels : ℕ) (ts : List Lexeme) (tree : Node t.cmd) → 200 ≤ levels → script_tree levels ts ≡ Err TooDeep → IsScript ts tree →
+    (200 < depth tree) ⊎ ((is_sound tree ≡ false) × (most_stages tree ≤ 64))
 
 -- a tree of spelled lexemes is sound, unless it has too many stages
 abbrev pub HasSoundTrees : Type 0

@@ -1,4 +1,4 @@
-pub mod ClassSteps
-pub mod PieceSteps
-pub mod TextSteps
-pub mod CommandSteps
+pub mod Texts
+pub mod Lines
+pub mod Spelled
+pub mod Trees

@@ -1,2 +1,3 @@
 pub mod Decimals
+pub mod Told
 pub mod Untold

@@ -2,7 +2,7 @@
 use Rattle.std.specs.Prelude.{◌≡◌, ℕ, ◌^◌, List, take, Option, IfSome, Result, Ok, Err}
 use Rattle.rc_model.specs.Calls.{Event}
 use Rattle.rc_model.specs.Faults as model
-use Rattle.rc_model.specs.PlainScripts.{IsAccepted, IsRefused}
+use Rattle.rc_model.specs.Accepted.{IsAccepted, IsRefused}
 use Rattle.rc_model.specs.Script.{Told, EndsAsMeant, HaltsAsMeant, IsBegunAsMeant, StopsAtLimit}
 use Rattle.rc_model.specs.State.{State}
 use Rattle.rc_model.specs.Tree.{Node, cmd}

@@ -1,12 +1,15 @@
 //! What the program takes from its process, and what it leaves.
-ghost use Rattle.std.specs.Prelude.{◌≡◌, ◌⊎◌, IfOk, IfErr, OnErr};
+ghost use Rattle.std.specs.Prelude.{◌≡◌, ◌⊎◌, ◌++◌, IfOk, IfErr, OnErr, codes, string_bytes};
+ghost use Rattle.std.specs.Fmt.{decimal};
+ghost use Rattle.std.specs.Path.{path_buf_bytes};
 ghost use Rattle.std.specs.Process.{exit_status};
 
 use crate::fault::RunFault;
-use std::alloc::{AllocError, AllocGlobal};
-use std::env;
+use std::alloc::{AllocError, AllocGlobal, Global};
+use std::path::PathBuf;
 use std::process::ExitCode;
-use std::rt::{Env, Files};
+use std::rt::Env;
+use std::{env, io};
 
 /// The words that the program was given, without its name. `Usage` is a word that isn't UTF-8.
 pub fn words<R: Env + AllocGlobal>(rt: &R) -> Result<Vec<String>, RunFault>
@@ -18,11 +21,19 @@ pub fn words<R: Env + AllocGlobal>(rt: &R) -> Result<Vec<String>, RunFault>
     }
 }
 
-/// The path of the program of this process, whose number it takes: by it the shell starts itself.
-pub fn own_path<R: Files + AllocGlobal>(rt: &R, process: u32) -> Result<String, AllocError> {
-    match env::current_exe(rt) {
-        Ok(path) => String::from_str(rt.alloc(), path.as_str()),
-        Err(_) => format!(in rt.alloc(); "/proc/{process}/exe"),
+/// The path by which the shell starts itself: that of its program where it was found, and else the
+/// link that Linux keeps to the program of a process.
+pub fn own_path(
+    alloc: Global,
+    found: io::Result<PathBuf>,
+    process: u32,
+) -> Result<String, AllocError>
+    ensures found { IfOk found (λ path. IfOk result (λ text. string_bytes text ≡ path_buf_bytes path)) }
+    ensures unknown { OnErr found (IfOk result (λ text. string_bytes text ≡ codes "/proc/" ++ (decimal process ++ codes "/exe"))) }
+{
+    match found {
+        Ok(path) => String::from_str(alloc, path.as_str()),
+        Err(_) => format!(in alloc; "/proc/{process}/exe"),
     }
 }
 

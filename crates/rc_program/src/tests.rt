@@ -163,10 +163,7 @@ fn shows_faults(rt: HostRuntime) -> Result<(), Fail> {
         (syntax(FaultKind::ZeroByte, 1), "rc: line 1: zero byte"),
         (syntax(FaultKind::NotText, 1), "rc: line 1: not UTF-8"),
         (syntax(FaultKind::Unexpected, 2), "rc: line 2: unexpected"),
-        (
-            syntax(FaultKind::IfNot, 1),
-            "rc: line 1: misplaced if not",
-        ),
+        (syntax(FaultKind::IfNot, 1), "rc: line 1: misplaced if not"),
         (syntax(FaultKind::TooDeep, 0), "rc: line 0: too deep"),
         (syntax(FaultKind::TooLong, 0), "rc: line 0: too long"),
         (

@@ -8,11 +8,11 @@ use anyhow::Result;
 use rc_host::HostWorld;
 use rc_program::{RunFault, own_path, report, run_rc, words};
 use runs::show_all;
-use std::process;
 use std::process::ExitCode;
+use std::{env, process};
 
 fn shell(rt: HostRuntime, words: &[String]) -> Result<u8, RunFault> {
-    let shell = own_path(&rt, process::id(rt.process()))?;
+    let shell = own_path(rt.alloc(), env::current_exe(&rt), process::id(rt.process()))?;
     let mut world = HostWorld::new(rt, shell);
     run_rc(rt.alloc(), &mut world, words, rt.reader())
 }

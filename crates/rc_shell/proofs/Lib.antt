@@ -2,6 +2,7 @@ pub mod Calls
 pub mod Entries
 pub mod Escapes
 pub mod Runs
+pub mod Scripts
 pub mod Search
 pub mod Stacks
 pub mod StateLaws

@@ -3,7 +3,7 @@
 ghost use Rattle.std.specs.Prelude.{◌≡◌, List, IfOk, IfErr, OnOk};
 ghost use Rattle.rc_model.specs.Calls.{Answer};
 ghost use Rattle.rc_model.specs.Faults as model;
-ghost use Rattle.rc_model.specs.PlainScripts.{IsAccepted, IsRefused};
+ghost use Rattle.rc_model.specs.Accepted.{IsAccepted, IsRefused};
 ghost use Rattle.rc_model.specs.Script.{Agrees, Told, EndsAsMeant, HaltsAsMeant, IsBegunAsMeant, StopsAtLimit};
 ghost use Rattle.rc_model.specs.Tree.{Node, cmd};
 ghost use Rattle.rc_parser.specs.Faults.{fault_of};

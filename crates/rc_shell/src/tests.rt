@@ -148,6 +148,76 @@ wait 7
 }
 
 #[test]
+fn quoted_words_run(rt: HostRuntime) -> Result<(), Fail> {
+    check(
+        &rt,
+        b"echo 'a  b' 'it''s' '' '*' 'if'\n",
+        [FOUND, CHILD, ENDED],
+        100,
+        r#"probe /bin/echo
+start /bin/echo ["a  b", "it's", "", "*", "if"] ["path=/bin", "status="] 0 1 2
+wait 7
+"#,
+        "ended, ",
+    )?;
+    check(
+        &rt,
+        b"'if' in\n",
+        [REFUSED, Answer::Done],
+        100,
+        "probe /bin/if\nwrite 2 \"rc: if: not found\\n\"\n",
+        "ended, not found",
+    )
+}
+
+/// Every other form is a runtime error when it is reached, and no sooner.
+#[test]
+fn other_forms_are_not_yet(rt: HostRuntime) -> Result<(), Fail> {
+    for script in [
+        "a *",
+        "a $x",
+        "a b^c",
+        "a (b)",
+        "a `{b}",
+        "a &",
+        "a | b",
+        "a && b",
+        "! a",
+        "@ a",
+        "x=1",
+        "a >f",
+        "{a}",
+        "if(a) b",
+        "while(a) b",
+        "for(i) a",
+        "switch a {}",
+        "~ a a",
+        "fn f {a}",
+        "fn f",
+        "cd /",
+        "'cd' /",
+        "a <<E\nE\n",
+    ] {
+        check(
+            &rt,
+            script.as_bytes(),
+            [Answer::Done],
+            100,
+            "write 2 \"rc: not yet\\n\"\n",
+            "ended, error",
+        )?;
+    }
+    check(
+        &rt,
+        b"echo hello; a | b",
+        [FOUND, CHILD, ENDED, Answer::Done],
+        100,
+        format!(in rt.alloc(); "{ECHO_HELLO}write 2 \"rc: not yet\\n\"\n")?.as_str(),
+        "ended, error",
+    )
+}
+
+#[test]
 fn refusals_are_reported(rt: HostRuntime) -> Result<(), Fail> {
     check(
         &rt,

@@ -1,5 +1,6 @@
 -- Doubled quotes, character by character.
-use Rattle.std.proofs.Common.{◌≡◌, ◌≢◌, ℕ, ◌+◌, ◌/◌, ◌%◌, ◌≤◌, Bool, true, false, cond, ◌==◌, ltb, List, [], ◌∷◌, ◌++◌, refl, sym, ap, ◌∙◌, append_assoc, arith, lit<}
+use Rattle.std.proofs.Common.{◌≡◌, ◌≢◌, ℕ, ◌+◌, ◌/◌, ◌%◌, ◌≤◌, Bool, true, false, cond, ◌==◌, ltb, List, [], ◌∷◌, ◌++◌, refl, sym, ap, ◌∙◌}
+use Rattle.std.proofs.Common.{append_assoc, arith, lit<}
 use Rattle.std.proofs.lemmas.Bool.{eqb-true}
 use Rattle.std.proofs.lemmas.Str.{encode_ascii}
 use Rattle.std.proofs.Math.Utf8.{encode}
@@ -31,12 +32,16 @@ past_four a b c d rest h k l m = past_three a b c (d ∷ rest) h k l ∙ ap (λ 
 abbrev next : ℕ → ℕ
 next n = 128 + n % 64
 
-past_by : (c : ℕ) (rest : List ℕ) → (c == 39) ≡ false → (x y z : Bool) → doubled_quotes (cond x (c ∷ []) (cond y ((192 + c / 64) ∷ next c ∷ []) (cond z ((224 + c / 4096) ∷ next (c / 64) ∷ next c ∷ []) ((240 + c / 262144) ∷ next (c / 4096) ∷ next (c / 64) ∷ next c ∷ []))) ++ rest)
-    ≡ cond x (c ∷ []) (cond y ((192 + c / 64) ∷ next c ∷ []) (cond z ((224 + c / 4096) ∷ next (c / 64) ∷ next c ∷ []) ((240 + c / 262144) ∷ next (c / 4096) ∷ next (c / 64) ∷ next c ∷ []))) ++ doubled_quotes rest
+past_by : (c : ℕ) (rest : List ℕ) → (c == 39) ≡ false → (x y z : Bool) →
+    doubled_quotes (cond x (c ∷ []) (cond y ((192 + c / 64) ∷ next c ∷ [])
+    (cond z ((224 + c / 4096) ∷ next (c / 64) ∷ next c ∷ []) ((240 + c / 262144) ∷ next (c / 4096) ∷ next (c / 64) ∷ next c ∷ []))) ++ rest)
+    ≡ cond x (c ∷ []) (cond y ((192 + c / 64) ∷ next c ∷ [])
+    (cond z ((224 + c / 4096) ∷ next (c / 64) ∷ next c ∷ []) ((240 + c / 262144) ∷ next (c / 4096) ∷ next (c / 64) ∷ next c ∷ []))) ++ doubled_quotes rest
 past_by c rest h true y z = past c rest h
 past_by c rest h false true z = past_two (192 + c / 64) (next c) rest (omega arith) (omega arith)
 past_by c rest h false false true = past_three (224 + c / 4096) (next (c / 64)) (next c) rest (omega arith) (omega arith) (omega arith)
-past_by c rest h false false false = past_four (240 + c / 262144) (next (c / 4096)) (next (c / 64)) (next c) rest (omega arith) (omega arith) (omega arith) (omega arith)
+past_by c rest h false false false = past_four (240 + c / 262144) (next (c / 4096)) (next (c / 64)) (next c) rest (omega arith) (omega arith)
+    (omega arith) (omega arith)
 
 -- a character that is no quote stays as it is
 pub past_char : (c : ℕ) (rest : List ℕ) → (c == 39) ≡ false → doubled_quotes (encode_utf8 c ++ rest) ≡ encode_utf8 c ++ doubled_quotes rest
@@ -45,7 +50,8 @@ past_char c rest h = past_by c rest h (ltb c 128) (ltb c 2048) (ltb c 65536)
 
 -- a quote is doubled
 pub past_quote : (rest : List ℕ) → doubled_quotes (encode_utf8 39 ++ rest) ≡ encode_utf8 39 ++ encode_utf8 39 ++ doubled_quotes rest
-past_quote rest = ap (λ bs. doubled_quotes (bs ++ rest)) (encode_ascii 39 (lit< tt)) ∙ sym (ap (λ bs. bs ++ bs ++ doubled_quotes rest) (encode_ascii 39 (lit< tt)))
+past_quote rest = ap (λ bs. doubled_quotes (bs ++ rest)) (encode_ascii 39 (lit< tt))
+    ∙ sym (ap (λ bs. bs ++ bs ++ doubled_quotes rest) (encode_ascii 39 (lit< tt)))
 
 is_other : (c : ℕ) → c ≢ 39 → (c == 39) ≡ false
 is_other c h = by (c == 39) refl
@@ -61,7 +67,8 @@ quote_step whole out out' text rest c e h o w =
     ap (λ z. z ++ doubled_quotes rest) o ∙ append_assoc out (encode_utf8 c) (doubled_quotes rest) ∙ ap (λ z. out ++ z) (sym (past_char c rest (is_other c h)))
     ∙ ap (λ z. out ++ doubled_quotes z) (sym e) ∙ w
 
-pub doubled_step : (whole out out1 out' text rest : List ℕ) (c : ℕ) → text ≡ encode_utf8 c ++ rest → c ≡ 39 → out1 ≡ out ++ encode_utf8 39 → out' ≡ out1 ++ encode_utf8 c →
+pub doubled_step : (whole out out1 out' text rest : List ℕ) (c : ℕ) → text ≡ encode_utf8 c ++ rest → c ≡ 39 → out1 ≡ out ++ encode_utf8 39 →
+    out' ≡ out1 ++ encode_utf8 c →
     out ++ doubled_quotes text ≡ whole → out' ++ doubled_quotes rest ≡ whole
 doubled_step whole out out1 out' text rest c e h o p w =
     let q = encode_utf8 39 in

@@ -4,7 +4,7 @@
 ghost use Rattle.std.specs.Prelude.{◌≡◌, ◌<◌, [], ◌∷◌, ◌++◌, length, string_bytes, IfOk, IfSome, MatchOption};
 ghost use Rattle.std.specs.Char.{encode_utf8};
 ghost use Rattle.std.specs.Str.{IsUtf8, chars};
-ghost use Rattle.rc_model.specs.Tokens.{quoted_text};
+ghost use Rattle.rc_model.specs.Tokens.{quoted_text, unquoted_text};
 
 #[cfg(test)]
 mod tests;
@@ -39,4 +39,24 @@ pub fn quote(alloc: Global, text: &str) -> Result<String, AllocError>
     }
     quoted.push('\'')?;
     Ok(quoted)
+}
+
+/// What a quoted word says.
+pub fn unquote(alloc: Global, word: &[u8]) -> Result<Vec<u8>, AllocError>
+    ensures { IfOk result (λ v. v.items ≡ unquoted_text word.now) }
+{
+    let mut said = Vec::new(alloc);
+    let Some((_, rest)) = word.split_first() else {
+        return Ok(said);
+    };
+    let mut after_quote = false;
+    for b in rest {
+        if *b == b'\'' && !after_quote {
+            after_quote = true;
+        } else {
+            said.push(*b)?;
+            after_quote = false;
+        }
+    }
+    Ok(said)
 }

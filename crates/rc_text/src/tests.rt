@@ -21,3 +21,12 @@ fn doubles_quotes(rt: HostRuntime) -> Result<(), Fail> {
     }
     Ok(())
 }
+
+#[test]
+fn want_of_memory_is_told(rt: HostRuntime) -> Result<(), Fail> {
+    assert_eq!(rt;
+        quote(rt.alloc(), "it's a long text")?.as_str(),
+        "'it''s a long text'"
+    );
+    Ok(())
+}

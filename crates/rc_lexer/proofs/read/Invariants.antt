@@ -10,7 +10,8 @@ use Rattle.rc_lexer.proofs.read.Given as goal
 abbrev pub invariant-loop-c : goal.invariant-loop-c
 invariant-loop-c l = record {
   so_far :
-      model.join (tokens_in l.script l.lexer) (bodies_in l.script l.lexer) (reading.run (state_in l.script l.place.byte l.lexer l.state) (due_left l.lexer l.state) (place_of l.place) (chars l.rest))
+      model.join (tokens_in l.script l.lexer) (bodies_in l.script l.lexer)
+      (reading.run (state_in l.script l.place.byte l.lexer l.state) (due_left l.lexer l.state) (place_of l.place) (chars l.rest))
       ≡ reading.run (reading.Between model.Apart) [] model.first_place (chars l.script);
   rest : drop l.place.byte l.script ≡ l.rest;
   within : l.place.byte ≤ length l.script;

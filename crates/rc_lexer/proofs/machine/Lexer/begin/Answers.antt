@@ -13,9 +13,12 @@ returns-in_ok-push-in-LineEnd-clause-does c =
     let old = c.args.self.now in
     let head = c.args.head in
     let nl = model.token model.Newline (place_of head.place) (model.behind_char (place_of head.place) head.c) in
-    ap (λ k. behind_step (tokens_in script old) (bodies_in script old) (reading.begin (before_of c.args.before) (due_in old) (place_of head.place) head.c (class_is k))) c.in-LineEnd.is
-    ∙ newline_step script head.next.byte head.next.byte _ old.due.items _ _ (tokens_in script old) (reading.bare_here (before_of c.args.before)) _ _ nl (bodies_in script old) _
+    ap (λ k. behind_step (tokens_in script old) (bodies_in script old)
+    (reading.begin (before_of c.args.before) (due_in old) (place_of head.place) head.c (class_is k))) c.in-LineEnd.is
+    ∙ newline_step script head.next.byte head.next.byte _ old.due.items _ _ (tokens_in script old) (reading.bare_here (before_of c.args.before)) _ _
+    nl (bodies_in script old) _
     refl c.in_ok-bare_here-in-LineEnd.ensures.rest.due c.line.ensures (c.in_ok-bare_here-in-LineEnd.ensures.tokens script)
     (tokens_pushed script _ _ _ c.in_ok-push-in-LineEnd.ensures.items
-    ∙ ap (λ t. tokens_in script c.bare_here-in-LineEnd.new.self ++ t ∷ []) (ap (token_of script) c.token.ensures ∙ ap (λ z. model.token model.Newline (place_of head.place) z) c.requires.next))
+    ∙ ap (λ t. tokens_in script c.bare_here-in-LineEnd.new.self ++ t ∷ [])
+    (ap (token_of script) c.token.ensures ∙ ap (λ z. model.token model.Newline (place_of head.place) z) c.requires.next))
     (ap (map (slice_at script)) c.in_ok-bare_here-in-LineEnd.ensures.rest.bodies)

@@ -1,19 +1,34 @@
-use Rattle.std.proofs.Common.{ap, ◌∙◌, arith}
+use Rattle.std.proofs.Common.{◌≡◌, ℕ, List, ap, ◌∙◌, arith}
 use Rattle.rc_model.specs.Reading as reading
+use Rattle.rc_lexer.specs.declared.operators.Class.{Class}
+use Rattle.rc_lexer.specs.declared.machine.Head.{Head}
+use Rattle.rc_lexer.specs.declared.machine.Lexer.{Lexer}
 use Rattle.rc_lexer.specs.Classes.{class_is}
 use Rattle.std.specs.Prelude.{slice_range}
 use Rattle.rc_lexer.specs.Machine.{place_of, tokens_in, bodies_in, dollars_in, behind_step, body_of, behind_first}
 use Rattle.rc_lexer.proofs.InBody.{first, other_line, mark_line, bodies_pushed, is_mark, is_no_mark}
 use Rattle.rc_lexer.proofs.machine.Lexer.in_body.Goals as goal
 
+-- the step at a character of a known class
+step_at : (script : List ℕ) (old : Lexer) (body line : ℕ) (head : Head) {class : Class} → head.class ≡ class →
+    behind_step (tokens_in script old) (bodies_in script old) (reading.step (body_of old.due.items (slice_range script body line)
+    (slice_range script line head.place.byte)) (behind_first old.due.items) (place_of head.place) head.c (class_is head.class))
+    ≡ behind_step (tokens_in script old) (bodies_in script old) (reading.step (body_of old.due.items (slice_range script body line)
+    (slice_range script line head.place.byte)) (behind_first old.due.items) (place_of head.place) head.c (class_is class))
+step_at script old body line head e =
+    ap (λ k. behind_step (tokens_in script old) (bodies_in script old) (reading.step (body_of old.due.items (slice_range script body line)
+    (slice_range script line head.place.byte)) (behind_first old.due.items) (place_of head.place) head.c (class_is k))) e
+
 pub returns-then-ne-clause-does : goal.returns-then-ne-clause-does
 returns-then-ne-clause-does c =
     let script = c.args.script.now in
     let old = c.args.self.now in
     let head = c.args.head in
-    ap (λ k. behind_step (tokens_in script old) (bodies_in script old) (reading.step (body_of old.due.items (slice_range script c.args.body c.args.line) (slice_range script c.args.line head.place.byte)) (behind_first old.due.items) (place_of head.place) head.c (class_is k))) c.in-LineEnd.is
-    ∙ other_line script c.args.body c.args.line head.place.byte head.next.byte head.c c.in-Some.due.now old.due.items (tokens_in script old) (bodies_in script old) (place_of head.place)
-    (first _ c.in-Some.due.now _ c.in-Some.ensures.item.3.0 c.in-Some.ensures.lookup) c.requires.order c.requires.within (c.requires.head.reads _ (omega (arith, c.requires.order, c.requires.within)))
+    step_at script old c.args.body c.args.line head c.in-LineEnd.is
+    ∙ other_line script c.args.body c.args.line head.place.byte head.next.byte head.c c.in-Some.due.now old.due.items (tokens_in script old)
+    (bodies_in script old) (place_of head.place)
+    (first _ c.in-Some.due.now _ c.in-Some.ensures.item.3.0 c.in-Some.ensures.lookup) c.requires.order c.requires.within
+    (c.requires.head.reads _ (omega (arith, c.requires.order, c.requires.within)))
     (is_no_mark _ _ _ _ c.as_slice.ensures.value c.ne.ensures c.if-ne.true)
 
 pub returns-in_ok-push-in-LineEnd-clause-does : goal.returns-in_ok-push-in-LineEnd-clause-does
@@ -21,7 +36,8 @@ returns-in_ok-push-in-LineEnd-clause-does c =
     let script = c.args.script.now in
     let old = c.args.self.now in
     let head = c.args.head in
-    ap (λ k. behind_step (tokens_in script old) (bodies_in script old) (reading.step (body_of old.due.items (slice_range script c.args.body c.args.line) (slice_range script c.args.line head.place.byte)) (behind_first old.due.items) (place_of head.place) head.c (class_is k))) c.in-LineEnd.is
-    ∙ mark_line script c.args.body c.args.line head.place.byte head.next.byte head.c c.in-Some.due.now old.due.items _ _ (dollars_in script old) (tokens_in script old) (bodies_in script old) _ (place_of head.place)
+    step_at script old c.args.body c.args.line head c.in-LineEnd.is
+    ∙ mark_line script c.args.body c.args.line head.place.byte head.next.byte head.c c.in-Some.due.now old.due.items _ _ (dollars_in script old)
+    (tokens_in script old) (bodies_in script old) _ (place_of head.place)
     (first _ c.in-Some.due.now _ c.in-Some.ensures.item.3.0 c.in-Some.ensures.lookup) (is_mark _ _ _ _ c.as_slice.ensures.value c.ne.ensures c.if-ne.false)
     c.pop_front.ensures.rest c.line.ensures (bodies_pushed script _ _ _ c.in_ok-push-in-LineEnd.ensures.items)

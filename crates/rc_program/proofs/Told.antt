@@ -1,0 +1,42 @@
+-- What was told of a run, from what the shell says of it.
+use Rattle.std.proofs.Common.{◌≡◌, ℕ, ◌^◌, List, Option, Ok, Err, refl, sym, subst}
+use Rattle.rc_model.specs.Accepted.{IsAccepted, IsRefused}
+use Rattle.rc_model.specs.Calls.{Event}
+use Rattle.rc_model.specs.Faults as model
+use Rattle.rc_model.specs.Script.{Told, EndsAsMeant, HaltsAsMeant, IsBegunAsMeant, StopsAtLimit}
+use Rattle.rc_model.specs.State.{State}
+use Rattle.rc_model.specs.Tree.{Node, cmd}
+use Rattle.rc_program.specs.Runs.{RunsAsMeant}
+use Rattle.rc_program.specs.Start.{first_state}
+use Rattle.rc_program.specs.Statuses.{IsProcessStatus}
+use Rattle.rc_program.specs.declared.fault.RunFault.TheVariants.{NoMemory, Limit, Halted}
+
+-- the script has a tree
+abbrev pub HasTree : List ℕ → Type 0
+HasTree script = (t : Node cmd) × IsAccepted script t
+
+-- of each tree of the script this was told
+abbrev pub OfEach : Option (List Event) → Option (List Event) → List ℕ → (Node cmd → List Event → Type 0) → Type 0
+OfEach before after script P = (t : Node cmd) → IsAccepted script t → Told before after (λ trace. P t trace)
+
+pub ended : (before after : Option (List Event)) (script : List ℕ) (s end : State) (text : List ℕ) (status : ℕ) → s ≡ first_state → HasTree script →
+    OfEach before after script (λ t trace. EndsAsMeant t s trace end) → text ≡ end.status → IsProcessStatus text status → RunsAsMeant before after script (Ok status)
+ended before after script s end text status e a each is p =
+    let told = each a.0 a.1 in
+    (a.0, a.1, (told.0, told.1, (end, subst (λ z. EndsAsMeant a.0 z told.0 end) e told.2, subst (λ z. IsProcessStatus z status) is p)))
+
+pub halted : (before after : Option (List Event)) (script : List ℕ) (s : State) → s ≡ first_state → HasTree script →
+    OfEach before after script (λ t trace. HaltsAsMeant t s trace) → RunsAsMeant before after script (Err Halted)
+halted before after script s e a each =
+    let told = each a.0 a.1 in
+    (a.0, a.1, (told.0, told.1, subst (λ z. HaltsAsMeant a.0 z told.0) e told.2))
+
+pub limited : (before after : Option (List Event)) (script : List ℕ) (s : State) → s ≡ first_state → HasTree script →
+    OfEach before after script (λ t trace. StopsAtLimit (2 ^ 62) t s trace) → RunsAsMeant before after script (Err Limit)
+limited before after script s e a each =
+    let told = each a.0 a.1 in
+    (a.0, a.1, (told.0, told.1, subst (λ z. StopsAtLimit (2 ^ 62) a.0 z told.0) e told.2))
+
+pub begun : (before after : Option (List Event)) (script : List ℕ) (s : State) → s ≡ first_state → OfEach before after script (λ t trace. IsBegunAsMeant t s trace) →
+    ((fault : model.SyntaxFault) → IsRefused script fault → after ≡ before) → RunsAsMeant before after script (Err NoMemory)
+begun before after script s e each silent = (λ t a. (let told = each t a in (told.0, told.1, subst (λ z. IsBegunAsMeant t z told.0) e told.2)), silent)

@@ -1,0 +1,11 @@
+pub mod Follows
+pub mod Arguments
+pub mod Parts
+pub mod Heres
+pub mod Heads
+pub mod Commands
+pub mod Operands
+pub mod Forms
+pub mod Lists
+pub mod Printed
+pub mod Round
