@@ -1,10 +1,11 @@
 //! Runs over a tape.
-use super::{RunFault, process_status, run_rc};
+use super::{RunFault, own_path, process_status, run_rc};
 use rc_parser::{FaultKind, SyntaxFault};
 use rc_world::{Answer, Call, ChildNo, Ending, Kind, Program, Slot, Slots, Tape};
 use std::alloc::{AllocError, Global};
 use std::io;
 use std::io::{ErrorKind, Read};
+use std::path::PathBuf;
 use std::test::Fail;
 
 /// A reader that gives a text once and then fails.
@@ -66,13 +67,14 @@ fn runs_a_command(rt: HostRuntime) -> Result<(), Fail> {
 
 #[test]
 fn want_of_memory_is_told(rt: HostRuntime) -> Result<(), Fail> {
-    let alloc = rt.alloc();
-    let mut tape = one_program(alloc, Ending::Code(3))?;
-    let ended = run_rc(alloc, &mut tape, &[], b"echo hello".as_slice());
+    let mut tape = no_answers(rt.alloc());
+    let ended = run_rc(rt.alloc(), &mut tape, &[], b"c".as_slice());
     if ended == Err(RunFault::NoMemory) {
+        assert!(rt; tape.calls().is_empty());
         return Err(Fail::from(AllocError));
     }
-    assert_eq!(rt; ended, Ok(3));
+    assert_eq!(rt; ended, Err(RunFault::Halted));
+    assert_eq!(rt; tape.calls().len(), 1);
     Ok(())
 }
 
@@ -133,6 +135,16 @@ fn looks_for_faults_in_order(rt: HostRuntime) -> Result<(), Fail> {
     let ended = run_rc(alloc, &mut tape, &[], b"c".as_slice());
     assert_eq!(rt; ended, Err(RunFault::Halted));
     assert_eq!(rt; tape.calls().len(), 1);
+    Ok(())
+}
+
+#[test]
+fn starts_itself_by_its_path(rt: HostRuntime) -> Result<(), Fail> {
+    let alloc = rt.alloc();
+    let found = own_path(alloc, Ok(PathBuf::from_str(alloc, "/bin/rc")?), 7)?;
+    assert_eq!(rt; found.as_str(), "/bin/rc");
+    let unknown = own_path(alloc, Err(io::Error::from(ErrorKind::NotFound)), 7)?;
+    assert_eq!(rt; unknown.as_str(), "/proc/7/exe");
     Ok(())
 }
 

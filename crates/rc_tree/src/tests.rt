@@ -436,3 +436,18 @@ fn bounds_of_well_formed_trees(rt: HostRuntime) -> Result<(), Fail> {
     }
     Ok(())
 }
+
+#[test]
+fn want_of_memory_is_told(rt: HostRuntime) -> Result<(), Fail> {
+    let alloc = rt.alloc();
+    let args = vec![in alloc; literal(alloc, "it's", true)?, word(alloc, "x")?]?;
+    let redirs = vec![in alloc; open(alloc, Mode::Write, 1)?]?;
+    let made = Cmd::Redirect(redirs, boxed(alloc, Cmd::Simple(args))?);
+    let copy = clone_tree(alloc, &made)?;
+    match print(alloc, &copy) {
+        Ok(text) => assert_eq!(rt; text.as_str(), "'it''s' x > f"),
+        Err(PrintFault::NoMemory) => return Err(Fail::from(AllocError)),
+        Err(PrintFault::HereInside) => assert!(rt; false, "no here document is inside"),
+    }
+    Ok(())
+}
