@@ -4,6 +4,7 @@ use crate::{
     Tape, World, calls,
 };
 use std::alloc::{AllocError, Global};
+use std::process::Abort;
 use std::test::Fail;
 
 const PLAIN: Slots = Slots([Slot::Own(0), Slot::Own(1), Slot::Own(2)]);
@@ -107,5 +108,43 @@ fn a_tape_refuses_what_does_not_fit(rt: HostRuntime) -> Result<(), Fail> {
     assert!(rt; matches!(tape.close(Handle(3)), Err(Fault::Halt)));
     assert_eq!(rt; tape.calls().len(), 7);
     assert!(rt; matches!(tape.calls().last(), Some(Call::Close(Handle(3)))));
+    Ok(())
+}
+
+/// The failure of a test for want of memory, where no more calls than these were made.
+fn refused_after(rt: &impl Abort, tape: &Tape, calls: usize) -> Fail {
+    assert_eq!(rt; tape.calls().len(), calls);
+    Fail::from(AllocError)
+}
+
+#[test]
+fn want_of_memory_leaves_a_call_unmade(rt: HostRuntime) -> Result<(), Fail> {
+    let alloc = rt.alloc();
+    let names = vec![in alloc; String::from_str(alloc, "b")?]?;
+    let answers = vec![in alloc;
+        Answer::Done,
+        Answer::Child(ChildNo(7)),
+        Answer::Names(names),
+        Answer::Found(Kind::Program),
+    ]?;
+    let launch = echo_hello(alloc)?;
+    let mut tape = Tape::new(answers);
+    match tape.write(Slot::Own(1), b"hi".as_slice()) {
+        Err(Fault::NoMemory) => return Err(refused_after(&rt, &tape, 0)),
+        written => assert!(rt; written == Ok(())),
+    }
+    match tape.start(&launch) {
+        Err(Fault::NoMemory) => return Err(refused_after(&rt, &tape, 1)),
+        started => assert!(rt; started == Ok(ChildNo(7))),
+    }
+    match tape.list(".") {
+        Ok(names) => assert_eq!(rt; names.len(), 1),
+        Err(Fault::NoMemory) => return Err(refused_after(&rt, &tape, 2)),
+        Err(_) => assert!(rt; false, "no names"),
+    }
+    match calls::probe(&mut tape, "/bin/echo") {
+        Err(Stop::NoMemory) => return Err(refused_after(&rt, &tape, 3)),
+        found => assert!(rt; found == Ok(Some(Kind::Program))),
+    }
     Ok(())
 }
