@@ -209,10 +209,14 @@ fn other_forms_are_not_yet(rt: HostRuntime) -> Result<(), Fail> {
     }
     check(
         &rt,
-        b"echo hello; a | b",
+        b"'echo' hi; echo $x",
         [FOUND, CHILD, ENDED, Answer::Done],
         100,
-        format!(in rt.alloc(); "{ECHO_HELLO}write 2 \"rc: not yet\\n\"\n")?.as_str(),
+        r#"probe /bin/echo
+start /bin/echo ["hi"] ["path=/bin", "status="] 0 1 2
+wait 7
+write 2 "rc: not yet\n"
+"#,
         "ended, error",
     )
 }
