@@ -1,5 +1,5 @@
 -- The tree of a script, and what the laws say of it.
-use Rattle.std.proofs.Common.{◌≡◌, ℕ, ◌<◌, ◌≤◌, Bool, true, false, List, [], ◌∷◌, length, Result, Ok, Err, IfOk, ◌⊎◌, inl, inr, refl, sym, ap, subst, ◌∙◌, arith, if◌then◌else◌}
+use Rattle.std.proofs.Common.{◌≡◌, ℕ, ◌<◌, ◌≤◌, true, false, List, [], ◌∷◌, length, Result, Ok, Err, IfOk, ◌⊎◌, inl, inr, refl, ap, subst, ◌∙◌, arith}
 use Rattle.rc_model.specs.Tokens as model
 use Rattle.rc_model.specs.Tree.{Node, Many}
 use Rattle.rc_model.specs.Tree as t

@@ -1,12 +1,12 @@
 -- One turn of a loop of the descent.
-use Rattle.std.proofs.Common.{◌≡◌, ℕ, zero, suc, ◌+◌, ◌-◌, ◌<◌, ◌≤◌, Bool, true, false, not, ◌&&◌, if◌then◌else◌, List, [], ◌∷◌, ◌++◌, length, Option, Result, Ok, Err, refl, sym, ap, ◌∙◌, arith, nat_lt}
+use Rattle.std.proofs.Common.{◌≡◌, ℕ, suc, ◌+◌, ◌-◌, ◌<◌, ◌≤◌, Bool, true, false, if◌then◌else◌, List, [], ◌∷◌, length, Ok, Err, refl, ap, arith, nat_lt}
 use Rattle.std.proofs.lemmas.List.{length-map}
 use Rattle.std.proofs.lemmas.Bool.{lt-ltb, le-ltb}
 use Rattle.std.proofs.lemmas.Grind.{common_steps}
 use Rattle.rc_model.specs.Tokens as model
 use Rattle.rc_model.specs.Tree.{Node, Many, none, more, count, nodes, snoc}
 use Rattle.rc_model.specs.Tree as t
-use Rattle.rc_model.specs.Grammar.{begins_arg, begins_redir, begins_command, begins_bar, past_blanks, past_newlines, past_caret, after_caret, ends, is_if}
+use Rattle.rc_model.specs.Grammar.{begins_arg, begins_redir, begins_command, past_blanks, past_newlines, after_caret, ends}
 use Rattle.rc_model.specs.Descent as d
 use Rattle.rc_model.specs.Descent.{Reader, Readers, Read, ◌>>=◌}
 use Rattle.rc_tree.specs.View.{nodes_push}

@@ -1,8 +1,6 @@
 -- What the reading functions answer.
-use Rattle.std.specs.Prelude.{◌≡◌, ℕ, List, Result, Ok, Err}
+use Rattle.std.specs.Prelude.{◌≡◌, ℕ, Result, Ok, Err}
 use Rattle.rc_model.specs.Descent as d
-use Rattle.rc_model.specs.Tree.{Node}
-use Rattle.rc_model.specs.Tree as t
 use Rattle.rc_tree.specs.View.{cmd_tree, arg_tree}
 use Rattle.rc_descent.specs.declared.refusal.Fault.{Fault}
 use Rattle.rc_descent.specs.declared.refusal.Fault.TheVariants as f

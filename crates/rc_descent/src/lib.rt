@@ -10,20 +10,10 @@ ghost use Rattle.rc_tree.specs.View.{cmd_tree};
 ghost use Rattle.rc_descent.specs.Lexemes.{lexemes_of};
 ghost use Rattle.rc_descent.specs.Reading.{Gives, HasFault};
 
-#[cfg(test)]
-mod documents;
 mod here;
 mod lexeme;
-#[cfg(test)]
-mod limits;
-#[cfg(test)]
-mod placement;
 mod read;
 mod refusal;
-#[cfg(test)]
-mod spelled;
-#[cfg(test)]
-mod tests;
 
 pub use lexeme::Lexeme;
 use rc_tree::{Cmd, well_formed};

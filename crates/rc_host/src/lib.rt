@@ -5,7 +5,5 @@ mod command;
 mod fault;
 mod host;
 mod table;
-#[cfg(test)]
-mod tests;
 
 pub use host::HostWorld;

@@ -11,8 +11,6 @@ ghost use Rattle.rc_lexer.specs.Machine.{place_of};
 
 mod machine;
 mod operators;
-#[cfg(test)]
-mod tests;
 
 use machine::{Before, Head, Lexer, Place, State, fault};
 use operators::class_of;

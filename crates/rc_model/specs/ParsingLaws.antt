@@ -9,7 +9,7 @@ use Rattle.rc_model.specs.Printing.{has_here, printed}
 use Rattle.rc_model.specs.Accepted.{lexemes, longest_script}
 use Rattle.rc_model.specs.Accepted as script
 use Rattle.rc_model.specs.Grammar.{IsScript, IsAccepted}
-use Rattle.rc_model.specs.Descent.{Fault, Unexpected, IfNot, TooDeep, TooManyStages, script_tree}
+use Rattle.rc_model.specs.Descent.{Unexpected, IfNot, TooDeep, TooManyStages, script_tree}
 
 -- what is found is the tree of an accepted script
 abbrev pub FindsOnlyTrees : Type 0

@@ -10,8 +10,6 @@ ghost use Rattle.rc_tree.specs.View.{cmd_tree};
 
 mod fault;
 mod lexemes;
-#[cfg(test)]
-mod tests;
 mod text;
 
 pub use fault::{FaultKind, ParseError, SyntaxFault};

@@ -1,5 +1,5 @@
 -- What was told of a run, from what the shell says of it.
-use Rattle.std.proofs.Common.{◌≡◌, ℕ, ◌^◌, List, Option, Ok, Err, refl, sym, subst}
+use Rattle.std.proofs.Common.{◌≡◌, ℕ, ◌^◌, List, Option, Ok, Err, subst}
 use Rattle.rc_model.specs.Accepted.{IsAccepted, IsRefused}
 use Rattle.rc_model.specs.Calls.{Event}
 use Rattle.rc_model.specs.Faults as model

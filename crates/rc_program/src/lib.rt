@@ -6,8 +6,6 @@ mod process;
 mod reading;
 mod running;
 mod status;
-#[cfg(test)]
-mod tests;
 
 pub use fault::RunFault;
 pub use process::{own_path, report, words};

@@ -7,7 +7,7 @@ mod dump;
 use anyhow::{Result, anyhow};
 use dump::dump;
 use rc_parser::{ParseError, parse};
-use rc_tree::{Cmd, PrintFault, print};
+use rc_tree::{Cmd, PrintFault, clone_tree, print};
 use std::alloc::{AllocError, Global};
 use std::fs;
 use std::rt::Runtime;
@@ -68,11 +68,12 @@ fn fault(alloc: Global, script: &str) -> Result<String> {
     }
 }
 
+/// The text of a copy of the tree.
 fn text(alloc: Global, script: &str) -> Result<String> {
     let Some(tree) = tree(alloc, script)? else {
         return Ok(String::from_str(alloc, "refused")?);
     };
-    match print(alloc, &tree) {
+    match print(alloc, &clone_tree(alloc, &tree)?) {
         Ok(text) => Ok(text),
         Err(PrintFault::HereInside) => Ok(String::from_str(alloc, "a here document is inside")?),
         Err(PrintFault::NoMemory) => Err(anyhow!("no memory")),

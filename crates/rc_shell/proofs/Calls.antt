@@ -1,13 +1,12 @@
 -- Plans that begin with a call.
-use Rattle.std.proofs.Common.{◌≡◌, refl, sym, ap, subst, ℕ, List, [], ◌∷◌, Option, Result, Ok, Err}
+use Rattle.std.proofs.Common.{◌≡◌, sym, subst, ℕ, List, Option, Result, Ok, Err}
 use Rattle.rc_model.specs.Shell.{Result as Ended, Next, under}
 use Rattle.rc_model.specs.State.{State}
 use Rattle.rc_world.proofs.Shells.{ran_next, left_next}
 use Rattle.rc_model.specs.Calls.{Call, Answer, Event}
-use Rattle.rc_model.specs.Plans.{Plan, done_with, ask, cut, asks, and_then, Goes, Ran}
+use Rattle.rc_model.specs.Plans.{Plan, done_with, ask, asks, Ran}
 use Rattle.rc_world.specs.Comes.{Comes, Left}
 use Rattle.rc_world.specs.declared.types.Stop.{Stop}
-use Rattle.rc_world.specs.declared.types.Stop.TheVariants.{NoMemory, Halt}
 use Rattle.rc_world.proofs.Joins.{ran_bind, left_bind, left_after}
 
 -- the call was answered, as it is seen, and what follows went on

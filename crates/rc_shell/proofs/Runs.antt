@@ -1,8 +1,8 @@
 -- Runs of the machine, instruction by instruction.
-use Rattle.std.proofs.Common.{◌≡◌, ℕ, suc, ◌+◌, ◌-◌, ◌<◌, List, [], ◌∷◌, ◌++◌, Option, refl, sym, ap, ◌∙◌, subst, arith}
+use Rattle.std.proofs.Common.{◌≡◌, ℕ, suc, ◌+◌, ◌-◌, ◌<◌, List, [], ◌∷◌, ◌++◌, Option, refl, ap, ◌∙◌, subst, arith}
 use Rattle.rc_model.specs.Calls.{Event, refused, Halt as halt, event, plain}
-use Rattle.rc_model.specs.Machine.{Config, Final, Ended, Stuck, Step, On, Over, step, after, exec, begin}
-use Rattle.rc_model.specs.Plans.{Plan, done_with, ask, cut, and_then, calls_made, Goes, Ran, Halted}
+use Rattle.rc_model.specs.Machine.{Config, Final, Ended, Stuck, On, Over, step, after, exec, begin}
+use Rattle.rc_model.specs.Plans.{Plan, done_with, cut, calls_made, Goes, Ran, Halted}
 use Rattle.rc_model.specs.Layout.{Code, code}
 use Rattle.rc_model.specs.Script.{Told, EndsAsMeant, HaltsAsMeant, IsBegunAsMeant, StopsAtLimit, script}
 use Rattle.rc_model.specs.State.{State}

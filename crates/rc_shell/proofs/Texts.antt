@@ -1,7 +1,7 @@
 -- Texts that are joined.
-use Rattle.std.proofs.Common.{◌≡◌, ℕ, List, [], ◌∷◌, ◌++◌, map, refl, sym, ap, ◌∙◌, string_bytes, length, arith}
+use Rattle.std.proofs.Common.{◌≡◌, List, [], ◌∷◌, ◌++◌, map, refl, ap, string_bytes, length, arith}
 use Rattle.std.proofs.lemmas.List.{append-nil}
-use Rattle.std.specs.List.{flat_map, join_with_byte}
+use Rattle.std.specs.List.{flat_map}
 use Rattle.std.specs.declared.alloc.Global.{Global}
 use Rattle.std.specs.declared.string.String.{String}
 use Rattle.rc_model.specs.Text.{spaced}

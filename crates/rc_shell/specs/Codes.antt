@@ -1,8 +1,7 @@
 -- The code that a `Code` stands for.
-use Rattle.std.specs.Prelude.{◌≡◌, ℕ, ◌+◌, List, [], ◌∷◌, ◌++◌, map, length, string_bytes, Bool, true, false, if◌then◌else◌, refl}
+use Rattle.std.specs.Prelude.{List, [], map, string_bytes}
 use Rattle.std.proofs.lemmas.Grind.{common_steps}
 use Rattle.rc_model.specs.Layout as model
-use Rattle.rc_model.specs.Tree.{Node, Many, none, more, cmd, arg, item, Item}
 use Rattle.rc_tree.specs.View.{tree_nodes}
 use Rattle.rc_shell.specs.declared.code.Op.{Op}
 use Rattle.rc_shell.specs.declared.code.Op.TheVariants as op

@@ -6,7 +6,6 @@ use Rattle.rc_model.specs.Script.{Told, EndsAsMeant, HaltsAsMeant, IsBegunAsMean
 use Rattle.rc_model.specs.State as model
 use Rattle.rc_model.specs.Tree.{Node, cmd}
 use Rattle.rc_shell.specs.States.{state_of}
-use Rattle.rc_parser.specs.Faults.{fault_of}
 use Rattle.rc_parser.specs.declared.fault.SyntaxFault.{SyntaxFault}
 use Rattle.rc_shell.specs.declared.script.Ran.{Ran}
 use Rattle.rc_shell.specs.declared.script.Ran.TheVariants.{Ended, Limit, Halted}

@@ -9,8 +9,6 @@ mod programs;
 mod script;
 mod simple;
 mod state;
-#[cfg(test)]
-mod tests;
 mod word;
 
 pub use rc_parser::{FaultKind, SyntaxFault};

@@ -6,9 +6,6 @@ ghost use Rattle.std.specs.Char.{encode_utf8};
 ghost use Rattle.std.specs.Str.{IsUtf8, chars};
 ghost use Rattle.rc_model.specs.Tokens.{quoted_text, unquoted_text};
 
-#[cfg(test)]
-mod tests;
-
 use std::alloc::{AllocError, Global};
 
 /// The first character of the text, and what follows it.

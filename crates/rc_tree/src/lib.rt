@@ -101,5 +101,3 @@ pub enum Piece {
     Name(String),
 }
 
-#[cfg(test)]
-mod tests;

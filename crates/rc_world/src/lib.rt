@@ -3,8 +3,6 @@
 
 pub mod calls;
 pub mod tape;
-#[cfg(test)]
-mod tests;
 pub mod types;
 pub mod world;
 

@@ -1,5 +1,4 @@
 use Rattle.std.proofs.Common.{◌≡◌, true, false, sym, subst, ◌∙◌}
-use Rattle.rc_model.specs.Tree as t
 use Rattle.rc_model.specs.WellFormed.{well_formed}
 use Rattle.rc_tree.specs.View.{items_tree, tree_Seq}
 use Rattle.rc_descent.proofs.Scripts.{script_fits, script_unfit}

@@ -1,7 +1,7 @@
-use Rattle.std.proofs.Common.{rules, ◌≡◌, [], ◌∷◌, ◌++◌, ◌∙◌}
-use Rattle.std.specs.Prelude.{codes, Bool}
+use Rattle.std.proofs.Common.{◌≡◌, [], ◌∷◌, ◌++◌, ◌∙◌}
+use Rattle.std.specs.Prelude.{codes}
 use Rattle.rc_model.specs.Calls.{write, as_done}
-use Rattle.rc_model.specs.Plans.{Plan, done_with}
+use Rattle.rc_model.specs.Plans.{done_with}
 use Rattle.rc_model.specs.Shell.{Next}
 use Rattle.rc_world.specs.Views.{slots_of}
 use Rattle.rc_world.specs.declared.types.Stop.TheVariants.{NoMemory}

@@ -1,4 +1,4 @@
-use Rattle.std.proofs.Common.{rules, ◌≡◌, map, string_bytes, option_map}
+use Rattle.std.proofs.Common.{map, string_bytes}
 use Rattle.rc_model.specs.Acts.{launch_of, wait_started}
 use Rattle.rc_model.specs.Calls.{start, as_child}
 use Rattle.rc_world.specs.Views.{slots_of}

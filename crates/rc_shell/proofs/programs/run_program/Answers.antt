@@ -1,4 +1,4 @@
-use Rattle.std.proofs.Common.{rules, ◌≡◌, map, string_bytes, option_map}
+use Rattle.std.proofs.Common.{map, string_bytes}
 use Rattle.rc_model.specs.Acts.{find_program, run_found}
 use Rattle.rc_model.specs.Shell.{leaves}
 use Rattle.rc_world.specs.Views.{slots_of}

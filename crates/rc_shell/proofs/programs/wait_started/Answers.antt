@@ -1,7 +1,7 @@
-use Rattle.std.proofs.Common.{rules, ◌≡◌, ◌∙◌, ap, sym, Some, option_map}
-use Rattle.rc_model.specs.Acts.{ending_status, wait_started}
+use Rattle.std.proofs.Common.{rules, ◌≡◌, option_map}
+use Rattle.rc_model.specs.Acts.{ending_status}
 use Rattle.rc_model.specs.Calls.{wait, as_ending}
-use Rattle.rc_model.specs.Plans.{Ran, done_with}
+use Rattle.rc_model.specs.Plans.{done_with}
 use Rattle.rc_model.specs.Shell.{Next}
 use Rattle.rc_model.specs.State.{with_status}
 use Rattle.rc_world.specs.Views.{ending_of}

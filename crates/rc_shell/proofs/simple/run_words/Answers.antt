@@ -1,8 +1,8 @@
-use Rattle.std.proofs.Common.{rules, ◌≡◌, true, false, [], ◌∷◌, length, map, string_bytes, ap, sym, ◌∙◌}
+use Rattle.std.proofs.Common.{rules, ◌≡◌, true, false, length, map, string_bytes, ap, ◌∙◌}
 use Rattle.std.specs.List.{list_any}
 use Rattle.std.specs.Prelude.{codes}
 use Rattle.std.specs.Str.{bytes_eq}
-use Rattle.rc_model.specs.Acts.{builtin_names, fault, not_yet, run_program, run_words}
+use Rattle.rc_model.specs.Acts.{builtin_names, fault, run_words}
 use Rattle.rc_model.specs.Shell.{exits, leaves}
 use Rattle.rc_world.specs.Views.{slots_of}
 use Rattle.rc_world.proofs.Joins.{passed_up, ran_none}

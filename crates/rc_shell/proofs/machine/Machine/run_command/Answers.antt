@@ -1,4 +1,4 @@
-use Rattle.std.proofs.Common.{rules, ◌≡◌, [], ◌∷◌, ◌++◌, map, string_bytes, sym, ap, ◌∙◌, List, ℕ}
+use Rattle.std.proofs.Common.{rules, ◌≡◌, [], ◌∷◌, ◌++◌, map, string_bytes, ap, ◌∙◌, List, ℕ}
 use Rattle.std.specs.Prelude.{Bool}
 use Rattle.rc_model.specs.Acts.{run_words}
 use Rattle.rc_model.specs.Calls.{plain}

@@ -1,5 +1,5 @@
 //! Runs on Linux.
-use super::HostWorld;
+use rc_host::HostWorld;
 use rc_world::{ChildNo, Ending, Fault, Handle, Kind, Launch, Mode, Program, Slot, Slots, World};
 use std::alloc::{AllocError, Global};
 use std::test::Fail;

@@ -1,14 +1,13 @@
 //! What no clause says: that these scripts have these tokens and faults.
 
-use crate::{FaultKind, LexError, LexFault, lex};
-use std::alloc::Global;
+use rc_lexer::{LexError, Token, lex};
+use std::alloc::{AllocError, Global};
 use std::process::Abort;
 use std::test::Fail;
 
-fn shown(alloc: Global, script: &str) -> Result<String, LexError> {
-    let tokens = lex(alloc, script)?;
+fn written(alloc: Global, tokens: &[Token]) -> Result<String, AllocError> {
     let mut out = String::new(alloc);
-    for t in &tokens {
+    for t in tokens {
         if !out.is_empty() {
             out.push(' ')?;
         }
@@ -20,18 +19,20 @@ fn shown(alloc: Global, script: &str) -> Result<String, LexError> {
     Ok(out)
 }
 
-fn tokens(rt: &impl Abort, alloc: Global, cases: &[(&str, &str)]) -> Result<(), LexError> {
+/// The tokens of the script, or its first fault.
+fn shown(alloc: Global, script: &str) -> Result<String, LexError> {
+    match lex(alloc, script) {
+        Ok(tokens) => Ok(written(alloc, &tokens)?),
+        Err(LexError::Fault(fault)) => { Ok(format!(in alloc; "{:?}/{}", fault.kind, fault.line)?) }
+        Err(LexError::NoMemory) => Err(LexError::NoMemory),
+    }
+}
+
+fn check(rt: &impl Abort, alloc: Global, cases: &[(&str, &str)]) -> Result<(), LexError> {
     for (script, want) in cases {
         assert_eq!(rt; shown(alloc, script)?.as_str(), *want, "{script}");
     }
     Ok(())
-}
-
-fn faults(rt: &impl Abort, alloc: Global, script: &str, kind: FaultKind, line: usize) {
-    match lex(alloc, script) {
-        Err(LexError::Fault(fault)) => assert_eq!(rt; fault, LexFault { kind, line }, "{script}"),
-        _ => assert!(rt; false, "{script}"),
-    }
 }
 
 #[test]
@@ -48,7 +49,7 @@ fn words_and_comments(rt: HostRuntime) -> Result<(), Fail> {
         ("'a\nb' c", "Quoted@0..5 Word@6..7/2"),
         ("'a'(", "Quoted@0..3 LeftParen@3..4"),
     ];
-    tokens(&rt, rt.alloc(), &cases)?;
+    check(&rt, rt.alloc(), &cases)?;
     Ok(())
 }
 
@@ -64,7 +65,7 @@ fn names_and_subscripts(rt: HostRuntime) -> Result<(), Fail> {
         ("$'x'(", "Dollar@0..1 Quoted@1..4 Subscript@4..5"),
         ("$$#x", "BareDollar@0..1 DollarCount@1..3 Name@3..4"),
     ];
-    tokens(&rt, rt.alloc(), &cases)?;
+    check(&rt, rt.alloc(), &cases)?;
     Ok(())
 }
 
@@ -102,7 +103,7 @@ fn free_carets(rt: HostRuntime) -> Result<(), Fail> {
         ),
         ("é$é", "Word@0..2 FreeCaret@2..2 BareDollar@2..3 Word@3..5"),
     ];
-    tokens(&rt, rt.alloc(), &cases)?;
+    check(&rt, rt.alloc(), &cases)?;
     Ok(())
 }
 
@@ -121,7 +122,7 @@ fn keywords_are_words(rt: HostRuntime) -> Result<(), Fail> {
             "Word@0..3 LeftParen@3..4 Word@4..6 Word@7..9 Word@10..12 RightParen@12..13",
         ),
     ];
-    tokens(&rt, rt.alloc(), &cases)?;
+    check(&rt, rt.alloc(), &cases)?;
     Ok(())
 }
 
@@ -148,7 +149,7 @@ fn operators(rt: HostRuntime) -> Result<(), Fail> {
         ("&&&", "AndAnd@0..2 Ampersand@2..3"),
         ("||[1]", "OrOr@0..2 Word@2..5"),
     ];
-    tokens(&rt, rt.alloc(), &cases)?;
+    check(&rt, rt.alloc(), &cases)?;
     Ok(())
 }
 
@@ -183,36 +184,39 @@ fn here_documents(rt: HostRuntime) -> Result<(), Fail> {
         ("<<<", "BareHere@0..2 Input@2..3"),
         ("<<", "BareHere@0..2"),
     ];
-    tokens(&rt, rt.alloc(), &cases)?;
+    check(&rt, rt.alloc(), &cases)?;
     Ok(())
 }
 
 #[test]
-fn first_faults(rt: HostRuntime) {
-    let alloc = rt.alloc();
-    faults(&rt, alloc, "echo 'a", FaultKind::OpenQuote, 1);
-    faults(&rt, alloc, "a\n'b\nc", FaultKind::OpenQuote, 2);
-    faults(&rt, alloc, "a >[3]f", FaultKind::BadDescriptor, 1);
-    faults(&rt, alloc, "\n\n>[2=]", FaultKind::BadDescriptor, 3);
-    faults(&rt, alloc, "|[a]", FaultKind::BadDescriptor, 1);
-    faults(&rt, alloc, "<[1]", FaultKind::BadDescriptor, 1);
-    faults(&rt, alloc, ">[", FaultKind::BadDescriptor, 1);
-    faults(&rt, alloc, ">>[1=2]", FaultKind::BadDescriptor, 1);
-    faults(&rt, alloc, "c <<[1]E\nE\n", FaultKind::BadDescriptor, 1);
-    faults(&rt, alloc, "c <<E", FaultKind::OpenHere, 1);
-    faults(&rt, alloc, "x\nc <<E\n'", FaultKind::OpenHere, 2);
-    faults(&rt, alloc, "c <<A <<'\n' <<B\nA\n", FaultKind::OpenHere, 1);
-    faults(&rt, alloc, "c <<A\nA\nd <<B\n", FaultKind::OpenHere, 3);
-    faults(&rt, alloc, "c <<''\nx\n", FaultKind::OpenHere, 1);
-    faults(&rt, alloc, ">[3] 'a", FaultKind::BadDescriptor, 1);
-    faults(&rt, alloc, "c <<E\n>[3]\nE\n'a", FaultKind::OpenQuote, 4);
-    faults(&rt, alloc, "c <<E >[3]", FaultKind::BadDescriptor, 1);
-    faults(&rt, alloc, "c <<E 'a", FaultKind::OpenQuote, 1);
-    faults(&rt, alloc, "'a\nb' >[3]\n'c", FaultKind::BadDescriptor, 2);
-    faults(&rt, alloc, "\n'a\n>[3]", FaultKind::OpenQuote, 2);
-    faults(&rt, alloc, "\0", FaultKind::ZeroByte, 1);
-    faults(&rt, alloc, "'a\n\0", FaultKind::ZeroByte, 2);
-    faults(&rt, alloc, ">[3]\nc <<E\n\0", FaultKind::ZeroByte, 3);
+fn first_faults(rt: HostRuntime) -> Result<(), Fail> {
+    let cases = [
+        ("echo 'a", "OpenQuote/1"),
+        ("a\n'b\nc", "OpenQuote/2"),
+        ("a >[3]f", "BadDescriptor/1"),
+        ("\n\n>[2=]", "BadDescriptor/3"),
+        ("|[a]", "BadDescriptor/1"),
+        ("<[1]", "BadDescriptor/1"),
+        (">[", "BadDescriptor/1"),
+        (">>[1=2]", "BadDescriptor/1"),
+        ("c <<[1]E\nE\n", "BadDescriptor/1"),
+        ("c <<E", "OpenHere/1"),
+        ("x\nc <<E\n'", "OpenHere/2"),
+        ("c <<A <<'\n' <<B\nA\n", "OpenHere/1"),
+        ("c <<A\nA\nd <<B\n", "OpenHere/3"),
+        ("c <<''\nx\n", "OpenHere/1"),
+        (">[3] 'a", "BadDescriptor/1"),
+        ("c <<E\n>[3]\nE\n'a", "OpenQuote/4"),
+        ("c <<E >[3]", "BadDescriptor/1"),
+        ("c <<E 'a", "OpenQuote/1"),
+        ("'a\nb' >[3]\n'c", "BadDescriptor/2"),
+        ("\n'a\n>[3]", "OpenQuote/2"),
+        ("\0", "ZeroByte/1"),
+        ("'a\n\0", "ZeroByte/2"),
+        (">[3]\nc <<E\n\0", "ZeroByte/3"),
+    ];
+    check(&rt, rt.alloc(), &cases)?;
+    Ok(())
 }
 
 #[test]

@@ -1,5 +1,5 @@
 //! Each call once with ample memory, and what a tape makes of its answers.
-use crate::{
+use rc_world::{
     Answer, Call, ChildNo, Ending, Fault, Handle, Kind, Launch, Mode, Program, Slot, Slots, Stop,
     Tape, World, calls,
 };

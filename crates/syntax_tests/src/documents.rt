@@ -1,6 +1,6 @@
 //! The pieces of here documents.
 
-use crate::{Lexeme, script};
+use rc_descent::{Lexeme, script};
 use rc_tree::{Cmd, Piece, Redir};
 use std::alloc::{AllocError, Global};
 use std::test::Fail;

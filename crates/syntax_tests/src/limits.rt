@@ -1,7 +1,7 @@
 //! How deep a tree may be, and how many stages a pipeline may have.
 
 use crate::spelled::add;
-use crate::{Fault, Refusal, script};
+use rc_descent::{Fault, Refusal, script};
 use rc_tree::Cmd;
 use std::alloc::{AllocError, Global};
 use std::process::Abort;

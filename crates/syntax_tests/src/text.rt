@@ -1,5 +1,5 @@
 //! Texts and their quotes.
-use super::{first_char, quote};
+use rc_text::{first_char, quote};
 use std::test::Fail;
 
 #[test]

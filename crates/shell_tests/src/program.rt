@@ -1,6 +1,6 @@
 //! Runs over a tape.
-use super::{RunFault, own_path, process_status, run_rc};
 use rc_parser::{FaultKind, SyntaxFault};
+use rc_program::{RunFault, own_path, process_status, run_rc};
 use rc_world::{Answer, Call, ChildNo, Ending, Kind, Program, Slot, Slots, Tape};
 use std::alloc::{AllocError, Global};
 use std::io;

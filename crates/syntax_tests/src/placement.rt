@@ -1,7 +1,7 @@
 //! Where an `if not` may stand.
 
 use crate::spelled::read;
-use crate::{Fault, Refusal};
+use rc_descent::{Fault, Refusal};
 use std::test::Fail;
 
 #[test]

@@ -1,6 +1,6 @@
 //! Lexemes for tests, each by its spelling.
 
-use crate::{Lexeme, Refusal, script};
+use rc_descent::{Lexeme, Refusal, script};
 use rc_tree::{Cmd, Mode};
 use std::alloc::{AllocError, Global};
 

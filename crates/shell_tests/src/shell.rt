@@ -1,6 +1,6 @@
 //! Scripts over a tape: what they ask of the world, and how they end.
 
-use crate::{Ran, SetError, ShellFault, State, execute};
+use rc_shell::{Ran, SetError, ShellFault, State, execute};
 use rc_world::{Answer, Call, ChildNo, Ending, Fault, Kind, Launch, Program, Slot, Slots, Tape};
 use std::alloc::{AllocError, Global};
 use std::process::Abort;
