@@ -22,3 +22,4 @@ pub mod Descent
 pub mod Spelling
 pub mod Accepted
 pub mod ParsingLaws
+pub mod TreeOfText

@@ -100,4 +100,3 @@ pub enum Piece {
     Text(String),
     Name(String),
 }
-
