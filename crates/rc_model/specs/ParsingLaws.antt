@@ -6,7 +6,8 @@ use Rattle.rc_model.specs.Tree.{Node}
 use Rattle.rc_model.specs.Tree as t
 use Rattle.rc_model.specs.WellFormed.{depth, most_stages, is_sound, well_formed}
 use Rattle.rc_model.specs.Printing.{has_here, printed}
-use Rattle.rc_model.specs.Accepted.{lexemes, longest_script}
+use Rattle.rc_model.specs.Faults.{SyntaxFault}
+use Rattle.rc_model.specs.Accepted.{lexemes, longest_script, IsRefused}
 use Rattle.rc_model.specs.Accepted as script
 use Rattle.rc_model.specs.Grammar.{IsScript, IsAccepted}
 use Rattle.rc_model.specs.Descent.{Unexpected, IfNot, TooDeep, TooManyStages, script_tree}
@@ -44,3 +45,11 @@ HasSoundTrees = (ts : List Lexeme) (tree : Node t.cmd) → AreSpelled ts → IsS
 abbrev pub RoundTrip : Type 0
 RoundTrip = (text : List ℕ) (tokens : List Token) (tree : Node t.cmd) → IsUtf8 text → Lexes text (Ok tokens) → IsScript (lexemes tokens) tree →
     well_formed tree ≡ true → has_here tree ≡ false → length (printed tree) ≤ longest_script → script.IsAccepted (printed tree) tree
+
+-- each script is accepted or refused
+abbrev pub IsDecided : Type 0
+IsDecided = (text : List ℕ) → ((tree : Node t.cmd) × script.IsAccepted text tree) ⊎ ((fault : SyntaxFault) × IsRefused text fault)
+
+-- and never both
+abbrev pub IsNeverBoth : Type 0
+IsNeverBoth = (text : List ℕ) (fault : SyntaxFault) (tree : Node t.cmd) → IsRefused text fault → script.IsAccepted text tree → ⊥

@@ -5,6 +5,7 @@ use Rattle.std.specs.Str.{bytes_eq}
 use Rattle.std.specs.Map.{lookup, remove_entry}
 use Rattle.std.specs.BTreeMap.{insert_entry}
 use Rattle.rc_model.specs.Text.{text_cmp, spaced}
+use Rattle.rc_model.specs.Tokens.{is_name_char}
 use Rattle.rc_model.specs.Tree.{Node, cmd}
 
 -- the state of a shell
@@ -49,10 +50,6 @@ value_of s name = if bytes_eq name status_name then s.status ∷ [] else visible
 -- a decimal digit
 abbrev pub is_digit : ℕ → Bool
 is_digit c = nat_le 48 c && nat_le c 57
-
--- letters, digits, `_` and `*`
-abbrev pub is_name_char : ℕ → Bool
-is_name_char c = is_digit c || ((nat_le 65 c && nat_le c 90) || (nat_le 97 c && nat_le c 122)) || (c == 95) || (c == 42)
 
 -- the name of a variable: not empty, and not all digits
 abbrev pub is_name : List ℕ → Bool

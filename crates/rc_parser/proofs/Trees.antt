@@ -1,23 +1,17 @@
 -- What the laws say of the trees of a script.
-use Rattle.std.proofs.Common.{◌≡◌, ℕ, ◌<◌, ◌≤◌, true, false, List, Result, Ok, Err, length, ◌⊎◌, inl, inr, refl, sym, ap, subst, ◌∙◌, arith}
-use Rattle.std.proofs.lemmas.Bool.{leb-true}
-use Rattle.std.proofs.lemmas.Str.{IsUtf8-from_is_utf8, is_utf8-from_IsUtf8}
+use Rattle.std.proofs.Common.{◌≡◌, ℕ, ◌<◌, ◌≤◌, true, false, List, Result, Ok, Err, length, ◌⊎◌, inl, inr, refl, sym, ap, subst, ◌∙◌}
+use Rattle.std.proofs.lemmas.Str.{is_utf8-from_IsUtf8}
 use Rattle.std.specs.Str.{IsUtf8, is_utf8}
-use Rattle.std.specs.Prelude.{nat_le}
 use Rattle.rc_model.specs.Tokens.{Token, Lexes}
 use Rattle.rc_model.specs.Tokens as t
 use Rattle.rc_model.specs.Tree.{Node, cmd}
 use Rattle.rc_model.specs.WellFormed.{depth, most_stages, is_sound}
-use Rattle.rc_model.specs.Spelling.{AreSpelled}
 use Rattle.rc_model.specs.Faults as model
 use Rattle.rc_model.specs.Accepted.{HasTokens, IsAccepted, IsRefused, lexemes, longest_script}
 use Rattle.rc_model.specs.Accepted as script
 use Rattle.rc_model.specs.Grammar.{IsScript}
 use Rattle.rc_model.specs.Grammar as grammar
-use Rattle.rc_grammar_laws.proofs.Narrow.{and_second, formed_narrow}
-use Rattle.rc_grammar_laws.proofs.Sound.{has_sound_trees}
-use Rattle.rc_syntax_laws.proofs.Lexing.{one_reading, one_cut}
-use Rattle.rc_syntax_laws.proofs.Spelled.{spelled_tokens}
+use Rattle.rc_text_laws.proofs.Decided.{are_spelled, same_tokens, deep}
 use Rattle.rc_lexer.specs.declared.Token as lexer
 use Rattle.rc_lexer.specs.Views.{tokens_of}
 use Rattle.rc_descent.specs.declared.refusal.Fault.{Fault}
@@ -42,14 +36,6 @@ pub has_fault : (bytes text : List ℕ) (fault : t.LexFault) (f : model.SyntaxFa
     f ≡ script.of_tokens fault → IsRefused bytes f
 has_fault bytes text fault f e short utf8 read is =
     subst (IsRefused bytes) (sym is) (script.no_tokens fault short (subst (λ z. is_utf8 z ≡ true) e (is_utf8-from_IsUtf8 text utf8)) (subst (λ z. Lexes z (Err fault)) e read))
-
--- the tokens of a script are spelled as the language has it
-pub are_spelled : {text : List ℕ} {tokens : List Token} → HasTokens text tokens → AreSpelled (lexemes tokens)
-are_spelled {text = text} {tokens = tokens} h = spelled_tokens text tokens (IsUtf8-from_is_utf8 text h.text) h.cut
-
--- a script has no other tokens
-same_tokens : {text : List ℕ} {xs ys : List Token} → HasTokens text xs → HasTokens text ys → xs ≡ ys
-same_tokens h k = one_cut h.cut k.cut
 
 -- the tree of a script's tokens is the script's tree, and its only one
 pub is_accepted : (text : List ℕ) (tokens : List Token) (ts : List t.Lexeme) (tree : Node cmd) → HasTokens text tokens → ts ≡ lexemes tokens → grammar.IsAccepted ts tree → IsAccepted text tree
@@ -78,14 +64,6 @@ says o ts fault left e none stages levels = record { none = λ h. none (either h
     either (inl h) = inl (at h)
     either (inr h) = inr (at h)
 
--- a tree of spelled lexemes isn't unsound while its pipelines are short
-deep : (ts : List t.Lexeme) (tree : Node cmd) → AreSpelled ts → IsScript ts tree → (200 < depth tree) ⊎ ((is_sound tree ≡ false) × (most_stages tree ≤ 64)) → 200 < depth tree
-deep ts tree spelled s (inl h) = h
-deep ts tree spelled s (inr h) = let e = has_sound_trees ts tree spelled s h.1 in absurd (differ (sym e ∙ h.0))
-  where
-    differ : true ≡ false → ⊥
-    differ k = cc
-
 -- a fault of the descent is the script's
 pub is_refused : (text : List ℕ) (tokens : List Token) (ts : List t.Lexeme) (fault : Fault) (f : SyntaxFault) → HasTokens text tokens → ts ≡ lexemes tokens → Says ts fault →
     IsPlaced text tokens fault f → IsRefused text (fault_of f)
@@ -98,29 +76,3 @@ is_refused text tokens ts descent.TooDeep f h e says p =
     (λ tree s. deep (lexemes tokens) tree (are_spelled h) s (says.levels refl tree (subst (λ z. IsScript z tree) (sym e) s))))
 is_refused text tokens ts descent.TooManyStages f h e says p =
     subst (IsRefused text) (sym p.0) (script.too_many_stages tokens f.line h p.1 (λ tree s. says.stages refl tree (subst (λ z. IsScript z tree) (sym e) s)))
-
--- a refused script isn't accepted
-no_script : {text : List ℕ} {xs ys : List Token} (tree : Node cmd) → HasTokens text xs → HasTokens text ys → ((other : Node cmd) → IsScript (lexemes xs) other → ⊥) →
-    IsScript (lexemes ys) tree → ⊥
-no_script tree h k none s = none tree (subst (λ z. IsScript (lexemes z) tree) (same_tokens k h) s)
-
-pub never_both : (text : List ℕ) (fault : model.SyntaxFault) (tree : Node cmd) → IsRefused text fault → IsAccepted text tree → ⊥
-never_both text fault tree (script.too_long h) a = let short = a.has.short in omega arith
-never_both text fault tree (script.not_text short h) a = differ (sym a.has.text ∙ h)
-  where
-    differ : true ≡ false → ⊥
-    differ k = cc
-never_both text fault tree (script.no_tokens f short utf8 h) a = differ (one_reading a.has.cut h)
-  where
-    differ : {xs : List Token} {f : t.LexFault} → ◌≡◌ {A = Result (List Token) t.LexFault} (Ok xs) (Err f) → ⊥
-    differ k = cc
-never_both text fault tree (script.unexpected tokens line h at none) a = no_script tree h a.has none a.tree_is.script
-never_both text fault tree (script.if_not tokens line h at none) a = no_script tree h a.has none a.tree_is.script
-never_both text fault tree (script.too_deep tokens h far) a =
-    let deep = far tree (subst (λ z. IsScript (lexemes z) tree) (same_tokens a.has h) a.tree_is.script) in
-    let shallow = leb-true (depth tree) 200 (and_second (is_sound tree) (nat_le (depth tree) 200) a.tree_is.formed) in
-    omega arith
-never_both text fault tree (script.too_many_stages tokens line h at far) a =
-    let wide = far tree (subst (λ z. IsScript (lexemes z) tree) (same_tokens a.has h) a.tree_is.script) in
-    let narrow = formed_narrow tree a.tree_is.formed in
-    omega arith

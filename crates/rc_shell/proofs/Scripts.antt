@@ -7,7 +7,7 @@ use Rattle.rc_model.specs.Faults as faults
 use Rattle.rc_model.specs.Script.{Told, EndsAsMeant, HaltsAsMeant, IsBegunAsMeant, StopsAtLimit}
 use Rattle.rc_model.specs.State as model
 use Rattle.rc_model.specs.Tree.{Node, cmd}
-use Rattle.rc_parser.proofs.Trees.{never_both}
+use Rattle.rc_text_laws.proofs.Decided.{never_both}
 use Rattle.rc_shell.specs.Executed.{IfEnded, OnHalted, OnLimit, RunsAsMeant}
 use Rattle.rc_shell.specs.States.{state_of}
 use Rattle.rc_shell.specs.declared.script.Ran.{Ran}

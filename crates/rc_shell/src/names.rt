@@ -2,7 +2,8 @@
 
 ghost use Rattle.std.specs.Prelude.{◌≡◌};
 ghost use Rattle.std.specs.List.{list_all};
-ghost use Rattle.rc_model.specs.State.{is_digit, is_name_char, is_name};
+ghost use Rattle.rc_model.specs.State.{is_digit, is_name};
+ghost use Rattle.rc_model.specs.Tokens.{is_name_char};
 
 /// Whether the byte is a letter, a digit, `_` or `*`.
 fn is_name_byte(byte: u8) -> bool

@@ -4,7 +4,8 @@ use Rattle.rc_lexer.specs.Views.{tokens_of}
 use Rattle.rc_model.specs.Accepted.{lexemes}
 use Rattle.rc_model.specs.Spelling.{AreSpelled}
 use Rattle.rc_parser.specs.Faults.{IsPlaced}
-use Rattle.rc_parser.proofs.Trees.{are_spelled, has_no_other, is_refused, says}
+use Rattle.rc_parser.proofs.Trees.{has_no_other, is_refused, says}
+use Rattle.rc_text_laws.proofs.Decided.{are_spelled}
 use Rattle.rc_parser.proofs.parse.Goals as goal
 
 pub lexemes-requires : goal.lexemes-requires
