@@ -1,6 +1,6 @@
 # make           builds ./rc and runs `echo hello` through it
 # make test      proves, builds and tests everything, and reads the examples
-# make install   copies the shell to PREFIX/bin
+# make install   copies the shell and its manual page to PREFIX
 
 RT = rt
 PREFIX = /usr/local
@@ -24,5 +24,6 @@ lay-examples:
 
 install: rc
 	install -D -m 755 rc $(DESTDIR)$(PREFIX)/bin/rc
+	install -D -m 644 man/rc.1 $(DESTDIR)$(PREFIX)/share/man/man1/rc.1
 
 .PHONY: hello build test lay-examples install
