@@ -19,9 +19,9 @@ pub read_name : (left : ℕ) (ts : List Lexeme) → 0 < left → d.read left d.a
 unfolding d.read d.read_by
 read_name left ts h = ap (λ k. d.read k d.a_name ts) (left_is left h)
 
-pub read_part : (left : ℕ) (ts : List Lexeme) → 0 < left → d.read left d.a_part ts ≡ d.part_by (d.read (left - 1)) ts
+pub read_part : (left : ℕ) (inside : Bool) (ts : List Lexeme) → 0 < left → d.read left (d.a_part inside) ts ≡ d.part_by (d.read (left - 1)) inside ts
 unfolding d.read d.read_by
-read_part left ts h = ap (λ k. d.read k d.a_part ts) (left_is left h)
+read_part left inside ts h = ap (λ k. d.read k (d.a_part inside) ts) (left_is left h)
 
 pub read_operand : (left : ℕ) (ts : List Lexeme) → 0 < left → d.read left d.an_operand ts ≡ d.operand_by (d.read (left - 1)) false ts
 unfolding d.read d.read_by

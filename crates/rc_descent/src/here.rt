@@ -7,7 +7,7 @@ ghost use Rattle.rc_model.specs.HereDocs.{behind, ended_by, with_text, with_last
 ghost use Rattle.rc_tree.specs.View.{pieces_tree};
 ghost use Rattle.rc_descent.specs.Begun.{begun_of};
 
-use rc_text::first_char;
+use rc_text::{first_char, is_name_char};
 use rc_tree::Piece;
 use std::alloc::{AllocError, Global};
 
@@ -39,12 +39,6 @@ pub fn pieces(alloc: Global, quoted: bool, body: &str) -> Result<Vec<Piece>, All
     }
     finish(&mut pieces, begun)?;
     Ok(pieces)
-}
-
-fn is_name_char(c: char) -> bool
-    ensures { result ≡ is_name_char c }
-{
-    c.is_ascii_alphanumeric() || c == '_' || c == '*'
 }
 
 /// A text with one more character.

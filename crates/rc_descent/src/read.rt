@@ -1,6 +1,6 @@
 //! The descent: a script is read with one token in sight. Each function answers what it read and the tokens behind it.
 
-ghost use Rattle.std.specs.Prelude.{◌≡◌, IfOk, string_bytes};
+ghost use Rattle.std.specs.Prelude.{◌≡◌, true, false, IfOk, string_bytes};
 ghost use Rattle.rc_model.specs.Tree.{Lit};
 ghost use Rattle.rc_model.specs.Grammar.{concat_of, redirect, and_or, is_if};
 ghost use Rattle.rc_model.specs.Descent.{read, a_name, a_part, an_operand, a_piped, a_command, a_list, parts_by, arg_by, members_by, words_by, redir_by, redirs_by, simple_by, brace_by, paren_by, dollar_by, branch_by, branches_by, switch_by, match_by, define_by, block_by, first_by, opening_by, body_by, optional_by, if_by, while_by, over_by, for_by, control_by, redirected_by, leading_by, pipe_by, pipeline_of, values_by, assigned_by, operand_by, links_by, item_end, items_by};
@@ -150,11 +150,16 @@ fn item_end(lexemes: &[Lexeme]) -> Result<(bool, &[Lexeme]), Refusal>
     }
 }
 
-/// A part of an argument.
+/// A part of an argument. Inside parentheses newlines are blanks.
 #[cycle(read)]
 #[tactic(auto, using(crate::proofs::Steps::levels, rc_tree::specs::View::tree_Paren, rc_tree::specs::View::tree_Back, rc_tree::specs::View::tree_Count, rc_tree::specs::View::tree_Flat, std::proofs::lemmas::Grind::common_steps), unfolding(rc_model::specs::Descent::part_by))]
-fn part(alloc: Global, left: usize, lexemes: &[Lexeme]) -> Result<(Arg, &[Lexeme]), Refusal>
-    ensures { Gives (λ x. (arg_tree x.0, lexemes_of x.1.now)) result (read left a_part (lexemes_of lexemes.now)) }
+fn part(
+    alloc: Global,
+    left: usize,
+    inside: bool,
+    lexemes: &[Lexeme],
+) -> Result<(Arg, &[Lexeme]), Refusal>
+    ensures { Gives (λ x. (arg_tree x.0, lexemes_of x.1.now)) result (read left (a_part inside) (lexemes_of lexemes.now)) }
 {
     if left == 0 {
         return Err(Refusal::Fault(Fault::TooDeep, lexemes.len()));
@@ -167,7 +172,7 @@ fn part(alloc: Global, left: usize, lexemes: &[Lexeme]) -> Result<(Arg, &[Lexeme
             Ok((Arg::Paren(words), rest))
         }
         [Lexeme::Backquote, rest @ ..] => {
-            let (body, rest) = brace(alloc, left - 1, rest)?;
+            let (body, rest) = brace(alloc, left - 1, past_blanks(inside, rest))?;
             Ok((Arg::Back(Box::new(alloc, body)?), rest))
         }
         [Lexeme::Dollar, rest @ ..] => dollar(alloc, left - 1, rest),
@@ -209,9 +214,9 @@ fn arg(
     inside: bool,
     lexemes: &[Lexeme],
 ) -> Result<(Arg, &[Lexeme]), Refusal>
-    ensures { Gives (λ x. (arg_tree x.0, lexemes_of x.1.now)) result (arg_by (read left a_part) inside (lexemes_of lexemes.now)) }
+    ensures { Gives (λ x. (arg_tree x.0, lexemes_of x.1.now)) result (arg_by (read left (a_part inside)) inside (lexemes_of lexemes.now)) }
 {
-    let (first, rest) = part(alloc, left, lexemes)?;
+    let (first, rest) = part(alloc, left, inside, lexemes)?;
     let (others, rest) = parts(alloc, left, inside, rest)?;
     Ok((concat(first, others)?, rest))
 }
@@ -225,7 +230,7 @@ fn parts(
     inside: bool,
     lexemes: &[Lexeme],
 ) -> Result<(Vec<Arg>, &[Lexeme]), Refusal>
-    ensures { Gives (λ x. (args_tree x.0.items, lexemes_of x.1.now)) result (parts_by (read left a_part) inside (lexemes_of lexemes.now)) }
+    ensures { Gives (λ x. (args_tree x.0.items, lexemes_of x.1.now)) result (parts_by (read left (a_part inside)) inside (lexemes_of lexemes.now)) }
 {
     let mut others = Vec::new(alloc);
     let mut rest = lexemes;
@@ -234,7 +239,7 @@ fn parts(
         let Some(next) = after_caret(past_blanks(inside, rest)) else {
             break;
         };
-        let (other, after) = part(alloc, left, past_blanks(inside, next))?;
+        let (other, after) = part(alloc, left, inside, past_blanks(inside, next))?;
         others.push(other)?;
         rest = after;
     }
@@ -245,7 +250,7 @@ fn parts(
 #[cycle(read)]
 #[tactic(auto, using(crate::proofs::Turns::members))]
 fn members(alloc: Global, left: usize, lexemes: &[Lexeme]) -> Result<(Vec<Arg>, &[Lexeme]), Refusal>
-    ensures { Gives (λ x. (args_tree x.0.items, lexemes_of x.1.now)) result (members_by (read left a_part) (lexemes_of lexemes.now)) }
+    ensures { Gives (λ x. (args_tree x.0.items, lexemes_of x.1.now)) result (members_by (read left (a_part true)) (lexemes_of lexemes.now)) }
 {
     let mut words = Vec::new(alloc);
     let mut rest = lexemes;
@@ -268,7 +273,7 @@ fn members(alloc: Global, left: usize, lexemes: &[Lexeme]) -> Result<(Vec<Arg>, 
 #[cycle(read)]
 #[tactic(auto, using(crate::proofs::Turns::words))]
 fn words(alloc: Global, left: usize, lexemes: &[Lexeme]) -> Result<(Vec<Arg>, &[Lexeme]), Refusal>
-    ensures { Gives (λ x. (args_tree x.0.items, lexemes_of x.1.now)) result (words_by (read left a_part) (lexemes_of lexemes.now)) }
+    ensures { Gives (λ x. (args_tree x.0.items, lexemes_of x.1.now)) result (words_by (read left (a_part false)) (lexemes_of lexemes.now)) }
 {
     let mut words = Vec::new(alloc);
     let mut rest = lexemes;
@@ -288,7 +293,7 @@ fn words(alloc: Global, left: usize, lexemes: &[Lexeme]) -> Result<(Vec<Arg>, &[
 #[cycle(read)]
 #[tactic(auto, using(rc_tree::specs::View::tree_Open, rc_tree::specs::View::tree_Copy, rc_tree::specs::View::tree_Here, std::proofs::lemmas::Grind::common_steps), unfolding(rc_model::specs::Descent::redir_by))]
 fn redir(alloc: Global, left: usize, lexemes: &[Lexeme]) -> Result<(Redir, &[Lexeme]), Refusal>
-    ensures { Gives (λ x. (redir_tree x.0, lexemes_of x.1.now)) result (redir_by (read left a_part) (lexemes_of lexemes.now)) }
+    ensures { Gives (λ x. (redir_tree x.0, lexemes_of x.1.now)) result (redir_by (read left (a_part false)) (lexemes_of lexemes.now)) }
 {
     match lexemes {
         [Lexeme::Redirection(mode, slot), rest @ ..] => {
@@ -323,7 +328,7 @@ fn redirs(
     left: usize,
     lexemes: &[Lexeme],
 ) -> Result<(Vec<Redir>, &[Lexeme]), Refusal>
-    ensures { Gives (λ x. (redirs_tree x.0.items, lexemes_of x.1.now)) result (redirs_by (read left a_part) (lexemes_of lexemes.now)) }
+    ensures { Gives (λ x. (redirs_tree x.0.items, lexemes_of x.1.now)) result (redirs_by (read left (a_part false)) (lexemes_of lexemes.now)) }
 {
     let mut redirs = Vec::new(alloc);
     let mut rest = lexemes;
@@ -347,7 +352,7 @@ fn simple(
     left: usize,
     lexemes: &[Lexeme],
 ) -> Result<((Vec<Arg>, Vec<Redir>), &[Lexeme]), Refusal>
-    ensures { Gives (λ x. ((args_tree x.0.0.items, redirs_tree x.0.1.items), lexemes_of x.1.now)) result (simple_by (read left a_part) (lexemes_of lexemes.now)) }
+    ensures { Gives (λ x. ((args_tree x.0.0.items, redirs_tree x.0.1.items), lexemes_of x.1.now)) result (simple_by (read left (a_part false)) (lexemes_of lexemes.now)) }
 {
     let mut words = Vec::new(alloc);
     let mut redirs = Vec::new(alloc);

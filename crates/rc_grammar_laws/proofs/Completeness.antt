@@ -54,7 +54,8 @@ bind (Err d.TooManyStages) f x y m n = record { met = m.met }
 -- what is read one level deeper
 pub record Good (a : ℕ) (r : Readers) : Type 0 where
   pub name : {ts : List Lexeme} {n : Node t.arg} {rest : List Lexeme} → Phrase g.name ts n rest → Meets a (depth n) (most_stages n) (r d.a_name ts) (n, rest)
-  pub part : {ts : List Lexeme} {n : Node t.arg} {rest : List Lexeme} → Phrase g.part ts n rest → Meets a (depth n) (most_stages n) (r d.a_part ts) (n, rest)
+  pub part : {inside : Bool} {ts : List Lexeme} {n : Node t.arg} {rest : List Lexeme} → Phrase (g.part inside) ts n rest →
+      Meets a (depth n) (most_stages n) (r (d.a_part inside) ts) (n, rest)
   pub operand : {ts : List Lexeme} {c : Node t.cmd} {rest : List Lexeme} → Phrase (g.operand false) ts c rest → Meets a (depth c) (most_stages c) (r d.an_operand ts) (c, rest)
   pub stage : {ts : List Lexeme} {c : Node t.cmd} {rest : List Lexeme} → Phrase g.stage ts c rest → Meets a (depth c) (most_stages c) (r d.a_piped ts) ((c, true), rest)
   pub leading : {ts : List Lexeme} {c : Node t.cmd} {rest : List Lexeme} → Phrase (g.leading false) ts c rest → Meets a (depth c) (most_stages c) (r d.a_piped ts) ((c, false), rest)
@@ -63,11 +64,11 @@ pub record Good (a : ℕ) (r : Readers) : Type 0 where
   pub list : {s : Bool} {ts : List Lexeme} {is : Many t.item} {rest : List Lexeme} → Phrase (g.items s false) ts is rest →
       Meets a (suc (depths is)) (most_stages_in is) (r (d.a_list s) ts) (is, rest)
 
-pub record GoodPart (a : ℕ) (p : Reader (Node t.arg)) : Type 0 where
-  pub meets : {ts : List Lexeme} {n : Node t.arg} {rest : List Lexeme} → Phrase g.part ts n rest → Meets a (depth n) (most_stages n) (p ts) (n, rest)
+pub record GoodPart (a : ℕ) (inside : Bool) (p : Reader (Node t.arg)) : Type 0 where
+  pub meets : {ts : List Lexeme} {n : Node t.arg} {rest : List Lexeme} → Phrase (g.part inside) ts n rest → Meets a (depth n) (most_stages n) (p ts) (n, rest)
 
-good_part : (a : ℕ) (r : Readers) → Good a r → GoodPart a (r d.a_part)
-good_part a r gr = record { meets = gr.part }
+good_part : (a : ℕ) (r : Readers) → Good a r → (inside : Bool) → GoodPart a inside (r (d.a_part inside))
+good_part a r gr inside = record { meets = gr.part }
 
 -- arguments
 concat_tall : (x : Node t.arg) (xs : Many t.arg) → (depth x ≤ depth (concat_of x xs)) × (depths xs ≤ depth (concat_of x xs)) × (most_stages x ≤ most_stages (concat_of x xs)) ×
@@ -75,29 +76,29 @@ concat_tall : (x : Node t.arg) (xs : Many t.arg) → (depth x ≤ depth (concat_
 concat_tall x none = (omega arith, omega arith, omega arith, omega arith)
 concat_tall x (more y ys) = (omega arith, omega arith, omega arith, omega arith)
 
-parts_meets : (a T W : ℕ) (p : Reader (Node t.arg)) → GoodPart a p → (inside : Bool) (k : ℕ) (front : Many t.arg) {ts : List Lexeme} {as' : Many t.arg} {rest : List Lexeme} →
+parts_meets : (a T W : ℕ) (p : Reader (Node t.arg)) (inside : Bool) → GoodPart a inside p → (k : ℕ) (front : Many t.arg) {ts : List Lexeme} {as' : Many t.arg} {rest : List Lexeme} →
     Phrase (g.parts inside) ts as' rest → length ts ≤ k → depths as' ≤ T → most_stages_in as' ≤ W → Meets a T W (d.parts_from p inside k front ts) (append front as', rest)
 unfolding d.parts_from
-parts_meets a T W p gp inside zero front (g.no_caret {rest = rest} h) le dt dw = record { met = ap (λ z. (z, rest)) (sym (append_none front)) }
-parts_meets a T W p gp inside (suc k) front (g.no_caret {rest = rest} h) le dt dw = rw h (record { met = ap (λ z. (z, rest)) (sym (append_none front)) })
-parts_meets a T W p gp inside zero front (g.caret {ts = ts} {next = next} h q s) le dt dw =
+parts_meets a T W p inside gp zero front (g.no_caret {rest = rest} h) le dt dw = record { met = ap (λ z. (z, rest)) (sym (append_none front)) }
+parts_meets a T W p inside gp (suc k) front (g.no_caret {rest = rest} h) le dt dw = rw h (record { met = ap (λ z. (z, rest)) (sym (append_none front)) })
+parts_meets a T W p inside gp zero front (g.caret {ts = ts} {next = next} h q s) le dt dw =
     let one = after_caret-shorter (past_blanks inside ts) next h in let two = past_blanks-shorter inside ts in absurd (omega arith)
-parts_meets a T W p gp inside (suc k) front (g.caret {ts = ts} {next = next} {mid = mid} {rest = rest} {a = x} {as' = xs} h q s) le dt dw =
+parts_meets a T W p inside gp (suc k) front (g.caret {ts = ts} {next = next} {mid = mid} {rest = rest} {a = x} {as' = xs} h q s) le dt dw =
     let one = after_caret-shorter (past_blanks inside ts) next h in
     let two = past_blanks-shorter inside ts in
     let three = past_blanks-shorter inside next in
     let four = Phrase-shorter q in
     rw h (bind (p (past_blanks inside next)) _ (x, mid) (append front (more x xs), rest) (grow (p (past_blanks inside next)) (x, mid) (gp.meets q) (omega arith) (omega arith))
     (subst (λ z. Meets a T W (d.parts_from p inside k (snoc front x) mid) (z, rest)) (append_snoc front x xs)
-    (parts_meets a T W p gp inside k (snoc front x) s (omega arith) (omega arith) (omega arith))))
+    (parts_meets a T W p inside gp k (snoc front x) s (omega arith) (omega arith) (omega arith))))
 
-arg_meets : (a T W : ℕ) (p : Reader (Node t.arg)) → GoodPart a p → (inside : Bool) {ts : List Lexeme} {n : Node t.arg} {rest : List Lexeme} → Phrase (g.arg inside) ts n rest →
+arg_meets : (a T W : ℕ) (p : Reader (Node t.arg)) (inside : Bool) → GoodPart a inside p → {ts : List Lexeme} {n : Node t.arg} {rest : List Lexeme} → Phrase (g.arg inside) ts n rest →
     depth n ≤ T → most_stages n ≤ W → Meets a T W (d.arg_by p inside ts) (n, rest)
 unfolding d.arg_by d.parts_by
-arg_meets a T W p gp inside (g.joined {ts = ts} {mid = mid} {rest = rest} {a = x} {as' = xs} q s) dt dw =
+arg_meets a T W p inside gp (g.joined {ts = ts} {mid = mid} {rest = rest} {a = x} {as' = xs} q s) dt dw =
     let c = concat_tall x xs in
     bind (p ts) _ (x, mid) (concat_of x xs, rest) (grow (p ts) (x, mid) (gp.meets q) (omega arith) (omega arith))
-    (bind (d.parts_from p inside (length mid) none mid) _ (xs, rest) (concat_of x xs, rest) (parts_meets a T W p gp inside (length mid) none s (omega arith) (omega arith) (omega arith))
+    (bind (d.parts_from p inside (length mid) none mid) _ (xs, rest) (concat_of x xs, rest) (parts_meets a T W p inside gp (length mid) none s (omega arith) (omega arith) (omega arith))
     (record { met = refl }))
 
 members_turn_arg : (p : Reader (Node t.arg)) (go_on : Many t.arg → Reader (Many t.arg)) (front : Many t.arg) (ts : List Lexeme) → begins_arg ts ≡ true →
@@ -106,7 +107,7 @@ members_turn_arg p go_on front (RightParen ∷ ts) h = absurd cc
 members_turn_arg p go_on front (Newline ∷ ts) h = absurd cc
 members_turn_arg p go_on front ts h = refl
 
-members_from_meets : (a T W : ℕ) (p : Reader (Node t.arg)) → GoodPart a p → (k : ℕ) (front : Many t.arg) {ts : List Lexeme} {as' : Many t.arg} {rest : List Lexeme} →
+members_from_meets : (a T W : ℕ) (p : Reader (Node t.arg)) → GoodPart a true p → (k : ℕ) (front : Many t.arg) {ts : List Lexeme} {as' : Many t.arg} {rest : List Lexeme} →
     Phrase g.members ts as' rest → length ts ≤ k → depths as' ≤ T → most_stages_in as' ≤ W → Meets a T W (d.members_from p k front ts) (append front as', rest)
 unfolding d.members_from
 members_from_meets a T W p gp zero front (g.no_member) le dt dw = absurd (omega arith)
@@ -117,16 +118,16 @@ members_from_meets a T W p gp zero front (g.member q s) le dt dw = let one = Phr
 members_from_meets a T W p gp (suc k) front (g.member {ts = ts} {mid = mid} {rest = rest} {a = x} {as' = xs} q s) le dt dw =
     let one = Phrase-shorter q in
     rw (members_turn_arg p (λ bs u. d.members_from p k bs u) front ts (arg_begins q))
-    (bind (d.arg_by p true ts) _ (x, mid) (append front (more x xs), rest) (arg_meets a T W p gp true q (omega arith) (omega arith))
+    (bind (d.arg_by p true ts) _ (x, mid) (append front (more x xs), rest) (arg_meets a T W p true gp q (omega arith) (omega arith))
     (subst (λ z. Meets a T W (d.members_from p k (snoc front x) mid) (z, rest)) (append_snoc front x xs)
     (members_from_meets a T W p gp k (snoc front x) s (omega arith) (omega arith) (omega arith))))
 
-members_meets : (a T W : ℕ) (p : Reader (Node t.arg)) → GoodPart a p → {ts : List Lexeme} {as' : Many t.arg} {rest : List Lexeme} → Phrase g.members ts as' rest → depths as' ≤ T →
+members_meets : (a T W : ℕ) (p : Reader (Node t.arg)) → GoodPart a true p → {ts : List Lexeme} {as' : Many t.arg} {rest : List Lexeme} → Phrase g.members ts as' rest → depths as' ≤ T →
     most_stages_in as' ≤ W → Meets a T W (d.members_by p ts) (as', rest)
 unfolding d.members_by
 members_meets a T W p gp {ts = ts} q dt dw = members_from_meets a T W p gp (length ts) none q (omega arith) dt dw
 
-words_from_meets : (a T W : ℕ) (p : Reader (Node t.arg)) → GoodPart a p → (k : ℕ) (front : Many t.arg) {ts : List Lexeme} {as' : Many t.arg} {rest : List Lexeme} →
+words_from_meets : (a T W : ℕ) (p : Reader (Node t.arg)) → GoodPart a false p → (k : ℕ) (front : Many t.arg) {ts : List Lexeme} {as' : Many t.arg} {rest : List Lexeme} →
     Phrase g.words ts as' rest → length ts ≤ k → depths as' ≤ T → most_stages_in as' ≤ W → Meets a T W (d.words_from p k front ts) (append front as', rest)
 unfolding d.words_from
 words_from_meets a T W p gp zero front (g.no_word {rest = rest} h) le dt dw = record { met = ap (λ z. (z, rest)) (sym (append_none front)) }
@@ -134,20 +135,20 @@ words_from_meets a T W p gp (suc k) front (g.no_word {rest = rest} h) le dt dw =
 words_from_meets a T W p gp zero front (g.word q s) le dt dw = let one = Phrase-shorter q in absurd (omega arith)
 words_from_meets a T W p gp (suc k) front (g.word {ts = ts} {mid = mid} {rest = rest} {a = x} {as' = xs} q s) le dt dw =
     let one = Phrase-shorter q in
-    rw (arg_begins q) (bind (d.arg_by p false ts) _ (x, mid) (append front (more x xs), rest) (arg_meets a T W p gp false q (omega arith) (omega arith))
+    rw (arg_begins q) (bind (d.arg_by p false ts) _ (x, mid) (append front (more x xs), rest) (arg_meets a T W p false gp q (omega arith) (omega arith))
     (subst (λ z. Meets a T W (d.words_from p k (snoc front x) mid) (z, rest)) (append_snoc front x xs)
     (words_from_meets a T W p gp k (snoc front x) s (omega arith) (omega arith) (omega arith))))
 
-words_meets : (a T W : ℕ) (p : Reader (Node t.arg)) → GoodPart a p → {ts : List Lexeme} {as' : Many t.arg} {rest : List Lexeme} → Phrase g.words ts as' rest → depths as' ≤ T →
+words_meets : (a T W : ℕ) (p : Reader (Node t.arg)) → GoodPart a false p → {ts : List Lexeme} {as' : Many t.arg} {rest : List Lexeme} → Phrase g.words ts as' rest → depths as' ≤ T →
     most_stages_in as' ≤ W → Meets a T W (d.words_by p ts) (as', rest)
 unfolding d.words_by
 words_meets a T W p gp {ts = ts} q dt dw = words_from_meets a T W p gp (length ts) none q (omega arith) dt dw
 
-redir_meets : (a T W : ℕ) (p : Reader (Node t.arg)) → GoodPart a p → {ts : List Lexeme} {n : Node t.redir} {rest : List Lexeme} → Phrase g.redir ts n rest → depth n ≤ T → most_stages n ≤ W →
+redir_meets : (a T W : ℕ) (p : Reader (Node t.arg)) → GoodPart a false p → {ts : List Lexeme} {n : Node t.redir} {rest : List Lexeme} → Phrase g.redir ts n rest → depth n ≤ T → most_stages n ≤ W →
     Meets a T W (d.redir_by p ts) (n, rest)
 unfolding d.redir_by
 redir_meets a T W p gp (g.open_redir {mode = mode} {slot = slot} {ts = ts} {rest = rest} {a = x} q) dt dw =
-    bind (d.arg_by p false ts) _ (x, rest) (t.Open mode slot x, rest) (arg_meets a T W p gp false q dt dw) (record { met = refl })
+    bind (d.arg_by p false ts) _ (x, rest) (t.Open mode slot x, rest) (arg_meets a T W p false gp q dt dw) (record { met = refl })
 redir_meets a T W p gp (g.copy_redir) dt dw = record { met = refl }
 redir_meets a T W p gp (g.here_redir) dt dw = record { met = refl }
 
@@ -162,7 +163,7 @@ redir_no_arg (CopyTo to from ∷ ts) h = refl
 redir_no_arg (HereDoc quoted text ∷ ts) h = refl
 redir_no_arg ts h = absurd cc
 
-redirs_from_meets : (a T W : ℕ) (p : Reader (Node t.arg)) → GoodPart a p → (k : ℕ) (front : Many t.redir) {ts : List Lexeme} {rs : Many t.redir} {rest : List Lexeme} →
+redirs_from_meets : (a T W : ℕ) (p : Reader (Node t.arg)) → GoodPart a false p → (k : ℕ) (front : Many t.redir) {ts : List Lexeme} {rs : Many t.redir} {rest : List Lexeme} →
     Phrase g.redirs ts rs rest → length ts ≤ k → depths rs ≤ T → most_stages_in rs ≤ W → Meets a T W (d.redirs_from p k front ts) (append front rs, rest)
 unfolding d.redirs_from
 redirs_from_meets a T W p gp zero front (g.no_redir {rest = rest} h) le dt dw = record { met = ap (λ z. (z, rest)) (sym (append_none front)) }
@@ -174,7 +175,7 @@ redirs_from_meets a T W p gp (suc k) front (g.redir_more {ts = ts} {mid = mid} {
     (subst (λ z. Meets a T W (d.redirs_from p k (snoc front x) mid) (z, rest)) (append_snoc front x xs)
     (redirs_from_meets a T W p gp k (snoc front x) s (omega arith) (omega arith) (omega arith))))
 
-redirs_meets : (a T W : ℕ) (p : Reader (Node t.arg)) → GoodPart a p → {ts : List Lexeme} {rs : Many t.redir} {rest : List Lexeme} → Phrase g.redirs ts rs rest → depths rs ≤ T →
+redirs_meets : (a T W : ℕ) (p : Reader (Node t.arg)) → GoodPart a false p → {ts : List Lexeme} {rs : Many t.redir} {rest : List Lexeme} → Phrase g.redirs ts rs rest → depths rs ≤ T →
     most_stages_in rs ≤ W → Meets a T W (d.redirs_by p ts) (rs, rest)
 unfolding d.redirs_by
 redirs_meets a T W p gp {ts = ts} q dt dw = redirs_from_meets a T W p gp (length ts) none q (omega arith) dt dw
@@ -182,7 +183,7 @@ redirs_meets a T W p gp {ts = ts} q dt dw = redirs_from_meets a T W p gp (length
 both : (as' bs : Many t.arg) (rs ss : Many t.redir) (rest : List Lexeme) (e : as' ≡ bs) (f : rs ≡ ss) → ◌≡◌ {A = (Many t.arg × Many t.redir) × List Lexeme} ((as', rs), rest) ((bs, ss), rest)
 both as' bs rs ss rest e f = λ i. ((e i, f i), rest)
 
-simple_from_meets : (a T W : ℕ) (p : Reader (Node t.arg)) → GoodPart a p → (k : ℕ) (as' : Many t.arg) (rs : Many t.redir) {ts : List Lexeme} {x : Many t.arg × Many t.redir}
+simple_from_meets : (a T W : ℕ) (p : Reader (Node t.arg)) → GoodPart a false p → (k : ℕ) (as' : Many t.arg) (rs : Many t.redir) {ts : List Lexeme} {x : Many t.arg × Many t.redir}
     {rest : List Lexeme} → Phrase g.simple ts x rest → length ts ≤ k → depths x.0 ≤ T → depths x.1 ≤ T → most_stages_in x.0 ≤ W → most_stages_in x.1 ≤ W →
     Meets a T W (d.simple_from p k as' rs ts) ((append as' x.0, append rs x.1), rest)
 unfolding d.simple_from
@@ -192,7 +193,7 @@ simple_from_meets a T W p gp (suc k) as' rs (g.simple_end {rest = rest} h j) le 
 simple_from_meets a T W p gp zero as' rs (g.simple_word q s) le d1 d2 w1 w2 = let one = Phrase-shorter q in absurd (omega arith)
 simple_from_meets a T W p gp (suc k) as' rs (g.simple_word {ts = ts} {mid = mid} {rest = rest} {a = y} {x = x} q s) le d1 d2 w1 w2 =
     let one = Phrase-shorter q in
-    rw (arg_begins q) (bind (d.arg_by p false ts) _ (y, mid) ((append as' (more y x.0), append rs x.1), rest) (arg_meets a T W p gp false q (omega arith) (omega arith))
+    rw (arg_begins q) (bind (d.arg_by p false ts) _ (y, mid) ((append as' (more y x.0), append rs x.1), rest) (arg_meets a T W p false gp q (omega arith) (omega arith))
     (subst (λ z. Meets a T W (d.simple_from p k (snoc as' y) rs mid) ((z, append rs x.1), rest)) (append_snoc as' y x.0)
     (simple_from_meets a T W p gp k (snoc as' y) rs s (omega arith) (omega arith) (omega arith) (omega arith) (omega arith))))
 simple_from_meets a T W p gp zero as' rs (g.simple_redir q s) le d1 d2 w1 w2 = let one = Phrase-shorter q in absurd (omega arith)
@@ -203,7 +204,7 @@ simple_from_meets a T W p gp (suc k) as' rs (g.simple_redir {ts = ts} {mid = mid
     (subst (λ z. Meets a T W (d.simple_from p k as' (snoc rs y) mid) ((append as' x.0, z), rest)) (append_snoc rs y x.1)
     (simple_from_meets a T W p gp k as' (snoc rs y) s (omega arith) (omega arith) (omega arith) (omega arith) (omega arith))))
 
-simple_meets : (a T W : ℕ) (p : Reader (Node t.arg)) → GoodPart a p → {ts : List Lexeme} {x : Many t.arg × Many t.redir} {rest : List Lexeme} → Phrase g.simple ts x rest → depths x.0 ≤ T →
+simple_meets : (a T W : ℕ) (p : Reader (Node t.arg)) → GoodPart a false p → {ts : List Lexeme} {x : Many t.arg × Many t.redir} {rest : List Lexeme} → Phrase g.simple ts x rest → depths x.0 ≤ T →
     depths x.1 ≤ T → most_stages_in x.0 ≤ W → most_stages_in x.1 ≤ W → Meets a T W (d.simple_by p ts) (x, rest)
 unfolding d.simple_by
 simple_meets a T W p gp {ts = ts} q d1 d2 w1 w2 = simple_from_meets a T W p gp (length ts) none none q (omega arith) d1 d2 w1 w2
@@ -247,23 +248,23 @@ value_alone : (r : Readers) (n : Node t.arg) (ts : List Lexeme) → begins_subsc
 value_alone r n (Subscript ∷ ts) h = absurd cc
 value_alone r n ts h = refl
 
-part_meets : (a T W : ℕ) (r : Readers) → Good a r → {ts : List Lexeme} {n : Node t.arg} {rest : List Lexeme} → Phrase g.part ts n rest → depth n ≤ T → most_stages n ≤ W →
-    Meets (suc a) T W (d.part_by r ts) (n, rest)
+part_meets : (a T W : ℕ) (r : Readers) → Good a r → {inside : Bool} {ts : List Lexeme} {n : Node t.arg} {rest : List Lexeme} → Phrase (g.part inside) ts n rest → depth n ≤ T →
+    most_stages n ≤ W → Meets (suc a) T W (d.part_by r inside ts) (n, rest)
 unfolding d.part_by d.dollar_by
 part_meets a T W r gr (g.word_part) dt dw = record { met = refl }
 part_meets a T W r gr (g.quoted_part) dt dw = record { met = refl }
 part_meets a T W r gr (g.paren_part {ts = ts} {rest = rest} {as' = xs} q) dt dw =
-    bind (d.members_by (r d.a_part) ts) _ (xs, rest) (t.Paren xs, rest)
-    (deepen (d.members_by (r d.a_part) ts) (xs, rest) (members_meets a (depths xs) (most_stages_in xs) (r d.a_part) (good_part a r gr) q (omega arith) (omega arith)) (omega arith) (omega arith))
+    bind (d.members_by (r (d.a_part true)) ts) _ (xs, rest) (t.Paren xs, rest)
+    (deepen (d.members_by (r (d.a_part true)) ts) (xs, rest) (members_meets a (depths xs) (most_stages_in xs) (r (d.a_part true)) (good_part a r gr true) q (omega arith) (omega arith)) (omega arith) (omega arith))
     (record { met = refl })
-part_meets a T W r gr (g.back_part {ts = ts} {rest = rest} {c = c} q) dt dw =
-    bind (d.brace_by r ts) _ (c, rest) (t.Back c, rest) (brace_meets a T W r gr q (omega arith) (omega arith)) (record { met = refl })
+part_meets a T W r gr (g.back_part {inside = inside} {ts = ts} {rest = rest} {c = c} q) dt dw =
+    bind (d.brace_by r (past_blanks inside ts)) _ (c, rest) (t.Back c, rest) (brace_meets a T W r gr q (omega arith) (omega arith)) (record { met = refl })
 part_meets a T W r gr (g.var_part {ts = ts} {rest = rest} {n = n} q h) dt dw =
     bind (r d.a_name ts) _ (n, rest) (t.Var n, rest) (deepen (r d.a_name ts) (n, rest) (gr.name q) (omega arith) (omega arith)) (rw (value_alone r n rest h) (record { met = refl }))
 part_meets a T W r gr (g.sub_part {ts = ts} {more' = next} {rest = rest} {n = n} {as' = xs} q s) dt dw =
     bind (r d.a_name ts) _ (n, Subscript ∷ next) (t.Sub n xs, rest) (deepen (r d.a_name ts) (n, Subscript ∷ next) (gr.name q) (omega arith) (omega arith))
-    (bind (d.members_by (r d.a_part) next) _ (xs, rest) (t.Sub n xs, rest)
-    (deepen (d.members_by (r d.a_part) next) (xs, rest) (members_meets a (depths xs) (most_stages_in xs) (r d.a_part) (good_part a r gr) s (omega arith) (omega arith)) (omega arith) (omega arith))
+    (bind (d.members_by (r (d.a_part true)) next) _ (xs, rest) (t.Sub n xs, rest)
+    (deepen (d.members_by (r (d.a_part true)) next) (xs, rest) (members_meets a (depths xs) (most_stages_in xs) (r (d.a_part true)) (good_part a r gr true) s (omega arith) (omega arith)) (omega arith) (omega arith))
     (record { met = refl }))
 part_meets a T W r gr (g.count_part {ts = ts} {rest = rest} {n = n} q) dt dw =
     bind (r d.a_name ts) _ (n, rest) (t.Count n, rest) (deepen (r d.a_name ts) (n, rest) (gr.name q) (omega arith) (omega arith)) (record { met = refl })
@@ -276,8 +277,8 @@ branch_meets : (a T W : ℕ) (r : Readers) → Good a r → {ts mid next : List 
     Meets (suc a) T W (d.branch_by r ts) (t.Branch as' (t.Seq is), next)
 unfolding d.branch_by
 branch_meets a T W r gr {ts = ts} {mid = mid} {next = next} {as' = xs} {is = is} q h s d1 d2 w1 w2 =
-    bind (d.words_by (r d.a_part) ts) _ (xs, mid) (t.Branch xs (t.Seq is), next)
-    (deepen (d.words_by (r d.a_part) ts) (xs, mid) (words_meets a (depths xs) (most_stages_in xs) (r d.a_part) (good_part a r gr) q (omega arith) (omega arith)) (omega arith) (omega arith))
+    bind (d.words_by (r (d.a_part false)) ts) _ (xs, mid) (t.Branch xs (t.Seq is), next)
+    (deepen (d.words_by (r (d.a_part false)) ts) (xs, mid) (words_meets a (depths xs) (most_stages_in xs) (r (d.a_part false)) (good_part a r gr false) q (omega arith) (omega arith)) (omega arith) (omega arith))
     (rw h (bind (r (d.a_list true) mid) _ (is, next) (t.Branch xs (t.Seq is), next) (deepen (r (d.a_list true) mid) (is, next) (gr.list s) (omega arith) (omega arith)) (record { met = refl })))
 
 same_tail : (x y : Lexeme) (ts us : List Lexeme) → x ∷ ts ≡ y ∷ us → ts ≡ us
@@ -321,7 +322,7 @@ opening_first r (LeftBrace ∷ ts) h b = absurd cc
 opening_first r ts h b = refl
 
 first_simple : (r : Readers) (a : Node t.arg) (ts : List Lexeme) → begins_value ts ≡ false →
-    d.behind_first r a ts ≡ (d.simple_by (r d.a_part) ts >>= λ x. Ok (Staged (redirect x.0.1 (t.Simple (more a x.0.0))), x.1))
+    d.behind_first r a ts ≡ (d.simple_by (r (d.a_part false)) ts >>= λ x. Ok (Staged (redirect x.0.1 (t.Simple (more a x.0.0))), x.1))
 first_simple r a (Equals ∷ ts) h = absurd cc
 first_simple r a ts h = refl
 
@@ -341,22 +342,22 @@ switch_meets : (a T W : ℕ) (r : Readers) → Good a r → {ts mid inner next r
 unfolding d.switch_by d.branches_by
 switch_meets a T W r gr {ts = ts} {mid = mid} {inner = inner} {next = next} {rest = rest} {n = n} {bs = bs} {rs = rs} q e s v dt dw =
     let z = redirect_tall rs (t.Switch n bs) (omega arith) in
-    bind (d.arg_by (r d.a_part) false ts) _ (n, mid) (redirect rs (t.Switch n bs), rest)
-    (deepen (d.arg_by (r d.a_part) false ts) (n, mid) (arg_meets a (depth n) (most_stages n) (r d.a_part) (good_part a r gr) false q (omega arith) (omega arith)) (omega arith) (omega arith))
+    bind (d.arg_by (r (d.a_part false)) false ts) _ (n, mid) (redirect rs (t.Switch n bs), rest)
+    (deepen (d.arg_by (r (d.a_part false)) false ts) (n, mid) (arg_meets a (depth n) (most_stages n) (r (d.a_part false)) false (good_part a r gr false) q (omega arith) (omega arith)) (omega arith) (omega arith))
     (rw e (bind (d.branches_from r (length inner) none inner) _ (bs, next) (redirect rs (t.Switch n bs), rest)
     (branches_from_meets a T W r gr (length inner) none next s refl (omega arith) (omega arith) (omega arith))
-    (bind (d.redirs_by (r d.a_part) next) _ (rs, rest) (redirect rs (t.Switch n bs), rest)
-    (deepen (d.redirs_by (r d.a_part) next) (rs, rest) (redirs_meets a (depths rs) (most_stages_in rs) (r d.a_part) (good_part a r gr) v (omega arith) (omega arith)) (omega arith) (omega arith))
+    (bind (d.redirs_by (r (d.a_part false)) next) _ (rs, rest) (redirect rs (t.Switch n bs), rest)
+    (deepen (d.redirs_by (r (d.a_part false)) next) (rs, rest) (redirs_meets a (depths rs) (most_stages_in rs) (r (d.a_part false)) (good_part a r gr false) v (omega arith) (omega arith)) (omega arith) (omega arith))
     (record { met = refl }))))
 
 match_meets : (a T W : ℕ) (r : Readers) → Good a r → {ts mid rest : List Lexeme} {n : Node t.arg} {as' : Many t.arg} → Phrase (g.arg false) ts n mid → Phrase g.words mid as' rest →
     depth (t.Match n as') ≤ T → most_stages (t.Match n as') ≤ W → Meets (suc a) T W (d.match_by r ts) (t.Match n as', rest)
 unfolding d.match_by
 match_meets a T W r gr {ts = ts} {mid = mid} {rest = rest} {n = n} {as' = xs} q s dt dw =
-    bind (d.arg_by (r d.a_part) false ts) _ (n, mid) (t.Match n xs, rest)
-    (deepen (d.arg_by (r d.a_part) false ts) (n, mid) (arg_meets a (depth n) (most_stages n) (r d.a_part) (good_part a r gr) false q (omega arith) (omega arith)) (omega arith) (omega arith))
-    (bind (d.words_by (r d.a_part) mid) _ (xs, rest) (t.Match n xs, rest)
-    (deepen (d.words_by (r d.a_part) mid) (xs, rest) (words_meets a (depths xs) (most_stages_in xs) (r d.a_part) (good_part a r gr) s (omega arith) (omega arith)) (omega arith) (omega arith))
+    bind (d.arg_by (r (d.a_part false)) false ts) _ (n, mid) (t.Match n xs, rest)
+    (deepen (d.arg_by (r (d.a_part false)) false ts) (n, mid) (arg_meets a (depth n) (most_stages n) (r (d.a_part false)) false (good_part a r gr false) q (omega arith) (omega arith)) (omega arith) (omega arith))
+    (bind (d.words_by (r (d.a_part false)) mid) _ (xs, rest) (t.Match n xs, rest)
+    (deepen (d.words_by (r (d.a_part false)) mid) (xs, rest) (words_meets a (depths xs) (most_stages_in xs) (r (d.a_part false)) (good_part a r gr false) s (omega arith) (omega arith)) (omega arith) (omega arith))
     (record { met = refl }))
 
 define_meets : (a T W : ℕ) (r : Readers) → Good a r → {ts mid next rest : List Lexeme} {n : Node t.arg} {as' : Many t.arg} (c : Node t.cmd) → Phrase (g.arg false) ts n mid →
@@ -364,10 +365,10 @@ define_meets : (a T W : ℕ) (r : Readers) → Good a r → {ts mid next rest : 
     Meets (suc a) T W (d.define_by r ts) (c, rest)
 unfolding d.define_by
 define_meets a T W r gr {ts = ts} {mid = mid} {next = next} {rest = rest} {n = n} {as' = xs} c q s dt dw m =
-    bind (d.arg_by (r d.a_part) false ts) _ (n, mid) (c, rest)
-    (deepen (d.arg_by (r d.a_part) false ts) (n, mid) (arg_meets a (depth n) (most_stages n) (r d.a_part) (good_part a r gr) false q (omega arith) (omega arith)) (omega arith) (omega arith))
-    (bind (d.words_by (r d.a_part) mid) _ (xs, next) (c, rest)
-    (deepen (d.words_by (r d.a_part) mid) (xs, next) (words_meets a (depths xs) (most_stages_in xs) (r d.a_part) (good_part a r gr) s (omega arith) (omega arith)) (omega arith) (omega arith)) m)
+    bind (d.arg_by (r (d.a_part false)) false ts) _ (n, mid) (c, rest)
+    (deepen (d.arg_by (r (d.a_part false)) false ts) (n, mid) (arg_meets a (depth n) (most_stages n) (r (d.a_part false)) false (good_part a r gr false) q (omega arith) (omega arith)) (omega arith) (omega arith))
+    (bind (d.words_by (r (d.a_part false)) mid) _ (xs, next) (c, rest)
+    (deepen (d.words_by (r (d.a_part false)) mid) (xs, next) (words_meets a (depths xs) (most_stages_in xs) (r (d.a_part false)) (good_part a r gr false) s (omega arith) (omega arith)) (omega arith) (omega arith)) m)
 
 stage_meets : (a T W : ℕ) (r : Readers) → Good a r → {ts : List Lexeme} {c : Node t.cmd} {rest : List Lexeme} → Phrase g.stage ts c rest → depth c ≤ T → most_stages c ≤ W →
     Meets (suc a) T W (d.opening_by r ts) (Staged c, rest)
@@ -375,19 +376,19 @@ unfolding d.opening_by d.worded_by d.first_by d.block_by
 stage_meets a T W r gr (g.simple_stage {ts = ts} {mid = mid} {rest = rest} {a = n} {x = x} h q j s) dt dw =
     let z = redirect_tall x.1 (t.Simple (more n x.0)) (omega arith) in
     let c : Node t.cmd = redirect x.1 (t.Simple (more n x.0)) in
-    rw (opening_first r ts h (arg_begins q)) (bind (d.arg_by (r d.a_part) false ts) _ (n, mid) (Staged c, rest)
-    (deepen (d.arg_by (r d.a_part) false ts) (n, mid) (arg_meets a (depth n) (most_stages n) (r d.a_part) (good_part a r gr) false q (omega arith) (omega arith)) (omega arith) (omega arith))
-    (rw (first_simple r n mid j) (bind (d.simple_by (r d.a_part) mid) _ (x, rest) (Staged c, rest)
-    (deepen (d.simple_by (r d.a_part) mid) (x, rest)
-    (simple_meets a (max (depths x.0) (depths x.1)) (max (most_stages_in x.0) (most_stages_in x.1)) (r d.a_part) (good_part a r gr) s (omega arith) (omega arith) (omega arith) (omega arith))
+    rw (opening_first r ts h (arg_begins q)) (bind (d.arg_by (r (d.a_part false)) false ts) _ (n, mid) (Staged c, rest)
+    (deepen (d.arg_by (r (d.a_part false)) false ts) (n, mid) (arg_meets a (depth n) (most_stages n) (r (d.a_part false)) false (good_part a r gr false) q (omega arith) (omega arith)) (omega arith) (omega arith))
+    (rw (first_simple r n mid j) (bind (d.simple_by (r (d.a_part false)) mid) _ (x, rest) (Staged c, rest)
+    (deepen (d.simple_by (r (d.a_part false)) mid) (x, rest)
+    (simple_meets a (max (depths x.0) (depths x.1)) (max (most_stages_in x.0) (most_stages_in x.1)) (r (d.a_part false)) (good_part a r gr false) s (omega arith) (omega arith) (omega arith) (omega arith))
     (omega arith) (omega arith))
     (record { met = refl }))))
 stage_meets a T W r gr (g.brace_stage {ts = ts} {mid = mid} {rest = rest} {c = c} {rs = rs} q s) dt dw =
     let z = redirect_tall rs (t.Brace c) (omega arith) in
     rw (brace_opens r q) (staged_meets (suc a) T W (d.block_by r ts) (redirect rs (t.Brace c)) rest (bind (d.brace_by r ts) _ (c, mid) (redirect rs (t.Brace c), rest)
     (brace_meets a T W r gr q (omega arith) (omega arith))
-    (bind (d.redirs_by (r d.a_part) mid) _ (rs, rest) (redirect rs (t.Brace c), rest)
-    (deepen (d.redirs_by (r d.a_part) mid) (rs, rest) (redirs_meets a (depths rs) (most_stages_in rs) (r d.a_part) (good_part a r gr) s (omega arith) (omega arith)) (omega arith) (omega arith))
+    (bind (d.redirs_by (r (d.a_part false)) mid) _ (rs, rest) (redirect rs (t.Brace c), rest)
+    (deepen (d.redirs_by (r (d.a_part false)) mid) (rs, rest) (redirs_meets a (depths rs) (most_stages_in rs) (r (d.a_part false)) (good_part a r gr false) s (omega arith) (omega arith)) (omega arith) (omega arith))
     (record { met = refl }))))
 stage_meets a T W r gr (g.switch_stage {ts = ts} {rest = rest} {a = n} {bs = bs} {rs = rs} h q e s v) dt dw =
     rw h (staged_meets (suc a) T W (d.switch_by r (past_caret ts)) (redirect rs (t.Switch n bs)) rest (switch_meets a T W r gr q e s v dt dw))
@@ -404,8 +405,8 @@ named_meets : (a T W : ℕ) (r : Readers) → Good a r → {ts : List Lexeme} {n
     suc (depth n) ≤ T → most_stages n ≤ W → Meets (suc a) T W (d.opening_by r ts) (Named n, rest)
 unfolding d.first_by
 named_meets a T W r gr {ts = ts} {n = n} {rest = rest} h q dt dw =
-    rw (opening_first r ts h (arg_begins q)) (bind (d.arg_by (r d.a_part) false ts) _ (n, Equals ∷ rest) (Named n, rest)
-    (deepen (d.arg_by (r d.a_part) false ts) (n, Equals ∷ rest) (arg_meets a (depth n) (most_stages n) (r d.a_part) (good_part a r gr) false q (omega arith) (omega arith))
+    rw (opening_first r ts h (arg_begins q)) (bind (d.arg_by (r (d.a_part false)) false ts) _ (n, Equals ∷ rest) (Named n, rest)
+    (deepen (d.arg_by (r (d.a_part false)) false ts) (n, Equals ∷ rest) (arg_meets a (depth n) (most_stages n) (r (d.a_part false)) false (good_part a r gr false) q (omega arith) (omega arith))
     (omega arith) (omega arith))
     (record { met = refl }))
 
@@ -502,14 +503,14 @@ unfolding d.if_by
 paren_conditions r f (g.parenthesised q) = refl
 
 arg_deeper : (a T W : ℕ) (r : Readers) → Good a r → (inside : Bool) {ts : List Lexeme} {n : Node t.arg} {rest : List Lexeme} → Phrase (g.arg inside) ts n rest → suc (depth n) ≤ T →
-    most_stages n ≤ W → Meets (suc a) T W (d.arg_by (r d.a_part) inside ts) (n, rest)
+    most_stages n ≤ W → Meets (suc a) T W (d.arg_by (r (d.a_part inside)) inside ts) (n, rest)
 arg_deeper a T W r gr inside {ts = ts} {n = n} {rest = rest} q dt dw =
-    deepen (d.arg_by (r d.a_part) inside ts) (n, rest) (arg_meets a (depth n) (most_stages n) (r d.a_part) (good_part a r gr) inside q (omega arith) (omega arith)) dt dw
+    deepen (d.arg_by (r (d.a_part inside)) inside ts) (n, rest) (arg_meets a (depth n) (most_stages n) (r (d.a_part inside)) inside (good_part a r gr inside) q (omega arith) (omega arith)) dt dw
 
 members_deeper : (a T W : ℕ) (r : Readers) → Good a r → {ts : List Lexeme} {ns : Many t.arg} {rest : List Lexeme} → Phrase g.members ts ns rest → suc (depths ns) ≤ T →
-    most_stages_in ns ≤ W → Meets (suc a) T W (d.members_by (r d.a_part) ts) (ns, rest)
+    most_stages_in ns ≤ W → Meets (suc a) T W (d.members_by (r (d.a_part true)) ts) (ns, rest)
 members_deeper a T W r gr {ts = ts} {ns = ns} {rest = rest} q dt dw =
-    deepen (d.members_by (r d.a_part) ts) (ns, rest) (members_meets a (depths ns) (most_stages_in ns) (r d.a_part) (good_part a r gr) q (omega arith) (omega arith)) dt dw
+    deepen (d.members_by (r (d.a_part true)) ts) (ns, rest) (members_meets a (depths ns) (most_stages_in ns) (r (d.a_part true)) (good_part a r gr true) q (omega arith) (omega arith)) dt dw
 
 leading_meets : (a T W : ℕ) (r : Readers) → Good a r → {f : Bool} {ts : List Lexeme} {c : Node t.cmd} {rest : List Lexeme} → Phrase (g.leading f) ts c rest → depth c ≤ T → most_stages c ≤ W →
     Meets (suc a) T W (d.leading_by r f ts) (c, rest)
@@ -519,10 +520,10 @@ leading_meets a T W r gr (g.not_leading {ts = ts} {rest = rest} {c = c} h q) dt 
 leading_meets a T W r gr (g.subshell_leading {ts = ts} {rest = rest} {c = c} h q) dt dw =
     rw h (bind (r d.an_operand (past_caret ts)) _ (c, rest) (t.Subshell c, rest) (deepen (r d.an_operand (past_caret ts)) (c, rest) (gr.operand q) (omega arith) (omega arith)) (record { met = refl }))
 leading_meets a T W r gr (g.redir_leading {after_if = f} {ts = ts} {mid = mid} {next = next} {rest = rest} {r = n} {rs = ns} {c = c} q s v) dt dw =
-    rw (leading_redirected r f ts (redir_begins q)) (bind (d.redir_by (r d.a_part) ts) _ (n, mid) (t.Redirect (more n ns) c, rest)
-    (deepen (d.redir_by (r d.a_part) ts) (n, mid) (redir_meets a (depth n) (most_stages n) (r d.a_part) (good_part a r gr) q (omega arith) (omega arith)) (omega arith) (omega arith))
-    (bind (d.redirs_by (r d.a_part) mid) _ (ns, next) (t.Redirect (more n ns) c, rest)
-    (deepen (d.redirs_by (r d.a_part) mid) (ns, next) (redirs_meets a (depths ns) (most_stages_in ns) (r d.a_part) (good_part a r gr) s (omega arith) (omega arith)) (omega arith) (omega arith))
+    rw (leading_redirected r f ts (redir_begins q)) (bind (d.redir_by (r (d.a_part false)) ts) _ (n, mid) (t.Redirect (more n ns) c, rest)
+    (deepen (d.redir_by (r (d.a_part false)) ts) (n, mid) (redir_meets a (depth n) (most_stages n) (r (d.a_part false)) (good_part a r gr false) q (omega arith) (omega arith)) (omega arith) (omega arith))
+    (bind (d.redirs_by (r (d.a_part false)) mid) _ (ns, next) (t.Redirect (more n ns) c, rest)
+    (deepen (d.redirs_by (r (d.a_part false)) mid) (ns, next) (redirs_meets a (depths ns) (most_stages_in ns) (r (d.a_part false)) (good_part a r gr false) s (omega arith) (omega arith)) (omega arith) (omega arith))
     (bind (d.optional_by r next) _ (c, rest) (t.Redirect (more n ns) c, rest) (optional_meets a T W r gr v (omega arith) (omega arith)) (record { met = refl }))))
 leading_meets a T W r gr (g.if_leading {after_if = f} {ts = ts} {mid = mid} {rest = rest} {c = c} {d = e} h q s) dt dw =
     rw (h, paren_conditions r f q) (bind (d.paren_by r (past_caret ts)) _ (c, mid) (t.If c e, rest) (paren_meets a T W r gr q (omega arith) (omega arith))
@@ -533,11 +534,11 @@ leading_meets a T W r gr (g.while_leading {ts = ts} {mid = mid} {rest = rest} {c
 leading_meets a T W r gr (g.if_not_leading {next = next} {rest = rest} {d = e} h k j q) dt dw =
     rw (h, k, j) (bind (d.body_by r (past_caret next)) _ (e, rest) (t.IfNot e, rest) (body_meets a T W r gr q (omega arith) (omega arith)) (record { met = refl }))
 leading_meets a T W r gr (g.for_all_leading {head = head} {mid = mid} {next = next} {rest = rest} {a = n} {d = e} h k q j s) dt dw =
-    rw (h, k) (bind (d.arg_by (r d.a_part) true (past_newlines head)) _ (n, mid) (t.ForAll n e, rest) (arg_deeper a T W r gr true q (omega arith) (omega arith))
+    rw (h, k) (bind (d.arg_by (r (d.a_part true)) true (past_newlines head)) _ (n, mid) (t.ForAll n e, rest) (arg_deeper a T W r gr true q (omega arith) (omega arith))
     (rw j (bind (d.body_by r next) _ (e, rest) (t.ForAll n e, rest) (body_meets a T W r gr s (omega arith) (omega arith)) (record { met = refl }))))
 leading_meets a T W r gr (g.for_leading {head = head} {mid = mid} {list = list} {next = next} {rest = rest} {a = n} {as' = ns} {d = e} h k q j m s v) dt dw =
-    rw (h, k) (bind (d.arg_by (r d.a_part) true (past_newlines head)) _ (n, mid) (t.For n ns e, rest) (arg_deeper a T W r gr true q (omega arith) (omega arith))
-    (rw (j, m) (bind (d.members_by (r d.a_part) (past_caret list)) _ (ns, next) (t.For n ns e, rest) (members_deeper a T W r gr s (omega arith) (omega arith))
+    rw (h, k) (bind (d.arg_by (r (d.a_part true)) true (past_newlines head)) _ (n, mid) (t.For n ns e, rest) (arg_deeper a T W r gr true q (omega arith) (omega arith))
+    (rw (j, m) (bind (d.members_by (r (d.a_part true)) (past_caret list)) _ (ns, next) (t.For n ns e, rest) (members_deeper a T W r gr s (omega arith) (omega arith))
     (bind (d.body_by r next) _ (e, rest) (t.For n ns e, rest) (body_meets a T W r gr v (omega arith) (omega arith)) (record { met = refl })))))
 
 -- pipelines: how tall and how wide the stages are together
@@ -651,7 +652,7 @@ values_from_meets a T W r gr (suc k) front (g.another_value {ts = ts} {next = ne
     let two = Phrase-shorter s in
     rw (first_follows ts h, arg_commands ts (arg_begins q)) (bind (d.opening_by r ts) _ (Named n, next) (t.Assign (append front (more (t.Pair n m) x.0)) x.1, rest)
     (named_meets a T W r gr h q (omega arith) (omega arith))
-    (bind (d.arg_by (r d.a_part) false next) _ (m, mid) (t.Assign (append front (more (t.Pair n m) x.0)) x.1, rest) (arg_deeper a T W r gr false s (omega arith) (omega arith))
+    (bind (d.arg_by (r (d.a_part false)) false next) _ (m, mid) (t.Assign (append front (more (t.Pair n m) x.0)) x.1, rest) (arg_deeper a T W r gr false s (omega arith) (omega arith))
     (subst (λ z. Meets (suc a) T W (d.values_from r k (snoc front (t.Pair n m)) mid) (t.Assign z x.1, rest)) (append_snoc front (t.Pair n m) x.0)
     (values_from_meets a T W r gr k (snoc front (t.Pair n m)) v (omega arith) (omega arith) (omega arith) (omega arith) (omega arith)))))
 
@@ -660,7 +661,7 @@ assigned_meets : (a T W : ℕ) (r : Readers) → Good a r → {next mid rest : L
     Meets (suc a) T W (d.assigned_by r n next) (t.Assign (more (t.Pair n v) x.0) x.1, rest)
 unfolding d.assigned_by d.values_by
 assigned_meets a T W r gr {next = next} {mid = mid} {rest = rest} {n = n} {v = m} {x = x} q s dt dw =
-    bind (d.arg_by (r d.a_part) false next) _ (m, mid) (t.Assign (more (t.Pair n m) x.0) x.1, rest) (arg_deeper a T W r gr false q (omega arith) (omega arith))
+    bind (d.arg_by (r (d.a_part false)) false next) _ (m, mid) (t.Assign (more (t.Pair n m) x.0) x.1, rest) (arg_deeper a T W r gr false q (omega arith) (omega arith))
     (values_from_meets a T W r gr (length mid) (more (t.Pair n m) none) s (omega arith) (omega arith) (omega arith) (omega arith) (omega arith))
 
 -- operands, and what follows a bar
@@ -849,7 +850,7 @@ pub read_good : (left : ℕ) → Good left (d.read left)
 unfolding d.read d.read_by
 read_good zero = record {
   name = λ {ts} {n} q. record { met = depth_arg n };
-  part = λ {ts} {n} q. record { met = depth_arg n };
+  part = λ {inside} {ts} {n} q. record { met = depth_arg n };
   operand = λ {ts} {c} q. record { met = depth_cmd c };
   stage = λ {ts} {c} q. record { met = depth_cmd c };
   leading = λ {ts} {c} q. record { met = depth_cmd c };
@@ -861,7 +862,7 @@ read_good (suc left) =
     let gr = read_good left in
     record {
       name = λ {ts} {n} q. name_meets left (depth n) (most_stages n) (d.read left) gr q (omega arith) (omega arith);
-      part = λ {ts} {n} q. part_meets left (depth n) (most_stages n) (d.read left) gr q (omega arith) (omega arith);
+      part = λ {inside} {ts} {n} q. part_meets left (depth n) (most_stages n) (d.read left) gr q (omega arith) (omega arith);
       operand = λ {ts} {c} q. operand_meets left (depth c) (most_stages c) (d.read left) gr q (omega arith) (omega arith);
       stage = λ {ts} {c} q. piped_stage_meets left (depth c) (most_stages c) (d.read left) gr q (omega arith) (omega arith);
       leading = λ {ts} {c} q. piped_leading_meets left (depth c) (most_stages c) (d.read left) gr q (omega arith) (omega arith);

@@ -79,7 +79,7 @@ few_here quoted text = omega arith
 -- what is read one level deeper
 pub record Small (r : Readers) : Type 0 where
   pub name : (ts : List Lexeme) → Few wide (r d.a_name ts)
-  pub part : (ts : List Lexeme) → Few wide (r d.a_part ts)
+  pub part : (inside : Bool) (ts : List Lexeme) → Few wide (r (d.a_part inside) ts)
   pub operand : (ts : List Lexeme) → Few wide (r d.an_operand ts)
   pub piped : (ts : List Lexeme) → Few piped_wide (r d.a_piped ts)
   pub command : (f : Bool) (ts : List Lexeme) → Few wide (r (d.a_command f) ts)
@@ -197,29 +197,29 @@ paren_few r s ts = record { few = tt }
 
 -- a part of an argument
 value_few : (r : Readers) → Small r → (n : Node t.arg) (ts : List Lexeme) → most_stages n ≤ 64 → Few wide (d.value_by r n ts)
-value_few r s n (Subscript ∷ ts) h = bind (d.members_by (r d.a_part) ts) _ (members_few (r d.a_part) s.part ts) (λ as' k. record { few = omega arith })
+value_few r s n (Subscript ∷ ts) h = bind (d.members_by (r (d.a_part true)) ts) _ (members_few (r (d.a_part true)) (s.part true) ts) (λ as' k. record { few = omega arith })
 value_few r s n ts h = record { few = h }
 
 dollar_few : (r : Readers) → Small r → (ts : List Lexeme) → Few wide (d.dollar_by r ts)
 unfolding d.dollar_by
 dollar_few r s ts = bind (r d.a_name ts) _ (s.name ts) (λ n h. value_few r s n.0 n.1 h)
 
-part_few : (r : Readers) → Small r → (ts : List Lexeme) → Few wide (d.part_by r ts)
+part_few : (r : Readers) → Small r → (inside : Bool) (ts : List Lexeme) → Few wide (d.part_by r inside ts)
 unfolding d.part_by
-part_few r s (Word text ∷ ts) = record { few = omega arith }
-part_few r s (Quoted text ∷ ts) = record { few = omega arith }
-part_few r s (LeftParen ∷ ts) = bind (d.members_by (r d.a_part) ts) _ (members_few (r d.a_part) s.part ts) (λ as' h. record { few = h })
-part_few r s (Backquote ∷ ts) = bind (d.brace_by r ts) _ (brace_few r s ts) (λ c h. record { few = h })
-part_few r s (Dollar ∷ ts) = dollar_few r s ts
-part_few r s (DollarCount ∷ ts) = bind (r d.a_name ts) _ (s.name ts) (λ n h. record { few = h })
-part_few r s (DollarFlat ∷ ts) = bind (r d.a_name ts) _ (s.name ts) (λ n h. record { few = h })
-part_few r s ts = record { few = tt }
+part_few r s inside (Word text ∷ ts) = record { few = omega arith }
+part_few r s inside (Quoted text ∷ ts) = record { few = omega arith }
+part_few r s inside (LeftParen ∷ ts) = bind (d.members_by (r (d.a_part true)) ts) _ (members_few (r (d.a_part true)) (s.part true) ts) (λ as' h. record { few = h })
+part_few r s inside (Backquote ∷ ts) = bind (d.brace_by r (past_blanks inside ts)) _ (brace_few r s (past_blanks inside ts)) (λ c h. record { few = h })
+part_few r s inside (Dollar ∷ ts) = dollar_few r s ts
+part_few r s inside (DollarCount ∷ ts) = bind (r d.a_name ts) _ (s.name ts) (λ n h. record { few = h })
+part_few r s inside (DollarFlat ∷ ts) = bind (r d.a_name ts) _ (s.name ts) (λ n h. record { few = h })
+part_few r s inside ts = record { few = tt }
 
 -- what follows `switch`, `~` and `fn`
 branch_few : (r : Readers) → Small r → (ts : List Lexeme) → Few wide (d.branch_by r ts)
 unfolding d.branch_by
 branch_few r s ts =
-    bind (d.words_by (r d.a_part) ts) _ (words_few (r d.a_part) s.part ts) (λ as' h.
+    bind (d.words_by (r (d.a_part false)) ts) _ (words_few (r (d.a_part false)) (s.part false) ts) (λ as' h.
     bind (if ends_case as'.1 then r (d.a_list true) as'.1 else Err d.Unexpected) _
     (either (ends_case as'.1) (r (d.a_list true) as'.1) (Err d.Unexpected) (λ e. s.list true as'.1) (record { few = tt })) (λ is k. record { few = omega arith }))
 
@@ -247,15 +247,15 @@ branches_few r s ts = record { few = tt }
 switch_few : (r : Readers) → Small r → (ts : List Lexeme) → Few wide (d.switch_by r ts)
 unfolding d.switch_by
 switch_few r s ts =
-    bind (d.arg_by (r d.a_part) false ts) _ (arg_few (r d.a_part) s.part false ts) (λ a h.
+    bind (d.arg_by (r (d.a_part false)) false ts) _ (arg_few (r (d.a_part false)) (s.part false) false ts) (λ a h.
     bind (d.branches_by r (past_newlines a.1)) _ (branches_few r s (past_newlines a.1)) (λ bs k.
-    bind (d.redirs_by (r d.a_part) bs.1) _ (redirs_few (r d.a_part) s.part bs.1) (λ rs j. record { few = few_redirect rs.0 (t.Switch a.0 bs.0) j (omega arith) })))
+    bind (d.redirs_by (r (d.a_part false)) bs.1) _ (redirs_few (r (d.a_part false)) (s.part false) bs.1) (λ rs j. record { few = few_redirect rs.0 (t.Switch a.0 bs.0) j (omega arith) })))
 
 match_few : (r : Readers) → Small r → (ts : List Lexeme) → Few wide (d.match_by r ts)
 unfolding d.match_by
 match_few r s ts =
-    bind (d.arg_by (r d.a_part) false ts) _ (arg_few (r d.a_part) s.part false ts) (λ a h.
-    bind (d.words_by (r d.a_part) a.1) _ (words_few (r d.a_part) s.part a.1) (λ as' k. record { few = omega arith }))
+    bind (d.arg_by (r (d.a_part false)) false ts) _ (arg_few (r (d.a_part false)) (s.part false) false ts) (λ a h.
+    bind (d.words_by (r (d.a_part false)) a.1) _ (words_few (r (d.a_part false)) (s.part false) a.1) (λ as' k. record { few = omega arith }))
 
 defined_few : (r : Readers) → Small r → (ns : Many t.arg) (ts : List Lexeme) → most_stages_in ns ≤ 64 → Few wide (d.defined_by r ns ts)
 defined_few r s ns ts h =
@@ -264,14 +264,14 @@ defined_few r s ns ts h =
 define_few : (r : Readers) → Small r → (ts : List Lexeme) → Few wide (d.define_by r ts)
 unfolding d.define_by
 define_few r s ts =
-    bind (d.arg_by (r d.a_part) false ts) _ (arg_few (r d.a_part) s.part false ts) (λ a h.
-    bind (d.words_by (r d.a_part) a.1) _ (words_few (r d.a_part) s.part a.1) (λ as' k. defined_few r s (more a.0 as'.0) as'.1 (omega arith)))
+    bind (d.arg_by (r (d.a_part false)) false ts) _ (arg_few (r (d.a_part false)) (s.part false) false ts) (λ a h.
+    bind (d.words_by (r (d.a_part false)) a.1) _ (words_few (r (d.a_part false)) (s.part false) a.1) (λ as' k. defined_few r s (more a.0 as'.0) as'.1 (omega arith)))
 
 block_few : (r : Readers) → Small r → (ts : List Lexeme) → Few wide (d.block_by r ts)
 unfolding d.block_by
 block_few r s ts =
     bind (d.brace_by r ts) _ (brace_few r s ts) (λ c h.
-    bind (d.redirs_by (r d.a_part) c.1) _ (redirs_few (r d.a_part) s.part c.1) (λ rs k. record { few = few_redirect rs.0 (t.Brace c.0) k h }))
+    bind (d.redirs_by (r (d.a_part false)) c.1) _ (redirs_few (r (d.a_part false)) (s.part false) c.1) (λ rs k. record { few = few_redirect rs.0 (t.Brace c.0) k h }))
 
 -- how an operand begins
 staged_few : (o : Read (Node t.cmd)) → Few wide o → Few opening_wide (d.staged o)
@@ -280,12 +280,12 @@ staged_few o m = bind o _ m (λ c h. record { few = h })
 named_few : (r : Readers) → Small r → (a : Node t.arg) (ts : List Lexeme) → most_stages a ≤ 64 → Few opening_wide (d.behind_first r a ts)
 named_few r s a (Equals ∷ ts) h = record { few = h }
 named_few r s a ts h =
-    bind (d.simple_by (r d.a_part) ts) _ (simple_few (r d.a_part) s.part ts) (λ x k.
+    bind (d.simple_by (r (d.a_part false)) ts) _ (simple_few (r (d.a_part false)) (s.part false) ts) (λ x k.
     record { few = few_redirect x.0.1 (t.Simple (more a x.0.0)) (omega arith) (omega arith) })
 
 first_few : (r : Readers) → Small r → (ts : List Lexeme) → Few opening_wide (d.first_by r ts)
 unfolding d.first_by
-first_few r s ts = bind (d.arg_by (r d.a_part) false ts) _ (arg_few (r d.a_part) s.part false ts) (λ a h. named_few r s a.0 a.1 h)
+first_few r s ts = bind (d.arg_by (r (d.a_part false)) false ts) _ (arg_few (r (d.a_part false)) (s.part false) false ts) (λ a h. named_few r s a.0 a.1 h)
 
 worded_few : (r : Readers) → Small r → (k : Keyword) (word : Lexeme) (ts : List Lexeme) → Few opening_wide (d.worded_by r k word ts)
 unfolding d.worded_by
@@ -331,7 +331,7 @@ while_few r s ts = bind (d.paren_by r ts) _ (paren_few r s ts) (λ c h. bind (d.
 
 in_few : (r : Readers) → Small r → (a : Node t.arg) (k : Keyword) (ts : List Lexeme) → most_stages a ≤ 64 → Few wide (d.in_by r a k ts)
 in_few r s a g.InWord ts h =
-    bind (d.members_by (r d.a_part) (past_caret ts)) _ (members_few (r d.a_part) s.part (past_caret ts)) (λ as' j.
+    bind (d.members_by (r (d.a_part true)) (past_caret ts)) _ (members_few (r (d.a_part true)) (s.part true) (past_caret ts)) (λ as' j.
     bind (d.body_by r as'.1) _ (body_few r s as'.1) (λ b k. record { few = omega arith }))
 in_few r s a k ts h = record { few = tt }
 
@@ -344,7 +344,7 @@ over_few r s a ts h = record { few = tt }
 for_few : (r : Readers) → Small r → (ts : List Lexeme) → Few wide (d.for_by r ts)
 unfolding d.for_by
 for_few r s (LeftParen ∷ ts) =
-    bind (d.arg_by (r d.a_part) true (past_newlines ts)) _ (arg_few (r d.a_part) s.part true (past_newlines ts)) (λ a h. over_few r s a.0 (past_newlines a.1) h)
+    bind (d.arg_by (r (d.a_part true)) true (past_newlines ts)) _ (arg_few (r (d.a_part true)) (s.part true) true (past_newlines ts)) (λ a h. over_few r s a.0 (past_newlines a.1) h)
 for_few r s ts = record { few = tt }
 
 control_few : (r : Readers) → Small r → (f : Bool) (k : Keyword) (ts : List Lexeme) → Few wide (d.control_by r f k ts)
@@ -359,8 +359,8 @@ control_few r s f k ts = record { few = tt }
 redirected_few : (r : Readers) → Small r → (ts : List Lexeme) → Few wide (d.redirected_by r ts)
 unfolding d.redirected_by
 redirected_few r s ts =
-    bind (d.redir_by (r d.a_part) ts) _ (redir_few (r d.a_part) s.part ts) (λ x h.
-    bind (d.redirs_by (r d.a_part) x.1) _ (redirs_few (r d.a_part) s.part x.1) (λ rs k.
+    bind (d.redir_by (r (d.a_part false)) ts) _ (redir_few (r (d.a_part false)) (s.part false) ts) (λ x h.
+    bind (d.redirs_by (r (d.a_part false)) x.1) _ (redirs_few (r (d.a_part false)) (s.part false) x.1) (λ rs k.
     bind (d.optional_by r rs.1) _ (optional_few r s rs.1) (λ c j. record { few = omega arith })))
 
 leading_few : (r : Readers) → Small r → (f : Bool) (ts : List Lexeme) → Few wide (d.leading_by r f ts)
@@ -397,7 +397,7 @@ value_turn_few : (r : Readers) → Small r → (go_on : Many t.pair → Reader (
     ((ps : Many t.pair) (ts : List Lexeme) → most_stages_in ps ≤ 64 → Few wide (go_on ps ts)) →
     (ps : Many t.pair) (o : Opening) (ts : List Lexeme) → most_stages_in ps ≤ 64 → opening_wide o ≤ 64 → Few wide (d.value_turn r go_on ps o ts)
 value_turn_few r s go_on goes ps (Named a) ts h k =
-    bind (d.arg_by (r d.a_part) false ts) _ (arg_few (r d.a_part) s.part false ts) (λ v j. goes (snoc ps (t.Pair a v.0)) v.1 (few_snoc ps (t.Pair a v.0) h (omega arith)))
+    bind (d.arg_by (r (d.a_part false)) false ts) _ (arg_few (r (d.a_part false)) (s.part false) false ts) (λ v j. goes (snoc ps (t.Pair a v.0)) v.1 (few_snoc ps (t.Pair a v.0) h (omega arith)))
 value_turn_few r s go_on goes ps (Staged c) ts h k = bind (d.pipe_by r c ts) _ (pipe_few r s c ts k) (λ p j. record { few = omega arith })
 
 values_from_few : (r : Readers) → Small r → (turns : ℕ) (ps : Many t.pair) (ts : List Lexeme) → most_stages_in ps ≤ 64 → Few wide (d.values_from r turns ps ts)
@@ -416,7 +416,7 @@ values_few r s ps ts h = values_from_few r s (length ts) ps ts h
 assigned_few : (r : Readers) → Small r → (a : Node t.arg) (ts : List Lexeme) → most_stages a ≤ 64 → Few wide (d.assigned_by r a ts)
 unfolding d.assigned_by
 assigned_few r s a ts h =
-    bind (d.arg_by (r d.a_part) false ts) _ (arg_few (r d.a_part) s.part false ts) (λ v k. values_few r s (more (t.Pair a v.0) none) v.1 (omega arith))
+    bind (d.arg_by (r (d.a_part false)) false ts) _ (arg_few (r (d.a_part false)) (s.part false) false ts) (λ v k. values_few r s (more (t.Pair a v.0) none) v.1 (omega arith))
 
 -- operands
 opened_few : (r : Readers) → Small r → (o : Opening) (ts : List Lexeme) → opening_wide o ≤ 64 → Few wide (d.opened_by r o ts)
@@ -498,7 +498,7 @@ read_by_few : (r : Readers) → Small r → Small (λ n ts. d.read_by r n ts)
 unfolding d.read_by
 read_by_few r s = record {
   name = λ ts. name_few r s ts;
-  part = λ ts. part_few r s ts;
+  part = λ inside ts. part_few r s inside ts;
   operand = λ ts. operand_few r s false ts;
   piped = λ ts. piped_few r s ts;
   command = λ f ts. command_few r s f ts;
@@ -509,7 +509,7 @@ read_few : (left : ℕ) → Small (λ n ts. d.read left n ts)
 unfolding d.read
 read_few zero = record {
   name = λ ts. record { few = tt };
-  part = λ ts. record { few = tt };
+  part = λ inside ts. record { few = tt };
   operand = λ ts. record { few = tt };
   piped = λ ts. record { few = tt };
   command = λ f ts. record { few = tt };

@@ -40,7 +40,7 @@ caret_then ts x next h = let a = past_caret-shorter ts in let e = ap length h in
 -- how many tokens a phrase takes at least
 abbrev pub least : Level → ℕ
 least g.name = 1
-least g.part = 1
+least (g.part inside) = 1
 least (g.arg inside) = 1
 least (g.parts inside) = 0
 least g.members = 1
@@ -72,7 +72,7 @@ Phrase-shorter (g.named_name p) = let a = Phrase-shorter p in omega arith
 Phrase-shorter (g.word_part) = omega arith
 Phrase-shorter (g.quoted_part) = omega arith
 Phrase-shorter (g.paren_part p) = let a = Phrase-shorter p in omega arith
-Phrase-shorter (g.back_part p) = let a = Phrase-shorter p in omega arith
+Phrase-shorter (g.back_part {inside = inside} {ts = ts} p) = let a = Phrase-shorter p in let b = past_blanks-shorter inside ts in omega arith
 Phrase-shorter (g.var_part p h) = let a = Phrase-shorter p in omega arith
 Phrase-shorter (g.sub_part p q) = let a = Phrase-shorter p in let b = Phrase-shorter q in omega arith
 Phrase-shorter (g.count_part p) = let a = Phrase-shorter p in omega arith

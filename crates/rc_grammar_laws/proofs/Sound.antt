@@ -91,7 +91,7 @@ pipeline_sound c (more (t.Stage d slot) ss) x y =
 -- what is said of the tree of each level
 abbrev Holds : (l : Level) → Out l → Type 0
 Holds g.name n = Sound n
-Holds g.part a = Sound a
+Holds (g.part inside) a = Sound a
 Holds (g.arg inside) a = Sound a
 Holds (g.parts inside) as' = AllSound as'
 Holds g.members as' = AllSound as'
@@ -123,7 +123,7 @@ sound_of (g.named_name p) w = let b = sound_of p w.1 in (record { sound = b.0.so
 sound_of (g.word_part {text = text}) w = (word_sound text w.0, w.1)
 sound_of (g.quoted_part {text = text}) w = (quoted_sound text w.0, w.1)
 sound_of (g.paren_part p) w = let b = sound_of p w.1 in (record { sound = b.0.sound }, b.1)
-sound_of (g.back_part p) w = let b = sound_of p w.1 in (record { sound = b.0.sound }, b.1)
+sound_of (g.back_part {inside = inside} {ts = ts} p) w = let b = sound_of p (past_blanks_spelled inside ts w.1) in (record { sound = b.0.sound }, b.1)
 sound_of (g.var_part p e) w = let b = sound_of p w.1 in (record { sound = b.0.sound }, b.1)
 sound_of (g.sub_part p q) w = let a = sound_of p w.1 in let b = sound_of q a.1.1 in (record { sound = both a.0.sound b.0.sound }, b.1)
 sound_of (g.count_part p) w = let b = sound_of p w.1 in (record { sound = b.0.sound }, b.1)

@@ -21,14 +21,14 @@ IsPiped ts c false rest = Phrase (g.leading false) ts c rest ⊎ Phrase g.assign
 -- what is read one level deeper is a phrase
 pub record Sound (r : Readers) : Type 0 where
   pub name : (ts : List Lexeme) (x : Node t.arg × List Lexeme) → r d.a_name ts ≡ Ok x → Phrase g.name ts x.0 x.1
-  pub part : (ts : List Lexeme) (x : Node t.arg × List Lexeme) → r d.a_part ts ≡ Ok x → Phrase g.part ts x.0 x.1
+  pub part : (inside : Bool) (ts : List Lexeme) (x : Node t.arg × List Lexeme) → r (d.a_part inside) ts ≡ Ok x → Phrase (g.part inside) ts x.0 x.1
   pub operand : (ts : List Lexeme) (x : Node t.cmd × List Lexeme) → r d.an_operand ts ≡ Ok x → Phrase (g.operand false) ts x.0 x.1
   pub piped : (ts : List Lexeme) (x : (Node t.cmd × Bool) × List Lexeme) → r d.a_piped ts ≡ Ok x → IsPiped ts x.0.0 x.0.1 x.1
   pub command : (f : Bool) (ts : List Lexeme) (x : Node t.cmd × List Lexeme) → r (d.a_command f) ts ≡ Ok x → Phrase (g.command f) ts x.0 x.1
   pub list : (s : Bool) (ts : List Lexeme) (x : Many t.item × List Lexeme) → r (d.a_list s) ts ≡ Ok x → Phrase (g.items s false) ts x.0 x.1
 
-abbrev SoundPart : Reader (Node t.arg) → Type 0
-SoundPart p = (ts : List Lexeme) (x : Node t.arg × List Lexeme) → p ts ≡ Ok x → Phrase g.part ts x.0 x.1
+abbrev SoundPart : (inside : Bool) → Reader (Node t.arg) → Type 0
+SoundPart inside p = (ts : List Lexeme) (x : Node t.arg × List Lexeme) → p ts ≡ Ok x → Phrase (g.part inside) ts x.0 x.1
 
 -- the phrase of what was read at last
 found : (l : Level) (ts : List Lexeme) (y x : Out l × List Lexeme) → Phrase l ts y.0 y.1 → done y ≡ Ok x → Phrase l ts x.0 x.1
@@ -51,12 +51,12 @@ no_more : (inside : Bool) → after_caret (past_blanks inside []) ≡ None
 no_more true = refl
 no_more false = refl
 
-parts_turn_sound : (p : Reader (Node t.arg)) → SoundPart p → (inside : Bool) (k : ℕ) (go_on : Many t.arg → Reader (Many t.arg))
+parts_turn_sound : (p : Reader (Node t.arg)) (inside : Bool) → SoundPart inside p → (k : ℕ) (go_on : Many t.arg → Reader (Many t.arg))
     (goes : (front : Many t.arg) (ts : List Lexeme) (x : Many t.arg × List Lexeme) → length ts ≤ k → go_on front ts ≡ Ok x → AddsParts inside ts front x)
     (front : Many t.arg) (ts : List Lexeme) (o : Option (List Lexeme)) (x : Many t.arg × List Lexeme) → length ts ≤ suc k → after_caret (past_blanks inside ts) ≡ o →
     d.parts_turn p inside go_on front ts o ≡ Ok x → AddsParts inside ts front x
-parts_turn_sound p s inside k go_on goes front ts None x le e h = adds_none _ front ts x (g.no_caret e) h
-parts_turn_sound p s inside k go_on goes front ts (Some next) x le e h =
+parts_turn_sound p inside s k go_on goes front ts None x le e h = adds_none _ front ts x (g.no_caret e) h
+parts_turn_sound p inside s k go_on goes front ts (Some next) x le e h =
     let w = bind_ok (p (past_blanks inside next)) _ x h in
     let a = s (past_blanks inside next) w.0 w.1 in
     let shorter = Phrase-shorter a in
@@ -66,23 +66,23 @@ parts_turn_sound p s inside k go_on goes front ts (Some next) x le e h =
     adds_more (λ as' rest. Phrase (g.parts inside) ts as' rest) (λ as' rest. Phrase (g.parts inside) w.0.1 as' rest) front w.0.0 x (λ as' q. g.caret e a q)
     (goes (snoc front w.0.0) w.0.1 x (omega arith) w.2)
 
-parts_sound : (p : Reader (Node t.arg)) → SoundPart p → (inside : Bool) (k : ℕ) (front : Many t.arg) (ts : List Lexeme) (x : Many t.arg × List Lexeme) → length ts ≤ k →
+parts_sound : (p : Reader (Node t.arg)) (inside : Bool) → SoundPart inside p → (k : ℕ) (front : Many t.arg) (ts : List Lexeme) (x : Many t.arg × List Lexeme) → length ts ≤ k →
     d.parts_from p inside k front ts ≡ Ok x → AddsParts inside ts front x
 unfolding d.parts_from
-parts_sound p s inside zero front [] x le h = adds_none _ front [] x (g.no_caret (no_more inside)) h
-parts_sound p s inside zero front (l ∷ ts) x le h = absurd (omega arith)
-parts_sound p s inside (suc k) front ts x le h =
-    parts_turn_sound p s inside k (λ as' u. d.parts_from p inside k as' u) (parts_sound p s inside k) front ts (after_caret (past_blanks inside ts)) x le refl h
+parts_sound p inside s zero front [] x le h = adds_none _ front [] x (g.no_caret (no_more inside)) h
+parts_sound p inside s zero front (l ∷ ts) x le h = absurd (omega arith)
+parts_sound p inside s (suc k) front ts x le h =
+    parts_turn_sound p inside s k (λ as' u. d.parts_from p inside k as' u) (parts_sound p inside s k) front ts (after_caret (past_blanks inside ts)) x le refl h
 
-arg_sound : (p : Reader (Node t.arg)) → SoundPart p → (inside : Bool) (ts : List Lexeme) (x : Node t.arg × List Lexeme) → d.arg_by p inside ts ≡ Ok x → Phrase (g.arg inside) ts x.0 x.1
+arg_sound : (p : Reader (Node t.arg)) (inside : Bool) → SoundPart inside p → (ts : List Lexeme) (x : Node t.arg × List Lexeme) → d.arg_by p inside ts ≡ Ok x → Phrase (g.arg inside) ts x.0 x.1
 unfolding d.arg_by d.parts_by
-arg_sound p s inside ts x h =
+arg_sound p inside s ts x h =
     let w = bind_ok (p ts) _ x h in
     let v = bind_ok (d.parts_by p inside w.0.1) _ x w.2 in
-    let q = all_added (λ as' rest. Phrase (g.parts inside) w.0.1 as' rest) v.0 (parts_sound p s inside (length w.0.1) none w.0.1 v.0 (omega arith) v.1) in
+    let q = all_added (λ as' rest. Phrase (g.parts inside) w.0.1 as' rest) v.0 (parts_sound p inside s (length w.0.1) none w.0.1 v.0 (omega arith) v.1) in
     found (g.arg inside) ts (concat_of w.0.0 v.0.0, v.0.1) x (g.joined (s ts w.0 w.1) q) v.2
 
-members_from_sound : (p : Reader (Node t.arg)) → SoundPart p → (k : ℕ) (front : Many t.arg) (ts : List Lexeme) (x : Many t.arg × List Lexeme) → d.members_from p k front ts ≡ Ok x →
+members_from_sound : (p : Reader (Node t.arg)) → SoundPart true p → (k : ℕ) (front : Many t.arg) (ts : List Lexeme) (x : Many t.arg × List Lexeme) → d.members_from p k front ts ≡ Ok x →
     Adds (λ as' rest. Phrase g.members ts as' rest) front x
 unfolding d.members_from
 members_from_sound p s zero front ts x h = absurd cc
@@ -90,39 +90,39 @@ members_from_sound p s (suc k) front (RightParen ∷ ts) x h = adds_none _ front
 members_from_sound p s (suc k) front (Newline ∷ ts) x h = adds_same _ _ front x (λ as' q. g.blank_member q) (members_from_sound p s k front ts x h)
 members_from_sound p s (suc k) front ts x h =
     let w = bind_ok (d.arg_by p true ts) _ x h in
-    adds_more _ _ front w.0.0 x (λ as' q. g.member (arg_sound p s true ts w.0 w.1) q) (members_from_sound p s k (snoc front w.0.0) w.0.1 x w.2)
+    adds_more _ _ front w.0.0 x (λ as' q. g.member (arg_sound p true s ts w.0 w.1) q) (members_from_sound p s k (snoc front w.0.0) w.0.1 x w.2)
 
-members_sound : (p : Reader (Node t.arg)) → SoundPart p → (ts : List Lexeme) (x : Many t.arg × List Lexeme) → d.members_by p ts ≡ Ok x → Phrase g.members ts x.0 x.1
+members_sound : (p : Reader (Node t.arg)) → SoundPart true p → (ts : List Lexeme) (x : Many t.arg × List Lexeme) → d.members_by p ts ≡ Ok x → Phrase g.members ts x.0 x.1
 unfolding d.members_by
 members_sound p s ts x h = all_added (λ as' rest. Phrase g.members ts as' rest) x (members_from_sound p s (length ts) none ts x h)
 
-words_from_sound : (p : Reader (Node t.arg)) → SoundPart p → (k : ℕ) (front : Many t.arg) (ts : List Lexeme) (x : Many t.arg × List Lexeme) → length ts ≤ k →
+words_from_sound : (p : Reader (Node t.arg)) → SoundPart false p → (k : ℕ) (front : Many t.arg) (ts : List Lexeme) (x : Many t.arg × List Lexeme) → length ts ≤ k →
     d.words_from p k front ts ≡ Ok x → Adds (λ as' rest. Phrase g.words ts as' rest) front x
 unfolding d.words_from
 words_from_sound p s zero front [] x le h = adds_none _ front [] x (g.no_word refl) h
 words_from_sound p s zero front (l ∷ ts) x le h = absurd (omega arith)
 words_from_sound p s (suc k) front ts x le h = elim (if_ok (begins_arg ts) _ _ x h) [
   | inl b ↦ (let w = bind_ok (d.arg_by p false ts) _ x b.1 in
-      let a = arg_sound p s false ts w.0 w.1 in
+      let a = arg_sound p false s ts w.0 w.1 in
       let shorter = Phrase-shorter a in
       adds_more _ _ front w.0.0 x (λ as' q. g.word a q) (words_from_sound p s k (snoc front w.0.0) w.0.1 x (omega arith) w.2))
   | inr b ↦ adds_none _ front ts x (g.no_word b.0) b.1
 ]
 
-words_sound : (p : Reader (Node t.arg)) → SoundPart p → (ts : List Lexeme) (x : Many t.arg × List Lexeme) → d.words_by p ts ≡ Ok x → Phrase g.words ts x.0 x.1
+words_sound : (p : Reader (Node t.arg)) → SoundPart false p → (ts : List Lexeme) (x : Many t.arg × List Lexeme) → d.words_by p ts ≡ Ok x → Phrase g.words ts x.0 x.1
 unfolding d.words_by
 words_sound p s ts x h = all_added (λ as' rest. Phrase g.words ts as' rest) x (words_from_sound p s (length ts) none ts x (omega arith) h)
 
-redir_sound : (p : Reader (Node t.arg)) → SoundPart p → (ts : List Lexeme) (x : Node t.redir × List Lexeme) → d.redir_by p ts ≡ Ok x → Phrase g.redir ts x.0 x.1
+redir_sound : (p : Reader (Node t.arg)) → SoundPart false p → (ts : List Lexeme) (x : Node t.redir × List Lexeme) → d.redir_by p ts ≡ Ok x → Phrase g.redir ts x.0 x.1
 unfolding d.redir_by
 redir_sound p s (Redirection mode slot ∷ ts) x h =
     let w = bind_ok (d.arg_by p false ts) _ x h in
-    found g.redir (Redirection mode slot ∷ ts) (t.Open mode slot w.0.0, w.0.1) x (g.open_redir (arg_sound p s false ts w.0 w.1)) w.2
+    found g.redir (Redirection mode slot ∷ ts) (t.Open mode slot w.0.0, w.0.1) x (g.open_redir (arg_sound p false s ts w.0 w.1)) w.2
 redir_sound p s (CopyTo to from ∷ ts) x h = found g.redir (CopyTo to from ∷ ts) (t.Copy to from, ts) x g.copy_redir h
 redir_sound p s (HereDoc quoted text ∷ ts) x h = found g.redir (HereDoc quoted text ∷ ts) _ x g.here_redir h
 redir_sound p s ts x h = absurd cc
 
-redirs_from_sound : (p : Reader (Node t.arg)) → SoundPart p → (k : ℕ) (front : Many t.redir) (ts : List Lexeme) (x : Many t.redir × List Lexeme) → length ts ≤ k →
+redirs_from_sound : (p : Reader (Node t.arg)) → SoundPart false p → (k : ℕ) (front : Many t.redir) (ts : List Lexeme) (x : Many t.redir × List Lexeme) → length ts ≤ k →
     d.redirs_from p k front ts ≡ Ok x → Adds (λ rs rest. Phrase g.redirs ts rs rest) front x
 unfolding d.redirs_from
 redirs_from_sound p s zero front [] x le h = adds_none _ front [] x (g.no_redir refl) h
@@ -135,7 +135,7 @@ redirs_from_sound p s (suc k) front ts x le h = elim (if_ok (begins_redir ts) _ 
   | inr b ↦ adds_none _ front ts x (g.no_redir b.0) b.1
 ]
 
-redirs_sound : (p : Reader (Node t.arg)) → SoundPart p → (ts : List Lexeme) (x : Many t.redir × List Lexeme) → d.redirs_by p ts ≡ Ok x → Phrase g.redirs ts x.0 x.1
+redirs_sound : (p : Reader (Node t.arg)) → SoundPart false p → (ts : List Lexeme) (x : Many t.redir × List Lexeme) → d.redirs_by p ts ≡ Ok x → Phrase g.redirs ts x.0 x.1
 unfolding d.redirs_by
 redirs_sound p s ts x h = all_added (λ rs rest. Phrase g.redirs ts rs rest) x (redirs_from_sound p s (length ts) none ts x (omega arith) h)
 
@@ -157,14 +157,14 @@ simple_none ts as' rs x a b h =
       phrase = subst (λ z. Phrase g.simple ts (none, none) z.1) e (g.simple_end a b);
     }
 
-simple_from_sound : (p : Reader (Node t.arg)) → SoundPart p → (k : ℕ) (as' : Many t.arg) (rs : Many t.redir) (ts : List Lexeme) (x : (Many t.arg × Many t.redir) × List Lexeme) →
+simple_from_sound : (p : Reader (Node t.arg)) → SoundPart false p → (k : ℕ) (as' : Many t.arg) (rs : Many t.redir) (ts : List Lexeme) (x : (Many t.arg × Many t.redir) × List Lexeme) →
     length ts ≤ k → d.simple_from p k as' rs ts ≡ Ok x → AddsSimple ts as' rs x
 unfolding d.simple_from
 simple_from_sound p s zero as' rs [] x le h = simple_none [] as' rs x refl refl h
 simple_from_sound p s zero as' rs (l ∷ ts) x le h = absurd (omega arith)
 simple_from_sound p s (suc k) as' rs ts x le h = elim (if_ok (begins_arg ts) _ _ x h) [
   | inl b ↦ (let w = bind_ok (d.arg_by p false ts) _ x b.1 in
-      let a = arg_sound p s false ts w.0 w.1 in
+      let a = arg_sound p false s ts w.0 w.1 in
       let shorter = Phrase-shorter a in
       let q = simple_from_sound p s k (snoc as' w.0.0) rs w.0.1 x (omega arith) w.2 in
       record {
@@ -188,7 +188,7 @@ simple_from_sound p s (suc k) as' rs ts x le h = elim (if_ok (begins_arg ts) _ _
   ]
 ]
 
-simple_sound : (p : Reader (Node t.arg)) → SoundPart p → (ts : List Lexeme) (x : (Many t.arg × Many t.redir) × List Lexeme) → d.simple_by p ts ≡ Ok x → Phrase g.simple ts x.0 x.1
+simple_sound : (p : Reader (Node t.arg)) → SoundPart false p → (ts : List Lexeme) (x : (Many t.arg × Many t.redir) × List Lexeme) → d.simple_by p ts ≡ Ok x → Phrase g.simple ts x.0 x.1
 unfolding d.simple_by
 simple_sound p s ts x h =
     let q = simple_from_sound p s (length ts) none none ts x (omega arith) h in
@@ -225,33 +225,33 @@ paren_sound r s (LeftParen ∷ ts) x h =
 paren_sound r s ts x h = absurd cc
 
 -- a part of an argument
-value_sound : (r : Readers) → Sound r → (ts : List Lexeme) (n : Node t.arg) (mid : List Lexeme) (x : Node t.arg × List Lexeme) → Phrase g.name ts n mid → d.value_by r n mid ≡ Ok x →
-    Phrase g.part (Dollar ∷ ts) x.0 x.1
-value_sound r s ts n (Subscript ∷ mid) x p h =
-    let w = bind_ok (d.members_by (r d.a_part) mid) _ x h in
-    found g.part (Dollar ∷ ts) (t.Sub n w.0.0, w.0.1) x (g.sub_part p (members_sound (r d.a_part) s.part mid w.0 w.1)) w.2
-value_sound r s ts n mid x p h = found g.part (Dollar ∷ ts) (t.Var n, mid) x (g.var_part p refl) h
+value_sound : (r : Readers) → Sound r → (inside : Bool) (ts : List Lexeme) (n : Node t.arg) (mid : List Lexeme) (x : Node t.arg × List Lexeme) → Phrase g.name ts n mid → d.value_by r n mid ≡ Ok x →
+    Phrase (g.part inside) (Dollar ∷ ts) x.0 x.1
+value_sound r s inside ts n (Subscript ∷ mid) x p h =
+    let w = bind_ok (d.members_by (r (d.a_part true)) mid) _ x h in
+    found (g.part inside) (Dollar ∷ ts) (t.Sub n w.0.0, w.0.1) x (g.sub_part p (members_sound (r (d.a_part true)) (s.part true) mid w.0 w.1)) w.2
+value_sound r s inside ts n mid x p h = found (g.part inside) (Dollar ∷ ts) (t.Var n, mid) x (g.var_part p refl) h
 
-part_sound : (r : Readers) → Sound r → (ts : List Lexeme) (x : Node t.arg × List Lexeme) → d.part_by r ts ≡ Ok x → Phrase g.part ts x.0 x.1
+part_sound : (r : Readers) → Sound r → (inside : Bool) (ts : List Lexeme) (x : Node t.arg × List Lexeme) → d.part_by r inside ts ≡ Ok x → Phrase (g.part inside) ts x.0 x.1
 unfolding d.part_by d.dollar_by
-part_sound r s (Word text ∷ ts) x h = found g.part (Word text ∷ ts) (t.Lit text false, ts) x g.word_part h
-part_sound r s (Quoted text ∷ ts) x h = found g.part (Quoted text ∷ ts) (t.Lit text true, ts) x g.quoted_part h
-part_sound r s (LeftParen ∷ ts) x h =
-    let w = bind_ok (d.members_by (r d.a_part) ts) _ x h in
-    found g.part (LeftParen ∷ ts) (t.Paren w.0.0, w.0.1) x (g.paren_part (members_sound (r d.a_part) s.part ts w.0 w.1)) w.2
-part_sound r s (Backquote ∷ ts) x h =
-    let w = bind_ok (d.brace_by r ts) _ x h in
-    found g.part (Backquote ∷ ts) (t.Back w.0.0, w.0.1) x (g.back_part (brace_sound r s ts w.0 w.1)) w.2
-part_sound r s (Dollar ∷ ts) x h =
+part_sound r s inside (Word text ∷ ts) x h = found (g.part inside) (Word text ∷ ts) (t.Lit text false, ts) x g.word_part h
+part_sound r s inside (Quoted text ∷ ts) x h = found (g.part inside) (Quoted text ∷ ts) (t.Lit text true, ts) x g.quoted_part h
+part_sound r s inside (LeftParen ∷ ts) x h =
+    let w = bind_ok (d.members_by (r (d.a_part true)) ts) _ x h in
+    found (g.part inside) (LeftParen ∷ ts) (t.Paren w.0.0, w.0.1) x (g.paren_part (members_sound (r (d.a_part true)) (s.part true) ts w.0 w.1)) w.2
+part_sound r s inside (Backquote ∷ ts) x h =
+    let w = bind_ok (d.brace_by r (past_blanks inside ts)) _ x h in
+    found (g.part inside) (Backquote ∷ ts) (t.Back w.0.0, w.0.1) x (g.back_part (brace_sound r s (past_blanks inside ts) w.0 w.1)) w.2
+part_sound r s inside (Dollar ∷ ts) x h =
     let w = bind_ok (r d.a_name ts) _ x h in
-    value_sound r s ts w.0.0 w.0.1 x (s.name ts w.0 w.1) w.2
-part_sound r s (DollarCount ∷ ts) x h =
+    value_sound r s inside ts w.0.0 w.0.1 x (s.name ts w.0 w.1) w.2
+part_sound r s inside (DollarCount ∷ ts) x h =
     let w = bind_ok (r d.a_name ts) _ x h in
-    found g.part (DollarCount ∷ ts) (t.Count w.0.0, w.0.1) x (g.count_part (s.name ts w.0 w.1)) w.2
-part_sound r s (DollarFlat ∷ ts) x h =
+    found (g.part inside) (DollarCount ∷ ts) (t.Count w.0.0, w.0.1) x (g.count_part (s.name ts w.0 w.1)) w.2
+part_sound r s inside (DollarFlat ∷ ts) x h =
     let w = bind_ok (r d.a_name ts) _ x h in
-    found g.part (DollarFlat ∷ ts) (t.Flat w.0.0, w.0.1) x (g.flat_part (s.name ts w.0 w.1)) w.2
-part_sound r s ts x h = absurd cc
+    found (g.part inside) (DollarFlat ∷ ts) (t.Flat w.0.0, w.0.1) x (g.flat_part (s.name ts w.0 w.1)) w.2
+part_sound r s inside ts x h = absurd cc
 
 -- the case lines of a switch
 record IsBranch (ts : List Lexeme) (b : Node t.branch) (rest : List Lexeme) : Type 0 where
@@ -266,7 +266,7 @@ record IsBranch (ts : List Lexeme) (b : Node t.branch) (rest : List Lexeme) : Ty
 branch_sound : (r : Readers) → Sound r → (ts : List Lexeme) (x : Node t.branch × List Lexeme) → d.branch_by r ts ≡ Ok x → IsBranch ts x.0 x.1
 unfolding d.branch_by
 branch_sound r s ts x h =
-    let w = bind_ok (d.words_by (r d.a_part) ts) _ x h in
+    let w = bind_ok (d.words_by (r (d.a_part false)) ts) _ x h in
     let v = bind_ok (if ends_case w.0.1 then r (d.a_list true) w.0.1 else Err d.Unexpected) _ x w.2 in
     let e = ok_same (t.Branch w.0.0 (t.Seq v.0.0), v.0.1) x v.2 in
     elim (if_ok (ends_case w.0.1) _ _ v.0 v.1) [
@@ -274,7 +274,7 @@ branch_sound r s ts x h =
         patterns = w.0.0;
         mid = w.0.1;
         is = v.0.0;
-        words = words_sound (r d.a_part) s.part ts w.0 w.1;
+        words = words_sound (r (d.a_part false)) (s.part false) ts w.0 w.1;
         ended = b.0;
         items = subst (λ z. Phrase (g.items true false) w.0.1 v.0.0 z.1) e (s.list true w.0.1 v.0 b.1);
         whole = sym (ap (λ z. z.0) e);
@@ -310,30 +310,30 @@ switch_sound : (r : Readers) → Sound r → (text : List ℕ) (ts : List Lexeme
     Phrase g.stage (Word text ∷ ts) x.0 x.1
 unfolding d.switch_by
 switch_sound r s text ts x k h =
-    let w = bind_ok (d.arg_by (r d.a_part) false (past_caret ts)) _ x h in
+    let w = bind_ok (d.arg_by (r (d.a_part false)) false (past_caret ts)) _ x h in
     let v = bind_ok (d.branches_by r (past_newlines w.0.1)) _ x w.2 in
-    let u = bind_ok (d.redirs_by (r d.a_part) v.0.1) _ x v.2 in
+    let u = bind_ok (d.redirs_by (r (d.a_part false)) v.0.1) _ x v.2 in
     let b = branches_sound r s (past_newlines w.0.1) v.0 v.1 in
     found g.stage (Word text ∷ ts) (redirect u.0.0 (t.Switch w.0.0 v.0.0), u.0.1) x
-    (g.switch_stage k (arg_sound (r d.a_part) s.part false (past_caret ts) w.0 w.1) b.1 b.2 (redirs_sound (r d.a_part) s.part v.0.1 u.0 u.1)) u.2
+    (g.switch_stage k (arg_sound (r (d.a_part false)) false (s.part false) (past_caret ts) w.0 w.1) b.1 b.2 (redirs_sound (r (d.a_part false)) (s.part false) v.0.1 u.0 u.1)) u.2
 
 match_sound : (r : Readers) → Sound r → (text : List ℕ) (ts : List Lexeme) (x : Node t.cmd × List Lexeme) → keyword text ≡ g.MatchWord → d.match_by r (past_caret ts) ≡ Ok x →
     Phrase g.stage (Word text ∷ ts) x.0 x.1
 unfolding d.match_by
 match_sound r s text ts x k h =
-    let w = bind_ok (d.arg_by (r d.a_part) false (past_caret ts)) _ x h in
-    let v = bind_ok (d.words_by (r d.a_part) w.0.1) _ x w.2 in
+    let w = bind_ok (d.arg_by (r (d.a_part false)) false (past_caret ts)) _ x h in
+    let v = bind_ok (d.words_by (r (d.a_part false)) w.0.1) _ x w.2 in
     found g.stage (Word text ∷ ts) (t.Match w.0.0 v.0.0, v.0.1) x
-    (g.match_stage k (arg_sound (r d.a_part) s.part false (past_caret ts) w.0 w.1) (words_sound (r d.a_part) s.part w.0.1 v.0 v.1)) v.2
+    (g.match_stage k (arg_sound (r (d.a_part false)) false (s.part false) (past_caret ts) w.0 w.1) (words_sound (r (d.a_part false)) (s.part false) w.0.1 v.0 v.1)) v.2
 
 define_sound : (r : Readers) → Sound r → (text : List ℕ) (ts : List Lexeme) (x : Node t.cmd × List Lexeme) → keyword text ≡ g.FnWord → d.define_by r (past_caret ts) ≡ Ok x →
     Phrase g.stage (Word text ∷ ts) x.0 x.1
 unfolding d.define_by
 define_sound r s text ts x k h =
-    let w = bind_ok (d.arg_by (r d.a_part) false (past_caret ts)) _ x h in
-    let v = bind_ok (d.words_by (r d.a_part) w.0.1) _ x w.2 in
-    let a = arg_sound (r d.a_part) s.part false (past_caret ts) w.0 w.1 in
-    let as' = words_sound (r d.a_part) s.part w.0.1 v.0 v.1 in
+    let w = bind_ok (d.arg_by (r (d.a_part false)) false (past_caret ts)) _ x h in
+    let v = bind_ok (d.words_by (r (d.a_part false)) w.0.1) _ x w.2 in
+    let a = arg_sound (r (d.a_part false)) false (s.part false) (past_caret ts) w.0 w.1 in
+    let as' = words_sound (r (d.a_part false)) (s.part false) w.0.1 v.0 v.1 in
     elim (if_ok (begins_brace v.0.1) _ _ x v.2) [
       | inl b ↦ (let u = bind_ok (d.brace_by r v.0.1) _ x b.1 in
           found g.stage (Word text ∷ ts) (t.Define (more w.0.0 v.0.0) u.0.0, u.0.1) x (g.define_stage k a as' (brace_sound r s v.0.1 u.0 u.1)) u.2)
@@ -344,8 +344,8 @@ block_sound : (r : Readers) → Sound r → (ts : List Lexeme) (x : Node t.cmd �
 unfolding d.block_by
 block_sound r s ts x h =
     let w = bind_ok (d.brace_by r ts) _ x h in
-    let v = bind_ok (d.redirs_by (r d.a_part) w.0.1) _ x w.2 in
-    found g.stage ts (redirect v.0.0 (t.Brace w.0.0), v.0.1) x (g.brace_stage (brace_sound r s ts w.0 w.1) (redirs_sound (r d.a_part) s.part w.0.1 v.0 v.1)) v.2
+    let v = bind_ok (d.redirs_by (r (d.a_part false)) w.0.1) _ x w.2 in
+    found g.stage ts (redirect v.0.0 (t.Brace w.0.0), v.0.1) x (g.brace_stage (brace_sound r s ts w.0 w.1) (redirs_sound (r (d.a_part false)) (s.part false) w.0.1 v.0 v.1)) v.2
 
 -- a stage, or the name of an assignment with the `=` behind it
 abbrev pub IsOpening : List Lexeme → Opening → List Lexeme → Type 0
@@ -362,10 +362,10 @@ behind_first_sound : (r : Readers) → Sound r → (ts : List Lexeme) (a : Node 
     d.behind_first r a mid ≡ Ok x → IsOpening ts x.0 x.1
 behind_first_sound r s ts a (Equals ∷ mid) x b p h = found_opening ts (Named a, mid) x (b, p) h
 behind_first_sound r s ts a mid x b p h =
-    let w = bind_ok (d.simple_by (r d.a_part) mid) _ x h in
-    found_opening ts (Staged (redirect w.0.0.1 (t.Simple (more a w.0.0.0))), w.0.1) x (g.simple_stage b p refl (simple_sound (r d.a_part) s.part mid w.0 w.1)) w.2
+    let w = bind_ok (d.simple_by (r (d.a_part false)) mid) _ x h in
+    found_opening ts (Staged (redirect w.0.0.1 (t.Simple (more a w.0.0.0))), w.0.1) x (g.simple_stage b p refl (simple_sound (r (d.a_part false)) (s.part false) mid w.0 w.1)) w.2
 
-part_begins : {ts : List Lexeme} {a : Node t.arg} {rest : List Lexeme} → Phrase g.part ts a rest → begins_arg ts ≡ true
+part_begins : {inside : Bool} {ts : List Lexeme} {a : Node t.arg} {rest : List Lexeme} → Phrase (g.part inside) ts a rest → begins_arg ts ≡ true
 part_begins g.word_part = refl
 part_begins g.quoted_part = refl
 part_begins (g.paren_part p) = refl
@@ -381,8 +381,8 @@ arg_begins (g.joined p q) = part_begins p
 first_sound : (r : Readers) → Sound r → (ts : List Lexeme) (x : Opening × List Lexeme) → (begins_arg ts ≡ true → begins_first ts ≡ true) → d.first_by r ts ≡ Ok x → IsOpening ts x.0 x.1
 unfolding d.first_by
 first_sound r s ts x b h =
-    let w = bind_ok (d.arg_by (r d.a_part) false ts) _ x h in
-    let p = arg_sound (r d.a_part) s.part false ts w.0 w.1 in
+    let w = bind_ok (d.arg_by (r (d.a_part false)) false ts) _ x h in
+    let p = arg_sound (r (d.a_part false)) false (s.part false) ts w.0 w.1 in
     behind_first_sound r s ts w.0.0 w.0.1 x (b (arg_begins p)) p w.2
 
 worded_sound : (r : Readers) → Sound r → (text : List ℕ) (k : Keyword) (ts : List Lexeme) (x : Opening × List Lexeme) → keyword text ≡ k → d.worded_by r k (Word text) ts ≡ Ok x →
@@ -453,10 +453,10 @@ in_sound : (r : Readers) → Sound r → (f : Bool) (text : List ℕ) (ts head :
     (x : Node t.cmd × List Lexeme) → keyword text ≡ g.ForWord → past_caret ts ≡ LeftParen ∷ head → Phrase (g.arg true) (past_newlines head) a mid →
     past_newlines mid ≡ Word next_text ∷ list → keyword next_text ≡ k → d.in_by r a k list ≡ Ok x → Phrase (g.leading f) (Word text ∷ ts) x.0 x.1
 in_sound r s f text ts head a mid next_text g.InWord list x e e2 p e3 e4 h =
-    let w = bind_ok (d.members_by (r d.a_part) (past_caret list)) _ x h in
+    let w = bind_ok (d.members_by (r (d.a_part true)) (past_caret list)) _ x h in
     let v = bind_ok (d.body_by r w.0.1) _ x w.2 in
     found (g.leading f) (Word text ∷ ts) (t.For a w.0.0 v.0.0, v.0.1) x
-    (g.for_leading e e2 p e3 e4 (members_sound (r d.a_part) s.part (past_caret list) w.0 w.1) (body_sound r s w.0.1 v.0 v.1)) v.2
+    (g.for_leading e e2 p e3 e4 (members_sound (r (d.a_part true)) (s.part true) (past_caret list) w.0 w.1) (body_sound r s w.0.1 v.0 v.1)) v.2
 in_sound r s f text ts head a mid next_text k list x e e2 p e3 e4 h = absurd cc
 
 over_sound : (r : Readers) → Sound r → (f : Bool) (text : List ℕ) (ts head : List Lexeme) (a : Node t.arg) (mid next : List Lexeme) (x : Node t.cmd × List Lexeme) → keyword text ≡ g.ForWord →
@@ -472,8 +472,8 @@ for_sound : (r : Readers) → Sound r → (f : Bool) (text : List ℕ) (ts next 
     d.for_by r next ≡ Ok x → Phrase (g.leading f) (Word text ∷ ts) x.0 x.1
 unfolding d.for_by
 for_sound r s f text ts (LeftParen ∷ head) x e e2 h =
-    let w = bind_ok (d.arg_by (r d.a_part) true (past_newlines head)) _ x h in
-    over_sound r s f text ts head w.0.0 w.0.1 (past_newlines w.0.1) x e e2 (arg_sound (r d.a_part) s.part true (past_newlines head) w.0 w.1) refl w.2
+    let w = bind_ok (d.arg_by (r (d.a_part true)) true (past_newlines head)) _ x h in
+    over_sound r s f text ts head w.0.0 w.0.1 (past_newlines w.0.1) x e e2 (arg_sound (r (d.a_part true)) true (s.part true) (past_newlines head) w.0 w.1) refl w.2
 for_sound r s f text ts next x e e2 h = absurd cc
 
 control_sound : (r : Readers) → Sound r → (f : Bool) (text : List ℕ) (k : Keyword) (ts : List Lexeme) (x : Node t.cmd × List Lexeme) → keyword text ≡ k → d.control_by r f k ts ≡ Ok x →
@@ -493,11 +493,11 @@ control_sound r s f text k ts x e h = absurd cc
 redirected_sound : (r : Readers) → Sound r → (f : Bool) (ts : List Lexeme) (x : Node t.cmd × List Lexeme) → d.redirected_by r ts ≡ Ok x → Phrase (g.leading f) ts x.0 x.1
 unfolding d.redirected_by
 redirected_sound r s f ts x h =
-    let w = bind_ok (d.redir_by (r d.a_part) ts) _ x h in
-    let v = bind_ok (d.redirs_by (r d.a_part) w.0.1) _ x w.2 in
+    let w = bind_ok (d.redir_by (r (d.a_part false)) ts) _ x h in
+    let v = bind_ok (d.redirs_by (r (d.a_part false)) w.0.1) _ x w.2 in
     let u = bind_ok (d.optional_by r v.0.1) _ x v.2 in
     found (g.leading f) ts (t.Redirect (more w.0.0 v.0.0) u.0.0, u.0.1) x
-    (g.redir_leading (redir_sound (r d.a_part) s.part ts w.0 w.1) (redirs_sound (r d.a_part) s.part w.0.1 v.0 v.1) (optional_sound r s v.0.1 u.0 u.1)) u.2
+    (g.redir_leading (redir_sound (r (d.a_part false)) (s.part false) ts w.0 w.1) (redirs_sound (r (d.a_part false)) (s.part false) w.0.1 v.0 v.1) (optional_sound r s v.0.1 u.0 u.1)) u.2
 
 leading_sound : (r : Readers) → Sound r → (f : Bool) (ts : List Lexeme) (x : Node t.cmd × List Lexeme) → d.leading_by r f ts ≡ Ok x → Phrase (g.leading f) ts x.0 x.1
 unfolding d.leading_by
@@ -602,8 +602,8 @@ value_turn_sound : (r : Readers) → Sound r → (k : ℕ) (go_on : Many t.pair 
     (ts : List Lexeme) (front : Many t.pair) (o : Opening) (mid : List Lexeme) (x : Node t.cmd × List Lexeme) → length ts ≤ suc k → IsOpening ts o mid →
     d.value_turn r go_on front o mid ≡ Ok x → AddsPairs ts front x
 value_turn_sound r s k go_on goes ts front (Named a) mid x le p h =
-    let w = bind_ok (d.arg_by (r d.a_part) false mid) _ x h in
-    let v = arg_sound (r d.a_part) s.part false mid w.0 w.1 in
+    let w = bind_ok (d.arg_by (r (d.a_part false)) false mid) _ x h in
+    let v = arg_sound (r (d.a_part false)) false (s.part false) mid w.0 w.1 in
     let one = Phrase-shorter p.1 in
     let two = Phrase-shorter v in
     let q = goes (snoc front (t.Pair a w.0.0)) w.0.1 x (omega arith) w.2 in
@@ -641,9 +641,9 @@ assigned_sound : (r : Readers) → Sound r → (ts : List Lexeme) (a : Node t.ar
     Phrase g.assigned ts x.0 x.1
 unfolding d.assigned_by d.values_by
 assigned_sound r s ts a mid x p h =
-    let w = bind_ok (d.arg_by (r d.a_part) false mid) _ x h in
+    let w = bind_ok (d.arg_by (r (d.a_part false)) false mid) _ x h in
     let q = values_sound r s (length w.0.1) (more (t.Pair a w.0.0) none) w.0.1 x (omega arith) w.2 in
-    subst (λ z. Phrase g.assigned ts z x.1) (sym q.whole) (g.assignment p.0 p.1 (arg_sound (r d.a_part) s.part false mid w.0 w.1) q.phrase)
+    subst (λ z. Phrase g.assigned ts z x.1) (sym q.whole) (g.assignment p.0 p.1 (arg_sound (r (d.a_part false)) false (s.part false) mid w.0 w.1) q.phrase)
 
 -- operands
 opened_sound : (r : Readers) → Sound r → (f : Bool) (ts : List Lexeme) (o : Opening) (mid : List Lexeme) (x : Node t.cmd × List Lexeme) → IsOpening ts o mid → d.opened_by r o mid ≡ Ok x →
@@ -792,7 +792,7 @@ pub read_sound : (left : ℕ) → Sound (d.read left)
 unfolding d.read d.read_by
 read_sound zero = record {
   name = λ ts x h. absurd cc;
-  part = λ ts x h. absurd cc;
+  part = λ inside ts x h. absurd cc;
   operand = λ ts x h. absurd cc;
   piped = λ ts x h. absurd cc;
   command = λ f ts x h. absurd cc;

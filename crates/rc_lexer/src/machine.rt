@@ -9,9 +9,9 @@ ghost use Rattle.rc_lexer.specs.Classes.{class_is};
 ghost use Rattle.rc_lexer.specs.Machine.{Does, Ends, IfSpelled, IsClosed, IsHead, Keeps, Marked, Resolved, Spelled, Stands};
 ghost use Rattle.rc_lexer.specs.Machine.{before_of, bodies_in, dollars_in, due_in, due_left, lexeme_tokens, line_of, place_of, state_in, tokens_in};
 
-use crate::operators::{Class, begins_operator, is_name_char, operator};
+use crate::operators::{Class, begins_operator, operator};
 use crate::{FaultKind, LexError, LexFault, Span, Token, TokenKind};
-use rc_text::unquote;
+use rc_text::{is_name_char, unquote};
 use std::alloc::{AllocError, Global};
 use std::collections::VecDeque;
 

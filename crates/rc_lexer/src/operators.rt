@@ -2,7 +2,7 @@
 #![tactic(auto)]
 
 ghost use Rattle.std.specs.Prelude.{◌≡◌, ℕ, List, MatchOption, Some, None, []};
-ghost use Rattle.rc_model.specs.Tokens.{begins_operator, operator, class_of, is_name_char};
+ghost use Rattle.rc_model.specs.Tokens.{begins_operator, operator, class_of};
 ghost use Rattle.rc_lexer.specs.Views.{lexeme_of};
 ghost use Rattle.rc_lexer.specs.Classes.{class_is};
 
@@ -34,13 +34,6 @@ pub fn class_of(c: char) -> Class
         '\\' => Class::Backslash,
         _ => Class::Ordinary,
     }
-}
-
-/// Whether the character may stand in an unquoted name.
-pub fn is_name_char(c: char) -> bool
-    ensures { result ≡ is_name_char c }
-{
-    c.is_ascii_alphanumeric() || c == '_' || c == '*'
 }
 
 /// How each operator is written.

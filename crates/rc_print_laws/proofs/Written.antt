@@ -13,7 +13,7 @@ use Rattle.rc_print_laws.specs.Lexemes.{IsWritable, IsWritableName, AreWritable}
 -- what is said of the tree of each level
 abbrev pub Writes : (l : Level) → Out l → Type 0
 Writes g.name n = IsWritableName n
-Writes g.part a = IsWritable a
+Writes (g.part inside) a = IsWritable a
 Writes (g.arg inside) a = IsWritable a
 Writes (g.parts inside) as' = AreWritable as'
 Writes g.members as' = AreWritable as'
@@ -71,7 +71,7 @@ written (g.named_name p) w = written p w.1
 written g.word_part w = (w.0, w.1)
 written g.quoted_part w = (w.0, w.1)
 written (g.paren_part p) w = written p w.1
-written (g.back_part p) w = written p w.1
+written (g.back_part {inside = inside} {ts = ts} p) w = written p (past_blanks_spelled inside ts w.1)
 written (g.var_part p e) w = written p w.1
 written (g.sub_part p q) w = let a = written p w.1 in let b = written q a.1.1 in ((a.0, b.0), b.1)
 written (g.count_part p) w = written p w.1

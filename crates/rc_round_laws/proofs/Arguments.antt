@@ -18,7 +18,7 @@ abbrev pub PrintsName : Node t.arg → Type 0
 PrintsName n = (rest : List Lexeme) → Phrase g.name (name_lexemes n ++ rest) n rest
 
 pub record PrintsPart (a : Node t.arg) : Type 0 where
-  pub phrase : (rest : List Lexeme) → begins_subscript rest ≡ false → Phrase g.part (arg_lexemes a ++ rest) a rest
+  pub phrase : (inside : Bool) (rest : List Lexeme) → begins_subscript rest ≡ false → Phrase (g.part inside) (arg_lexemes a ++ rest) a rest
   pub opens : ArgOpens (arg_lexemes a)
 
 pub record PrintsArg (a : Node t.arg) : Type 0 where
@@ -59,7 +59,7 @@ unfolding further_parts
 parts_print inside none p rest e = g.no_caret (no_caret_here inside e)
 parts_print inside (more a as') p rest e =
     let next : List Lexeme = arg_lexemes a ++ (further_parts as' ++ rest) in
-    let part = p.0.phrase (further_parts as' ++ rest) (subscript_apart as' rest e.subscript) in
+    let part = p.0.phrase inside (further_parts as' ++ rest) (subscript_apart as' rest e.subscript) in
     let blank = blank_apart inside (opened (arg_open (arg_open_on (further_parts as' ++ rest) p.0.opens))).apart in
     at (ap (λ z. Caret ∷ z) (append_assoc (arg_lexemes a) (further_parts as') rest))
     (g.caret {inside = inside} {ts = Caret ∷ next} {next = next} (caret_here inside next) (at blank part) (parts_print inside as' p.1 rest e))
@@ -67,12 +67,12 @@ parts_print inside (more a as') p rest e =
 pub concat_prints : (a : Node t.arg) (as' : Many t.arg) → PrintsPart a → PrintsParts as' → PrintsArg (concat_of a as')
 unfolding arg_lexemes first_part further_parts
 concat_prints a none p q = record {
-  phrase = λ inside rest e. g.joined (p.phrase rest e.subscript) (g.no_caret (no_caret_here inside e));
+  phrase = λ inside rest e. g.joined (p.phrase inside rest e.subscript) (g.no_caret (no_caret_here inside e));
   opens = p.opens;
 }
 concat_prints a (more b bs) p q = record {
   phrase = λ inside rest e. at (append_assoc (arg_lexemes a) (further_parts (more b bs)) rest)
-      (g.joined (p.phrase (further_parts (more b bs) ++ rest) refl) (parts_print inside (more b bs) q rest e));
+      (g.joined (p.phrase inside (further_parts (more b bs) ++ rest) refl) (parts_print inside (more b bs) q rest e));
   opens = arg_open_on (further_parts (more b bs)) p.opens;
 }
 

@@ -10,7 +10,7 @@ use Rattle.rc_print_laws.specs.Lexemes.{arg_lexemes, first_part, further_parts}
 use Rattle.rc_round_laws.proofs.Follows.{Opens, by_word, by_quoted, by_paren, by_backquote, by_dollar, by_count, by_flat, open_on}
 
 -- the first word of a command is printed as it was read
-part_first : {ts mid : List Lexeme} {a : Node t.arg} → Phrase g.part ts a mid → begins_first ts ≡ true → (us : List Lexeme) →
+part_first : {inside : Bool} {ts mid : List Lexeme} {a : Node t.arg} → Phrase (g.part inside) ts a mid → begins_first ts ≡ true → (us : List Lexeme) →
     begins_first (arg_lexemes a ++ us) ≡ true
 unfolding arg_lexemes
 part_first (g.word_part) h us = h
@@ -33,7 +33,7 @@ pub arg_first : {inside : Bool} {ts mid : List Lexeme} {a : Node t.arg} → Phra
 arg_first (g.joined {a = a} {as' = as'} p q) h us = concat_first a as' (part_first p h) us
 
 -- a word that doesn't begin a case line
-part_case : {ts mid : List Lexeme} {a : Node t.arg} → Phrase g.part ts a mid → ends true ts ≡ false → begins_with_case a ≡ false
+part_case : {inside : Bool} {ts mid : List Lexeme} {a : Node t.arg} → Phrase (g.part inside) ts a mid → ends true ts ≡ false → begins_with_case a ≡ false
 part_case (g.word_part) h = h
 part_case (g.quoted_part) h = refl
 part_case (g.paren_part p) h = refl
@@ -50,7 +50,7 @@ concat_case a (more b bs) = refl
 pub arg_case : {inside : Bool} {ts mid : List Lexeme} {a : Node t.arg} → Phrase (g.arg inside) ts a mid → ends true ts ≡ false → begins_with_case a ≡ false
 arg_case (g.joined {a = a} {as' = as'} p q) h = sym (concat_case a as') ∙ part_case p h
 
-part_calm : {ts mid : List Lexeme} {a : Node t.arg} → Phrase g.part ts a mid → begins_with_case a ≡ false → Opens true (arg_lexemes a)
+part_calm : {inside : Bool} {ts mid : List Lexeme} {a : Node t.arg} → Phrase (g.part inside) ts a mid → begins_with_case a ≡ false → Opens true (arg_lexemes a)
 unfolding arg_lexemes
 part_calm (g.word_part) h = by_word h
 part_calm (g.quoted_part) h = by_quoted

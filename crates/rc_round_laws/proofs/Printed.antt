@@ -30,7 +30,7 @@ calm ts e = absurd cc
 -- what is known of the trees of each level
 abbrev Claim : (l : Level) → List Lexeme → Out l → List Lexeme → Type 0
 Claim g.name ts n rest = PrintsName n
-Claim g.part ts a rest = has_here a ≡ false → PrintsPart a
+Claim (g.part inside) ts a rest = has_here a ≡ false → PrintsPart a
 Claim (g.arg inside) ts a rest = has_here a ≡ false → PrintsArg a
 Claim (g.parts inside) ts as' rest = have_here as' ≡ false → PrintsParts as'
 Claim g.members ts as' rest = have_here as' ≡ false → PrintsArgs as'

@@ -1,10 +1,10 @@
 //! Texts of the shell.
 #![tactic(auto)]
 
-ghost use Rattle.std.specs.Prelude.{◌≡◌, ◌<◌, [], ◌∷◌, ◌++◌, length, string_bytes, IfOk, IfSome, MatchOption};
+ghost use Rattle.std.specs.Prelude.{◌≡◌, ◌<◌, [], ◌∷◌, ◌++◌, length, string_bytes, IfOk, IfSome, OnOk, MatchOption};
 ghost use Rattle.std.specs.Char.{encode_utf8};
 ghost use Rattle.std.specs.Str.{IsUtf8, chars};
-ghost use Rattle.rc_model.specs.Tokens.{quoted_text, unquoted_text};
+ghost use Rattle.rc_model.specs.Tokens.{is_name_char, quoted_text, unquoted_text};
 
 use std::alloc::{AllocError, Global};
 
@@ -20,21 +20,28 @@ pub fn first_char(text: &str) -> Option<(char, &str)>
     Some((first, rest.as_str()))
 }
 
+/// Writes the text as a quoted word.
+#[tactic(auto, using(crate::proofs::Quotes::quoting))]
+pub fn push_quoted(out: &mut String, text: &str) -> Result<(), AllocError>
+    ensures { OnOk result (string_bytes out.new ≡ string_bytes out.old ++ quoted_text text.now) }
+{
+    out.push('\'')?;
+    for c in text.chars() {
+        if c == '\'' {
+            out.push_str("''")?;
+        } else {
+            out.push(c)?;
+        }
+    }
+    out.push('\'')
+}
+
 /// The text as a quoted word.
 pub fn quote(alloc: Global, text: &str) -> Result<String, AllocError>
     ensures { IfOk result (λ s. string_bytes s ≡ quoted_text text.now) }
 {
     let mut quoted = String::new(alloc);
-    quoted.push('\'')?;
-    let mut rest = text;
-    while let Some((c, more)) = first_char(rest) {
-        if c == '\'' {
-            quoted.push('\'')?;
-        }
-        quoted.push(c)?;
-        rest = more;
-    }
-    quoted.push('\'')?;
+    push_quoted(&mut quoted, text)?;
     Ok(quoted)
 }
 
@@ -56,4 +63,11 @@ pub fn unquote(alloc: Global, word: &[u8]) -> Result<Vec<u8>, AllocError>
         }
     }
     Ok(said)
+}
+
+/// Whether the character may stand in an unquoted name.
+pub fn is_name_char(c: char) -> bool
+    ensures { result ≡ is_name_char c }
+{
+    c.is_ascii_alphanumeric() || c == '_' || c == '*'
 }

@@ -1,4 +1,3 @@
 pub mod Fitting
 pub mod Forms
-pub mod Quotes
 pub mod Texts

@@ -6,6 +6,7 @@ ghost use Rattle.rc_world.specs.Views.{mode_of};
 ghost use Rattle.rc_tree.specs.View.{cmd_tree, arg_tree, args_tree, logic_of};
 
 use crate::{Arg, Cmd, Logic, Mode};
+use rc_text::push_quoted;
 use std::alloc::AllocError;
 
 #[tactic(auto, using(crate::specs::View::tree_walks))]
@@ -90,20 +91,12 @@ pub fn copying(to: u8, from: u8) -> &'static str
 }
 
 /// Writes a word as it is written in a script.
-#[tactic(auto, using(crate::proofs::Quotes::quoting))]
 pub fn print_literal(out: &mut String, text: &str, quoted: bool) -> Result<(), AllocError>
     ensures { OnOk result (string_bytes out.new ≡ string_bytes out.old ++ literal text.now quoted) }
 {
-    if !quoted {
-        return out.push_str(text);
+    if quoted {
+        push_quoted(out, text)
+    } else {
+        out.push_str(text)
     }
-    out.push('\'')?;
-    for c in text.chars() {
-        if c == '\'' {
-            out.push_str("''")?;
-        } else {
-            out.push(c)?;
-        }
-    }
-    out.push('\'')
 }

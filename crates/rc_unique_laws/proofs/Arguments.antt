@@ -24,19 +24,19 @@ named_name o us y s (g.named_name q) e = let m = o.same _ _ _ q cc in let i = m.
 named_name o us y s q e = absurd cc
 
 -- parts
-pub word_part : (text : List ℕ) (rest : List Lexeme) → Alike g.part (Word text ∷ rest) (t.Lit text false) rest
+pub word_part : {inside : Bool} (text : List ℕ) (rest : List Lexeme) → Alike (g.part inside) (Word text ∷ rest) (t.Lit text false) rest
 word_part text rest us y s g.word_part e = record { tree = cc; rest = cc }
 word_part text rest us y s q e = absurd cc
 
-pub quoted_part : (text : List ℕ) (rest : List Lexeme) → Alike g.part (Quoted text ∷ rest) (t.Lit text true) rest
+pub quoted_part : {inside : Bool} (text : List ℕ) (rest : List Lexeme) → Alike (g.part inside) (Quoted text ∷ rest) (t.Lit text true) rest
 quoted_part text rest us y s g.quoted_part e = record { tree = cc; rest = cc }
 quoted_part text rest us y s q e = absurd cc
 
-pub paren_part : {ts rest : List Lexeme} {as' : Many t.arg} → One g.members ts as' rest → Alike g.part (LeftParen ∷ ts) (t.Paren as') rest
+pub paren_part : {inside : Bool} {ts rest : List Lexeme} {as' : Many t.arg} → One g.members ts as' rest → Alike (g.part inside) (LeftParen ∷ ts) (t.Paren as') rest
 paren_part o us y s (g.paren_part q) e = let m = o.same _ _ _ q cc in let i = m.tree in let j = m.rest in record { tree = cc; rest = cc }
 paren_part o us y s q e = absurd cc
 
-pub back_part : {ts rest : List Lexeme} {c : Node t.cmd} → One g.brace ts c rest → Alike g.part (Backquote ∷ ts) (t.Back c) rest
+pub back_part : {inside : Bool} {ts rest : List Lexeme} {c : Node t.cmd} → One g.brace (past_blanks inside ts) c rest → Alike (g.part inside) (Backquote ∷ ts) (t.Back c) rest
 back_part o us y s (g.back_part q) e = let m = o.same _ _ _ q cc in let i = m.tree in let j = m.rest in record { tree = cc; rest = cc }
 back_part o us y s q e = absurd cc
 
@@ -44,13 +44,13 @@ no_subscript : (ts us : List Lexeme) → begins_subscript ts ≡ false → ts �
 no_subscript (Subscript ∷ ts) us h e = absurd cc
 no_subscript ts us h e = absurd cc
 
-pub var_part : {ts rest : List Lexeme} {n : Node t.arg} → One g.name ts n rest → begins_subscript rest ≡ false → Alike g.part (Dollar ∷ ts) (t.Var n) rest
+pub var_part : {inside : Bool} {ts rest : List Lexeme} {n : Node t.arg} → One g.name ts n rest → begins_subscript rest ≡ false → Alike (g.part inside) (Dollar ∷ ts) (t.Var n) rest
 var_part o h us y s (g.var_part q k) e = let m = o.same _ _ _ q cc in let i = m.tree in let j = m.rest in record { tree = cc; rest = cc }
 var_part o h us y s (g.sub_part q r) e = let m = o.same _ _ _ q cc in absurd (no_subscript _ _ h m.rest)
 var_part o h us y s q e = absurd cc
 
-pub sub_part : {ts next rest : List Lexeme} {n : Node t.arg} {as' : Many t.arg} → One g.name ts n (Subscript ∷ next) → One g.members next as' rest →
-    Alike g.part (Dollar ∷ ts) (t.Sub n as') rest
+pub sub_part : {inside : Bool} {ts next rest : List Lexeme} {n : Node t.arg} {as' : Many t.arg} → One g.name ts n (Subscript ∷ next) → One g.members next as' rest →
+    Alike (g.part inside) (Dollar ∷ ts) (t.Sub n as') rest
 sub_part o p us y s (g.var_part q k) e = let m = o.same _ _ _ q cc in absurd (no_subscript _ _ k (sym m.rest))
 sub_part o p us y s (g.sub_part q r) e =
     let m = o.same _ _ _ q cc in let i = m.tree in let j = m.rest in
@@ -58,16 +58,16 @@ sub_part o p us y s (g.sub_part q r) e =
     record { tree = cc; rest = cc }
 sub_part o p us y s q e = absurd cc
 
-pub count_part : {ts rest : List Lexeme} {n : Node t.arg} → One g.name ts n rest → Alike g.part (DollarCount ∷ ts) (t.Count n) rest
+pub count_part : {inside : Bool} {ts rest : List Lexeme} {n : Node t.arg} → One g.name ts n rest → Alike (g.part inside) (DollarCount ∷ ts) (t.Count n) rest
 count_part o us y s (g.count_part q) e = let m = o.same _ _ _ q cc in let i = m.tree in let j = m.rest in record { tree = cc; rest = cc }
 count_part o us y s q e = absurd cc
 
-pub flat_part : {ts rest : List Lexeme} {n : Node t.arg} → One g.name ts n rest → Alike g.part (DollarFlat ∷ ts) (t.Flat n) rest
+pub flat_part : {inside : Bool} {ts rest : List Lexeme} {n : Node t.arg} → One g.name ts n rest → Alike (g.part inside) (DollarFlat ∷ ts) (t.Flat n) rest
 flat_part o us y s (g.flat_part q) e = let m = o.same _ _ _ q cc in let i = m.tree in let j = m.rest in record { tree = cc; rest = cc }
 flat_part o us y s q e = absurd cc
 
 -- arguments
-pub joined : {inside : Bool} {ts mid rest : List Lexeme} {a : Node t.arg} {as' : Many t.arg} → One g.part ts a mid → One (g.parts inside) mid as' rest →
+pub joined : {inside : Bool} {ts mid rest : List Lexeme} {a : Node t.arg} {as' : Many t.arg} → One (g.part inside) ts a mid → One (g.parts inside) mid as' rest →
     Alike (g.arg inside) ts (concat_of a as') rest
 joined o p us y s (g.joined q r) e =
     let m = o.same _ _ _ q e in let n = p.same _ _ _ r m.rest in
@@ -89,7 +89,7 @@ no_caret inside rest h us y s (g.caret k q r) e = absurd (behind_caret inside _ 
 
 pub caret : (inside : Bool) (ts next : List Lexeme) {mid rest : List Lexeme} {a : Node t.arg} {as' : Many t.arg} →
     after_caret (past_blanks inside ts) ≡ Some next →
-    One g.part (past_blanks inside next) a mid → One (g.parts inside) mid as' rest → Alike (g.parts inside) ts (more a as') rest
+    One (g.part inside) (past_blanks inside next) a mid → One (g.parts inside) mid as' rest → Alike (g.parts inside) ts (more a as') rest
 caret inside ts next h o p us y s (g.no_caret k) e = absurd (behind_caret inside _ _ _ k h (sym e))
 caret inside ts next h o p us y s (g.caret k q r) e =
     let m = o.same _ _ _ q (same_caret inside _ _ _ _ h k e) in let n = p.same _ _ _ r m.rest in

@@ -27,7 +27,7 @@ pub record One (l : Level) (ts : List Lexeme) (x : Out l) (r : List Lexeme) : Ty
   pub apart : Apart l ts
 
 -- how arguments and redirections begin
-part_begins : {ts : List Lexeme} {a : Node t.arg} {rest : List Lexeme} → Phrase g.part ts a rest → begins_arg ts ≡ true
+part_begins : {inside : Bool} {ts : List Lexeme} {a : Node t.arg} {rest : List Lexeme} → Phrase (g.part inside) ts a rest → begins_arg ts ≡ true
 part_begins g.word_part = refl
 part_begins g.quoted_part = refl
 part_begins (g.paren_part p) = refl

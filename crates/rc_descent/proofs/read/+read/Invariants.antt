@@ -1,4 +1,4 @@
-use Rattle.std.proofs.Common.{◌≡◌, ◌+◌, ◌-◌, ◌*◌}
+use Rattle.std.proofs.Common.{◌≡◌, ◌+◌, ◌-◌, ◌*◌, false, true}
 use Rattle.rc_model.specs.Descent as d
 use Rattle.rc_tree.specs.View.{cmd_tree, args_tree, items_tree, pairs_tree, redirs_tree, stages_tree, links_tree, branches_tree}
 use Rattle.rc_descent.specs.Lexemes.{lexemes_of}
@@ -119,19 +119,19 @@ abbrev pub decreases-links : goal.decreases-links
 decreases-links l = 16 * l.below + 11
 
 abbrev pub invariant-parts-loop : goal.invariant-parts-loop
-invariant-parts-loop l = d.parts_from (d.read l.left d.a_part) l.inside (l.turns - l.counter) (args_tree l.others.items) (lexemes_of l.rest) ≡ d.parts_by (d.read l.left d.a_part) l.inside (lexemes_of l.lexemes)
+invariant-parts-loop l = d.parts_from (d.read l.left (d.a_part l.inside)) l.inside (l.turns - l.counter) (args_tree l.others.items) (lexemes_of l.rest) ≡ d.parts_by (d.read l.left (d.a_part l.inside)) l.inside (lexemes_of l.lexemes)
 
 abbrev pub invariant-members-loop : goal.invariant-members-loop
-invariant-members-loop l = d.members_from (d.read l.left d.a_part) (l.turns - l.counter) (args_tree l.words.items) (lexemes_of l.rest) ≡ d.members_by (d.read l.left d.a_part) (lexemes_of l.lexemes)
+invariant-members-loop l = d.members_from (d.read l.left (d.a_part true)) (l.turns - l.counter) (args_tree l.words.items) (lexemes_of l.rest) ≡ d.members_by (d.read l.left (d.a_part true)) (lexemes_of l.lexemes)
 
 abbrev pub invariant-words-loop : goal.invariant-words-loop
-invariant-words-loop l = d.words_from (d.read l.left d.a_part) (l.turns - l.counter) (args_tree l.words.items) (lexemes_of l.rest) ≡ d.words_by (d.read l.left d.a_part) (lexemes_of l.lexemes)
+invariant-words-loop l = d.words_from (d.read l.left (d.a_part false)) (l.turns - l.counter) (args_tree l.words.items) (lexemes_of l.rest) ≡ d.words_by (d.read l.left (d.a_part false)) (lexemes_of l.lexemes)
 
 abbrev pub invariant-redirs-loop : goal.invariant-redirs-loop
-invariant-redirs-loop l = d.redirs_from (d.read l.left d.a_part) (l.turns - l.counter) (redirs_tree l.redirs.items) (lexemes_of l.rest) ≡ d.redirs_by (d.read l.left d.a_part) (lexemes_of l.lexemes)
+invariant-redirs-loop l = d.redirs_from (d.read l.left (d.a_part false)) (l.turns - l.counter) (redirs_tree l.redirs.items) (lexemes_of l.rest) ≡ d.redirs_by (d.read l.left (d.a_part false)) (lexemes_of l.lexemes)
 
 abbrev pub invariant-simple-loop : goal.invariant-simple-loop
-invariant-simple-loop l = d.simple_from (d.read l.left d.a_part) (l.turns - l.counter) (args_tree l.words.items) (redirs_tree l.redirs.items) (lexemes_of l.rest) ≡ d.simple_by (d.read l.left d.a_part) (lexemes_of l.lexemes)
+invariant-simple-loop l = d.simple_from (d.read l.left (d.a_part false)) (l.turns - l.counter) (args_tree l.words.items) (redirs_tree l.redirs.items) (lexemes_of l.rest) ≡ d.simple_by (d.read l.left (d.a_part false)) (lexemes_of l.lexemes)
 
 abbrev pub invariant-branches-loop : goal.invariant-branches-loop
 invariant-branches-loop l = d.branches_from (d.read l.below) (l.turns - l.counter) (branches_tree l.branches.items) (lexemes_of l.rest) ≡ d.branches_by (d.read l.below) (lexemes_of l.lexemes)
