@@ -19,6 +19,7 @@ test: lay-examples
 
 # rc_examples reads what lies in its data/
 lay-examples:
+	rm -rf crates/rc_examples/data
 	mkdir -p crates/rc_examples/data
 	cp examples/*.rc crates/rc_examples/data
 

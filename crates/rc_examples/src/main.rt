@@ -1,4 +1,4 @@
-//! Names each script that lies here and is not accepted, or whose print is not read back as the same tree.
+//! Names each script that lies here and is not accepted, or whose print, read again, is printed otherwise.
 #![tactic(auto)]
 
 use anyhow::{Result, anyhow};

@@ -8,6 +8,7 @@ use rc_world::Fault;
 use std::io;
 use std::io::ErrorKind;
 
+/// The fault that an error of the system stands for.
 pub fn fault_of(error: &io::Error) -> Fault
     ensures meant { result ≡ meant (error_kind error.now) (raw_os_error error.now) }
     ensures answered { result ≢ Halt }

@@ -6,6 +6,7 @@ use rc_world::Fault;
 use std::alloc::Global;
 use std::marker::Model;
 
+/// Things, each held at a number.
 #[derive(Drop)]
 pub struct Table<T> {
     places: Vec<Option<T>>,
@@ -18,6 +19,7 @@ impl<T> Model for Table<T> {
 }
 
 impl<T: Drop> Table<T> {
+    /// Nothing is held.
     pub fn new(alloc: Global) -> Table<T>
         ensures { (k : ℕ) → held_at result k ≡ None }
     {

@@ -70,6 +70,7 @@ pub struct Token {
     pub line: usize,
 }
 
+/// Of what kind a fault of the script is.
 #[derive(Clone, Copy, Debug, PartialEq)]
 pub enum FaultKind {
     OpenQuote,
@@ -85,6 +86,7 @@ pub struct LexFault {
     pub line: usize,
 }
 
+/// Why there are no tokens: the script's first fault, or want of memory.
 #[derive(Debug, Drop)]
 pub enum LexError {
     Fault(LexFault),

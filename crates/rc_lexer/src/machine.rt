@@ -198,6 +198,7 @@ fn push_bare(tokens: &mut Vec<Token>, dollars: &[Token]) -> Result<(), AllocErro
     Ok(())
 }
 
+/// The fault of this kind at this line.
 pub fn fault(kind: FaultKind, line: usize) -> LexError
     ensures { result ≡ LexError.Fault (record { kind = kind; line = line }) }
 {
@@ -238,6 +239,7 @@ fn fill(tokens: &mut [Token], bodies: &[Span])
 }
 
 impl Lexer {
+    /// Nothing is read yet.
     pub fn new(alloc: Global) -> Self
         ensures tokens { result.tokens.items ≡ [] }
         ensures bodies { result.bodies.items ≡ [] }

@@ -3,6 +3,7 @@
 use rc_tree::{Arg, Branch, Cmd, Item, Logic, Mode, Piece, Redir, Stage};
 use std::alloc::{AllocError, Global};
 
+/// The tree as a text.
 pub fn dump(alloc: Global, cmd: &Cmd) -> Result<String, AllocError> {
     let mut out = String::new(alloc);
     dump_cmd(&mut out, cmd)?;

@@ -85,6 +85,7 @@ impl Machine {
         }
     }
 
+    /// The state that the machine has come to.
     pub fn into_state(self) -> State
         ensures { state_of result ≡ (config_of self).state }
     {

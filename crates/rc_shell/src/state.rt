@@ -142,7 +142,7 @@ impl State {
         self.status.as_str()
     }
 
-    /// An `Err` changes nothing.
+    /// Sets the status. An `Err` changes nothing.
     #[tactic(auto, unfolding(crate::specs::States::state_of))]
     pub fn set_status(&mut self, status: &str) -> Result<(), AllocError>
         ensures ok { OnOk result (state_of self.new ≡ with_status (state_of self.old) status.now) }

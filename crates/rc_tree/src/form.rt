@@ -9,6 +9,7 @@ use crate::{Arg, Cmd, Logic, Mode};
 use rc_text::push_quoted;
 use std::alloc::AllocError;
 
+/// Whether it is the empty command.
 #[tactic(auto, using(crate::specs::View::tree_walks))]
 pub fn is_empty(cmd: &Cmd) -> bool
     ensures { result ≡ is_empty (cmd_tree cmd.now) }
@@ -16,6 +17,7 @@ pub fn is_empty(cmd: &Cmd) -> bool
     matches!(cmd, Cmd::Empty)
 }
 
+/// Whether redirections stand behind the command.
 #[tactic(auto, using(crate::specs::View::tree_walks))]
 pub fn stands_first(cmd: &Cmd, begins: bool) -> bool
     ensures { result ≡ stands_first (cmd_tree cmd.now) begins }
@@ -57,12 +59,14 @@ pub fn parting(background: bool) -> &'static str
     if background { " " } else { "; " }
 }
 
+/// The bar behind a stage.
 pub fn bar(slot: u8) -> &'static str
     ensures { result.now ≡ bar slot }
 {
     if slot == 2 { " |[2] " } else { " | " }
 }
 
+/// How `&&` and `||` are written.
 pub fn sign(logic: Logic) -> &'static str
     ensures { result.now ≡ sign (logic_of logic) }
 {
@@ -72,6 +76,7 @@ pub fn sign(logic: Logic) -> &'static str
     }
 }
 
+/// What stands before a file's name.
 pub fn opening(mode: Mode, slot: u8) -> &'static str
     ensures { result.now ≡ opening (mode_of mode) slot }
 {
@@ -84,6 +89,7 @@ pub fn opening(mode: Mode, slot: u8) -> &'static str
     }
 }
 
+/// A copy of a descriptor.
 pub fn copying(to: u8, from: u8) -> &'static str
     ensures { result.now ≡ copying to from }
 {

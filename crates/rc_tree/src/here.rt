@@ -7,6 +7,7 @@ ghost use Rattle.rc_tree.specs.View.{args_tree, items_tree, pairs_tree, redirs_t
 
 use crate::{Arg, Branch, Cmd, Item, Logic, Redir, Stage};
 
+/// Whether a here document is inside.
 #[cycle(here)]
 #[tactic(auto, using(crate::specs::View::tree_walks))]
 pub fn has_here(cmd: &Cmd) -> bool

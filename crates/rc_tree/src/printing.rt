@@ -22,7 +22,8 @@ pub enum PrintFault {
     NoMemory,
 }
 
-/// The text of the tree. What is read back from it is the tree, if that was read from a script.
+/// The text of the tree. What is read back from it is the tree, if that was read from a script and the text is
+/// no longer than a script may be.
 pub fn print(alloc: Global, cmd: &Cmd) -> Result<String, PrintFault>
     ensures text { IfOk result (λ text. string_bytes text ≡ printed (cmd_tree cmd.now)) }
     ensures without { OnOk result (has_here (cmd_tree cmd.now) ≡ false) }

@@ -26,12 +26,14 @@ fn was_done(answer: Result<(), Fault>) -> Result<bool, Stop>
     Ok(unless_refused(answer)?.is_some())
 }
 
+/// The file that was opened.
 pub fn open<W: World>(world: &mut W, path: &str, mode: Mode) -> Result<Option<Handle>, Stop>
     ensures { Comes (W.events world.old) (W.events world.new) (asks (open_file path.now (mode_of mode)) as_file) (option_map (λ file. file.0)) result }
 {
     unless_refused(world.open(path, mode))
 }
 
+/// A file for reading that holds this text.
 pub fn here<W: World>(world: &mut W, text: &str) -> Result<Option<Handle>, Stop>
     ensures { Comes (W.events world.old) (W.events world.new) (asks (here text.now) as_file) (option_map (λ file. file.0)) result }
 {
@@ -45,13 +47,14 @@ pub fn pipe<W: World>(world: &mut W) -> Result<Option<(Handle, Handle)>, Stop>
     unless_refused(world.pipe())
 }
 
+/// Whether it was closed.
 pub fn close<W: World>(world: &mut W, handle: Handle) -> Result<bool, Stop>
     ensures { Comes (W.events world.old) (W.events world.new) (asks (close handle.0) as_done) (λ closed. closed) result }
 {
     was_done(world.close(handle))
 }
 
-/// Empty at the end.
+/// The next bytes, none at the end.
 pub fn read<W: World>(world: &mut W, handle: Handle) -> Result<Option<Vec<u8>>, Stop>
     ensures came { Comes (W.events world.old) (W.events world.new) (asks (read handle.0) as_bytes) (option_map (λ bytes. bytes.items)) result }
     ensures bound { IfOk result (λ given. IfSome given (λ bytes. vec_len bytes ≤ 4096)) }
@@ -59,24 +62,28 @@ pub fn read<W: World>(world: &mut W, handle: Handle) -> Result<Option<Vec<u8>>, 
     unless_refused(world.read(handle))
 }
 
+/// Whether the whole text was written.
 pub fn write<W: World>(world: &mut W, slot: Slot, text: &[u8]) -> Result<bool, Stop>
     ensures { Comes (W.events world.old) (W.events world.new) (asks (write (slot_of slot) text.now) as_done) (λ written. written) result }
 {
     was_done(world.write(slot, text))
 }
 
+/// The child that was started.
 pub fn start<W: World>(world: &mut W, launch: &Launch) -> Result<Option<ChildNo>, Stop>
     ensures { Comes (W.events world.old) (W.events world.new) (asks (start (launch_of launch.now)) as_child) (option_map (λ child. child.0)) result }
 {
     unless_refused(world.start(launch))
 }
 
+/// How the child ended.
 pub fn wait<W: World>(world: &mut W, child: ChildNo) -> Result<Option<Ending>, Stop>
     ensures { Comes (W.events world.old) (W.events world.new) (asks (wait child.0) as_ending) (option_map ending_of) result }
 {
     unless_refused(world.wait(child))
 }
 
+/// The names in a folder, in any order.
 pub fn list<W: World>(world: &mut W, path: &str) -> Result<Option<Vec<String>>, Stop>
     ensures { Comes (W.events world.old) (W.events world.new) (asks (list_names path.now) as_names)
         (option_map (λ names. map string_bytes names.items)) result }
@@ -84,12 +91,14 @@ pub fn list<W: World>(world: &mut W, path: &str) -> Result<Option<Vec<String>>, 
     unless_refused(world.list(path))
 }
 
+/// What a path names.
 pub fn probe<W: World>(world: &mut W, path: &str) -> Result<Option<Kind>, Stop>
     ensures { Comes (W.events world.old) (W.events world.new) (asks (probe path.now) as_kind) (option_map kind_of) result }
 {
     unless_refused(world.probe(path))
 }
 
+/// Whether the folder that paths are taken from was changed.
 pub fn chdir<W: World>(world: &mut W, path: &str) -> Result<bool, Stop>
     ensures { Comes (W.events world.old) (W.events world.new) (asks (change_dir path.now) as_done) (λ changed. changed) result }
 {

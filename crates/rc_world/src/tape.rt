@@ -98,6 +98,7 @@ impl Answer {
 }
 
 impl Tape {
+    /// A tape of these answers that was asked nothing.
     pub fn new(answers: Vec<Answer>) -> Tape
         ensures answers { tape_answers result ≡ map answer_of answers.items }
         ensures events { tape_events result ≡ [] }

@@ -13,6 +13,7 @@ pub trait World {
     /// The events so far, where the world tells them.
     ghost events: { Self → Option (List Event) };
 
+    /// Opens a file.
     fn open(&mut self, path: &str, mode: Mode) -> Result<Handle, Fault>
         ensures { events self.new ≡ extend (events self.old) (told_by (open_file path.now (mode_of mode)) (file_answer result)) };
 
@@ -24,6 +25,7 @@ pub trait World {
     fn pipe(&mut self) -> Result<(Handle, Handle), Fault>
         ensures { events self.new ≡ extend (events self.old) (told_by make_pipe (pair_answer result)) };
 
+    /// Closes a file or an end of a pipe.
     fn close(&mut self, handle: Handle) -> Result<(), Fault>
         ensures { events self.new ≡ extend (events self.old) (told_by (close handle.0) (done_answer result)) };
 
@@ -36,6 +38,7 @@ pub trait World {
     fn write(&mut self, slot: Slot, text: &[u8]) -> Result<(), Fault>
         ensures { events self.new ≡ extend (events self.old) (told_by (write (slot_of slot) text.now) (done_answer result)) };
 
+    /// Starts a child.
     fn start(&mut self, launch: &Launch) -> Result<ChildNo, Fault>
         ensures { events self.new ≡ extend (events self.old) (told_by (start (launch_of launch.now)) (child_answer result)) };
 

@@ -1,4 +1,4 @@
-//! What no clause says: that these scripts have these tokens and faults.
+//! Scripts with their tokens or their first fault.
 
 use rc_lexer::{LexError, Token, lex};
 use std::alloc::{AllocError, Global};
