@@ -45,7 +45,7 @@ past_brace false ts = refl
 pub back_part : (c : Node t.cmd) → PrintsBrace c → PrintsPart (t.Back c)
 unfolding arg_lexemes
 back_part c p = record {
-  phrase = λ inside rest h. at (ap (λ z. Backquote ∷ LeftBrace ∷ z) (append_assoc (cmd_lexemes c false) (RightBrace ∷ []) rest)) 
+  phrase = λ inside rest h. at (ap (λ z. Backquote ∷ LeftBrace ∷ z) (append_assoc (cmd_lexemes c false) (RightBrace ∷ []) rest))
       (g.back_part (subst (λ z. g.Phrase g.brace z c rest) (sym (past_brace inside _)) (p rest)));
   opens = f.backquote;
 }
