@@ -17,11 +17,10 @@ build:
 test: lay-examples
 	$(RT) ci
 
-# rc_examples reads what lies in its data/
+# test_scripts reads each example that lies in its data/
 lay-examples:
-	rm -rf crates/rc_examples/data
-	mkdir -p crates/rc_examples/data
-	cp examples/*.rc crates/rc_examples/data
+	rm -f crates/test_scripts/data/*.rc
+	cp examples/*.rc crates/test_scripts/data
 
 install: rc
 	install -D -m 755 rc $(DESTDIR)$(PREFIX)/bin/rc

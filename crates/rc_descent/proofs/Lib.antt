@@ -1,4 +1,3 @@
 pub mod Steps
 pub mod Turns
-pub mod Pieces
 pub mod Scripts

@@ -1,20 +1,19 @@
 -- The tree of a script, and what the laws say of it.
 use Rattle.std.proofs.Common.{◌≡◌, ℕ, ◌<◌, ◌≤◌, true, false, List, [], ◌∷◌, length, Result, Ok, Err, IfOk, ◌⊎◌, inl, inr, refl, ap, subst, ◌∙◌, arith}
-use Rattle.rc_model.specs.Tokens as model
-use Rattle.rc_model.specs.Tree.{Node, Many}
-use Rattle.rc_model.specs.Tree as t
-use Rattle.rc_model.specs.WellFormed.{well_formed, depth, most_stages, is_sound}
-use Rattle.rc_model.specs.Grammar.{IsScript, IsAccepted}
-use Rattle.rc_model.specs.Descent as d
-use Rattle.rc_grammar_laws.proofs.Laws as laws
-use Rattle.rc_descent.specs.declared.lexeme.Lexeme.{Lexeme}
+use Rattle.rc_model.specs.Syntax.Tokens as model
+use Rattle.rc_model.specs.Syntax.Tree.{Node, Many}
+use Rattle.rc_model.specs.Syntax.Tree as t
+use Rattle.rc_model.specs.Syntax.WellFormed.{well_formed, depth, most_stages, is_sound}
+use Rattle.rc_model.specs.Syntax.Grammar.{IsScript, IsAccepted}
+use Rattle.rc_model.specs.Mirrors.Descent as d
+use Rattle.law_grammar.proofs.Laws as laws
+use Rattle.rc_lexemes.specs.declared.lexeme.Lexeme.{Lexeme}
 use Rattle.rc_tree.specs.View.{cmd_tree}
 use Rattle.rc_tree.specs.declared.Cmd.{Cmd}
-use Rattle.rc_descent.specs.declared.refusal.Fault.{Fault}
-use Rattle.rc_descent.specs.declared.refusal.Fault.TheVariants as f
-use Rattle.rc_descent.specs.declared.refusal.Refusal.{Refusal}
-use Rattle.rc_descent.specs.Lexemes.{lexemes_of}
-use Rattle.rc_descent.specs.Reading.{Gives, HasFault, fault_of}
+use Rattle.rc_lexemes.specs.declared.fault.Fault.{Fault}
+use Rattle.rc_lexemes.specs.declared.fault.Fault.TheVariants as f
+use Rattle.rc_lexemes.specs.Lexemes.{lexemes_of}
+use Rattle.rc_lexemes.specs.Reading.{Gives, HasFault, TokenError, fault_of}
 
 -- the list is the whole script, and its tree is well formed or not
 pub script_fits : (levels : ℕ) (ts : List model.Lexeme) (is : Many t.item) (xs : List Lexeme) → d.read levels (d.a_list false) ts ≡ Ok (is, lexemes_of xs) → length xs ≡ 0 →
@@ -48,27 +47,27 @@ unfolding d.script_tree
 script_fails levels ts e h = ap (λ o. d.whole o) h
 
 -- what the laws say of an answer
-pub found_by : (o : Result Cmd Refusal) (ts : List model.Lexeme) → Gives (λ c. cmd_tree c) o (d.script_tree 200 ts) → IfOk o (λ c. IsAccepted ts (cmd_tree c))
+pub found_by : (o : Result Cmd TokenError) (ts : List model.Lexeme) → Gives (λ c. cmd_tree c) o (d.script_tree 200 ts) → IfOk o (λ c. IsAccepted ts (cmd_tree c))
 found_by (Ok x) ts h = laws.finds_only_trees 200 ts (cmd_tree x) h
 found_by (Err e) ts h = tt
 
-pub only_by : (o : Result Cmd Refusal) (ts : List model.Lexeme) → Gives (λ c. cmd_tree c) o (d.script_tree 200 ts) →
+pub only_by : (o : Result Cmd TokenError) (ts : List model.Lexeme) → Gives (λ c. cmd_tree c) o (d.script_tree 200 ts) →
     IfOk o (λ c. (other : Node t.cmd) → IsScript ts other → other ≡ cmd_tree c)
 only_by (Ok x) ts h = λ other p. laws.has_one_tree ts (cmd_tree x) other (laws.finds_only_trees 200 ts (cmd_tree x) h) p
 only_by (Err e) ts h = tt
 
-fault_by : (o : Result Cmd Refusal) (fault : Fault) (ts : List model.Lexeme) → Gives (λ c. cmd_tree c) o (d.script_tree 200 ts) → HasFault o fault → d.script_tree 200 ts ≡ Err (fault_of fault)
+fault_by : (o : Result Cmd TokenError) (fault : Fault) (ts : List model.Lexeme) → Gives (λ c. cmd_tree c) o (d.script_tree 200 ts) → HasFault o fault → d.script_tree 200 ts ≡ Err (fault_of fault)
 fault_by o fault ts h f = subst (λ z. Gives (λ c. cmd_tree c) z (d.script_tree 200 ts)) f.1 h
 
-pub none_by : (o : Result Cmd Refusal) (ts : List model.Lexeme) → Gives (λ c. cmd_tree c) o (d.script_tree 200 ts) → HasFault o f.Unexpected ⊎ HasFault o f.IfNot →
+pub none_by : (o : Result Cmd TokenError) (ts : List model.Lexeme) → Gives (λ c. cmd_tree c) o (d.script_tree 200 ts) → HasFault o f.Unexpected ⊎ HasFault o f.IfNot →
     (tree : Node t.cmd) → IsScript ts tree → ⊥
 none_by o ts h (inl e) tree p = laws.has_no_tree 200 ts tree (inl (fault_by o f.Unexpected ts h e)) p
 none_by o ts h (inr e) tree p = laws.has_no_tree 200 ts tree (inr (fault_by o f.IfNot ts h e)) p
 
-pub stages_by : (o : Result Cmd Refusal) (ts : List model.Lexeme) → Gives (λ c. cmd_tree c) o (d.script_tree 200 ts) → HasFault o f.TooManyStages → (tree : Node t.cmd) → IsScript ts tree →
+pub stages_by : (o : Result Cmd TokenError) (ts : List model.Lexeme) → Gives (λ c. cmd_tree c) o (d.script_tree 200 ts) → HasFault o f.TooManyStages → (tree : Node t.cmd) → IsScript ts tree →
     64 < most_stages tree
 stages_by o ts h e tree p = laws.has_too_many_stages 200 ts tree (fault_by o f.TooManyStages ts h e) p
 
-pub levels_by : (o : Result Cmd Refusal) (ts : List model.Lexeme) → Gives (λ c. cmd_tree c) o (d.script_tree 200 ts) → HasFault o f.TooDeep → (tree : Node t.cmd) → IsScript ts tree →
+pub levels_by : (o : Result Cmd TokenError) (ts : List model.Lexeme) → Gives (λ c. cmd_tree c) o (d.script_tree 200 ts) → HasFault o f.TooDeep → (tree : Node t.cmd) → IsScript ts tree →
     (200 < depth tree) ⊎ ((is_sound tree ≡ false) × (most_stages tree ≤ 64))
 levels_by o ts h e tree p = laws.is_too_deep 200 ts tree (omega arith) (fault_by o f.TooDeep ts h e) p

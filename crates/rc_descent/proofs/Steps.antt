@@ -1,12 +1,9 @@
 -- One step of the descent.
 use Rattle.std.proofs.Common.{◌≡◌, ℕ, suc, ◌-◌, ◌<◌, Bool, false, List, [], ◌∷◌, ◌++◌, length, Err, refl, ap, arith}
 use Rattle.std.proofs.lemmas.Grind.{common_steps}
-use Rattle.rc_model.specs.Tokens.{Lexeme}
-use Rattle.rc_model.specs.Tree.{Sort, Node, Many, none, more, nodes, snoc}
-use Rattle.rc_model.specs.Tree as t
-use Rattle.rc_model.specs.Grammar.{concat_of, redirect, and_or}
-use Rattle.rc_model.specs.Descent as d
-use Rattle.rc_model.specs.Descent.{Reader, Readers, Nested, Inner, ◌>>=◌}
+use Rattle.rc_model.specs.Syntax.Tokens.{Lexeme}
+use Rattle.rc_model.specs.Mirrors.Descent as d
+use Rattle.rc_model.specs.Mirrors.Descent.{Nested}
 
 pub read_none : (left : ℕ) (n : Nested) (ts : List Lexeme) → left ≡ 0 → d.read left n ts ≡ Err d.TooDeep
 unfolding d.read
@@ -40,40 +37,3 @@ unfolding d.read d.read_by
 read_list left s ts h = ap (λ k. d.read k (d.a_list s) ts) (left_is left h)
 
 pub ruleset levels = (read_none, read_name, read_part, read_operand, read_piped, read_command, read_list, common_steps)
-
--- one part stands alone, and several are joined; likewise of redirections, stages and links
-pub concat_one : {X : Type 0} (f : X → Node t.arg) (a : Node t.arg) (xs : List X) → length xs ≡ 0 → concat_of a (nodes f xs) ≡ a
-concat_one f a [] h = refl
-concat_one f a (x ∷ xs) h = absurd (omega arith)
-
-pub concat_several : {X : Type 0} (f : X → Node t.arg) (a : Node t.arg) (xs : List X) → (length xs ≡ 0 → ⊥) → concat_of a (nodes f xs) ≡ t.Concat (more a (nodes f xs))
-concat_several f a [] h = absurd (h refl)
-concat_several f a (x ∷ xs) h = refl
-
-pub redirect_none : {X : Type 0} (f : X → Node t.redir) (xs : List X) (c : Node t.cmd) → length xs ≡ 0 → redirect (nodes f xs) c ≡ c
-redirect_none f [] c h = refl
-redirect_none f (x ∷ xs) c h = absurd (omega arith)
-
-pub redirect_some : {X : Type 0} (f : X → Node t.redir) (xs : List X) (c : Node t.cmd) → (length xs ≡ 0 → ⊥) → redirect (nodes f xs) c ≡ t.Redirect (nodes f xs) c
-redirect_some f [] c h = absurd (h refl)
-redirect_some f (x ∷ xs) c h = refl
-
-pub pipeline_none : {X : Type 0} (f : X → Node t.stage) (xs : List X) (c : Node t.cmd) → length xs ≡ 0 → d.pipeline_of (nodes f xs) c ≡ c
-pipeline_none f [] c h = refl
-pipeline_none f (x ∷ xs) c h = absurd (omega arith)
-
-pub pipeline_some : {X : Type 0} (f : X → Node t.stage) (xs : List X) (c : Node t.cmd) → (length xs ≡ 0 → ⊥) → d.pipeline_of (nodes f xs) c ≡ t.Pipeline (nodes f xs) c
-pipeline_some f [] c h = absurd (h refl)
-pipeline_some f (x ∷ xs) c h = refl
-
-pub and_or_none : {X : Type 0} (f : X → Node t.link) (c : Node t.cmd) (xs : List X) → length xs ≡ 0 → and_or c (nodes f xs) ≡ c
-and_or_none f c [] h = refl
-and_or_none f c (x ∷ xs) h = absurd (omega arith)
-
-pub and_or_some : {X : Type 0} (f : X → Node t.link) (c : Node t.cmd) (xs : List X) → (length xs ≡ 0 → ⊥) → and_or c (nodes f xs) ≡ t.AndOr c (nodes f xs)
-and_or_some f c [] h = absurd (h refl)
-and_or_some f c (x ∷ xs) h = refl
-
--- a list of one
-pub one_pair : {X : Type 0} (f : X → Node t.pair) (x : X) → nodes f ([] ++ x ∷ []) ≡ more (f x) none
-one_pair f x = refl

@@ -3,15 +3,15 @@ use Rattle.std.proofs.Common.{◌≡◌, ℕ, suc, ◌+◌, ◌-◌, ◌<◌, �
 use Rattle.std.proofs.lemmas.List.{length-map}
 use Rattle.std.proofs.lemmas.Bool.{lt-ltb, le-ltb}
 use Rattle.std.proofs.lemmas.Grind.{common_steps}
-use Rattle.rc_model.specs.Tokens as model
-use Rattle.rc_model.specs.Tree.{Node, Many, none, more, count, nodes, snoc}
-use Rattle.rc_model.specs.Tree as t
-use Rattle.rc_model.specs.Grammar.{begins_arg, begins_redir, begins_command, past_blanks, past_newlines, after_caret, ends}
-use Rattle.rc_model.specs.Descent as d
-use Rattle.rc_model.specs.Descent.{Reader, Readers, Read, ◌>>=◌}
+use Rattle.rc_model.specs.Syntax.Tokens as model
+use Rattle.rc_model.specs.Syntax.Tree.{Node, Many, none, more, count, nodes, snoc}
+use Rattle.rc_model.specs.Syntax.Tree as t
+use Rattle.rc_model.specs.Syntax.Grammar.{begins_arg, begins_redir, begins_command, past_blanks, past_newlines, after_caret, ends}
+use Rattle.rc_model.specs.Mirrors.Descent as d
+use Rattle.rc_model.specs.Mirrors.Descent.{Reader, Readers, Read, ◌>>=◌}
 use Rattle.rc_tree.specs.View.{nodes_push}
-use Rattle.rc_descent.specs.declared.lexeme.Lexeme.{Lexeme}
-use Rattle.rc_descent.specs.Lexemes.{lexemes_of}
+use Rattle.rc_lexemes.specs.declared.lexeme.Lexeme.{Lexeme}
+use Rattle.rc_lexemes.specs.Lexemes.{lexemes_of}
 
 one_less : (turns i : ℕ) → i < turns → turns - i ≡ suc (turns - (i + 1))
 one_less turns i h = omega arith

@@ -2,29 +2,26 @@
 #![tactic(auto)]
 
 ghost use Rattle.std.specs.Prelude.{◌≡◌, ◌<◌, ◌≤◌, ◌⊎◌, false, IfOk};
-ghost use Rattle.rc_model.specs.Tree.{Node, cmd};
-ghost use Rattle.rc_model.specs.WellFormed.{depth, most_stages, is_sound};
-ghost use Rattle.rc_model.specs.Grammar.{IsScript, IsAccepted};
-ghost use Rattle.rc_model.specs.Descent.{script_tree};
+ghost use Rattle.rc_model.specs.Syntax.Tree.{Node, cmd};
+ghost use Rattle.rc_model.specs.Syntax.WellFormed.{depth, most_stages, is_sound};
+ghost use Rattle.rc_model.specs.Syntax.Grammar.{IsScript, IsAccepted};
+ghost use Rattle.rc_model.specs.Mirrors.Descent.{script_tree};
 ghost use Rattle.rc_tree.specs.View.{cmd_tree};
-ghost use Rattle.rc_descent.specs.Lexemes.{lexemes_of};
-ghost use Rattle.rc_descent.specs.Reading.{Gives, HasFault};
+ghost use Rattle.rc_lexemes.specs.Lexemes.{lexemes_of};
+ghost use Rattle.rc_lexemes.specs.Reading.{Gives, HasFault};
 
-mod here;
-mod lexeme;
 mod read;
-mod refusal;
 
-pub use lexeme::Lexeme;
+pub use rc_lexemes::{Fault, Lexeme, TokenError, TokenFault};
+use rc_lexemes::{fault_at, seq};
 use rc_tree::{Cmd, well_formed};
-pub use refusal::{Fault, Refusal};
 use std::alloc::Global;
 
 /// How many levels a tree may have.
 const LEVELS: usize = 200;
 
 /// The tree of these lexemes.
-pub fn script(alloc: Global, lexemes: &[Lexeme]) -> Result<Cmd, Refusal>
+pub fn script(alloc: Global, lexemes: &[Lexeme]) -> Result<Cmd, TokenError>
     // What is found is the tree of an accepted script.
     ensures found { IfOk result (λ c. IsAccepted (lexemes_of lexemes.now) (cmd_tree c)) }
     // It has no other tree.
@@ -41,17 +38,17 @@ pub fn script(alloc: Global, lexemes: &[Lexeme]) -> Result<Cmd, Refusal>
 }
 
 /// The tree that the descent finds.
-#[tactic(auto, using(rc_tree::specs::View::tree_Seq, crate::proofs::Scripts::script_fits, crate::proofs::Scripts::script_unfit, crate::proofs::Scripts::script_fails, crate::proofs::Scripts::script_goes_on, std::proofs::lemmas::Grind::common_steps))]
-fn tree(alloc: Global, lexemes: &[Lexeme]) -> Result<Cmd, Refusal>
+#[tactic(auto, using(crate::proofs::Scripts::script_fits, crate::proofs::Scripts::script_unfit, crate::proofs::Scripts::script_fails, crate::proofs::Scripts::script_goes_on, std::proofs::lemmas::Grind::common_steps))]
+fn tree(alloc: Global, lexemes: &[Lexeme]) -> Result<Cmd, TokenError>
     ensures { Gives (λ c. cmd_tree c) result (script_tree LEVELS (lexemes_of lexemes.now)) }
 {
     let (items, rest) = read::list(alloc, LEVELS, false, lexemes)?;
     if rest.len() != 0 {
-        return Err(Refusal::Fault(Fault::Unexpected, rest.len()));
+        return Err(fault_at(Fault::Unexpected, rest));
     }
-    let tree = Cmd::Seq(items);
+    let tree = seq(alloc, items)?;
     if !well_formed(&tree) {
-        return Err(Refusal::Fault(Fault::TooDeep, lexemes.len()));
+        return Err(fault_at(Fault::TooDeep, lexemes));
     }
-    Ok(tree)
+    Ok(Box::into_inner(tree))
 }

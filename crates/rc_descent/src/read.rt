@@ -1,224 +1,129 @@
 //! The descent: a script is read with one token in sight. Each function answers what it read and the tokens behind it.
 
 ghost use Rattle.std.specs.Prelude.{◌≡◌, true, false, IfOk, string_bytes};
-ghost use Rattle.rc_model.specs.Tree.{Lit};
-ghost use Rattle.rc_model.specs.Grammar.{concat_of, redirect, and_or, is_if};
-ghost use Rattle.rc_model.specs.Descent.{read, a_name, a_part, an_operand, a_piped, a_command, a_list, parts_by, arg_by, members_by, words_by, redir_by, redirs_by, simple_by, brace_by, paren_by, dollar_by, branch_by, branches_by, switch_by, match_by, define_by, block_by, first_by, opening_by, body_by, optional_by, if_by, while_by, over_by, for_by, control_by, redirected_by, leading_by, pipe_by, pipeline_of, values_by, assigned_by, operand_by, links_by, item_end, items_by};
+ghost use Rattle.rc_model.specs.Syntax.Tree.{Lit};
+ghost use Rattle.rc_model.specs.Syntax.Grammar.{concat_of, redirect, and_or, is_if};
+ghost use Rattle.rc_model.specs.Mirrors.Descent.{read, a_name, a_part, an_operand, a_piped, a_command, a_list, parts_by, arg_by, members_by, words_by, redir_by, redirs_by, simple_by, brace_by, paren_by, dollar_by, branch_by, branches_by, switch_by, match_by, define_by, block_by, first_by, opening_by, body_by, optional_by, if_by, while_by, over_by, for_by, control_by, redirected_by, leading_by, pipe_by, pipeline_of, values_by, assigned_by, operand_by, links_by, item_end, items_by};
 ghost use Rattle.rc_tree.specs.View.{cmd_tree, arg_tree, redir_tree, args_tree, items_tree, pairs_tree, redirs_tree, stages_tree, links_tree, branches_tree, branch_tree};
-ghost use Rattle.rc_descent.specs.Keywords.{keyword_of};
-ghost use Rattle.rc_descent.specs.Lexemes.{lexemes_of};
-ghost use Rattle.rc_descent.specs.Reading.{Gives, opening_of};
+ghost use Rattle.rc_lexemes.specs.Lexemes.{lexemes_of};
+ghost use Rattle.rc_lexemes.specs.Reading.{Gives};
+ghost use Rattle.rc_descent.specs.Reading.{opening_of};
 
-use crate::here::pieces;
-use crate::lexeme::{
-    Keyword, Lexeme, after_caret, begins_arg, begins_brace, begins_command, begins_leading,
-    begins_link, begins_redir, closes, ends, ends_case, is_case, keyword_named, past_blanks,
-    past_caret, past_newlines,
+use rc_lexemes::{
+    Fault, Lexeme, TokenError, after_caret, and_or, assigned as assign_of, back, begins_arg,
+    begins_brace, begins_command, begins_leading, begins_link, begins_redir, block as block_of,
+    concat, conditional as if_of, copying, count, defined, empty, ends, ends_case, fault_at, flat,
+    for_all, for_each, here_doc, if_not, insert_arg, insert_redir, is_case, is_if, item_end,
+    keyword_named, literal, matching as match_of, not, opening, paren as words_of, past_blanks,
+    past_caret, past_newlines, pipeline, push_arg, push_item, push_link, push_pair, push_redir,
+    push_stage, redirect, redirected as redirect_of, repeated as while_of, seq,
+    simple as simple_of, subscripted, subshell, switched, undefined, variable,
 };
-use crate::refusal::{Fault, Refusal};
-use rc_tree::{Arg, Branch, Cmd, Item, Logic, Redir, Stage};
-use std::alloc::{AllocError, Global};
+use rc_model::{Keyword, Logic};
+use rc_tree::{Arg, Branch, Cmd, Item, Redir};
+use std::alloc::Global;
 
 /// How an operand begins.
 #[derive(Drop)]
 pub enum Opening {
     /// A stage of a pipeline.
-    Staged(Cmd),
+    Staged(Box<Cmd>),
     /// The name of an assignment. The `=` is behind it.
-    Named(Arg),
+    Named(Box<Arg>),
 }
 
 /// A name behind a `$`.
 #[cycle(name)]
-#[tactic(auto, using(crate::proofs::Steps::levels, rc_tree::specs::View::tree_Var, std::proofs::lemmas::Grind::common_steps), unfolding(rc_model::specs::Descent::name_by))]
-fn name(alloc: Global, left: usize, lexemes: &[Lexeme]) -> Result<(Arg, &[Lexeme]), Refusal>
-    ensures { Gives (λ x. (arg_tree x.0, lexemes_of x.1.now)) result (read left a_name (lexemes_of lexemes.now)) }
+#[tactic(auto, using(crate::proofs::Steps::levels, std::proofs::lemmas::Grind::common_steps), unfolding(rc_model::specs::Mirrors::Descent::name_by))]
+fn name(alloc: Global, left: usize, lexemes: &[Lexeme]) -> Result<(Box<Arg>, &[Lexeme]), TokenError>
+    ensures { Gives (λ x. (arg_tree x.0.value, lexemes_of x.1.now)) result (read left a_name (lexemes_of lexemes.now)) }
 {
     if left == 0 {
-        return Err(Refusal::Fault(Fault::TooDeep, lexemes.len()));
+        return Err(fault_at(Fault::TooDeep, lexemes));
     }
     match lexemes {
-        [Lexeme::Name(text), rest @ ..] => Ok((literal(text, false)?, rest)),
-        [Lexeme::Quoted(text), rest @ ..] => Ok((literal(text, true)?, rest)),
+        [Lexeme::Name(text), rest @ ..] => Ok((literal(alloc, text, false)?, rest)),
+        [Lexeme::Quoted(text), rest @ ..] => Ok((literal(alloc, text, true)?, rest)),
         [Lexeme::Dollar, rest @ ..] => {
             let (inner, rest) = name(alloc, left - 1, rest)?;
-            Ok((Arg::Var(Box::new(alloc, inner)?), rest))
+            Ok((variable(alloc, inner)?, rest))
         }
-        _ => Err(Refusal::Fault(Fault::Unexpected, lexemes.len())),
-    }
-}
-
-/// A word as it is written.
-#[tactic(auto, using(rc_tree::specs::View::tree_Lit, std::proofs::lemmas::Grind::common_steps))]
-fn literal(text: &String, quoted: bool) -> Result<Arg, AllocError>
-    ensures { IfOk result (λ a. arg_tree a ≡ Lit (string_bytes text.now) quoted) }
-{
-    Ok(Arg::Lit {
-        text: text.clone()?,
-        quoted,
-    })
-}
-
-/// One part stands alone, and several are joined.
-#[tactic(auto, using(crate::proofs::Steps::concat_one, crate::proofs::Steps::concat_several, rc_tree::specs::View::tree_Concat, std::proofs::lemmas::Grind::common_steps))]
-fn concat(first: Arg, mut others: Vec<Arg>) -> Result<Arg, AllocError>
-    ensures { IfOk result (λ a. arg_tree a ≡ concat_of (arg_tree first) (args_tree others.items)) }
-{
-    if others.len() == 0 {
-        return Ok(first);
-    }
-    others.insert(0, first)?;
-    Ok(Arg::Concat(others))
-}
-
-/// A command with the redirections behind it.
-#[tactic(auto, using(crate::proofs::Steps::redirect_none, crate::proofs::Steps::redirect_some, rc_tree::specs::View::tree_Redirect, std::proofs::lemmas::Grind::common_steps))]
-fn redirect(alloc: Global, redirs: Vec<Redir>, body: Cmd) -> Result<Cmd, AllocError>
-    ensures { IfOk result (λ c. cmd_tree c ≡ redirect (redirs_tree redirs.items) (cmd_tree body)) }
-{
-    if redirs.len() == 0 {
-        return Ok(body);
-    }
-    Ok(Cmd::Redirect(redirs, Box::new(alloc, body)?))
-}
-
-/// A pipeline of stages before a last one.
-#[tactic(auto, using(crate::proofs::Steps::pipeline_none, crate::proofs::Steps::pipeline_some, rc_tree::specs::View::tree_Pipeline, std::proofs::lemmas::Grind::common_steps))]
-fn pipeline(alloc: Global, stages: Vec<Stage>, last: Cmd) -> Result<Cmd, AllocError>
-    ensures { IfOk result (λ c. cmd_tree c ≡ pipeline_of (stages_tree stages.items) (cmd_tree last)) }
-{
-    if stages.len() == 0 {
-        return Ok(last);
-    }
-    Ok(Cmd::Pipeline(stages, Box::new(alloc, last)?))
-}
-
-/// A command of one operand or several.
-#[tactic(auto, using(crate::proofs::Steps::and_or_none, crate::proofs::Steps::and_or_some, rc_tree::specs::View::tree_AndOr, std::proofs::lemmas::Grind::common_steps))]
-fn and_or(alloc: Global, first: Cmd, links: Vec<(Logic, Cmd)>) -> Result<Cmd, AllocError>
-    ensures { IfOk result (λ c. cmd_tree c ≡ and_or (cmd_tree first) (links_tree links.items)) }
-{
-    if links.len() == 0 {
-        return Ok(first);
-    }
-    Ok(Cmd::AndOr(Box::new(alloc, first)?, links))
-}
-
-/// Whether an `if not` may follow.
-#[tactic(auto, using(rc_tree::specs::View::tree_nodes))]
-fn is_if(cmd: &Cmd) -> bool
-    ensures { result ≡ is_if (cmd_tree cmd.now) }
-{
-    match cmd {
-        Cmd::If(_, _) | Cmd::IfNot(_) => true,
-        Cmd::Empty
-        | Cmd::Seq(_)
-        | Cmd::Simple(_)
-        | Cmd::Assign(_, _)
-        | Cmd::Redirect(_, _)
-        | Cmd::Pipeline(_, _)
-        | Cmd::AndOr(_, _)
-        | Cmd::Not(_)
-        | Cmd::Subshell(_)
-        | Cmd::While(_, _)
-        | Cmd::ForAll(_, _)
-        | Cmd::For(_, _, _)
-        | Cmd::Switch(_, _)
-        | Cmd::Match(_, _)
-        | Cmd::Define(_, _)
-        | Cmd::Undefine(_)
-        | Cmd::Brace(_) => false,
-    }
-}
-
-/// What ends an item, and whether that is a `&`.
-#[tactic(auto, unfolding(rc_model::specs::Descent::item_end))]
-fn item_end(lexemes: &[Lexeme]) -> Result<(bool, &[Lexeme]), Refusal>
-    ensures { Gives (λ x. (x.0, lexemes_of x.1.now)) result (item_end (lexemes_of lexemes.now)) }
-{
-    match lexemes {
-        [Lexeme::Semicolon, rest @ ..] => Ok((false, rest)),
-        [Lexeme::Newline, rest @ ..] => Ok((false, rest)),
-        [Lexeme::Ampersand, rest @ ..] => Ok((true, rest)),
-        _ => {
-            if closes(lexemes) {
-                Ok((false, lexemes))
-            } else {
-                Err(Refusal::Fault(Fault::Unexpected, lexemes.len()))
-            }
-        }
+        _ => Err(fault_at(Fault::Unexpected, lexemes)),
     }
 }
 
 /// A part of an argument. Inside parentheses newlines are blanks.
 #[cycle(read)]
-#[tactic(auto, using(crate::proofs::Steps::levels, rc_tree::specs::View::tree_Paren, rc_tree::specs::View::tree_Back, rc_tree::specs::View::tree_Count, rc_tree::specs::View::tree_Flat, std::proofs::lemmas::Grind::common_steps), unfolding(rc_model::specs::Descent::part_by))]
+#[tactic(auto, using(crate::proofs::Steps::levels, std::proofs::lemmas::Grind::common_steps), unfolding(rc_model::specs::Mirrors::Descent::part_by))]
 fn part(
     alloc: Global,
     left: usize,
     inside: bool,
     lexemes: &[Lexeme],
-) -> Result<(Arg, &[Lexeme]), Refusal>
-    ensures { Gives (λ x. (arg_tree x.0, lexemes_of x.1.now)) result (read left (a_part inside) (lexemes_of lexemes.now)) }
+) -> Result<(Box<Arg>, &[Lexeme]), TokenError>
+    ensures { Gives (λ x. (arg_tree x.0.value, lexemes_of x.1.now)) result (read left (a_part inside) (lexemes_of lexemes.now)) }
 {
     if left == 0 {
-        return Err(Refusal::Fault(Fault::TooDeep, lexemes.len()));
+        return Err(fault_at(Fault::TooDeep, lexemes));
     }
     match lexemes {
-        [Lexeme::Word(text), rest @ ..] => Ok((literal(text, false)?, rest)),
-        [Lexeme::Quoted(text), rest @ ..] => Ok((literal(text, true)?, rest)),
+        [Lexeme::Word(text), rest @ ..] => Ok((literal(alloc, text, false)?, rest)),
+        [Lexeme::Quoted(text), rest @ ..] => Ok((literal(alloc, text, true)?, rest)),
         [Lexeme::LeftParen, rest @ ..] => {
             let (words, rest) = members(alloc, left - 1, rest)?;
-            Ok((Arg::Paren(words), rest))
+            Ok((words_of(alloc, words)?, rest))
         }
         [Lexeme::Backquote, rest @ ..] => {
             let (body, rest) = brace(alloc, left - 1, past_blanks(inside, rest))?;
-            Ok((Arg::Back(Box::new(alloc, body)?), rest))
+            Ok((back(alloc, body)?, rest))
         }
         [Lexeme::Dollar, rest @ ..] => dollar(alloc, left - 1, rest),
         [Lexeme::DollarCount, rest @ ..] => {
             let (inner, rest) = name(alloc, left - 1, rest)?;
-            Ok((Arg::Count(Box::new(alloc, inner)?), rest))
+            Ok((count(alloc, inner)?, rest))
         }
         [Lexeme::DollarFlat, rest @ ..] => {
             let (inner, rest) = name(alloc, left - 1, rest)?;
-            Ok((Arg::Flat(Box::new(alloc, inner)?), rest))
+            Ok((flat(alloc, inner)?, rest))
         }
-        _ => Err(Refusal::Fault(Fault::Unexpected, lexemes.len())),
+        _ => Err(fault_at(Fault::Unexpected, lexemes)),
     }
 }
 
 /// What follows a `$`: a name, perhaps with subscripts.
 #[cycle(read)]
-#[tactic(auto, using(rc_tree::specs::View::tree_Var, rc_tree::specs::View::tree_Sub, std::proofs::lemmas::Grind::common_steps), unfolding(rc_model::specs::Descent::dollar_by))]
-fn dollar(alloc: Global, below: usize, lexemes: &[Lexeme]) -> Result<(Arg, &[Lexeme]), Refusal>
-    ensures { Gives (λ x. (arg_tree x.0, lexemes_of x.1.now)) result (dollar_by (read below) (lexemes_of lexemes.now)) }
+#[tactic(auto, using(std::proofs::lemmas::Grind::common_steps), unfolding(rc_model::specs::Mirrors::Descent::dollar_by))]
+fn dollar(
+    alloc: Global,
+    below: usize,
+    lexemes: &[Lexeme],
+) -> Result<(Box<Arg>, &[Lexeme]), TokenError>
+    ensures { Gives (λ x. (arg_tree x.0.value, lexemes_of x.1.now)) result (dollar_by (read below) (lexemes_of lexemes.now)) }
 {
     let (inner, rest) = name(alloc, below, lexemes)?;
-    let inner = Box::new(alloc, inner)?;
     match rest {
         [Lexeme::Subscript, rest @ ..] => {
             let (subscripts, rest) = members(alloc, below, rest)?;
-            Ok((Arg::Sub(inner, subscripts), rest))
+            Ok((subscripted(alloc, inner, subscripts)?, rest))
         }
-        _ => Ok((Arg::Var(inner), rest)),
+        _ => Ok((variable(alloc, inner)?, rest)),
     }
 }
 
 /// An argument. Inside parentheses newlines are blanks.
 #[cycle(read)]
-#[tactic(auto, unfolding(rc_model::specs::Descent::arg_by))]
+#[tactic(auto, unfolding(rc_model::specs::Mirrors::Descent::arg_by))]
 fn arg(
     alloc: Global,
     left: usize,
     inside: bool,
     lexemes: &[Lexeme],
-) -> Result<(Arg, &[Lexeme]), Refusal>
-    ensures { Gives (λ x. (arg_tree x.0, lexemes_of x.1.now)) result (arg_by (read left (a_part inside)) inside (lexemes_of lexemes.now)) }
+) -> Result<(Box<Arg>, &[Lexeme]), TokenError>
+    ensures { Gives (λ x. (arg_tree x.0.value, lexemes_of x.1.now)) result (arg_by (read left (a_part inside)) inside (lexemes_of lexemes.now)) }
 {
     let (first, rest) = part(alloc, left, inside, lexemes)?;
     let (others, rest) = parts(alloc, left, inside, rest)?;
-    Ok((concat(first, others)?, rest))
+    Ok((concat(alloc, first, others)?, rest))
 }
 
 /// The parts behind carets.
@@ -229,7 +134,7 @@ fn parts(
     left: usize,
     inside: bool,
     lexemes: &[Lexeme],
-) -> Result<(Vec<Arg>, &[Lexeme]), Refusal>
+) -> Result<(Vec<Arg>, &[Lexeme]), TokenError>
     ensures { Gives (λ x. (args_tree x.0.items, lexemes_of x.1.now)) result (parts_by (read left (a_part inside)) inside (lexemes_of lexemes.now)) }
 {
     let mut others = Vec::new(alloc);
@@ -240,7 +145,7 @@ fn parts(
             break;
         };
         let (other, after) = part(alloc, left, inside, past_blanks(inside, next))?;
-        others.push(other)?;
+        push_arg(&mut others, other)?;
         rest = after;
     }
     Ok((others, rest))
@@ -249,7 +154,11 @@ fn parts(
 /// The arguments up to a `)`.
 #[cycle(read)]
 #[tactic(auto, using(crate::proofs::Turns::members))]
-fn members(alloc: Global, left: usize, lexemes: &[Lexeme]) -> Result<(Vec<Arg>, &[Lexeme]), Refusal>
+fn members(
+    alloc: Global,
+    left: usize,
+    lexemes: &[Lexeme],
+) -> Result<(Vec<Arg>, &[Lexeme]), TokenError>
     ensures { Gives (λ x. (args_tree x.0.items, lexemes_of x.1.now)) result (members_by (read left (a_part true)) (lexemes_of lexemes.now)) }
 {
     let mut words = Vec::new(alloc);
@@ -261,18 +170,22 @@ fn members(alloc: Global, left: usize, lexemes: &[Lexeme]) -> Result<(Vec<Arg>, 
             [Lexeme::Newline, after @ ..] => rest = after,
             _ => {
                 let (word, after) = arg(alloc, left, true, rest)?;
-                words.push(word)?;
+                push_arg(&mut words, word)?;
                 rest = after;
             }
         }
     }
-    Err(Refusal::Fault(Fault::Unexpected, rest.len()))
+    Err(fault_at(Fault::Unexpected, rest))
 }
 
 /// The arguments that stand here.
 #[cycle(read)]
 #[tactic(auto, using(crate::proofs::Turns::words))]
-fn words(alloc: Global, left: usize, lexemes: &[Lexeme]) -> Result<(Vec<Arg>, &[Lexeme]), Refusal>
+fn words(
+    alloc: Global,
+    left: usize,
+    lexemes: &[Lexeme],
+) -> Result<(Vec<Arg>, &[Lexeme]), TokenError>
     ensures { Gives (λ x. (args_tree x.0.items, lexemes_of x.1.now)) result (words_by (read left (a_part false)) (lexemes_of lexemes.now)) }
 {
     let mut words = Vec::new(alloc);
@@ -283,7 +196,7 @@ fn words(alloc: Global, left: usize, lexemes: &[Lexeme]) -> Result<(Vec<Arg>, &[
             break;
         }
         let (word, after) = arg(alloc, left, false, rest)?;
-        words.push(word)?;
+        push_arg(&mut words, word)?;
         rest = after;
     }
     Ok((words, rest))
@@ -291,32 +204,22 @@ fn words(alloc: Global, left: usize, lexemes: &[Lexeme]) -> Result<(Vec<Arg>, &[
 
 /// A redirection.
 #[cycle(read)]
-#[tactic(auto, using(rc_tree::specs::View::tree_Open, rc_tree::specs::View::tree_Copy, rc_tree::specs::View::tree_Here, std::proofs::lemmas::Grind::common_steps), unfolding(rc_model::specs::Descent::redir_by))]
-fn redir(alloc: Global, left: usize, lexemes: &[Lexeme]) -> Result<(Redir, &[Lexeme]), Refusal>
-    ensures { Gives (λ x. (redir_tree x.0, lexemes_of x.1.now)) result (redir_by (read left (a_part false)) (lexemes_of lexemes.now)) }
+#[tactic(auto, using(std::proofs::lemmas::Grind::common_steps), unfolding(rc_model::specs::Mirrors::Descent::redir_by))]
+fn redir(
+    alloc: Global,
+    left: usize,
+    lexemes: &[Lexeme],
+) -> Result<(Box<Redir>, &[Lexeme]), TokenError>
+    ensures { Gives (λ x. (redir_tree x.0.value, lexemes_of x.1.now)) result (redir_by (read left (a_part false)) (lexemes_of lexemes.now)) }
 {
     match lexemes {
         [Lexeme::Redirection(mode, slot), rest @ ..] => {
             let (file, rest) = arg(alloc, left, false, rest)?;
-            let redir = Redir::Open {
-                mode: *mode,
-                slot: *slot,
-                file,
-            };
-            Ok((redir, rest))
+            Ok((opening(alloc, *mode, *slot, file)?, rest))
         }
-        [Lexeme::CopyTo(to, from), rest @ ..] => Ok((
-            Redir::Copy {
-                to: *to,
-                from: *from,
-            },
-            rest,
-        )),
-        [Lexeme::HereDoc(quoted, body), rest @ ..] => Ok((
-            Redir::Here(pieces(alloc, *quoted, body)?),
-            rest,
-        )),
-        _ => Err(Refusal::Fault(Fault::Unexpected, lexemes.len())),
+        [Lexeme::CopyTo(to, from), rest @ ..] => Ok((copying(alloc, *to, *from)?, rest)),
+        [Lexeme::HereDoc(quoted, body), rest @ ..] => Ok((here_doc(alloc, *quoted, body)?, rest)),
+        _ => Err(fault_at(Fault::Unexpected, lexemes)),
     }
 }
 
@@ -327,7 +230,7 @@ fn redirs(
     alloc: Global,
     left: usize,
     lexemes: &[Lexeme],
-) -> Result<(Vec<Redir>, &[Lexeme]), Refusal>
+) -> Result<(Vec<Redir>, &[Lexeme]), TokenError>
     ensures { Gives (λ x. (redirs_tree x.0.items, lexemes_of x.1.now)) result (redirs_by (read left (a_part false)) (lexemes_of lexemes.now)) }
 {
     let mut redirs = Vec::new(alloc);
@@ -338,7 +241,7 @@ fn redirs(
             break;
         }
         let (redir, after) = redir(alloc, left, rest)?;
-        redirs.push(redir)?;
+        push_redir(&mut redirs, redir)?;
         rest = after;
     }
     Ok((redirs, rest))
@@ -351,7 +254,7 @@ fn simple(
     alloc: Global,
     left: usize,
     lexemes: &[Lexeme],
-) -> Result<((Vec<Arg>, Vec<Redir>), &[Lexeme]), Refusal>
+) -> Result<((Vec<Arg>, Vec<Redir>), &[Lexeme]), TokenError>
     ensures { Gives (λ x. ((args_tree x.0.0.items, redirs_tree x.0.1.items), lexemes_of x.1.now)) result (simple_by (read left (a_part false)) (lexemes_of lexemes.now)) }
 {
     let mut words = Vec::new(alloc);
@@ -361,11 +264,11 @@ fn simple(
     for _ in 0..turns {
         if begins_arg(rest) {
             let (word, after) = arg(alloc, left, false, rest)?;
-            words.push(word)?;
+            push_arg(&mut words, word)?;
             rest = after;
         } else if begins_redir(rest) {
             let (redir, after) = redir(alloc, left, rest)?;
-            redirs.push(redir)?;
+            push_redir(&mut redirs, redir)?;
             rest = after;
         } else {
             break;
@@ -376,63 +279,75 @@ fn simple(
 
 /// A list in braces.
 #[cycle(read)]
-#[tactic(auto, using(rc_tree::specs::View::tree_Seq, std::proofs::lemmas::Grind::common_steps), unfolding(rc_model::specs::Descent::brace_by))]
-fn brace(alloc: Global, below: usize, lexemes: &[Lexeme]) -> Result<(Cmd, &[Lexeme]), Refusal>
-    ensures { Gives (λ x. (cmd_tree x.0, lexemes_of x.1.now)) result (brace_by (read below) (lexemes_of lexemes.now)) }
+#[tactic(auto, using(std::proofs::lemmas::Grind::common_steps), unfolding(rc_model::specs::Mirrors::Descent::brace_by))]
+fn brace(
+    alloc: Global,
+    below: usize,
+    lexemes: &[Lexeme],
+) -> Result<(Box<Cmd>, &[Lexeme]), TokenError>
+    ensures { Gives (λ x. (cmd_tree x.0.value, lexemes_of x.1.now)) result (brace_by (read below) (lexemes_of lexemes.now)) }
 {
     let [Lexeme::LeftBrace, rest @ ..] = lexemes else {
-        return Err(Refusal::Fault(Fault::Unexpected, lexemes.len()));
+        return Err(fault_at(Fault::Unexpected, lexemes));
     };
     let (items, rest) = list(alloc, below, false, rest)?;
     match rest {
-        [Lexeme::RightBrace, rest @ ..] => Ok((Cmd::Seq(items), rest)),
-        _ => Err(Refusal::Fault(Fault::Unexpected, rest.len())),
+        [Lexeme::RightBrace, rest @ ..] => Ok((seq(alloc, items)?, rest)),
+        _ => Err(fault_at(Fault::Unexpected, rest)),
     }
 }
 
 /// A list in parentheses.
 #[cycle(read)]
-#[tactic(auto, using(rc_tree::specs::View::tree_Seq, std::proofs::lemmas::Grind::common_steps), unfolding(rc_model::specs::Descent::paren_by))]
-fn paren(alloc: Global, below: usize, lexemes: &[Lexeme]) -> Result<(Cmd, &[Lexeme]), Refusal>
-    ensures { Gives (λ x. (cmd_tree x.0, lexemes_of x.1.now)) result (paren_by (read below) (lexemes_of lexemes.now)) }
+#[tactic(auto, using(std::proofs::lemmas::Grind::common_steps), unfolding(rc_model::specs::Mirrors::Descent::paren_by))]
+fn paren(
+    alloc: Global,
+    below: usize,
+    lexemes: &[Lexeme],
+) -> Result<(Box<Cmd>, &[Lexeme]), TokenError>
+    ensures { Gives (λ x. (cmd_tree x.0.value, lexemes_of x.1.now)) result (paren_by (read below) (lexemes_of lexemes.now)) }
 {
     let [Lexeme::LeftParen, rest @ ..] = lexemes else {
-        return Err(Refusal::Fault(Fault::Unexpected, lexemes.len()));
+        return Err(fault_at(Fault::Unexpected, lexemes));
     };
     let (items, rest) = list(alloc, below, false, rest)?;
     match rest {
-        [Lexeme::RightParen, rest @ ..] => Ok((Cmd::Seq(items), rest)),
-        _ => Err(Refusal::Fault(Fault::Unexpected, rest.len())),
+        [Lexeme::RightParen, rest @ ..] => Ok((seq(alloc, items)?, rest)),
+        _ => Err(fault_at(Fault::Unexpected, rest)),
     }
 }
 
 /// The words of a case line, and the commands that follow it.
 #[cycle(read)]
-#[tactic(auto, using(rc_tree::specs::View::tree_Seq, std::proofs::lemmas::Grind::common_steps), unfolding(rc_model::specs::Descent::branch_by))]
-fn branch(alloc: Global, below: usize, lexemes: &[Lexeme]) -> Result<(Branch, &[Lexeme]), Refusal>
+#[tactic(auto, using(std::proofs::lemmas::Grind::common_steps), unfolding(rc_model::specs::Mirrors::Descent::branch_by))]
+fn branch(
+    alloc: Global,
+    below: usize,
+    lexemes: &[Lexeme],
+) -> Result<(Branch, &[Lexeme]), TokenError>
     ensures { Gives (λ x. (branch_tree x.0, lexemes_of x.1.now)) result (branch_by (read below) (lexemes_of lexemes.now)) }
 {
     let (patterns, rest) = words(alloc, below, lexemes)?;
     if !ends_case(rest) {
-        return Err(Refusal::Fault(Fault::Unexpected, rest.len()));
+        return Err(fault_at(Fault::Unexpected, rest));
     }
     let (items, rest) = list(alloc, below, true, rest)?;
-    let body = Box::new(alloc, Cmd::Seq(items))?;
+    let body = seq(alloc, items)?;
     Ok((Branch { patterns, body }, rest))
 }
 
 /// The case lines of a switch, in braces.
 #[cycle(read)]
-#[tactic(auto, using(crate::proofs::Turns::branches), unfolding(rc_model::specs::Descent::branches_by))]
+#[tactic(auto, using(crate::proofs::Turns::branches), unfolding(rc_model::specs::Mirrors::Descent::branches_by))]
 fn branches(
     alloc: Global,
     below: usize,
     lexemes: &[Lexeme],
-) -> Result<(Vec<Branch>, &[Lexeme]), Refusal>
+) -> Result<(Vec<Branch>, &[Lexeme]), TokenError>
     ensures { Gives (λ x. (branches_tree x.0.items, lexemes_of x.1.now)) result (branches_by (read below) (lexemes_of lexemes.now)) }
 {
     let [Lexeme::LeftBrace, inner @ ..] = lexemes else {
-        return Err(Refusal::Fault(Fault::Unexpected, lexemes.len()));
+        return Err(fault_at(Fault::Unexpected, lexemes));
     };
     let mut branches = Vec::new(alloc);
     let mut rest = inner;
@@ -450,67 +365,85 @@ fn branches(
             _ => break,
         }
     }
-    Err(Refusal::Fault(Fault::Unexpected, rest.len()))
+    Err(fault_at(Fault::Unexpected, rest))
 }
 
 /// What follows `switch`.
 #[cycle(read)]
-#[tactic(auto, using(rc_tree::specs::View::tree_Switch, std::proofs::lemmas::Grind::common_steps), unfolding(rc_model::specs::Descent::switch_by))]
-fn switch(alloc: Global, below: usize, lexemes: &[Lexeme]) -> Result<(Cmd, &[Lexeme]), Refusal>
-    ensures { Gives (λ x. (cmd_tree x.0, lexemes_of x.1.now)) result (switch_by (read below) (lexemes_of lexemes.now)) }
+#[tactic(auto, using(std::proofs::lemmas::Grind::common_steps), unfolding(rc_model::specs::Mirrors::Descent::switch_by))]
+fn switch(
+    alloc: Global,
+    below: usize,
+    lexemes: &[Lexeme],
+) -> Result<(Box<Cmd>, &[Lexeme]), TokenError>
+    ensures { Gives (λ x. (cmd_tree x.0.value, lexemes_of x.1.now)) result (switch_by (read below) (lexemes_of lexemes.now)) }
 {
     let (subject, rest) = arg(alloc, below, false, lexemes)?;
     let (branches, rest) = branches(alloc, below, past_newlines(rest))?;
     let (redirs, rest) = redirs(alloc, below, rest)?;
-    Ok((
-        redirect(alloc, redirs, Cmd::Switch(subject, branches))?,
-        rest,
-    ))
+    let command = switched(alloc, subject, branches)?;
+    Ok((redirect(alloc, redirs, command)?, rest))
 }
 
 /// What follows `~`.
 #[cycle(read)]
-#[tactic(auto, using(rc_tree::specs::View::tree_Match, std::proofs::lemmas::Grind::common_steps), unfolding(rc_model::specs::Descent::match_by))]
-fn matching(alloc: Global, below: usize, lexemes: &[Lexeme]) -> Result<(Cmd, &[Lexeme]), Refusal>
-    ensures { Gives (λ x. (cmd_tree x.0, lexemes_of x.1.now)) result (match_by (read below) (lexemes_of lexemes.now)) }
+#[tactic(auto, using(std::proofs::lemmas::Grind::common_steps), unfolding(rc_model::specs::Mirrors::Descent::match_by))]
+fn matching(
+    alloc: Global,
+    below: usize,
+    lexemes: &[Lexeme],
+) -> Result<(Box<Cmd>, &[Lexeme]), TokenError>
+    ensures { Gives (λ x. (cmd_tree x.0.value, lexemes_of x.1.now)) result (match_by (read below) (lexemes_of lexemes.now)) }
 {
     let (subject, rest) = arg(alloc, below, false, lexemes)?;
     let (patterns, rest) = words(alloc, below, rest)?;
-    Ok((Cmd::Match(subject, patterns), rest))
+    Ok((match_of(alloc, subject, patterns)?, rest))
 }
 
 /// What follows `fn`.
 #[cycle(read)]
-#[tactic(auto, using(rc_tree::specs::View::tree_Define, rc_tree::specs::View::tree_Undefine, std::proofs::lemmas::Grind::common_steps), unfolding(rc_model::specs::Descent::define_by))]
-fn define(alloc: Global, below: usize, lexemes: &[Lexeme]) -> Result<(Cmd, &[Lexeme]), Refusal>
-    ensures { Gives (λ x. (cmd_tree x.0, lexemes_of x.1.now)) result (define_by (read below) (lexemes_of lexemes.now)) }
+#[tactic(auto, using(std::proofs::lemmas::Grind::common_steps), unfolding(rc_model::specs::Mirrors::Descent::define_by))]
+fn define(
+    alloc: Global,
+    below: usize,
+    lexemes: &[Lexeme],
+) -> Result<(Box<Cmd>, &[Lexeme]), TokenError>
+    ensures { Gives (λ x. (cmd_tree x.0.value, lexemes_of x.1.now)) result (define_by (read below) (lexemes_of lexemes.now)) }
 {
     let (first, rest) = arg(alloc, below, false, lexemes)?;
     let (mut names, rest) = words(alloc, below, rest)?;
-    names.insert(0, first)?;
+    insert_arg(&mut names, first)?;
     if !begins_brace(rest) {
-        return Ok((Cmd::Undefine(names), rest));
+        return Ok((undefined(alloc, names)?, rest));
     }
     let (body, rest) = brace(alloc, below, rest)?;
-    Ok((Cmd::Define(names, Box::new(alloc, body)?), rest))
+    Ok((defined(alloc, names, body)?, rest))
 }
 
 /// A list in braces as a command.
 #[cycle(read)]
-#[tactic(auto, using(rc_tree::specs::View::tree_Brace, std::proofs::lemmas::Grind::common_steps), unfolding(rc_model::specs::Descent::block_by))]
-fn block(alloc: Global, below: usize, lexemes: &[Lexeme]) -> Result<(Cmd, &[Lexeme]), Refusal>
-    ensures { Gives (λ x. (cmd_tree x.0, lexemes_of x.1.now)) result (block_by (read below) (lexemes_of lexemes.now)) }
+#[tactic(auto, using(std::proofs::lemmas::Grind::common_steps), unfolding(rc_model::specs::Mirrors::Descent::block_by))]
+fn block(
+    alloc: Global,
+    below: usize,
+    lexemes: &[Lexeme],
+) -> Result<(Box<Cmd>, &[Lexeme]), TokenError>
+    ensures { Gives (λ x. (cmd_tree x.0.value, lexemes_of x.1.now)) result (block_by (read below) (lexemes_of lexemes.now)) }
 {
     let (body, rest) = brace(alloc, below, lexemes)?;
-    let body = Cmd::Brace(Box::new(alloc, body)?);
+    let body = block_of(alloc, body)?;
     let (redirs, rest) = redirs(alloc, below, rest)?;
     Ok((redirect(alloc, redirs, body)?, rest))
 }
 
 /// A simple command, or the name of an assignment.
 #[cycle(read)]
-#[tactic(auto, using(rc_tree::specs::View::tree_Simple, std::proofs::lemmas::Grind::common_steps), unfolding(rc_model::specs::Descent::first_by))]
-fn first(alloc: Global, below: usize, lexemes: &[Lexeme]) -> Result<(Opening, &[Lexeme]), Refusal>
+#[tactic(auto, using(std::proofs::lemmas::Grind::common_steps), unfolding(rc_model::specs::Mirrors::Descent::first_by))]
+fn first(
+    alloc: Global,
+    below: usize,
+    lexemes: &[Lexeme],
+) -> Result<(Opening, &[Lexeme]), TokenError>
     ensures { Gives (λ x. (opening_of x.0, lexemes_of x.1.now)) result (first_by (read below) (lexemes_of lexemes.now)) }
 {
     let (first, rest) = arg(alloc, below, false, lexemes)?;
@@ -518,15 +451,19 @@ fn first(alloc: Global, below: usize, lexemes: &[Lexeme]) -> Result<(Opening, &[
         return Ok((Opening::Named(first), rest));
     }
     let ((mut words, redirs), rest) = simple(alloc, below, rest)?;
-    words.insert(0, first)?;
-    let command = redirect(alloc, redirs, Cmd::Simple(words))?;
+    insert_arg(&mut words, first)?;
+    let command = redirect(alloc, redirs, simple_of(alloc, words)?)?;
     Ok((Opening::Staged(command), rest))
 }
 
 /// How an operand begins.
 #[cycle(read)]
-#[tactic(auto, unfolding(rc_model::specs::Descent::opening_by, rc_model::specs::Descent::worded_by))]
-fn opened(alloc: Global, below: usize, lexemes: &[Lexeme]) -> Result<(Opening, &[Lexeme]), Refusal>
+#[tactic(auto, unfolding(rc_model::specs::Mirrors::Descent::opening_by, rc_model::specs::Mirrors::Descent::worded_by))]
+fn opened(
+    alloc: Global,
+    below: usize,
+    lexemes: &[Lexeme],
+) -> Result<(Opening, &[Lexeme]), TokenError>
     ensures { Gives (λ x. (opening_of x.0, lexemes_of x.1.now)) result (opening_by (read below) (lexemes_of lexemes.now)) }
 {
     let (command, rest) = match lexemes {
@@ -535,7 +472,7 @@ fn opened(alloc: Global, below: usize, lexemes: &[Lexeme]) -> Result<(Opening, &
             Keyword::Match => matching(alloc, below, past_caret(rest))?,
             Keyword::Fn => define(alloc, below, past_caret(rest))?,
             Keyword::Plain => return first(alloc, below, lexemes),
-            _ => return Err(Refusal::Fault(Fault::Unexpected, lexemes.len())),
+            _ => return Err(fault_at(Fault::Unexpected, lexemes)),
         },
         [Lexeme::LeftBrace, ..] => block(alloc, below, lexemes)?,
         _ => return first(alloc, below, lexemes),
@@ -545,108 +482,122 @@ fn opened(alloc: Global, below: usize, lexemes: &[Lexeme]) -> Result<(Opening, &
 
 /// The body of a control form, which may be absent.
 #[cycle(read)]
-#[tactic(auto, using(rc_tree::specs::View::tree_Empty, std::proofs::lemmas::Grind::common_steps), unfolding(rc_model::specs::Descent::body_by))]
-fn body(alloc: Global, below: usize, lexemes: &[Lexeme]) -> Result<(Cmd, &[Lexeme]), Refusal>
-    ensures { Gives (λ x. (cmd_tree x.0, lexemes_of x.1.now)) result (body_by (read below) (lexemes_of lexemes.now)) }
+#[tactic(auto, using(std::proofs::lemmas::Grind::common_steps), unfolding(rc_model::specs::Mirrors::Descent::body_by))]
+fn body(
+    alloc: Global,
+    below: usize,
+    lexemes: &[Lexeme],
+) -> Result<(Box<Cmd>, &[Lexeme]), TokenError>
+    ensures { Gives (λ x. (cmd_tree x.0.value, lexemes_of x.1.now)) result (body_by (read below) (lexemes_of lexemes.now)) }
 {
     let rest = past_newlines(lexemes);
     if begins_command(rest) {
         command(alloc, below, false, rest)
     } else if begins_link(rest) {
-        Err(Refusal::Fault(Fault::Unexpected, rest.len()))
+        Err(fault_at(Fault::Unexpected, rest))
     } else {
-        Ok((Cmd::Empty, rest))
+        Ok((empty(alloc)?, rest))
     }
 }
 
 /// An operand that may be absent.
 #[cycle(read)]
-#[tactic(auto, using(rc_tree::specs::View::tree_Empty, std::proofs::lemmas::Grind::common_steps), unfolding(rc_model::specs::Descent::optional_by))]
-fn optional(alloc: Global, below: usize, lexemes: &[Lexeme]) -> Result<(Cmd, &[Lexeme]), Refusal>
-    ensures { Gives (λ x. (cmd_tree x.0, lexemes_of x.1.now)) result (optional_by (read below) (lexemes_of lexemes.now)) }
+#[tactic(auto, using(std::proofs::lemmas::Grind::common_steps), unfolding(rc_model::specs::Mirrors::Descent::optional_by))]
+fn optional(
+    alloc: Global,
+    below: usize,
+    lexemes: &[Lexeme],
+) -> Result<(Box<Cmd>, &[Lexeme]), TokenError>
+    ensures { Gives (λ x. (cmd_tree x.0.value, lexemes_of x.1.now)) result (optional_by (read below) (lexemes_of lexemes.now)) }
 {
     if begins_command(lexemes) {
         inner_operand(alloc, below, lexemes)
     } else {
-        Ok((Cmd::Empty, lexemes))
+        Ok((empty(alloc)?, lexemes))
     }
 }
 
 /// What follows `if`.
 #[cycle(read)]
-#[tactic(auto, using(rc_tree::specs::View::tree_If, rc_tree::specs::View::tree_IfNot, std::proofs::lemmas::Grind::common_steps), unfolding(rc_model::specs::Descent::if_by))]
+#[tactic(auto, using(std::proofs::lemmas::Grind::common_steps), unfolding(rc_model::specs::Mirrors::Descent::if_by))]
 fn conditional(
     alloc: Global,
     below: usize,
     after_if: bool,
     lexemes: &[Lexeme],
-) -> Result<(Cmd, &[Lexeme]), Refusal>
-    ensures { Gives (λ x. (cmd_tree x.0, lexemes_of x.1.now)) result (if_by (read below) after_if (lexemes_of lexemes.now)) }
+) -> Result<(Box<Cmd>, &[Lexeme]), TokenError>
+    ensures { Gives (λ x. (cmd_tree x.0.value, lexemes_of x.1.now)) result (if_by (read below) after_if (lexemes_of lexemes.now)) }
 {
     if let [Lexeme::Word(text), rest @ ..] = lexemes {
         let Keyword::Not = keyword_named(text) else {
-            return Err(Refusal::Fault(Fault::Unexpected, lexemes.len()));
+            return Err(fault_at(Fault::Unexpected, lexemes));
         };
         if !after_if {
-            return Err(Refusal::Fault(Fault::IfNot, lexemes.len()));
+            return Err(fault_at(Fault::IfNot, lexemes));
         }
         let (body, rest) = body(alloc, below, past_caret(rest))?;
-        return Ok((Cmd::IfNot(Box::new(alloc, body)?), rest));
+        return Ok((if_not(alloc, body)?, rest));
     }
     let (condition, rest) = paren(alloc, below, lexemes)?;
-    let condition = Box::new(alloc, condition)?;
     let (body, rest) = body(alloc, below, rest)?;
-    Ok((Cmd::If(condition, Box::new(alloc, body)?), rest))
+    Ok((if_of(alloc, condition, body)?, rest))
 }
 
 /// What follows `while`.
 #[cycle(read)]
-#[tactic(auto, using(rc_tree::specs::View::tree_While, std::proofs::lemmas::Grind::common_steps), unfolding(rc_model::specs::Descent::while_by))]
-fn repeated(alloc: Global, below: usize, lexemes: &[Lexeme]) -> Result<(Cmd, &[Lexeme]), Refusal>
-    ensures { Gives (λ x. (cmd_tree x.0, lexemes_of x.1.now)) result (while_by (read below) (lexemes_of lexemes.now)) }
+#[tactic(auto, using(std::proofs::lemmas::Grind::common_steps), unfolding(rc_model::specs::Mirrors::Descent::while_by))]
+fn repeated(
+    alloc: Global,
+    below: usize,
+    lexemes: &[Lexeme],
+) -> Result<(Box<Cmd>, &[Lexeme]), TokenError>
+    ensures { Gives (λ x. (cmd_tree x.0.value, lexemes_of x.1.now)) result (while_by (read below) (lexemes_of lexemes.now)) }
 {
     let (condition, rest) = paren(alloc, below, lexemes)?;
-    let condition = Box::new(alloc, condition)?;
     let (body, rest) = body(alloc, below, rest)?;
-    Ok((Cmd::While(condition, Box::new(alloc, body)?), rest))
+    Ok((while_of(alloc, condition, body)?, rest))
 }
 
 /// What follows the name of a `for`.
 #[cycle(read)]
-#[tactic(auto, using(rc_tree::specs::View::tree_ForAll, rc_tree::specs::View::tree_For, std::proofs::lemmas::Grind::common_steps), unfolding(rc_model::specs::Descent::over_by))]
+#[tactic(auto, using(std::proofs::lemmas::Grind::common_steps), unfolding(rc_model::specs::Mirrors::Descent::over_by))]
 fn over(
     alloc: Global,
     below: usize,
-    name: Arg,
+    name: Box<Arg>,
     lexemes: &[Lexeme],
-) -> Result<(Cmd, &[Lexeme]), Refusal>
-    ensures { Gives (λ x. (cmd_tree x.0, lexemes_of x.1.now)) result (over_by (read below) (arg_tree name) (lexemes_of lexemes.now)) }
+) -> Result<(Box<Cmd>, &[Lexeme]), TokenError>
+    ensures { Gives (λ x. (cmd_tree x.0.value, lexemes_of x.1.now)) result (over_by (read below) (arg_tree name.value) (lexemes_of lexemes.now)) }
 {
     match lexemes {
         [Lexeme::RightParen, rest @ ..] => {
             let (body, rest) = body(alloc, below, rest)?;
-            Ok((Cmd::ForAll(name, Box::new(alloc, body)?), rest))
+            Ok((for_all(alloc, name, body)?, rest))
         }
         [Lexeme::Word(text), rest @ ..] => {
             let Keyword::In = keyword_named(text) else {
-                return Err(Refusal::Fault(Fault::Unexpected, lexemes.len()));
+                return Err(fault_at(Fault::Unexpected, lexemes));
             };
             let (words, rest) = members(alloc, below, past_caret(rest))?;
             let (body, rest) = body(alloc, below, rest)?;
-            Ok((Cmd::For(name, words, Box::new(alloc, body)?), rest))
+            Ok((for_each(alloc, name, words, body)?, rest))
         }
-        _ => Err(Refusal::Fault(Fault::Unexpected, lexemes.len())),
+        _ => Err(fault_at(Fault::Unexpected, lexemes)),
     }
 }
 
 /// What follows `for`.
 #[cycle(read)]
-#[tactic(auto, unfolding(rc_model::specs::Descent::for_by))]
-fn iterated(alloc: Global, below: usize, lexemes: &[Lexeme]) -> Result<(Cmd, &[Lexeme]), Refusal>
-    ensures { Gives (λ x. (cmd_tree x.0, lexemes_of x.1.now)) result (for_by (read below) (lexemes_of lexemes.now)) }
+#[tactic(auto, unfolding(rc_model::specs::Mirrors::Descent::for_by))]
+fn iterated(
+    alloc: Global,
+    below: usize,
+    lexemes: &[Lexeme],
+) -> Result<(Box<Cmd>, &[Lexeme]), TokenError>
+    ensures { Gives (λ x. (cmd_tree x.0.value, lexemes_of x.1.now)) result (for_by (read below) (lexemes_of lexemes.now)) }
 {
     let [Lexeme::LeftParen, rest @ ..] = lexemes else {
-        return Err(Refusal::Fault(Fault::Unexpected, lexemes.len()));
+        return Err(fault_at(Fault::Unexpected, lexemes));
     };
     let (name, rest) = arg(alloc, below, true, past_newlines(rest))?;
     over(alloc, below, name, past_newlines(rest))
@@ -654,56 +605,60 @@ fn iterated(alloc: Global, below: usize, lexemes: &[Lexeme]) -> Result<(Cmd, &[L
 
 /// What follows `!`, `@` and the control words.
 #[cycle(read)]
-#[tactic(auto, using(rc_tree::specs::View::tree_Not, rc_tree::specs::View::tree_Subshell, std::proofs::lemmas::Grind::common_steps), unfolding(rc_model::specs::Descent::control_by))]
+#[tactic(auto, using(std::proofs::lemmas::Grind::common_steps), unfolding(rc_model::specs::Mirrors::Descent::control_by))]
 fn control(
     alloc: Global,
     below: usize,
     after_if: bool,
     keyword: Keyword,
     lexemes: &[Lexeme],
-) -> Result<(Cmd, &[Lexeme]), Refusal>
-    ensures { Gives (λ x. (cmd_tree x.0, lexemes_of x.1.now)) result (control_by (read below) after_if (keyword_of keyword) (lexemes_of lexemes.now)) }
+) -> Result<(Box<Cmd>, &[Lexeme]), TokenError>
+    ensures { Gives (λ x. (cmd_tree x.0.value, lexemes_of x.1.now)) result (control_by (read below) after_if keyword (lexemes_of lexemes.now)) }
 {
     let rest = past_caret(lexemes);
     match keyword {
         Keyword::Bang => {
             let (cmd, rest) = inner_operand(alloc, below, rest)?;
-            Ok((Cmd::Not(Box::new(alloc, cmd)?), rest))
+            Ok((not(alloc, cmd)?, rest))
         }
         Keyword::At => {
             let (cmd, rest) = inner_operand(alloc, below, rest)?;
-            Ok((Cmd::Subshell(Box::new(alloc, cmd)?), rest))
+            Ok((subshell(alloc, cmd)?, rest))
         }
         Keyword::If => conditional(alloc, below, after_if, rest),
         Keyword::While => repeated(alloc, below, rest),
         Keyword::For => iterated(alloc, below, rest),
-        _ => Err(Refusal::Fault(Fault::Unexpected, lexemes.len())),
+        _ => Err(fault_at(Fault::Unexpected, lexemes)),
     }
 }
 
 /// Redirections with the operand behind them.
 #[cycle(read)]
-#[tactic(auto, using(rc_tree::specs::View::tree_Redirect, std::proofs::lemmas::Grind::common_steps), unfolding(rc_model::specs::Descent::redirected_by))]
-fn redirected(alloc: Global, below: usize, lexemes: &[Lexeme]) -> Result<(Cmd, &[Lexeme]), Refusal>
-    ensures { Gives (λ x. (cmd_tree x.0, lexemes_of x.1.now)) result (redirected_by (read below) (lexemes_of lexemes.now)) }
+#[tactic(auto, using(std::proofs::lemmas::Grind::common_steps), unfolding(rc_model::specs::Mirrors::Descent::redirected_by))]
+fn redirected(
+    alloc: Global,
+    below: usize,
+    lexemes: &[Lexeme],
+) -> Result<(Box<Cmd>, &[Lexeme]), TokenError>
+    ensures { Gives (λ x. (cmd_tree x.0.value, lexemes_of x.1.now)) result (redirected_by (read below) (lexemes_of lexemes.now)) }
 {
     let (first, rest) = redir(alloc, below, lexemes)?;
     let (mut redirs, rest) = redirs(alloc, below, rest)?;
-    redirs.insert(0, first)?;
+    insert_redir(&mut redirs, first)?;
     let (body, rest) = optional(alloc, below, rest)?;
-    Ok((Cmd::Redirect(redirs, Box::new(alloc, body)?), rest))
+    Ok((redirect_of(alloc, redirs, body)?, rest))
 }
 
 /// An operand that begins with `!`, `@`, a control word or a redirection.
 #[cycle(read)]
-#[tactic(auto, unfolding(rc_model::specs::Descent::leading_by))]
+#[tactic(auto, unfolding(rc_model::specs::Mirrors::Descent::leading_by))]
 fn leading(
     alloc: Global,
     below: usize,
     after_if: bool,
     lexemes: &[Lexeme],
-) -> Result<(Cmd, &[Lexeme]), Refusal>
-    ensures { Gives (λ x. (cmd_tree x.0, lexemes_of x.1.now)) result (leading_by (read below) after_if (lexemes_of lexemes.now)) }
+) -> Result<(Box<Cmd>, &[Lexeme]), TokenError>
+    ensures { Gives (λ x. (cmd_tree x.0.value, lexemes_of x.1.now)) result (leading_by (read below) after_if (lexemes_of lexemes.now)) }
 {
     match lexemes {
         [Lexeme::Word(text), rest @ ..] => control(
@@ -723,10 +678,10 @@ fn leading(
 fn pipe(
     alloc: Global,
     below: usize,
-    first: Cmd,
+    first: Box<Cmd>,
     lexemes: &[Lexeme],
-) -> Result<(Cmd, &[Lexeme]), Refusal>
-    ensures { Gives (λ x. (cmd_tree x.0, lexemes_of x.1.now)) result (pipe_by (read below) (cmd_tree first) (lexemes_of lexemes.now)) }
+) -> Result<(Box<Cmd>, &[Lexeme]), TokenError>
+    ensures { Gives (λ x. (cmd_tree x.0.value, lexemes_of x.1.now)) result (pipe_by (read below) (cmd_tree first.value) (lexemes_of lexemes.now)) }
 {
     let mut stages = Vec::new(alloc);
     let mut last = first;
@@ -737,13 +692,9 @@ fn pipe(
             break;
         };
         if stages.len() >= 63 {
-            return Err(Refusal::Fault(Fault::TooManyStages, rest.len()));
+            return Err(fault_at(Fault::TooManyStages, rest));
         }
-        let stage = Stage {
-            cmd: last,
-            slot: *slot,
-        };
-        stages.push(stage)?;
+        push_stage(&mut stages, last, *slot)?;
         let ((next, is_stage), after) = piped(alloc, below, past_newlines(after))?;
         last = next;
         rest = after;
@@ -756,16 +707,16 @@ fn pipe(
 
 /// What follows a bar, and whether it is a stage.
 #[cycle(read)]
-#[tactic(auto, using(crate::proofs::Steps::levels), unfolding(rc_model::specs::Descent::piped_by))]
+#[tactic(auto, using(crate::proofs::Steps::levels), unfolding(rc_model::specs::Mirrors::Descent::piped_by))]
 fn piped(
     alloc: Global,
     left: usize,
     lexemes: &[Lexeme],
-) -> Result<((Cmd, bool), &[Lexeme]), Refusal>
-    ensures { Gives (λ x. ((cmd_tree x.0.0, x.0.1), lexemes_of x.1.now)) result (read left a_piped (lexemes_of lexemes.now)) }
+) -> Result<((Box<Cmd>, bool), &[Lexeme]), TokenError>
+    ensures { Gives (λ x. ((cmd_tree x.0.0.value, x.0.1), lexemes_of x.1.now)) result (read left a_piped (lexemes_of lexemes.now)) }
 {
     if left == 0 {
-        return Err(Refusal::Fault(Fault::TooDeep, lexemes.len()));
+        return Err(fault_at(Fault::TooDeep, lexemes));
     }
     if begins_leading(lexemes) {
         let (cmd, rest) = leading(alloc, left - 1, false, lexemes)?;
@@ -783,38 +734,38 @@ fn piped(
 
 /// The value behind a `=`, further assignments and the command behind them.
 #[cycle(read)]
-#[tactic(auto, using(crate::proofs::Steps::one_pair, rc_tree::specs::View::tree_lists), unfolding(rc_model::specs::Descent::assigned_by))]
+#[tactic(auto, using(rc_tree::specs::View::tree_lists), unfolding(rc_model::specs::Mirrors::Descent::assigned_by))]
 fn assigned(
     alloc: Global,
     below: usize,
-    name: Arg,
+    name: Box<Arg>,
     lexemes: &[Lexeme],
-) -> Result<(Cmd, &[Lexeme]), Refusal>
-    ensures { Gives (λ x. (cmd_tree x.0, lexemes_of x.1.now)) result (assigned_by (read below) (arg_tree name) (lexemes_of lexemes.now)) }
+) -> Result<(Box<Cmd>, &[Lexeme]), TokenError>
+    ensures { Gives (λ x. (cmd_tree x.0.value, lexemes_of x.1.now)) result (assigned_by (read below) (arg_tree name.value) (lexemes_of lexemes.now)) }
 {
     let (value, rest) = arg(alloc, below, false, lexemes)?;
     let mut pairs = Vec::new(alloc);
-    pairs.push((name, value))?;
+    push_pair(&mut pairs, name, value)?;
     values(alloc, below, pairs, rest)
 }
 
 /// Further assignments and the command behind them.
 #[cycle(read)]
-#[tactic(auto, using(crate::proofs::Turns::values, rc_tree::specs::View::tree_Assign, rc_tree::specs::View::tree_Empty))]
+#[tactic(auto, using(crate::proofs::Turns::values))]
 fn values(
     alloc: Global,
     below: usize,
     mut pairs: Vec<(Arg, Arg)>,
     lexemes: &[Lexeme],
-) -> Result<(Cmd, &[Lexeme]), Refusal>
-    ensures { Gives (λ x. (cmd_tree x.0, lexemes_of x.1.now)) result (values_by (read below) (pairs_tree pairs.items) (lexemes_of lexemes.now)) }
+) -> Result<(Box<Cmd>, &[Lexeme]), TokenError>
+    ensures { Gives (λ x. (cmd_tree x.0.value, lexemes_of x.1.now)) result (values_by (read below) (pairs_tree pairs.items) (lexemes_of lexemes.now)) }
 {
     let mut rest = lexemes;
     let turns = lexemes.len();
     for _ in 0..turns {
         if begins_leading(rest) {
             let (body, rest) = leading(alloc, below, false, rest)?;
-            return Ok((Cmd::Assign(pairs, Box::new(alloc, body)?), rest));
+            return Ok((assign_of(alloc, pairs, body)?, rest));
         }
         if !begins_command(rest) {
             break;
@@ -823,28 +774,28 @@ fn values(
         match opening {
             Opening::Named(name) => {
                 let (value, after) = arg(alloc, below, false, after)?;
-                pairs.push((name, value))?;
+                push_pair(&mut pairs, name, value)?;
                 rest = after;
             }
             Opening::Staged(first) => {
                 let (body, rest) = pipe(alloc, below, first, after)?;
-                return Ok((Cmd::Assign(pairs, Box::new(alloc, body)?), rest));
+                return Ok((assign_of(alloc, pairs, body)?, rest));
             }
         }
     }
-    Ok((Cmd::Assign(pairs, Box::new(alloc, Cmd::Empty)?), rest))
+    Ok((assign_of(alloc, pairs, empty(alloc)?)?, rest))
 }
 
 /// An operand of `&&` and `||`.
 #[cycle(read)]
-#[tactic(auto, unfolding(rc_model::specs::Descent::operand_by))]
+#[tactic(auto, unfolding(rc_model::specs::Mirrors::Descent::operand_by))]
 fn operand(
     alloc: Global,
     below: usize,
     after_if: bool,
     lexemes: &[Lexeme],
-) -> Result<(Cmd, &[Lexeme]), Refusal>
-    ensures { Gives (λ x. (cmd_tree x.0, lexemes_of x.1.now)) result (operand_by (read below) after_if (lexemes_of lexemes.now)) }
+) -> Result<(Box<Cmd>, &[Lexeme]), TokenError>
+    ensures { Gives (λ x. (cmd_tree x.0.value, lexemes_of x.1.now)) result (operand_by (read below) after_if (lexemes_of lexemes.now)) }
 {
     if begins_leading(lexemes) {
         return leading(alloc, below, after_if, lexemes);
@@ -863,11 +814,11 @@ fn inner_operand(
     alloc: Global,
     left: usize,
     lexemes: &[Lexeme],
-) -> Result<(Cmd, &[Lexeme]), Refusal>
-    ensures { Gives (λ x. (cmd_tree x.0, lexemes_of x.1.now)) result (read left an_operand (lexemes_of lexemes.now)) }
+) -> Result<(Box<Cmd>, &[Lexeme]), TokenError>
+    ensures { Gives (λ x. (cmd_tree x.0.value, lexemes_of x.1.now)) result (read left an_operand (lexemes_of lexemes.now)) }
 {
     if left == 0 {
-        return Err(Refusal::Fault(Fault::TooDeep, lexemes.len()));
+        return Err(fault_at(Fault::TooDeep, lexemes));
     }
     operand(alloc, left - 1, false, lexemes)
 }
@@ -879,7 +830,7 @@ fn links(
     alloc: Global,
     below: usize,
     lexemes: &[Lexeme],
-) -> Result<(Vec<(Logic, Cmd)>, &[Lexeme]), Refusal>
+) -> Result<(Vec<(Logic, Cmd)>, &[Lexeme]), TokenError>
     ensures { Gives (λ x. (links_tree x.0.items, lexemes_of x.1.now)) result (links_by (read below) (lexemes_of lexemes.now)) }
 {
     let mut links = Vec::new(alloc);
@@ -892,7 +843,7 @@ fn links(
             _ => break,
         };
         let (cmd, after) = operand(alloc, below, false, past_newlines(after))?;
-        links.push((logic, cmd))?;
+        push_link(&mut links, logic, cmd)?;
         rest = after;
     }
     Ok((links, rest))
@@ -900,17 +851,17 @@ fn links(
 
 /// A command.
 #[cycle(read)]
-#[tactic(auto, using(crate::proofs::Steps::levels), unfolding(rc_model::specs::Descent::command_by))]
+#[tactic(auto, using(crate::proofs::Steps::levels), unfolding(rc_model::specs::Mirrors::Descent::command_by))]
 fn command(
     alloc: Global,
     left: usize,
     after_if: bool,
     lexemes: &[Lexeme],
-) -> Result<(Cmd, &[Lexeme]), Refusal>
-    ensures { Gives (λ x. (cmd_tree x.0, lexemes_of x.1.now)) result (read left (a_command after_if) (lexemes_of lexemes.now)) }
+) -> Result<(Box<Cmd>, &[Lexeme]), TokenError>
+    ensures { Gives (λ x. (cmd_tree x.0.value, lexemes_of x.1.now)) result (read left (a_command after_if) (lexemes_of lexemes.now)) }
 {
     if left == 0 {
-        return Err(Refusal::Fault(Fault::TooDeep, lexemes.len()));
+        return Err(fault_at(Fault::TooDeep, lexemes));
     }
     let (first, rest) = operand(alloc, left - 1, after_if, lexemes)?;
     let (links, rest) = links(alloc, left - 1, rest)?;
@@ -925,7 +876,7 @@ fn items(
     below: usize,
     in_switch: bool,
     lexemes: &[Lexeme],
-) -> Result<(Vec<Item>, &[Lexeme]), Refusal>
+) -> Result<(Vec<Item>, &[Lexeme]), TokenError>
     ensures { Gives (λ x. (items_tree x.0.items, lexemes_of x.1.now)) result (items_by (read below) in_switch (lexemes_of lexemes.now)) }
 {
     let mut items = Vec::new(alloc);
@@ -943,7 +894,7 @@ fn items(
                 let (cmd, after) = command(alloc, below, after_if, rest)?;
                 let (background, after) = item_end(after)?;
                 after_if = !background && is_if(&cmd);
-                items.push(Item { cmd, background })?;
+                push_item(&mut items, cmd, background)?;
                 rest = after;
             }
         }
@@ -959,11 +910,11 @@ pub fn list(
     left: usize,
     in_switch: bool,
     lexemes: &[Lexeme],
-) -> Result<(Vec<Item>, &[Lexeme]), Refusal>
+) -> Result<(Vec<Item>, &[Lexeme]), TokenError>
     ensures { Gives (λ x. (items_tree x.0.items, lexemes_of x.1.now)) result (read left (a_list in_switch) (lexemes_of lexemes.now)) }
 {
     if left == 0 {
-        return Err(Refusal::Fault(Fault::TooDeep, lexemes.len()));
+        return Err(fault_at(Fault::TooDeep, lexemes));
     }
     items(alloc, left - 1, in_switch, lexemes)
 }

@@ -1,26 +1,21 @@
--- What a launch asks of Linux: the program, its arguments and its environment.
-use Rattle.std.specs.Prelude.{◌≡◌, ℕ, ◌<◌, ◌==◌, List, [], length, SomeIndex, slice_index_or, fold, string_bytes}
-use Rattle.std.specs.Prelude.{Option, Some, None, option_map, true, if◌then◌else◌}
+-- What a command asks of Linux, of the program, its arguments and its environment.
+use Rattle.std.specs.Prelude.{◌≡◌, ℕ, ◌<◌, ◌==◌, List, [], length, SomeIndex, slice_index_or, fold}
+use Rattle.std.specs.Prelude.{Option, Some, None, option_map, IsSomeAnd, true, if◌then◌else◌}
 use Rattle.std.specs.List.{before_first, after_first, position_or_len}
 use Rattle.std.specs.Str.{bytes_eq}
-use Rattle.std.specs.Process.{clears_env, command_var}
+use Rattle.std.specs.Process.{clears_env, command_program, command_args, command_var}
 use Rattle.std.specs.declared.process.command.Command.{Command}
 use Rattle.std.specs.declared.alloc.Global.{Global}
-use Rattle.rc_world.specs.declared.types.Fault.{Fault}
-use Rattle.rc_world.specs.declared.types.Fault.TheVariants.{NoMemory, Other}
-use Rattle.rc_world.specs.declared.types.Program.{Program}
-use Rattle.rc_world.specs.declared.types.Program.TheVariants.{Shell, Path}
-
--- the path of a program, where that of the shell is this
-abbrev pub path_of : List ℕ → Program → List ℕ
-path_of shell Shell = shell
-path_of shell (Path path) = string_bytes path
+use Rattle.rc_model.specs.Run.Calls.{Launch}
+use Rattle.rc_model.specs.declared.call.Fault.{Fault}
+use Rattle.rc_model.specs.declared.call.Fault.TheVariants.{NoMemory, Other}
+use Rattle.rc_host.specs.Plan.{Plan, plan_of}
 
 -- an entry of an environment has an equals sign
 abbrev pub IsEntry : List ℕ → Type 0
 IsEntry entry = position_or_len (λ b. b == 61) entry < length entry
 
--- what stands before it, and what stands behind it
+-- what stands before it, and what stands after it
 abbrev pub entry_name : List ℕ → List ℕ
 entry_name entry = before_first (λ b. b == 61) entry
 
@@ -29,7 +24,8 @@ entry_value entry = after_first (λ b. b == 61) entry
 
 -- the value of a name in an environment of these entries: of several of one name the last one counts
 abbrev pub value_in : List (List ℕ) → List ℕ → Option (List ℕ)
-value_in entries name = fold (λ value entry. if bytes_eq (entry_name entry) name then Some (entry_value entry) else value) None entries
+value_in entries name =
+    fold (λ value entry. if bytes_eq (entry_name entry) name then Some (entry_value entry) else value) None entries
 
 -- a command gets these entries as its environment, and nothing else
 pub record HasEnvironment (command : Command Global) (entries : List (List ℕ)) : Type 0 where
@@ -42,7 +38,17 @@ pub record SetsEntry (old new : Command Global) (entry : List ℕ) : Type 0 wher
   pub value : (name : List ℕ) → command_var new name
       ≡ (if bytes_eq (entry_name entry) name then Some (Some (entry_value entry)) else command_var old name)
 
--- why a command was not made: for want of memory, or because one of the entries is none
+-- a command asks for a plan, but for its descriptors
+pub record AsksFor (command : Command Global) (plan : Plan) : Type 0 where
+  pub program : command_program command ≡ plan.program
+  pub args : command_args command ≡ plan.args
+  pub env : HasEnvironment command plan.env
+
+-- a command asks for the plan of a launch
+abbrev pub AsksForPlanOf : (shell : List ℕ) → Launch → Command Global → Type 0
+AsksForPlanOf shell launch command = IsSomeAnd (plan_of shell launch) (AsksFor command)
+
+-- why a command was not made: out of memory, or one of the entries is none
 abbrev pub IsNotMade : List (List ℕ) → Fault → Type 0
 IsNotMade entries NoMemory = Unit {0}
 IsNotMade entries Other = SomeIndex entries (λ k. ¬ IsEntry (slice_index_or entries k []))

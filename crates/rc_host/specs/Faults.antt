@@ -2,10 +2,10 @@
 use Rattle.std.specs.Prelude.{ℤ, Option, None}
 use Rattle.std.specs.declared.io.ErrorKind.{ErrorKind}
 use Rattle.std.specs.declared.io.ErrorKind.TheVariants as kind
-use Rattle.rc_world.specs.declared.types.Fault.{Fault}
-use Rattle.rc_world.specs.declared.types.Fault.TheVariants.{NotFound, Denied, Exists, Broken, Full, Other, NoMemory}
+use Rattle.rc_model.specs.declared.call.Fault.{Fault}
+use Rattle.rc_model.specs.declared.call.Fault.TheVariants.{NotFound, Denied, Exists, Broken, Full, Other, NoMemory}
 
--- by its kind and Linux's number of it: want of memory without a number was met before Linux was asked
+-- by its kind and Linux's number of it: out of memory without a number was met before Linux was asked
 abbrev pub fault_of : ErrorKind → Option ℤ → Fault
 fault_of kind.NotFound number = NotFound
 fault_of kind.PermissionDenied number = Denied

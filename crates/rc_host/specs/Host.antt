@@ -1,28 +1,66 @@
--- What the host holds, and what it takes.
-use Rattle.std.specs.Prelude.{◌≡◌, ◌≢◌, ℕ, List, [], ◌∷◌, Option, IsSome, string_bytes}
+-- What the host holds.
+use Rattle.std.specs.Prelude.{◌≡◌, ◌≢◌, ℕ, ℤ, pos, List, Option, Some, IsSome, IsSomeAnd, string_bytes, ⊤}
 use Rattle.std.specs.declared.process.child.Child.{Child}
 use Rattle.std.specs.declared.process.pipes.ChildStdin.{ChildStdin}
 use Rattle.std.specs.declared.process.pipes.ChildStdout.{ChildStdout}
 use Rattle.std.specs.declared.process.pipes.ChildStderr.{ChildStderr}
 use Rattle.std.specs.declared.process.system.SystemProcess.{SystemProcess}
-use Rattle.rc_world.specs.declared.types.Slot.TheVariants.{Own}
-use Rattle.rc_world.specs.declared.types.Slots.{Slots}
-use Rattle.rc_host.specs.Table.{held_at}
+use Rattle.rc_model.specs.declared.call.Slot.{Slot}
+use Rattle.rc_model.specs.declared.call.Slot.TheVariants.{Own, To}
+use Rattle.rc_model.specs.declared.call.Slots.{Slots}
+use Rattle.rc_host.specs.Files.{IsFile, IsReadEnd, IsWriteEnd}
+use Rattle.rc_host.specs.Table.{held_at, Adds}
+use Rattle.rc_host.specs.declared.files.OpenFile.{OpenFile}
 use Rattle.rc_host.specs.declared.host.HostWorld.{HostWorld}
 
 -- the path of the shell's own program
 abbrev pub shell_of : HostWorld → List ℕ
 shell_of world = string_bytes world.shell
 
+-- the files and ends of pipes that are open, each at its number
+abbrev pub files_of : HostWorld → List (Option OpenFile)
+files_of world = world.files
+
 -- the children that were started and not yet waited for, each at its number
 abbrev pub children_of : HostWorld → List (Option (Child SystemProcess ChildStdin ChildStdout ChildStderr))
 children_of world = world.children
 
--- each descriptor of a child is the one of this process at its place
-abbrev pub IsInPlace : Slots → Type 0
-IsInPlace slots = slots.0 ≡ Own 0 ∷ Own 1 ∷ Own 2 ∷ []
+-- all but the open files is as before
+pub record ChangesFilesAlone (old new : HostWorld) : Type 0 where
+  pub shell : shell_of new ≡ shell_of old
+  pub children : children_of new ≡ children_of old
 
--- the host holds one child more, at this number
-pub record AddsChild (old new : HostWorld) (number : ℕ) : Type 0 where
-  pub added : IsSome (held_at (children_of new) number)
-  pub others : (k : ℕ) → k ≢ number → held_at (children_of new) k ≡ held_at (children_of old) k
+-- all but the children is as before
+pub record ChangesChildrenAlone (old new : HostWorld) : Type 0 where
+  pub shell : shell_of new ≡ shell_of old
+  pub files : files_of new ≡ files_of old
+
+-- one file more is open, at this number
+abbrev pub AddsFile : HostWorld → HostWorld → ℕ → Type 0
+AddsFile old new file = Adds (files_of old) (files_of new) file IsFile
+
+-- one child more is held, at this number
+abbrev pub AddsChild : HostWorld → HostWorld → ℕ → Type 0
+AddsChild old new child = Adds (children_of old) (children_of new) child (λ _. ⊤)
+
+-- the two ends of a pipe are open, at these numbers
+pub record AddsPipe (old new : HostWorld) (read_end write_end : ℕ) : Type 0 where
+  pub read : IsSomeAnd (held_at (files_of new) read_end) IsReadEnd
+  pub write : IsSomeAnd (held_at (files_of new) write_end) IsWriteEnd
+  pub others : (k : ℕ) → k ≢ read_end → k ≢ write_end → held_at (files_of new) k ≡ held_at (files_of old) k
+
+-- what a descriptor of a child stands for is there: the shell's own always, an open file where it is held
+abbrev pub IsThere : List (Option OpenFile) → Slot → Type 0
+IsThere files (Own n) = ⊤
+IsThere files (To file) = IsSome (held_at files file.0)
+
+-- the same of all three
+pub record AreThere (files : List (Option OpenFile)) (slots : Slots) : Type 0 where
+  pub input : IsThere files slots.input
+  pub output : IsThere files slots.output
+  pub errors : IsThere files slots.errors
+
+-- a descriptor of this process, by its number, is the shell's own that a slot names
+abbrev pub IsOwn : Option ℤ → Slot → Type 0
+IsOwn descriptor (Own n) = descriptor ≡ Some (pos n)
+IsOwn descriptor (To file) = ⊥

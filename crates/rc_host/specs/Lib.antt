@@ -1,4 +1,9 @@
+pub mod Answers
 pub mod Commands
 pub mod Faults
+pub mod Files
 pub mod Host
+pub mod Plan
+pub mod PlanViews
 pub mod Table
+pub mod Process

@@ -1,16 +1,26 @@
 -- A table of numbered things, as the list of its places: a place holds a thing or is free.
-use Rattle.std.specs.Prelude.{◌≡◌, ◌≢◌, ℕ, ◌<◌, ◌^◌, List, Option, None, IsSome, slice_index_or}
-use Rattle.rc_world.specs.declared.types.Fault.{Fault}
-use Rattle.rc_world.specs.declared.types.Fault.TheVariants.{Other, NoMemory}
+use Rattle.std.specs.Prelude.{◌≡◌, ◌≢◌, ℕ, ◌+◌, ◌<◌, ◌≤◌, ◌^◌, List, Option, None, IsSome, IsSomeAnd, slice_index_or}
+use Rattle.rc_model.specs.declared.call.Fault.{Fault}
+use Rattle.rc_model.specs.declared.call.Fault.TheVariants.{Other, NoMemory}
 
 -- what is held at a number, if anything
 abbrev pub held_at : {T : Type 0} → List (Option T) → ℕ → Option T
 held_at places n = slice_index_or places n None
 
--- the least number at which nothing is held
-pub record IsLeastFree {T : Type 0} (places : List (Option T)) (n : ℕ) : Type 0 where
+-- of the numbers from this one on at which nothing is held, the least
+pub record IsLeastFreeFrom {T : Type 0} (places : List (Option T)) (start n : ℕ) : Type 0 where
+  pub from : start ≤ n
   pub free : held_at places n ≡ None
-  pub least : (k : ℕ) → k < n → IsSome (held_at places k)
+  pub least : (k : ℕ) → start ≤ k → k < n → IsSome (held_at places k)
+
+-- of all numbers
+abbrev pub IsLeastFree : {T : Type 0} → List (Option T) → ℕ → Type 0
+IsLeastFree places n = IsLeastFreeFrom places 0 n
+
+-- the two least numbers at which nothing is held, in order
+pub record AreLeastFree {T : Type 0} (places : List (Option T)) (first second : ℕ) : Type 0 where
+  pub one : IsLeastFree places first
+  pub other : IsLeastFreeFrom places (first + 1) second
 
 -- at each number the same is held
 abbrev pub HoldsTheSame : {T : Type 0} → List (Option T) → List (Option T) → Type 0
@@ -21,8 +31,23 @@ pub record ChangesOnly {T : Type 0} (old new : List (Option T)) (n : ℕ) (held 
   pub changed : held_at new n ≡ held
   pub others : (k : ℕ) → k ≢ n → held_at new k ≡ held_at old k
 
--- why there is no room: for want of memory, or because all numbers are held
+-- at this number there is now a thing of this sort, and at each other number the same as before
+pub record Adds {T : Type 0} (old new : List (Option T)) (n : ℕ) (IsOfSort : T → Type 0) : Type 0 where
+  pub added : IsSomeAnd (held_at new n) IsOfSort
+  pub others : (k : ℕ) → k ≢ n → held_at new k ≡ held_at old k
+
+-- why there is no room from this number on: out of memory, or each of these numbers is held
+abbrev pub HasNoRoomFrom : {T : Type 0} → List (Option T) → ℕ → Fault → Type 0
+HasNoRoomFrom places start NoMemory = Unit {0}
+HasNoRoomFrom places start Other = (k : ℕ) → start ≤ k → k < 2 ^ 32 → IsSome (held_at places k)
+HasNoRoomFrom places start _ = ⊥
+
+-- why there is no room at all
 abbrev pub HasNoRoom : {T : Type 0} → List (Option T) → Fault → Type 0
-HasNoRoom places NoMemory = Unit {0}
-HasNoRoom places Other = (k : ℕ) → k < 2 ^ 32 → IsSome (held_at places k)
-HasNoRoom places _ = ⊥
+HasNoRoom places fault = HasNoRoomFrom places 0 fault
+
+-- why there is no room for two: out of memory, or each number but one is held
+abbrev pub HasNoRoomForTwo : {T : Type 0} → List (Option T) → Fault → Type 0
+HasNoRoomForTwo places NoMemory = Unit {0}
+HasNoRoomForTwo places Other = (n : ℕ) × ((k : ℕ) → k < 2 ^ 32 → k ≢ n → IsSome (held_at places k))
+HasNoRoomForTwo places _ = ⊥

@@ -1,33 +1,24 @@
-//! What a launch asks of Linux.
-ghost use Rattle.std.specs.Prelude.{◌≡◌, IfOk, IfErr, OnOk, [], ◌∷◌, map, string_bytes};
+//! The command of a plan.
+ghost use Rattle.std.specs.Prelude.{◌≡◌, [], ◌∷◌, map, IfOk, IfErr, OnOk, string_bytes};
 ghost use Rattle.std.specs.Process.{command_program, command_args, SameProgramAndArgs};
-ghost use Rattle.rc_host.specs.Commands.{path_of, HasEnvironment, SetsEntry, IsNotMade};
+ghost use Rattle.rc_host.specs.Commands.{AsksFor, HasEnvironment, SetsEntry, IsNotMade};
+ghost use Rattle.rc_host.specs.PlanViews.{plan_view};
 
-use rc_world::{Fault, Launch, Program};
+use crate::planned::Plan;
+use rc_world::Fault;
 use std::alloc::{AllocError, Global};
 use std::process::Command;
 
-/// The command that starts a launch, with the streams of this process. `Other` is an entry without
-/// an equals sign, which can't be asked for.
-pub fn command_of(alloc: Global, shell: &str, launch: &Launch) -> Result<Command, Fault>
-    ensures program { IfOk result (λ command. command_program command ≡ path_of shell.now launch.now.program) }
-    ensures args { IfOk result (λ command. command_args command ≡ map string_bytes launch.now.args.items) }
-    ensures env { IfOk result (λ command. HasEnvironment command (map string_bytes launch.now.env.items)) }
-    ensures err { IfErr result (IsNotMade (map string_bytes launch.now.env.items)) }
+/// The command that asks for a plan, but for its descriptors. `Other` is an entry without an equals
+/// sign, which cannot be asked for.
+pub fn command_of(alloc: Global, plan: &Plan) -> Result<Command, Fault>
+    ensures asks { IfOk result (λ command. AsksFor command (plan_view plan.now)) }
+    ensures err { IfErr result (IsNotMade (map string_bytes plan.now.env.items)) }
 {
-    let Ok(command) = with_args(alloc, path_of(shell, &launch.program), &launch.args) else {
+    let Ok(command) = with_args(alloc, &plan.program, &plan.args) else {
         return Err(Fault::NoMemory);
     };
-    with_entries(command, &launch.env)
-}
-
-fn path_of<'a>(shell: &'a str, program: &'a Program) -> &'a str
-    ensures { result.now ≡ path_of shell.now program.now }
-{
-    match program {
-        Program::Shell => shell,
-        Program::Path(path) => path.as_str(),
-    }
+    with_entries(command, &plan.env)
 }
 
 fn with_args(alloc: Global, program: &str, args: &[String]) -> Result<Command, AllocError>

@@ -1,7 +1,7 @@
 //! What an error of the system is to a shell.
 ghost use Rattle.std.specs.Prelude.{◌≡◌, ◌≢◌};
 ghost use Rattle.std.specs.IoError.{error_kind, raw_os_error};
-ghost use Rattle.rc_world.specs.declared.types.Fault.TheVariants.{Halt};
+ghost use Rattle.rc_model.specs.declared.call.Fault.TheVariants.{Halt};
 ghost use Rattle.rc_host.specs.Faults.{fault_of as meant};
 
 use rc_world::Fault;

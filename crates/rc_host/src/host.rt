@@ -1,31 +1,39 @@
-//! The host: children of this process, with this process's own descriptors.
-ghost use Rattle.std.specs.Prelude.{◌≡◌, ◌≢◌, ◌↔◌, ℕ, ◌<◌, pos, bit_and, None, Some, Ok, Err, IfOk, OnErr, IsTrue, string_bytes};
-ghost use Rattle.std.specs.Fs.{IsDir, IsFile, file_type, metadata_mode};
-ghost use Rattle.std.specs.Process.{exit_code};
-ghost use Rattle.rc_world.specs.declared.types.Fault.TheVariants.{Other, Halt};
-ghost use Rattle.rc_host.specs.Table.{held_at, IsLeastFree, HoldsTheSame, ChangesOnly};
-ghost use Rattle.rc_host.specs.Host.{shell_of, children_of, IsInPlace, AddsChild};
+//! Linux as a world.
+ghost use Rattle.std.specs.Prelude.{◌≡◌, ◌≢◌, ◌↔◌, ℕ, ◌<◌, ◌≤◌, length, string_bytes, vec_len};
+ghost use Rattle.std.specs.Prelude.{None, Err, IfOk, OnOk, OnErr, IsOk, IsSome, IsTrue};
+ghost use Rattle.std.specs.Io.KnownBytes.{Appends};
+ghost use Rattle.std.specs.Process.{SameProgramAndArgs, SameEnv};
+ghost use Rattle.rc_model.specs.declared.call.Fault.TheVariants.{Other, Halt};
+ghost use Rattle.rc_world.specs.Views.{launch_of};
+ghost use Rattle.rc_host.specs.Commands.{AsksForPlanOf};
+ghost use Rattle.rc_host.specs.Plan.{plan_of};
+ghost use Rattle.rc_host.specs.Table.{held_at, IsLeastFree, AreLeastFree, HoldsTheSame, ChangesOnly};
+ghost use Rattle.rc_host.specs.Host.{shell_of, files_of, children_of, ChangesFilesAlone, ChangesChildrenAlone};
+ghost use Rattle.rc_host.specs.Host.{AddsFile, AddsPipe, AddsChild, IsThere, AreThere, IsOwn};
 
+use crate::answers::{end_of, kind_of, name_of};
 use crate::command::command_of;
 use crate::fault::fault_of;
+use crate::files::{OpenFile, here_file, options_of, write_text};
+use crate::planning::plan;
 use crate::table::Table;
 use rc_world::{ChildNo, Ending, Fault, Handle, Kind, Launch, Mode, Slot, Slots, World};
-use std::fs;
-use std::fs::Metadata;
 use std::io::Write;
-use std::os::unix::fs::PermissionsExt;
-use std::process::{Child, ExitStatus};
+use std::os::fd::{AsFd, AsRawFd};
+use std::process::{Child, Command, Stdio};
 use std::rt::HostRuntime;
+use std::{env, fs, io};
 
-/// The bits of a file's mode by which its owner, its group or all others may execute it.
-const EXECUTE: u32 = 0o111;
-
-/// Linux as a world. It tells no events. A child gets this process's own descriptors, and no files
-/// are opened.
+/// Linux as a world. It tells no events.
+///
+/// Open files, here documents and ends of pipes have numbers of their own, which are not those of
+/// Linux. A child has its three descriptors and no other, and starts in the directory of the last
+/// `chdir`.
 #[derive(Drop)]
 pub struct HostWorld {
     rt: HostRuntime,
     shell: String,
+    files: Table<OpenFile>,
     children: Table<Child>,
 }
 
@@ -33,166 +41,243 @@ impl HostWorld {
     /// `shell` is the path of the program that a launch of the shell itself starts.
     pub fn new(rt: HostRuntime, shell: String) -> HostWorld
         ensures shell { shell_of result ≡ string_bytes shell }
+        ensures files { (k : ℕ) → held_at (files_of result) k ≡ None }
         ensures children { (k : ℕ) → held_at (children_of result) k ≡ None }
     {
         HostWorld {
             rt,
             shell,
+            files: Table::new(rt.alloc()),
             children: Table::new(rt.alloc()),
         }
     }
-}
 
-/// A call that is not served.
-#[derive(Drop)]
-enum Unserved {
-    Open,
-    Here,
-    Pipe,
-    Close,
-    Read,
-    List,
-    Chdir,
-}
-
-impl Unserved {
-    /// Nothing is done: each is refused alike.
-    fn refuse<T>(self) -> Result<T, Fault>
-        ensures { result ≡ Err Other }
+    /// Whether what each descriptor of a child stands for is there.
+    fn are_there(&self, slots: Slots) -> bool
+        ensures { IsTrue result ↔ AreThere (files_of self.now) slots }
     {
-        Err(Fault::Other)
+        self.is_there(slots.input) && self.is_there(slots.output) && self.is_there(slots.errors)
     }
+
+    fn is_there(&self, slot: Slot) -> bool
+        ensures { IsTrue result ↔ IsThere (files_of self.now) slot }
+    {
+        match slot {
+            Slot::Own(_) => true,
+            Slot::To(file) => self.files.get(file.0).is_some(),
+        }
+    }
+
+    /// Gives a command the descriptors of its child.
+    fn connect(&self, command: &mut Command, slots: Slots) -> Result<(), Fault>
+        ensures call { OnOk result (SameProgramAndArgs command.old command.new) }
+        ensures env { OnOk result (SameEnv command.old command.new) }
+        ensures answered { result ≢ Err Halt }
+    {
+        command.stdin(self.stream(slots.input)?);
+        command.stdout(self.stream(slots.output)?);
+        command.stderr(self.stream(slots.errors)?);
+        Ok(())
+    }
+
+    /// A copy of what a slot names, to be a descriptor of a child. A child does not inherit the
+    /// shell's own as it is, since one that was opened where it was absent is closed there.
+    fn stream(&self, slot: Slot) -> Result<Stdio, Fault>
+        ensures { result ≢ Err Halt }
+    {
+        let copy = match slot {
+            Slot::Own(0) => own_copy(&self.rt.stdin(), slot),
+            Slot::Own(1) => own_copy(&self.rt.stdout(), slot),
+            Slot::Own(2) => own_copy(&self.rt.stderr(), slot),
+            Slot::Own(_) => return Err(Fault::Other),
+            Slot::To(file) => match self.files.get(file.0) {
+                Some(file) => file.copy(),
+                None => return Err(Fault::Other),
+            },
+        };
+        copy.map_err(|error| fault_of(&error))
+    }
+
+    /// Starts the command of a launch, whose child is held at this number.
+    fn spawn(
+        &mut self,
+        number: u32,
+        _launch: &Launch,
+        mut command: Command,
+    ) -> Result<ChildNo, Fault>
+        requires place { number < length (children_of self.old) }
+        requires planned { AsksForPlanOf (shell_of self.old) (launch_of _launch.now) command }
+        ensures started { IfOk result (λ child. AddsChild self.old self.new child.0) }
+        ensures number { IfOk result (λ child. child.0 ≡ number) }
+        ensures refused { OnErr result (children_of self.new ≡ children_of self.old) }
+        ensures rest { ChangesChildrenAlone self.old self.new }
+        ensures answered { result ≢ Err Halt }
+    {
+        let child = command.spawn(&self.rt).map_err(|error| fault_of(&error))?;
+        self.children.put(number, child);
+        Ok(ChildNo(number))
+    }
+}
+
+/// A copy of one of this process's own descriptors.
+fn own_copy<F: AsFd + AsRawFd>(own: &F, _slot: Slot) -> io::Result<Stdio>
+    requires { IsOwn (F.raw_fd own.now) _slot }
+{
+    Ok(Stdio::from(own.as_fd().try_clone_to_owned()?))
+}
+
+/// Writes the whole text to one of this process's own descriptors.
+fn write_own<W: Write + AsRawFd>(own: &mut W, _slot: Slot, text: &[u8]) -> Result<(), Fault>
+    requires own { IsOwn (W.raw_fd own.old) _slot }
+    ensures whole { OnOk result (Appends (W.contents own.old) (W.contents own.new) text.now) }
+    ensures answered { result ≢ Err Halt }
+{
+    write_text(own, text)
 }
 
 impl World for HostWorld {
     ghost events = { λ _. None };
 
-    fn open(&mut self, _path: &str, _mode: Mode) -> Result<Handle, Fault>
-        ensures refused { result ≡ Err Other }
-        ensures same { self.new ≡ self.old }
+    fn open(&mut self, path: &str, mode: Mode) -> Result<Handle, Fault>
+        ensures least { IfOk result (λ file. IsLeastFree (files_of self.old) file.0) }
+        ensures opened { IfOk result (λ file. AddsFile self.old self.new file.0) }
+        ensures refused { OnErr result (HoldsTheSame (files_of self.old) (files_of self.new)) }
+        ensures rest { ChangesFilesAlone self.old self.new }
+        ensures answered { result ≢ Err Halt }
     {
-        Unserved::Open.refuse()
+        let number = self.files.room()?;
+        let file = options_of(mode)
+            .open(&self.rt, path)
+            .map_err(|error| fault_of(&error))?;
+        self.files.put(number, OpenFile::File(file));
+        Ok(Handle(number))
     }
 
-    fn here(&mut self, _text: &str) -> Result<Handle, Fault>
-        ensures refused { result ≡ Err Other }
-        ensures same { self.new ≡ self.old }
+    fn here(&mut self, text: &str) -> Result<Handle, Fault>
+        ensures least { IfOk result (λ file. IsLeastFree (files_of self.old) file.0) }
+        ensures opened { IfOk result (λ file. AddsFile self.old self.new file.0) }
+        ensures refused { OnErr result (HoldsTheSame (files_of self.old) (files_of self.new)) }
+        ensures rest { ChangesFilesAlone self.old self.new }
+        ensures answered { result ≢ Err Halt }
     {
-        Unserved::Here.refuse()
+        let number = self.files.room()?;
+        let file = here_file(&self.rt, text)?;
+        self.files.put(number, OpenFile::File(file));
+        Ok(Handle(number))
     }
 
     fn pipe(&mut self) -> Result<(Handle, Handle), Fault>
-        ensures refused { result ≡ Err Other }
-        ensures same { self.new ≡ self.old }
+        ensures least { IfOk result (λ ends. AreLeastFree (files_of self.old) ends.0.0 ends.1.0) }
+        ensures opened { IfOk result (λ ends. AddsPipe self.old self.new ends.0.0 ends.1.0) }
+        ensures refused { OnErr result (HoldsTheSame (files_of self.old) (files_of self.new)) }
+        ensures rest { ChangesFilesAlone self.old self.new }
+        ensures answered { result ≢ Err Halt }
     {
-        Unserved::Pipe.refuse()
+        let (read_end, write_end) = self.files.room_for_two()?;
+        let (reader, writer) = io::pipe(&self.rt).map_err(|error| fault_of(&error))?;
+        self.files.put(read_end, OpenFile::ReadEnd(reader));
+        self.files.put(write_end, OpenFile::WriteEnd(writer));
+        Ok((Handle(read_end), Handle(write_end)))
     }
 
-    fn close(&mut self, _handle: Handle) -> Result<(), Fault>
-        ensures refused { result ≡ Err Other }
-        ensures same { self.new ≡ self.old }
+    fn close(&mut self, handle: Handle) -> Result<(), Fault>
+        ensures held { IsOk result ↔ IsSome (held_at (files_of self.old) handle.0) }
+        ensures unknown { held_at (files_of self.old) handle.0 ≡ None → result ≡ Err Other }
+        ensures closed { ChangesOnly (files_of self.old) (files_of self.new) handle.0 None }
+        ensures rest { ChangesFilesAlone self.old self.new }
     {
-        Unserved::Close.refuse()
+        match self.files.take(handle.0) {
+            Some(_) => Ok(()),
+            None => Err(Fault::Other),
+        }
     }
 
-    fn read(&mut self, _handle: Handle) -> Result<Vec<u8>, Fault>
-        ensures refused { result ≡ Err Other }
+    fn read(&mut self, handle: Handle) -> Result<Vec<u8>, Fault>
+        ensures bound { IfOk result (λ bytes. vec_len bytes ≤ 4096) }
+        ensures unknown { held_at (files_of self.old) handle.0 ≡ None → result ≡ Err Other }
         ensures same { self.new ≡ self.old }
+        ensures answered { result ≢ Err Halt }
     {
-        Unserved::Read.refuse()
+        match self.files.get(handle.0) {
+            Some(file) => file.read(self.rt.alloc()),
+            None => Err(Fault::Other),
+        }
     }
 
     fn write(&mut self, slot: Slot, text: &[u8]) -> Result<(), Fault>
-        ensures taken { slot ≢ Slot.Own 1 → slot ≢ Slot.Own 2 → result ≡ Err Other }
+        ensures own { (n : ℕ) → slot ≡ Slot.Own n → n ≢ 1 → n ≢ 2 → result ≡ Err Other }
+        ensures unknown { ¬ IsThere (files_of self.old) slot → result ≡ Err Other }
         ensures same { self.new ≡ self.old }
         ensures answered { result ≢ Err Halt }
     {
         match slot {
-            Slot::Own(1) => self.rt.stdout().lock().write_all(text),
-            Slot::Own(2) => self.rt.stderr().lock().write_all(text),
-            _ => return Err(Fault::Other),
+            Slot::Own(1) => write_own(&mut self.rt.stdout(), slot, text),
+            Slot::Own(2) => write_own(&mut self.rt.stderr(), slot, text),
+            Slot::Own(_) => Err(Fault::Other),
+            Slot::To(file) => match self.files.get(file.0) {
+                Some(file) => file.write(text),
+                None => Err(Fault::Other),
+            },
         }
-        .map_err(|e| fault_of(&e))
     }
 
     fn start(&mut self, launch: &Launch) -> Result<ChildNo, Fault>
-        ensures out_of_place { ¬ IsInPlace launch.now.slots → result ≡ Err Other }
+        ensures unknown { ¬ AreThere (files_of self.old) launch.now.slots → result ≡ Err Other }
+        ensures unplanned { plan_of (shell_of self.old) (launch_of launch.now) ≡ None → result ≡ Err Other }
         ensures least { IfOk result (λ child. IsLeastFree (children_of self.old) child.0) }
         ensures started { IfOk result (λ child. AddsChild self.old self.new child.0) }
         ensures refused { OnErr result (HoldsTheSame (children_of self.old) (children_of self.new)) }
+        ensures rest { ChangesChildrenAlone self.old self.new }
         ensures answered { result ≢ Err Halt }
     {
-        if !is_in_place(launch.slots) {
+        if !self.are_there(launch.slots) {
             return Err(Fault::Other);
         }
+        let plan = plan(self.rt.alloc(), launch, &self.shell)?;
         let number = self.children.room()?;
-        let mut command = command_of(self.rt.alloc(), self.shell.as_str(), launch)?;
-        let child = command.spawn(&self.rt).map_err(|e| fault_of(&e))?;
-        self.children.put(number, child);
-        Ok(ChildNo(number))
+        let mut command = command_of(self.rt.alloc(), &plan)?;
+        self.connect(&mut command, plan.slots)?;
+        self.spawn(number, launch, command)
     }
 
     fn wait(&mut self, child: ChildNo) -> Result<Ending, Fault>
         ensures unknown { held_at (children_of self.old) child.0 ≡ None → result ≡ Err Other }
         ensures ended { ChangesOnly (children_of self.old) (children_of self.new) child.0 None }
+        ensures rest { ChangesChildrenAlone self.old self.new }
         ensures answered { result ≢ Err Halt }
     {
-        let Some(mut child) = self.children.take(child.0) else {
-            return Err(Fault::Other);
-        };
-        let status = child.wait().map_err(|e| fault_of(&e))?;
-        Ok(ending_of(status))
+        match self.children.take(child.0) {
+            Some(mut child) => end_of(&mut child),
+            None => Err(Fault::Other),
+        }
     }
 
-    fn list(&mut self, _path: &str) -> Result<Vec<String>, Fault>
-        ensures refused { result ≡ Err Other }
+    fn list(&mut self, path: &str) -> Result<Vec<String>, Fault>
         ensures same { self.new ≡ self.old }
+        ensures answered { result ≢ Err Halt }
     {
-        Unserved::List.refuse()
+        let entries = fs::read_dir(&self.rt, path).map_err(|error| fault_of(&error))?;
+        let mut names = Vec::new(self.rt.alloc());
+        for entry in entries {
+            if let Some(name) = name_of(self.rt.alloc(), entry)? {
+                names.push(name).map_err(|_| Fault::NoMemory)?;
+            }
+        }
+        Ok(names)
     }
 
     fn probe(&mut self, path: &str) -> Result<Kind, Fault>
         ensures same { self.new ≡ self.old }
         ensures answered { result ≢ Err Halt }
     {
-        let found = fs::metadata(&self.rt, path).map_err(|e| fault_of(&e))?;
+        let found = fs::metadata(&self.rt, path).map_err(|error| fault_of(&error))?;
         Ok(kind_of(&found))
     }
 
-    fn chdir(&mut self, _path: &str) -> Result<(), Fault>
-        ensures refused { result ≡ Err Other }
+    fn chdir(&mut self, path: &str) -> Result<(), Fault>
         ensures same { self.new ≡ self.old }
+        ensures answered { result ≢ Err Halt }
     {
-        Unserved::Chdir.refuse()
-    }
-}
-
-fn is_in_place(slots: Slots) -> bool
-    ensures { IsTrue result ↔ IsInPlace slots }
-{
-    matches!(slots.0, [Slot::Own(0), Slot::Own(1), Slot::Own(2)])
-}
-
-fn ending_of(status: ExitStatus) -> Ending
-    ensures code { (code : ℕ) → exit_code status ≡ Some (pos code) → result ≡ Ending.Code code }
-    ensures signal { exit_code status ≡ None → result ≡ Ending.Signal }
-{
-    match status.code() {
-        Some(code) => Ending::Code(code as u8),
-        None => Ending::Signal,
-    }
-}
-
-fn kind_of(found: &Metadata) -> Kind
-    ensures directory { IsDir (file_type found.now) → result ≡ Kind.Directory }
-    ensures program { IsFile (file_type found.now) → 0 < bit_and (metadata_mode found.now) EXECUTE → result ≡ Kind.Program }
-    ensures only { result ≡ Kind.Program → IsFile (file_type found.now) × 0 < bit_and (metadata_mode found.now) EXECUTE }
-{
-    if found.is_dir() {
-        Kind::Directory
-    } else if found.is_file() && found.permissions().mode() & EXECUTE != 0 {
-        Kind::Program
-    } else {
-        Kind::Other
+        env::set_current_dir(&self.rt, path).map_err(|error| fault_of(&error))
     }
 }

@@ -1,9 +1,17 @@
 //! Linux as the world of a shell: its programs and children, over the standard library.
 #![tactic(auto)]
 
+mod answers;
 mod command;
 mod fault;
+mod files;
 mod host;
+mod planned;
+mod planning;
+mod process;
 mod table;
 
 pub use host::HostWorld;
+pub use planned::Plan;
+pub use planning::plan;
+pub use process::{ArgumentsFault, arguments, entries, open_standard, own_path};

@@ -1,6 +1,8 @@
 //! Numbered things: a new one has the least number that is not held.
-ghost use Rattle.std.specs.Prelude.{◌≡◌, ℕ, ◌<◌, List, Option, None, Some, IfOk, IfErr, length};
-ghost use Rattle.rc_host.specs.Table.{held_at, IsLeastFree, HoldsTheSame, ChangesOnly, HasNoRoom};
+ghost use Rattle.std.specs.Prelude.{◌≡◌, ℕ, ◌+◌, ◌<◌, ◌≤◌, List, length, Option, None, Some, option_copied};
+ghost use Rattle.std.specs.Prelude.{IfOk, IfErr, IfSome, IfNone, IsSome};
+ghost use Rattle.rc_host.specs.Table.{held_at, IsLeastFree, IsLeastFreeFrom, AreLeastFree, HoldsTheSame, ChangesOnly};
+ghost use Rattle.rc_host.specs.Table.{HasNoRoom, HasNoRoomFrom, HasNoRoomForTwo};
 
 use rc_world::Fault;
 use std::alloc::Global;
@@ -28,6 +30,13 @@ impl<T: Drop> Table<T> {
         }
     }
 
+    /// What is held at the number.
+    pub fn get(&self, number: u32) -> Option<&T>
+        ensures { option_copied result ≡ held_at self.now number }
+    {
+        self.places.get(number as usize)?.as_ref()
+    }
+
     /// The least number that is not held, and a place for it.
     pub fn room(&mut self) -> Result<u32, Fault>
         ensures least { IfOk result (IsLeastFree self.old) }
@@ -35,8 +44,31 @@ impl<T: Drop> Table<T> {
         ensures same { HoldsTheSame self.old self.new }
         ensures err { IfErr result (HasNoRoom self.old) }
     {
+        self.room_from(0)
+    }
+
+    /// The two least numbers that are not held, and places for them.
+    pub fn room_for_two(&mut self) -> Result<(u32, u32), Fault>
+        ensures least { IfOk result (λ numbers. AreLeastFree self.old numbers.0 numbers.1) }
+        ensures places { IfOk result (λ numbers. numbers.1 < length self.new) }
+        ensures same { HoldsTheSame self.old self.new }
+        ensures err { IfErr result (HasNoRoomForTwo self.old) }
+    {
+        let first = self.room()?;
+        let second = self.room_from(first as usize + 1)?;
+        Ok((first, second))
+    }
+
+    /// The least number from this one on that is not held, and a place for it.
+    fn room_from(&mut self, start: usize) -> Result<u32, Fault>
+        requires { start ≤ length self.old }
+        ensures least { IfOk result (IsLeastFreeFrom self.old start) }
+        ensures place { IfOk result (λ n. n < length self.new) }
+        ensures same { HoldsTheSame self.old self.new }
+        ensures err { IfErr result (HasNoRoomFrom self.old start) }
+    {
         let all = self.places.len();
-        let free = self.places.iter().position(|place| place.is_none());
+        let free = self.free_from(start);
         let Ok(number) = u32::try_from(free.unwrap_or(all)) else {
             return Err(Fault::Other);
         };
@@ -46,10 +78,26 @@ impl<T: Drop> Table<T> {
         Ok(number)
     }
 
-    /// Holds a thing at the number that `room` gave.
+    /// The first free place from this one on.
+    fn free_from(&self, start: usize) -> Option<usize>
+        requires { start ≤ length self.now }
+        ensures found { IfSome result (λ n. n < length self.now) }
+        ensures least { IfSome result (IsLeastFreeFrom self.now start) }
+        ensures none { IfNone result ((k : ℕ) → start ≤ k → k < length self.now → IsSome (held_at self.now k)) }
+    {
+        for number in start..self.places.len() {
+            if self.places[number].is_none() {
+                return Some(number);
+            }
+        }
+        None
+    }
+
+    /// Holds a thing at a number for which there is room.
     pub fn put(&mut self, number: u32, thing: T)
         requires { number < length self.old }
-        ensures { ChangesOnly self.old self.new number (Some thing) }
+        ensures changed { ChangesOnly self.old self.new number (Some thing) }
+        ensures places { length self.new ≡ length self.old }
     {
         self.places[number as usize] = Some(thing);
     }

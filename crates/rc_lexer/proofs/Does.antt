@@ -1,11 +1,11 @@
 -- What the lexer does, piece by piece.
 use Rattle.std.proofs.Common.{◌≡◌, ◌≢◌, ℕ, Bool, true, false, cond, ◌==◌, ◌||◌, List, [], ◌∷◌, ◌++◌, map, refl, sym, ap, subst, ◌∙◌, append_assoc}
 use Rattle.std.specs.Prelude.{Result, Ok, Err, slice_range}
-use Rattle.rc_model.specs.Tokens as model
-use Rattle.rc_model.specs.Reading as reading
-use Rattle.rc_model.specs.Reading.{Step}
-use Rattle.rc_lexer.specs.declared.LexError.{LexError}
-use Rattle.rc_lexer.specs.declared.LexError.TheVariants.{Fault, NoMemory}
+use Rattle.rc_model.specs.Syntax.Tokens as model
+use Rattle.rc_model.specs.Mirrors.Reading as reading
+use Rattle.rc_model.specs.Mirrors.Reading.{Step}
+use Rattle.rc_lexer.specs.Answers.{LexError}
+use Rattle.rc_model.specs.declared.fault.InputError.TheVariants.{Fault, NoMemory}
 use Rattle.rc_lexer.specs.declared.operators.Class.{Class}
 use Rattle.rc_lexer.specs.declared.operators.Class.TheVariants as class
 use Rattle.rc_lexer.specs.declared.machine.Before.{Before}

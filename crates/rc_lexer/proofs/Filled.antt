@@ -3,7 +3,7 @@ use Rattle.std.proofs.Common.{◌≡◌, ◌≢◌, ℕ, ◌+◌, ◌<◌, Bool,
 use Rattle.std.proofs.Common.{length, arith, map, take, drop, get_or, append_assoc}
 use Rattle.std.proofs.lemmas.List.{at_drop_more, take_more_set, drop-set-lt, map-append}
 use Rattle.std.proofs.Math.ListN.{set}
-use Rattle.rc_model.specs.Tokens as model
+use Rattle.rc_model.specs.Syntax.Tokens as model
 use Rattle.rc_lexer.specs.declared.Span.{Span}
 use Rattle.rc_lexer.specs.declared.TokenKind.{TokenKind}
 use Rattle.rc_lexer.specs.declared.TokenKind.TheVariants as tk

@@ -3,9 +3,9 @@ use Rattle.std.proofs.Common.{◌≡◌, ℕ, ◌-◌, ◌<◌, ◌≤◌, Bool,
 use Rattle.std.proofs.Common.{◌∙◌, arith}
 use Rattle.std.specs.Prelude.{Ok, slice_range, slice_index_or}
 use Rattle.std.proofs.lemmas.List.{append-nil, map-append}
-use Rattle.rc_model.specs.Tokens as model
-use Rattle.rc_model.specs.Reading as reading
-use Rattle.rc_model.specs.Reading.{Step}
+use Rattle.rc_model.specs.Syntax.Tokens as model
+use Rattle.rc_model.specs.Mirrors.Reading as reading
+use Rattle.rc_model.specs.Mirrors.Reading.{Step}
 use Rattle.rc_lexer.specs.declared.machine.State.{State}
 use Rattle.rc_lexer.specs.Views.{slice_at}
 use Rattle.rc_lexer.proofs.Steps.{line_step, slice_empty}

@@ -2,10 +2,10 @@
 use Rattle.std.proofs.Common.{◌≡◌, ◌≢◌, ℕ, Bool, true, false, cond, List, [], ◌∷◌, ◌++◌, map, refl, sym, ap, ◌∙◌, append_assoc, ◌⊎◌, inl, inr}
 use Rattle.std.specs.Prelude.{Option, Some, Result, Ok, slice_range}
 use Rattle.std.proofs.lemmas.List.{append-nil, map-append}
-use Rattle.rc_model.specs.Tokens as model
-use Rattle.rc_model.specs.Reading as reading
-use Rattle.rc_model.specs.Reading.{Step}
-use Rattle.rc_lexer.specs.declared.LexError.{LexError}
+use Rattle.rc_model.specs.Syntax.Tokens as model
+use Rattle.rc_model.specs.Mirrors.Reading as reading
+use Rattle.rc_model.specs.Mirrors.Reading.{Step}
+use Rattle.rc_lexer.specs.Answers.{LexError}
 use Rattle.rc_lexer.specs.declared.machine.Before.{Before}
 use Rattle.rc_lexer.specs.declared.machine.Place.{Place}
 use Rattle.rc_lexer.specs.declared.machine.State.{State}

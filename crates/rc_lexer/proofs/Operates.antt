@@ -6,9 +6,9 @@ use Rattle.std.proofs.lemmas.Bool.{eqb-true, ltb-true, ltb-false}
 use Rattle.std.proofs.lemmas.Str.{encode_ascii}
 use Rattle.std.proofs.Math.Utf8.{encode}
 use Rattle.std.specs.Char.{encode_utf8}
-use Rattle.rc_model.specs.Text.{begins_with}
-use Rattle.rc_model.specs.Tokens as model
-use Rattle.rc_model.specs.Tokens.{Lexeme}
+use Rattle.rc_model.specs.Syntax.Text.{begins_with}
+use Rattle.rc_model.specs.Syntax.Tokens as model
+use Rattle.rc_model.specs.Syntax.Tokens.{Lexeme}
 
 -- an operator is ASCII
 abbrev ascii : List ℕ → Bool

@@ -4,8 +4,8 @@ use Rattle.std.proofs.Common.{drop, get_or, drop-cons, add-one}
 use Rattle.std.specs.Prelude.{Option, Some, option_map, find, ◌&&◌}
 use Rattle.std.specs.List.{list_any, starts_with}
 use Rattle.std.specs.Str.{bytes_eq}
-use Rattle.rc_model.specs.Text.{begins_with}
-use Rattle.rc_model.specs.Tokens.{Lexeme}
+use Rattle.rc_model.specs.Syntax.Text.{begins_with}
+use Rattle.rc_model.specs.Syntax.Tokens.{Lexeme}
 
 starts_as : (text word : List ℕ) → starts_with nat_eq word text ≡ begins_with text word
 starts_as [] word = refl

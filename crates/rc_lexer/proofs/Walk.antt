@@ -8,21 +8,21 @@ use Rattle.std.proofs.lemmas.Str.{length-encode, len_utf8_bounds, drop_past_char
 use Rattle.std.proofs.Math.Seq.{take-add, take-append_seam}
 use Rattle.std.specs.Char.{encode_utf8, len_utf8}
 use Rattle.std.specs.Str.{chars}
-use Rattle.rc_model.specs.Tokens as model
-use Rattle.rc_model.specs.Tokens.{LexFault}
-use Rattle.rc_model.specs.Reading as reading
-use Rattle.rc_model.specs.Reading.{Step}
-use Rattle.rc_syntax_laws.proofs.Steps.{join_join}
-use Rattle.rc_syntax_laws.proofs.Lexing.{law}
-use Rattle.rc_lexer.specs.declared.LexError.{LexError}
-use Rattle.rc_lexer.specs.declared.LexError.TheVariants.{Fault, NoMemory}
+use Rattle.rc_model.specs.Syntax.Tokens as model
+use Rattle.rc_model.specs.declared.fault.SyntaxFault.{SyntaxFault}
+use Rattle.rc_model.specs.Mirrors.Reading as reading
+use Rattle.rc_model.specs.Mirrors.Reading.{Step}
+use Rattle.law_lexing.proofs.Steps.{join_join}
+use Rattle.law_lexing.proofs.Lexing.{law}
+use Rattle.rc_lexer.specs.Answers.{LexError}
+use Rattle.rc_model.specs.declared.fault.InputError.TheVariants.{Fault, NoMemory}
 use Rattle.rc_lexer.specs.declared.operators.Class.{Class}
 use Rattle.rc_lexer.specs.declared.machine.Place.{Place}
 use Rattle.rc_lexer.specs.declared.machine.State.{State}
 use Rattle.rc_lexer.specs.declared.machine.Lexer.{Lexer}
 use Rattle.rc_lexer.specs.declared.Token.{Token}
-use Rattle.rc_lexer.specs.declared.FaultKind.TheVariants.{ZeroByte}
-use Rattle.rc_lexer.specs.Views.{fault_of}
+use Rattle.rc_model.specs.declared.fault.FaultKind.TheVariants.{ZeroByte}
+use Rattle.rc_model.specs.Syntax.Faults.{fault}
 use Rattle.std.specs.Prelude.{Vec}
 use Rattle.rc_lexer.specs.Answers.{Reads}
 use Rattle.rc_lexer.specs.Lexed.{ReadTo}
@@ -109,10 +109,10 @@ lexed_is script z o e f =
     subst (λ x. model.IsCut script x) (ap (λ x. reading.unless_zero x (reading.run (reading.Between model.Apart) [] model.first_place (chars script)))
     e ∙ ap (reading.unless_zero z) f) (law script)
 
-pub zero_is : (script : List ℕ) (line : ℕ) → reading.zero_line 1 (chars script) ≡ Some line → model.IsCut script (Err (model.fault model.ZeroByte line))
+pub zero_is : (script : List ℕ) (line : ℕ) → reading.zero_line 1 (chars script) ≡ Some line → model.IsCut script (Err (fault ZeroByte line))
 zero_is script line e = lexed_is script (Some line) _ e refl
 
-pub fault_is : (script : List ℕ) (f : LexFault) → reading.zero_line 1 (chars script) ≡ None →
+pub fault_is : (script : List ℕ) (f : SyntaxFault) → reading.zero_line 1 (chars script) ≡ None →
     reading.run (reading.Between model.Apart) [] model.first_place (chars script) ≡ Err f → model.IsCut script (Err f)
 fault_is script f z e = lexed_is script None (Err f) z e
 
@@ -144,7 +144,7 @@ pub error_is : {Z : Type 0} (script : List ℕ) (r : Result (Vec Token Z) LexErr
 error_is {Z} script r e e' z p q h = subst (λ x. Reads {Z = Z} script x) (sym (p ∙ ap (λ x. Err x) q)) (by e h)
   where
     by : (d : LexError) → ReadTo script (Err d) (reading.run (reading.Between model.Apart) [] model.first_place (chars script)) → Reads {Z = Z} script (Err d)
-    by (Fault f) k = fault_is script (fault_of f) z k
+    by (Fault f) k = fault_is script f z k
     by NoMemory k = k
 
 pub zero_error : {Z : Type 0} (script : List ℕ) (r : Result (Vec Token Z) LexError) (e : LexError) (line : ℕ) → r ≡ Err e →

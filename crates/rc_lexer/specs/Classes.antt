@@ -1,5 +1,5 @@
 -- How the definitions see the classes of characters.
-use Rattle.rc_model.specs.Tokens as model
+use Rattle.rc_model.specs.Syntax.Tokens as model
 use Rattle.rc_lexer.specs.declared.operators.Class.{Class}
 use Rattle.rc_lexer.specs.declared.operators.Class.TheVariants.{Operates, Blank, LineEnd, Hash, Quote, Backslash, Ordinary}
 

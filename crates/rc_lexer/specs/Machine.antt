@@ -1,13 +1,13 @@
 -- How the definitions see a lexer and its state, and what a step of it does.
 use Rattle.std.specs.Prelude.{◌≡◌, ℕ, Bool, false, ◌≤◌, List, [], ◌∷◌, ◌++◌, map, length, slice_range, Result, Ok, Err}
 use Rattle.std.specs.Char.{encode_utf8}
-use Rattle.rc_model.specs.Tokens as model
-use Rattle.rc_model.specs.Tokens.{Outcome, LexFault}
-use Rattle.rc_model.specs.Reading as reading
-use Rattle.rc_model.specs.Reading.{Step}
+use Rattle.rc_model.specs.Syntax.Tokens as model
+use Rattle.rc_model.specs.Syntax.Tokens.{Outcome}
+use Rattle.rc_model.specs.Mirrors.Reading as reading
+use Rattle.rc_model.specs.Mirrors.Reading.{Step}
 use Rattle.rc_lexer.specs.declared.TokenKind.{TokenKind}
-use Rattle.rc_lexer.specs.declared.LexError.{LexError}
-use Rattle.rc_lexer.specs.declared.LexError.TheVariants.{Fault, NoMemory}
+use Rattle.rc_lexer.specs.Answers.{LexError}
+use Rattle.rc_model.specs.declared.fault.InputError.TheVariants.{Fault, NoMemory}
 use Rattle.rc_lexer.specs.declared.machine.Place.{Place}
 use Rattle.rc_lexer.specs.declared.machine.Before.{Before}
 use Rattle.rc_lexer.specs.declared.machine.Before.TheVariants as before
@@ -16,7 +16,7 @@ use Rattle.rc_lexer.specs.declared.machine.State.TheVariants.{Between, Comment, 
 use Rattle.rc_lexer.specs.declared.machine.Head.{Head}
 use Rattle.rc_lexer.specs.declared.machine.Due.{Due}
 use Rattle.rc_lexer.specs.declared.machine.Lexer.{Lexer}
-use Rattle.rc_lexer.specs.Views.{slice_at, tokens_of, lexeme_of, fault_of}
+use Rattle.rc_lexer.specs.Views.{slice_at, tokens_of, lexeme_of}
 use Rattle.rc_lexer.specs.Classes.{class_is}
 
 abbrev pub place_of : Place → model.Place
@@ -108,7 +108,7 @@ behind_step ts bodies (Err f) = Err f
 abbrev pub Does : List ℕ → ℕ → Lexer → Lexer → Result State LexError → Step → Type 0
 Does script end old new (Ok s) x =
     behind_step (tokens_in script old) (bodies_in script old) x ≡ Ok (tokens_in script new, bodies_in script new, state_in script end new s, due_left new s)
-Does script end old new (Err (Fault f)) x = x ≡ Err (fault_of f)
+Does script end old new (Err (Fault f)) x = x ≡ Err f
 Does script end old new (Err NoMemory) x = Unit {0}
 
 -- the lexer has read a lexeme between two places, and this stands behind it
@@ -127,7 +127,7 @@ IfSpelled script before l p q old new (Err NoMemory) = Unit {0}
 -- the lexer is at the end
 abbrev pub Ends : List ℕ → Lexer → Lexer → Result (Unit {0}) LexError → Outcome → Type 0
 Ends script old new (Ok u) o = model.join (tokens_in script old) (bodies_in script old) o ≡ Ok (tokens_in script new, bodies_in script new)
-Ends script old new (Err (Fault f)) o = o ≡ Err (fault_of f)
+Ends script old new (Err (Fault f)) o = o ≡ Err f
 Ends script old new (Err NoMemory) o = Unit {0}
 
 -- nothing but the tokens has changed
@@ -164,5 +164,5 @@ pub record Resolved (seen : List model.Token → List model.Token) (old new : Le
 -- no here document is due, or the first that is due is open
 abbrev pub IsClosed : List model.Due → Result (Unit {0}) LexError → Type 0
 IsClosed due (Ok u) = reading.closed [] [] due ≡ Ok ([], [])
-IsClosed due (Err (Fault f)) = reading.closed [] [] due ≡ Err (fault_of f)
+IsClosed due (Err (Fault f)) = reading.closed [] [] due ≡ Err f
 IsClosed due (Err NoMemory) = ⊥

@@ -1,8 +1,8 @@
--- How the definitions see this crate's tokens and faults. A token's text is the slice of the script at its span.
+-- How the definitions see this crate's tokens. A token's text is the slice of the script at its span.
 use Rattle.std.specs.Prelude.{ℕ, List, map, slice_range}
-use Rattle.rc_model.specs.Calls as calls
-use Rattle.rc_model.specs.Tokens as model
-use Rattle.rc_model.specs.Tokens.{unquoted_text}
+use Rattle.rc_model.specs.declared.call.Mode.TheVariants as mode
+use Rattle.rc_model.specs.Syntax.Tokens as model
+use Rattle.rc_model.specs.Syntax.Tokens.{unquoted_text}
 use Rattle.rc_lexer.specs.declared.Span.{Span}
 use Rattle.rc_lexer.specs.declared.TokenKind.{TokenKind}
 use Rattle.rc_lexer.specs.declared.TokenKind.TheVariants.{Word, Quoted, Semicolon, Ampersand, Newline, AndAnd, OrOr, Bar, Caret, FreeCaret, Equals}
@@ -10,9 +10,6 @@ use Rattle.rc_lexer.specs.declared.TokenKind.TheVariants.{LeftParen, RightParen}
 use Rattle.rc_lexer.specs.declared.TokenKind.TheVariants.{LeftBrace, RightBrace, Backquote, Input, Output, Append, CopyTo, HereDoc, Dollar}
 use Rattle.rc_lexer.specs.declared.TokenKind.TheVariants.{DollarCount, DollarFlat, Name, Subscript, BareDollar, BareHere}
 use Rattle.rc_lexer.specs.declared.Token.{Token}
-use Rattle.rc_lexer.specs.declared.FaultKind.{FaultKind}
-use Rattle.rc_lexer.specs.declared.FaultKind.TheVariants.{OpenQuote, OpenHere, BadDescriptor, ZeroByte}
-use Rattle.rc_lexer.specs.declared.LexFault.{LexFault}
 
 -- the slice of a script at a span
 abbrev pub slice_at : List ℕ → Span → List ℕ
@@ -36,9 +33,9 @@ lexeme_of script RightParen text = model.RightParen
 lexeme_of script LeftBrace text = model.LeftBrace
 lexeme_of script RightBrace text = model.RightBrace
 lexeme_of script Backquote text = model.Backquote
-lexeme_of script Input text = model.Redirection calls.Read 0
-lexeme_of script (Output slot) text = model.Redirection calls.Write slot
-lexeme_of script (Append slot) text = model.Redirection calls.Append slot
+lexeme_of script Input text = model.Redirection mode.Read 0
+lexeme_of script (Output slot) text = model.Redirection mode.Write slot
+lexeme_of script (Append slot) text = model.Redirection mode.Append slot
 lexeme_of script (CopyTo to from) text = model.CopyTo to from
 lexeme_of script (HereDoc is_quoted body) text = model.HereDoc is_quoted (slice_at script body)
 lexeme_of script Dollar text = model.Dollar
@@ -54,12 +51,3 @@ token_of script t = record { lexeme = lexeme_of script t.kind (slice_at script t
 
 abbrev pub tokens_of : List ℕ → List Token → List model.Token
 tokens_of script ts = map (λ t. token_of script t) ts
-
-abbrev pub kind_of : FaultKind → model.FaultKind
-kind_of OpenQuote = model.OpenQuote
-kind_of OpenHere = model.OpenHere
-kind_of BadDescriptor = model.BadDescriptor
-kind_of ZeroByte = model.ZeroByte
-
-abbrev pub fault_of : LexFault → model.LexFault
-fault_of f = record { kind = kind_of f.kind; line = f.line }

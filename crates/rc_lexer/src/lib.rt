@@ -3,8 +3,8 @@
 
 ghost use Rattle.std.specs.Prelude.{◌≡◌, ◌≤◌, ◌<◌, ◌+◌, ◌^◌, MatchOption, Some, None, [], length};
 ghost use Rattle.std.specs.Str.{chars};
-ghost use Rattle.rc_model.specs.Tokens as model;
-ghost use Rattle.rc_model.specs.Reading as reading;
+ghost use Rattle.rc_model.specs.Syntax.Tokens as model;
+ghost use Rattle.rc_model.specs.Mirrors.Reading as reading;
 ghost use Rattle.rc_lexer.specs.Answers.{Reads};
 ghost use Rattle.rc_lexer.specs.Lexed.{ReadTo};
 ghost use Rattle.rc_lexer.specs.Machine.{place_of};
@@ -14,8 +14,9 @@ mod operators;
 
 use machine::{Before, Head, Lexer, Place, State, fault};
 use operators::class_of;
+use rc_model::{FaultKind, InputError, SyntaxFault};
 use rc_text::first_char;
-use std::alloc::{AllocError, AllocFailed, Global};
+use std::alloc::Global;
 
 /// A part of the script, in bytes.
 #[derive(Clone, Copy, Debug, PartialEq)]
@@ -70,28 +71,8 @@ pub struct Token {
     pub line: usize,
 }
 
-/// Of what kind a fault of the script is.
-#[derive(Clone, Copy, Debug, PartialEq)]
-pub enum FaultKind {
-    OpenQuote,
-    OpenHere,
-    BadDescriptor,
-    ZeroByte,
-}
-
-/// Why a script has no tokens, and the line where that begins.
-#[derive(Clone, Copy, Debug, PartialEq)]
-pub struct LexFault {
-    pub kind: FaultKind,
-    pub line: usize,
-}
-
-/// Why there are no tokens: the script's first fault, or want of memory.
-#[derive(Debug, Drop)]
-pub enum LexError {
-    Fault(LexFault),
-    NoMemory,
-}
+/// Why there are no tokens: the script's first fault, or memory was refused.
+pub type LexError = InputError<SyntaxFault>;
 
 /// The greatest length of a text.
 const LONGEST: usize = isize::MAX as usize;
@@ -102,7 +83,7 @@ pub fn lex(alloc: Global, script: &str) -> Result<Vec<Token>, LexError>
 {
     // No memory holds a longer text. Shorter ones have fewer lines than a `usize` counts.
     if script.len() > LONGEST {
-        return Err(LexError::NoMemory);
+        return Err(InputError::NoMemory);
     }
     if let Some(line) = zero_line(script) {
         return Err(fault(FaultKind::ZeroByte, line));
@@ -166,24 +147,4 @@ fn read(alloc: Global, script: &str) -> Result<Lexer, LexError>
     }
     lexer.finish(script.as_bytes(), state, place)?;
     Ok(lexer)
-}
-
-impl From<AllocError> for LexError {
-    ghost use Rattle.rc_lexer.specs.declared.LexError.TheVariants.{NoMemory};
-
-    ghost from_gives = { λ _ e. e ≡ NoMemory };
-
-    fn from(_: AllocError) -> Self {
-        LexError::NoMemory
-    }
-}
-
-impl<T: Drop> From<AllocFailed<T>> for LexError {
-    ghost use Rattle.rc_lexer.specs.declared.LexError.TheVariants.{NoMemory};
-
-    ghost from_gives = { λ _ e. e ≡ NoMemory };
-
-    fn from(_: AllocFailed<T>) -> Self {
-        LexError::NoMemory
-    }
 }

@@ -2,15 +2,16 @@
 #![tactic(auto)]
 
 ghost use Rattle.std.specs.Prelude.{false, ◌||◌, ◌==◌, ◌≡◌, ◌≢◌, ℕ, ◌≤◌, ◌↔◌, List, [], ◌∷◌, ◌++◌, map, length, slice_range, IfOk, OnOk, IsTrue};
-ghost use Rattle.rc_model.specs.Tokens as model;
-ghost use Rattle.rc_model.specs.Reading as reading;
+ghost use Rattle.rc_model.specs.Syntax.Tokens as model;
+ghost use Rattle.rc_model.specs.Mirrors.Reading as reading;
 ghost use Rattle.rc_lexer.specs.Views.{lexeme_of, slice_at, token_of, tokens_of};
 ghost use Rattle.rc_lexer.specs.Classes.{class_is};
 ghost use Rattle.rc_lexer.specs.Machine.{Does, Ends, IfSpelled, IsClosed, IsHead, Keeps, Marked, Resolved, Spelled, Stands};
 ghost use Rattle.rc_lexer.specs.Machine.{before_of, bodies_in, dollars_in, due_in, due_left, lexeme_tokens, line_of, place_of, state_in, tokens_in};
 
 use crate::operators::{Class, begins_operator, operator};
-use crate::{FaultKind, LexError, LexFault, Span, Token, TokenKind};
+use crate::{LexError, Span, Token, TokenKind};
+use rc_model::{FaultKind, InputError, SyntaxFault};
 use rc_text::{is_name_char, unquote};
 use std::alloc::{AllocError, Global};
 use std::collections::VecDeque;
@@ -200,9 +201,9 @@ fn push_bare(tokens: &mut Vec<Token>, dollars: &[Token]) -> Result<(), AllocErro
 
 /// The fault of this kind at this line.
 pub fn fault(kind: FaultKind, line: usize) -> LexError
-    ensures { result ≡ LexError.Fault (record { kind = kind; line = line }) }
+    ensures { result ≡ InputError.Fault (record { kind = kind; line = line }) }
 {
-    LexError::Fault(LexFault { kind, line })
+    InputError::Fault(SyntaxFault { kind, line })
 }
 
 /// The token with the next body, if it is a here document, and the bodies behind that.

@@ -2,7 +2,7 @@
 #![tactic(auto)]
 
 ghost use Rattle.std.specs.Prelude.{◌≡◌, ℕ, List, MatchOption, Some, None, []};
-ghost use Rattle.rc_model.specs.Tokens.{begins_operator, operator, class_of};
+ghost use Rattle.rc_model.specs.Syntax.Tokens.{begins_operator, operator, class_of};
 ghost use Rattle.rc_lexer.specs.Views.{lexeme_of};
 ghost use Rattle.rc_lexer.specs.Classes.{class_is};
 

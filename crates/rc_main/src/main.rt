@@ -1,14 +1,21 @@
 //! The shell.
 #![tactic(auto)]
 
-use rc_host::HostWorld;
-use rc_program::{RunFault, own_path, report, run_rc, words};
+use rc_cli::{RunFault, report, run_rc};
+use rc_host::{ArgumentsFault, HostWorld, arguments, own_path};
 use std::process::ExitCode;
-use std::{env, process};
+
+fn words(rt: &HostRuntime) -> Result<Vec<String>, RunFault> {
+    match arguments(rt) {
+        Ok(words) => Ok(words),
+        Err(ArgumentsFault::NotText) => Err(RunFault::Usage),
+        Err(ArgumentsFault::NoMemory) => Err(RunFault::NoMemory),
+    }
+}
 
 fn run(rt: HostRuntime) -> Result<u8, RunFault> {
     let words = words(&rt)?;
-    let shell = own_path(rt.alloc(), env::current_exe(&rt), process::id(rt.process()))?;
+    let shell = own_path(&rt)?;
     let mut world = HostWorld::new(rt, shell);
     run_rc(rt.alloc(), &mut world, &words, rt.reader())
 }

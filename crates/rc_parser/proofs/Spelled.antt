@@ -7,14 +7,14 @@ use Rattle.std.proofs.lemmas.Str.{IsUtf8-from_ascii}
 use Rattle.std.proofs.lemmas.Str.Ascii.{IsAscii-nil, IsAscii-cons}
 use Rattle.std.specs.List.{list_all}
 use Rattle.std.specs.Str.{IsUtf8, IsAscii}
-use Rattle.rc_model.specs.Tokens.{is_name_char}
-use Rattle.rc_model.specs.Spelling.{IsSpelled, AreSpelled}
-use Rattle.rc_model.specs.Accepted.{lexemes}
+use Rattle.rc_model.specs.Syntax.Tokens.{is_name_char}
+use Rattle.rc_model.specs.Mirrors.Spelling.{IsSpelled, AreSpelled}
+use Rattle.rc_model.specs.Syntax.Accepted.{lexemes}
 use Rattle.rc_lexer.specs.declared.Token.{Token}
 use Rattle.rc_lexer.specs.Views.{slice_at, tokens_of}
 use Rattle.rc_lexer.specs.Views as lexer
-use Rattle.rc_descent.specs.declared.lexeme.Lexeme.{Lexeme}
-use Rattle.rc_descent.specs.Lexemes.{lexeme_of, lexemes_of}
+use Rattle.rc_lexemes.specs.declared.lexeme.Lexeme.{Lexeme}
+use Rattle.rc_lexemes.specs.Lexemes.{lexeme_of, lexemes_of}
 
 -- a name is ASCII
 name_low : (b : ℕ) → is_name_char b ≡ true → b < 128

@@ -3,9 +3,10 @@ use Rattle.std.proofs.Common.{◌≡◌, ℕ, ◌<◌, ◌≤◌, Bool, true, fa
 use Rattle.std.proofs.lemmas.Str.{IsUtf8-from_is_utf8}
 use Rattle.std.specs.Str.{IsUtf8, is_utf8}
 use Rattle.std.specs.Str.Lossy.{utf8_valid_len}
-use Rattle.rc_model.specs.Faults.{TooLong, NotText}
-use Rattle.rc_model.specs.Accepted.{IsRefused, fault, line_of, longest_script}
-use Rattle.rc_model.specs.Accepted as script
+use Rattle.rc_model.specs.declared.fault.FaultKind.TheVariants.{TooLong, NotText}
+use Rattle.rc_model.specs.Syntax.Faults.{fault}
+use Rattle.rc_model.specs.Syntax.Accepted.{IsRefused, line_of, longest_script}
+use Rattle.rc_model.specs.Syntax.Accepted as script
 
 pub too_long : (text : List ℕ) → longest_script < length text → IsRefused text (fault TooLong 0)
 too_long text h = script.too_long h

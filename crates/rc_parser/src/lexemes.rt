@@ -1,17 +1,17 @@
 //! What the grammar sees of the tokens of a script: each with its text.
 
 ghost use Rattle.std.specs.Prelude.{◌≡◌, IfOk, IsUtf8, string_bytes, slice_range};
-ghost use Rattle.rc_model.specs.Accepted.{lexemes};
-ghost use Rattle.rc_model.specs.Spelling.{IsSpelled, AreSpelled};
-ghost use Rattle.rc_model.specs.Tokens.{unquoted_text};
+ghost use Rattle.rc_model.specs.Syntax.Accepted.{lexemes};
+ghost use Rattle.rc_model.specs.Mirrors.Spelling.{IsSpelled, AreSpelled};
+ghost use Rattle.rc_model.specs.Syntax.Tokens.{unquoted_text};
 ghost use Rattle.rc_lexer.specs.Views.{slice_at, tokens_of};
 ghost use Rattle.rc_lexer.specs.Views as lexer;
-ghost use Rattle.rc_descent.specs.Lexemes.{lexeme_of, lexemes_of};
+ghost use Rattle.rc_lexemes.specs.Lexemes.{lexeme_of, lexemes_of};
 
 use rc_descent::Lexeme;
 use rc_lexer::{Span, Token, TokenKind};
+use rc_model::Mode;
 use rc_text::unquote;
-use rc_tree::Mode;
 use std::alloc::{AllocError, Global};
 use std::str;
 

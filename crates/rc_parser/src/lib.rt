@@ -2,8 +2,8 @@
 #![tactic(auto)]
 
 ghost use Rattle.std.specs.Prelude.{◌≡◌, IfOk, IfErr};
-ghost use Rattle.rc_model.specs.Accepted.{IsAccepted, HasTokens};
-ghost use Rattle.rc_model.specs.Tree.{Node, cmd};
+ghost use Rattle.rc_model.specs.Syntax.Accepted.{IsAccepted, HasTokens};
+ghost use Rattle.rc_model.specs.Syntax.Tree.{Node, cmd};
 ghost use Rattle.rc_lexer.specs.Views.{tokens_of};
 ghost use Rattle.rc_parser.specs.Faults.{Refuses};
 ghost use Rattle.rc_tree.specs.View.{cmd_tree};
@@ -12,11 +12,13 @@ mod fault;
 mod lexemes;
 mod text;
 
-pub use fault::{FaultKind, ParseError, SyntaxFault};
-use rc_descent::Refusal;
-use rc_lexer::{LexError, Token};
+use rc_lexer::Token;
+pub use rc_model::{FaultKind, InputError, SyntaxFault};
 use rc_tree::Cmd;
 use std::alloc::Global;
+
+/// Why there is no tree: the script's first fault, or memory was refused.
+pub type ParseError = InputError<SyntaxFault>;
 
 /// The tree of a script, or its first fault.
 pub fn parse(alloc: Global, script: &[u8]) -> Result<Cmd, ParseError>
@@ -29,10 +31,10 @@ pub fn parse(alloc: Global, script: &[u8]) -> Result<Cmd, ParseError>
     let lexemes = lexemes::lexemes(alloc, script, &tokens)?;
     match rc_descent::script(alloc, &lexemes) {
         Ok(cmd) => Ok(cmd),
-        Err(Refusal::Fault(fault, left)) => Err(ParseError::Fault(fault::of_descent(
-            script, &tokens, fault, left,
+        Err(InputError::Fault(found)) => Err(InputError::Fault(fault::syntax_fault(
+            script, &tokens, found,
         ))),
-        Err(Refusal::NoMemory) => Err(ParseError::NoMemory),
+        Err(InputError::NoMemory) => Err(InputError::NoMemory),
     }
 }
 
@@ -42,9 +44,5 @@ fn tokens(alloc: Global, script: &[u8]) -> Result<Vec<Token>, ParseError>
     ensures refused { IfErr result (λ e. Refuses e script.now) }
 {
     let text = text::checked(script)?;
-    match rc_lexer::lex(alloc, text) {
-        Ok(tokens) => Ok(tokens),
-        Err(LexError::Fault(fault)) => Err(ParseError::Fault(fault::of_lexer(fault))),
-        Err(LexError::NoMemory) => Err(ParseError::NoMemory),
-    }
+    rc_lexer::lex(alloc, text)
 }

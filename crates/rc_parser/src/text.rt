@@ -1,10 +1,9 @@
 //! The text of a script.
 
 ghost use Rattle.std.specs.Prelude.{◌≡◌, ◌≤◌, length, IfOk, IfErr, IsUtf8, OnOk};
-ghost use Rattle.rc_model.specs.Accepted.{line_of, longest_script, IsRefused};
-ghost use Rattle.rc_parser.specs.Faults.{fault_of};
+ghost use Rattle.rc_model.specs.Syntax.Accepted.{line_of, longest_script, IsRefused};
 
-use crate::{FaultKind, SyntaxFault};
+use rc_model::{FaultKind, SyntaxFault};
 use std::str;
 
 /// How many bytes a script has at most.
@@ -16,7 +15,7 @@ pub fn checked(script: &[u8]) -> Result<&str, SyntaxFault>
     ensures text { IfOk result (λ s. s.now ≡ script.now) }
     ensures utf8 { IfOk result (λ s. IsUtf8 s.now) }
     ensures short { OnOk result (length script.now ≤ longest_script) }
-    ensures refused { IfErr result (λ f. IsRefused script.now (fault_of f)) }
+    ensures refused { IfErr result (λ f. IsRefused script.now f) }
 {
     if script.len() > LONGEST {
         return Err(SyntaxFault {

@@ -1,11 +1,2 @@
-pub mod Calls
-pub mod Entries
-pub mod Escapes
 pub mod Runs
 pub mod Scripts
-pub mod Search
-pub mod Stacks
-pub mod StateLaws
-pub mod Texts
-pub mod Variables
-pub mod WordLaws

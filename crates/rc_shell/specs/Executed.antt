@@ -1,42 +1,42 @@
--- How the run of a script ends.
-use Rattle.std.specs.Prelude.{ℕ, List, Option, Result, Ok, Err}
-use Rattle.std.specs.declared.alloc.AllocError.{AllocError}
-use Rattle.rc_model.specs.Calls.{Event}
-use Rattle.rc_model.specs.Script.{Told, EndsAsMeant, HaltsAsMeant, IsBegunAsMeant, StopsAtLimit}
-use Rattle.rc_model.specs.State as model
-use Rattle.rc_model.specs.Tree.{Node, cmd}
-use Rattle.rc_shell.specs.States.{state_of}
-use Rattle.rc_parser.specs.declared.fault.SyntaxFault.{SyntaxFault}
+-- How the run of a script ends, by the instructions that it may take and by what the script means.
+use Rattle.std.specs.Prelude.{◌≡◌, ℕ, List, [], Result, Ok, Err}
+use Rattle.rc_model.specs.Run.Calls.{Event, calls, answers}
+use Rattle.rc_model.specs.Run.Plans.{Ends, Waits, calls_made}
+use Rattle.rc_model.specs.Run.Script.{run, IsPrefix, EndsAsMeant, HaltsAsMeant, IsBegunAsMeant, StopsAtLimit}
+use Rattle.rc_model.specs.Run.State as model
+use Rattle.rc_model.specs.Syntax.Tree.{Node, cmd}
+use Rattle.rc_model.specs.declared.fault.SyntaxFault.{SyntaxFault}
+use Rattle.rc_scope.specs.States.{state_of}
 use Rattle.rc_shell.specs.declared.script.Ran.{Ran}
-use Rattle.rc_shell.specs.declared.script.Ran.TheVariants.{Ended, Limit, Halted}
+use Rattle.rc_shell.specs.declared.script.Ran.TheVariants.{Ended, Limit, Halted, NotYet}
 use Rattle.rc_shell.specs.declared.script.ShellFault.{ShellFault}
 use Rattle.rc_shell.specs.declared.script.ShellFault.TheVariants.{Syntax, NoMemory}
-use Rattle.rc_shell.specs.declared.state.State.{State}
 
--- a fact for one outcome
-abbrev pub IfEnded : Ran → (State → Type 0) → Type 0
-IfEnded (Ended state) P = P state
-IfEnded _ P = Unit {0}
+-- at most so many instructions end in this state, and so does the meaning
+pub record EndsWithin (limit : ℕ) (t : Node cmd) (s : model.State) (trace : List Event) (end : model.State) : Type 0 where
+  pub ran : run limit t s (answers trace) ≡ Ends (calls trace) end []
+  pub meant : EndsAsMeant t s trace end
 
-abbrev pub OnHalted : Ran → Type 0 → Type 0
-OnHalted Halted P = P
-OnHalted _ P = Unit {0}
+-- at most so many instructions wait at the call that was not answered, and so does the meaning
+pub record HaltsWithin (limit : ℕ) (t : Node cmd) (s : model.State) (trace : List Event) : Type 0 where
+  pub ran : run limit t s (answers trace) ≡ Waits (calls trace)
+  pub meant : HaltsAsMeant t s trace
 
-abbrev pub OnLimit : Ran → Type 0 → Type 0
-OnLimit Limit P = P
-OnLimit _ P = Unit {0}
+-- the calls are the first ones of at most so many instructions, and of the meaning
+pub record IsBegunWithin (limit : ℕ) (t : Node cmd) (s : model.State) (trace : List Event) : Type 0 where
+  pub ran : IsPrefix (calls trace) (calls_made (run limit t s (answers trace)))
+  pub meant : IsBegunAsMeant t s trace
 
+-- the run of a script that is accepted, by how it ended
+abbrev pub RunsAsMeant : (limit : ℕ) → Node cmd → model.State → List Event → Result Ran ShellFault → Type 0
+RunsAsMeant limit t s trace (Ok (Ended end)) = EndsWithin limit t s trace (state_of end)
+RunsAsMeant limit t s trace (Ok Limit) = StopsAtLimit limit t s trace
+RunsAsMeant limit t s trace (Ok Halted) = HaltsWithin limit t s trace
+RunsAsMeant limit t s trace (Ok NotYet) = IsBegunWithin limit t s trace
+RunsAsMeant limit t s trace (Err NoMemory) = IsBegunWithin limit t s trace
+RunsAsMeant limit t s trace (Err (Syntax fault)) = ⊥
+
+-- a fact for a fault of the script
 abbrev pub IfSyntax : ShellFault → (SyntaxFault → Type 0) → Type 0
 IfSyntax (Syntax fault) P = P fault
 IfSyntax NoMemory P = Unit {0}
-
-abbrev pub OnNoMemory : ShellFault → Type 0 → Type 0
-OnNoMemory NoMemory P = P
-OnNoMemory (Syntax fault) P = Unit {0}
-
--- what was told of the run of a tree is what the tree means
-abbrev pub RunsAsMeant : Option (List Event) → Option (List Event) → ℕ → Node cmd → model.State → Result Ran AllocError → Type 0
-RunsAsMeant before after limit t s (Ok (Ended state)) = Told before after (λ trace. EndsAsMeant t s trace (state_of state))
-RunsAsMeant before after limit t s (Ok Limit) = Told before after (λ trace. StopsAtLimit limit t s trace)
-RunsAsMeant before after limit t s (Ok Halted) = Told before after (λ trace. HaltsAsMeant t s trace)
-RunsAsMeant before after limit t s (Err e) = Told before after (λ trace. IsBegunAsMeant t s trace)

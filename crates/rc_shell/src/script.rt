@@ -1,20 +1,19 @@
 //! Runs a whole script.
 
-ghost use Rattle.std.specs.Prelude.{◌≡◌, List, IfOk, IfErr, OnOk};
-ghost use Rattle.rc_model.specs.Calls.{Answer};
-ghost use Rattle.rc_model.specs.Faults as model;
-ghost use Rattle.rc_model.specs.Accepted.{IsAccepted, IsRefused};
-ghost use Rattle.rc_model.specs.Script.{Agrees, Told, EndsAsMeant, HaltsAsMeant, IsBegunAsMeant, StopsAtLimit};
-ghost use Rattle.rc_model.specs.Tree.{Node, cmd};
-ghost use Rattle.rc_parser.specs.Faults.{fault_of};
-ghost use Rattle.rc_shell.specs.Executed.{IfEnded, OnHalted, OnLimit, IfSyntax, OnNoMemory, RunsAsMeant};
+ghost use Rattle.std.specs.Prelude.{◌≡◌, List, IfErr, OnOk};
+ghost use Rattle.rc_model.specs.Run.Calls.{Answer};
+ghost use Rattle.rc_model.specs.Syntax.Accepted.{IsAccepted, IsRefused};
+ghost use Rattle.rc_model.specs.Run.Script.{Agrees, Told};
+ghost use Rattle.rc_model.specs.Syntax.Tree.{Node, cmd};
+ghost use Rattle.rc_scope.specs.States.{state_of};
+ghost use Rattle.rc_shell.specs.Executed.{IfSyntax, RunsAsMeant};
 ghost use Rattle.rc_tree.specs.View.{cmd_tree};
-ghost use Rattle.rc_shell.specs.States.{state_of};
 
-use crate::code::compile;
-use crate::machine::{Machine, Progress};
-use crate::state::State;
-use rc_parser::{ParseError, SyntaxFault, parse};
+use rc_code::compile;
+use rc_machine::{Machine, Progress};
+use rc_model::{InputError, SyntaxFault};
+use rc_parser::parse;
+use rc_scope::State;
 use rc_tree::Cmd;
 use rc_world::World;
 use std::alloc::{AllocError, Global};
@@ -29,6 +28,8 @@ pub enum Ran {
     Limit,
     /// A call was not answered.
     Halted,
+    /// The script came to what can't be run yet.
+    NotYet,
 }
 
 /// Why a script was not run to its end.
@@ -48,11 +49,11 @@ fn run_tree<W: World>(
     cmd: &Cmd,
     state: State,
     limit: u64,
-) -> Result<Ran, AllocError>
-    ensures { RunsAsMeant (W.events world.old) (W.events world.new) limit (cmd_tree cmd.now) (state_of state) result }
+) -> Result<Ran, ShellFault>
+    ensures { Told (W.events world.old) (W.events world.new) (λ trace. RunsAsMeant limit (cmd_tree cmd.now) (state_of state) trace result) }
 {
     let Ok(code) = compile(alloc, cmd) else {
-        return Err(AllocError);
+        return Err(ShellFault::NoMemory);
     };
     let mut machine = Machine::new(alloc, code, state);
     match machine.run(alloc, world, limit) {
@@ -61,12 +62,13 @@ fn run_tree<W: World>(
         }),
         Ok(Progress::Limit) => Ok(Ran::Limit),
         Ok(Progress::Halted) => Ok(Ran::Halted),
-        Err(AllocError) => Err(AllocError),
+        Ok(Progress::NotYet) => Ok(Ran::NotYet),
+        Err(AllocError) => Err(ShellFault::NoMemory),
     }
 }
 
 /// Runs a script from a state, with at most `limit` instructions.
-#[tactic(auto, using(rc_machine_laws::proofs::Ends::agrees))]
+#[tactic(auto, using(law_machine::proofs::Ends::agrees))]
 pub fn execute<W: World>(
     alloc: Global,
     world: &mut W,
@@ -76,25 +78,18 @@ pub fn execute<W: World>(
 ) -> Result<Ran, ShellFault>
     // A fault of the script comes exactly where the script is not accepted, and no call is made then.
     ensures accepted { OnOk result ((t : Node cmd) × IsAccepted script.now t) }
-    ensures syntax { IfErr result (λ f. IfSyntax f (λ fault. IsRefused script.now (fault_of fault))) }
-    ensures silent { (fault : model.SyntaxFault) → IsRefused script.now fault → W.events world.new ≡ W.events world.old }
+    ensures syntax { IfErr result (λ f. IfSyntax f (λ fault. IsRefused script.now fault)) }
+    ensures silent { (fault : SyntaxFault) → IsRefused script.now fault → W.events world.new ≡ W.events world.old }
 
-    // The calls are those of the meaning, over the answers that were given.
-    ensures ended { IfOk result (λ ran. IfEnded ran (λ end. (t : Node cmd) → IsAccepted script.now t → Told (W.events world.old) (W.events world.new) (λ trace. EndsAsMeant t (state_of state) trace (state_of end)))) }
-    ensures halted { IfOk result (λ ran. OnHalted ran ((t : Node cmd) → IsAccepted script.now t → Told (W.events world.old) (W.events world.new) (λ trace. HaltsAsMeant t (state_of state) trace))) }
-    ensures at_limit { IfOk result (λ ran. OnLimit ran ((t : Node cmd) → IsAccepted script.now t → Told (W.events world.old) (W.events world.new) (λ trace. StopsAtLimit limit t (state_of state) trace))) }
-    ensures no_memory { IfErr result (λ f. OnNoMemory f ((t : Node cmd) → IsAccepted script.now t → Told (W.events world.old) (W.events world.new) (λ trace. IsBegunAsMeant t (state_of state) trace))) }
+    // The calls are those of the meaning, and of at most so many instructions, over the answers that were given.
+    ensures meant { (t : Node cmd) → IsAccepted script.now t → Told (W.events world.old) (W.events world.new) (λ trace. RunsAsMeant limit t (state_of state) trace result) }
 
     // Where the meaning ends or waits, so does the code, from some number of instructions on.
     ensures converse { (t : Node cmd) → IsAccepted script.now t → (given : List Answer) → Agrees t (state_of state) given }
 {
-    let cmd = match parse(alloc, script) {
-        Ok(cmd) => cmd,
-        Err(ParseError::Fault(fault)) => return Err(ShellFault::Syntax(fault)),
-        Err(ParseError::NoMemory) => return Err(ShellFault::NoMemory),
-    };
-    match run_tree(alloc, world, &cmd, state, limit) {
-        Ok(ran) => Ok(ran),
-        Err(AllocError) => Err(ShellFault::NoMemory),
+    match parse(alloc, script) {
+        Ok(cmd) => run_tree(alloc, world, &cmd, state, limit),
+        Err(InputError::Fault(fault)) => Err(ShellFault::Syntax(fault)),
+        Err(InputError::NoMemory) => Err(ShellFault::NoMemory),
     }
 }

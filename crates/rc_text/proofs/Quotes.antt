@@ -6,7 +6,7 @@ use Rattle.std.proofs.lemmas.Bool.Decides.{nat_tests}
 use Rattle.std.proofs.lemmas.Str.{encode_ascii, encodes-append, inside_one}
 use Rattle.std.proofs.lemmas.Grind.{common_steps}
 use lib.Utf8.{encode, encodes}
-use Rattle.rc_model.specs.Tokens.{doubled_quotes}
+use Rattle.rc_model.specs.Syntax.Tokens.{doubled_quotes}
 
 doubled-append : (xs ys : List ℕ) → doubled_quotes (xs ++ ys) ≡ doubled_quotes xs ++ doubled_quotes ys
 doubled-append [] ys = refl

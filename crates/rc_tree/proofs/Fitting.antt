@@ -3,11 +3,12 @@ use Rattle.std.specs.List.{list_any}
 use Rattle.std.proofs.Common.{◌≡◌, refl, ap, ◌∙◌, ℕ, suc, ◌-◌, max, Bool, true, false, ◌&&◌, ◌||◌, not, nat_lt, nat_le, ◌==◌, List, [], ◌∷◌, length, arith}
 use Rattle.std.proofs.lemmas.Bool.Decides.{nat_tests}
 use Rattle.std.proofs.lemmas.Grind.{common_steps}
-use Rattle.rc_model.specs.Calls.{Mode}
-use Rattle.rc_model.specs.Tree.{Sort, Node, Many, none, more, count, nodes}
-use Rattle.rc_model.specs.Tree as t
-use Rattle.rc_model.specs.WellFormed.{depth, depths, is_sound, are_sound, has_some, has_several, has_stages}
-use Rattle.rc_model.specs.WellFormed.{is_output, opens, copies, has_text, without_zero}
+use Rattle.rc_model.specs.declared.call.Mode.{Mode}
+use Rattle.rc_model.specs.declared.syntax.Logic.{Logic}
+use Rattle.rc_model.specs.Syntax.Tree.{Sort, Node, Many, none, more, count, nodes}
+use Rattle.rc_model.specs.Syntax.Tree as t
+use Rattle.rc_model.specs.Syntax.WellFormed.{depth, depths, is_sound, are_sound, has_some, has_several, has_stages}
+use Rattle.rc_model.specs.Syntax.WellFormed.{is_output, opens, copies, has_text, without_zero}
 use Rattle.rc_tree.specs.View.{tree_nodes}
 use Rattle.rc_tree.specs.Fits.{fits, all_fit}
 
@@ -194,7 +195,7 @@ pub fits_Stage : (x : Node t.cmd) (slot : ℕ) (d : ℕ) → fits (t.Stage x slo
 unfolding fits all_fit
 fits_Stage x slot d = and_assoc (is_output slot) (is_sound x) (nat_le (depth x) d)
 
-pub fits_Link : (logic : t.Logic) (x : Node t.cmd) (d : ℕ) → fits (t.Link logic x) d ≡ fits x d
+pub fits_Link : (logic : Logic) (x : Node t.cmd) (d : ℕ) → fits (t.Link logic x) d ≡ fits x d
 unfolding fits all_fit
 fits_Link logic x d = refl
 

@@ -4,7 +4,8 @@ use Rattle.std.specs.declared.vec.Vec.{Vec}
 use Rattle.std.specs.declared.boxed.Box.{Box}
 use Rattle.std.specs.declared.string.String.{String}
 use Rattle.std.proofs.Common.{◌≡◌, refl, sym, ◌∙◌, ℕ, Bool, false, List, [], ◌∷◌}
-use Rattle.rc_model.specs.Printing.{is_empty, stands_first, begins_with_case, body_lines, Line}
+use Rattle.rc_model.specs.Syntax.Printing.{stands_first, begins_with_case, body_lines, Line}
+use Rattle.rc_model.specs.Syntax.Tree.{is_empty}
 use Rattle.rc_tree.specs.declared.Cmd.{Cmd}
 use Rattle.rc_tree.specs.declared.Cmd.TheVariants as c
 use Rattle.rc_tree.specs.declared.Arg.{Arg}

@@ -2,12 +2,14 @@
 use Rattle.std.specs.List.{flat_map}
 use Rattle.std.proofs.Common.{◌≡◌, refl, ap, sym, ◌∙◌, ℕ, Bool, true, false, List, [], ◌∷◌, ◌++◌, codes, append_assoc, append-nil, IsUtf8}
 use Rattle.std.proofs.lemmas.Grind.{common_steps}
-use Rattle.rc_model.specs.Calls.{Mode}
-use Rattle.rc_model.specs.Tree.{Node, Many, none, more, Logic}
-use Rattle.rc_model.specs.Tree as t
-use Rattle.rc_model.specs.Printing.{Line, joined, ended, parting, listed, literal, bar, sign, opening, copying, is_empty, stands_first, body_lines}
-use Rattle.rc_model.specs.Printing.{cmd_text, arg_text, redir_text, arg_texts, pair_texts, redir_texts, stages_text, links_text}
-use Rattle.rc_model.specs.Printing.{item_lines, branch_lines, branch_items}
+use Rattle.rc_model.specs.declared.call.Mode.{Mode}
+use Rattle.rc_model.specs.Syntax.Tree.{Node, Many, none, more}
+use Rattle.rc_model.specs.declared.syntax.Logic.{Logic}
+use Rattle.rc_model.specs.Syntax.Tree as t
+use Rattle.rc_model.specs.Syntax.Printing.{Line, joined, ended, parting, listed, literal, bar, sign, opening, copying, stands_first, body_lines}
+use Rattle.rc_model.specs.Syntax.Tree.{is_empty}
+use Rattle.rc_model.specs.Syntax.Printing.{cmd_text, arg_text, redir_text, arg_texts, pair_texts, redir_texts, stages_text, links_text}
+use Rattle.rc_model.specs.Syntax.Printing.{item_lines, branch_lines, branch_items}
 use Rattle.rc_tree.specs.Lines.{led, trailed, behind, parting_after}
 use Rattle.rc_tree.specs.View.{tree_nodes}
 

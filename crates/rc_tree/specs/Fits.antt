@@ -1,7 +1,7 @@
 -- Well formed within a number of levels.
 use Rattle.std.specs.Prelude.{ℕ, Bool, ◌&&◌, nat_le}
-use Rattle.rc_model.specs.Tree.{Sort, Node, Many}
-use Rattle.rc_model.specs.WellFormed.{depth, depths, is_sound, are_sound}
+use Rattle.rc_model.specs.Syntax.Tree.{Sort, Node, Many}
+use Rattle.rc_model.specs.Syntax.WellFormed.{depth, depths, is_sound, are_sound}
 
 -- a sound node of at most so many levels
 unfoldable pub fits : {s : Sort} → Node s → ℕ → Bool

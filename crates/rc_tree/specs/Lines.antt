@@ -1,6 +1,6 @@
 -- Texts and lines as a walk along a list writes them, behind what stands there already.
 use Rattle.std.specs.Prelude.{ℕ, List, [], ◌∷◌, ◌++◌, codes}
-use Rattle.rc_model.specs.Printing.{Line, ended, parting}
+use Rattle.rc_model.specs.Syntax.Printing.{Line, ended, parting}
 
 -- `between` stands before the first text, and `mark` before each further one
 abbrev pub led : (between mark : List ℕ) → List (List ℕ) → List ℕ

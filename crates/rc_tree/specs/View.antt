@@ -6,12 +6,10 @@ use Rattle.std.specs.declared.boxed.Box.{Box}
 use Rattle.std.specs.declared.string.String.{String}
 use Rattle.std.proofs.lemmas.Grind.{common_steps}
 use Rattle.std.proofs.Common.{ap, sym, ◌∙◌}
-use Rattle.rc_model.specs.Tree.{Sort, Node, Many, none, more, nodes, snoc}
-use Rattle.rc_model.specs.Tree as t
-use Rattle.rc_world.specs.Views.{mode_of}
-use Rattle.rc_world.specs.declared.types.Mode.{Mode}
-use Rattle.rc_tree.specs.declared.Logic.{Logic}
-use Rattle.rc_tree.specs.declared.Logic.TheVariants.{And, Or}
+use Rattle.rc_model.specs.Syntax.Tree.{Sort, Node, Many, none, more, nodes, snoc}
+use Rattle.rc_model.specs.Syntax.Tree as t
+use Rattle.rc_model.specs.declared.call.Mode.{Mode}
+use Rattle.rc_model.specs.declared.syntax.Logic.{Logic}
 use Rattle.rc_tree.specs.declared.Piece.{Piece}
 use Rattle.rc_tree.specs.declared.Piece.TheVariants.{Text, Name}
 use Rattle.rc_tree.specs.declared.Cmd.{Cmd}
@@ -29,10 +27,6 @@ use Rattle.rc_tree.specs.declared.Cmd.{Row_of-Redir, end_of-Redir, more_of-Redir
 use Rattle.rc_tree.specs.declared.Cmd.{Row_of-Cmd-AndOr-1-2, end_of-Cmd-AndOr-1-2, more_of-Cmd-AndOr-1-2}
 use Rattle.rc_tree.specs.declared.Cmd.{Row_of-Branch, end_of-Branch, more_of-Branch}
 use Rattle.rc_tree.specs.declared.Arg.TheBlock as rows
-
-abbrev pub logic_of : Logic → t.Logic
-logic_of And = t.And
-logic_of Or = t.Or
 
 abbrev pub piece_tree : Piece → Node t.piece
 piece_tree (Text x) = t.Text (string_bytes x)
@@ -74,7 +68,7 @@ unfoldable mutual
   arg_tree (a.Back' p x) = t.Back (cmd_tree x)
 
   pub redir_tree : Redir → Node t.redir
-  redir_tree (r.Open m s x) = t.Open (mode_of m) s (arg_tree x)
+  redir_tree (r.Open m s x) = t.Open m s (arg_tree x)
   redir_tree (r.Copy x y) = t.Copy x y
   redir_tree (r.Here ps) = t.Here (pieces_tree ps.items)
 
@@ -100,7 +94,7 @@ unfoldable mutual
 
   link_row : {m : _} → Row_of-Cmd-AndOr-1-2 m → Many t.link
   link_row end_of-Cmd-AndOr-1-2 = none
-  link_row (more_of-Cmd-AndOr-1-2 l x k) = more (t.Link (logic_of l) (cmd_tree x)) (link_row k)
+  link_row (more_of-Cmd-AndOr-1-2 l x k) = more (t.Link l (cmd_tree x)) (link_row k)
 
   branch_row : {m : _} → Row_of-Branch m → Many t.branch
   branch_row end_of-Branch = none
@@ -132,7 +126,7 @@ abbrev pub stages_tree : List Stage → Many t.stage
 stages_tree = nodes stage_tree
 
 abbrev pub link_tree : Logic × Cmd → Node t.link
-link_tree x = t.Link (logic_of x.0) (cmd_tree x.1)
+link_tree x = t.Link x.0 (cmd_tree x.1)
 
 abbrev pub links_tree : List (Logic × Cmd) → Many t.link
 links_tree = nodes link_tree
@@ -172,7 +166,7 @@ stages_listed (more_of-Stage x n k) = ap (more (t.Stage (cmd_tree x) n)) (stages
 links_listed : {m : _} (k : Row_of-Cmd-AndOr-1-2 m) → link_row k ≡ links_tree (rows.items-the_row-Cmd-AndOr-1-2 m k)
 unfolding link_row
 links_listed end_of-Cmd-AndOr-1-2 = refl
-links_listed (more_of-Cmd-AndOr-1-2 l x k) = ap (more (t.Link (logic_of l) (cmd_tree x))) (links_listed k)
+links_listed (more_of-Cmd-AndOr-1-2 l x k) = ap (more (t.Link l (cmd_tree x))) (links_listed k)
 
 branches_listed : {m : _} (k : Row_of-Branch m) → branch_row k ≡ branches_tree (rows.items-the_row-Branch m k)
 unfolding branch_row
@@ -312,7 +306,7 @@ pub tree_Back : (x : Box Cmd Global) → arg_tree (a.Back x) ≡ t.Back (cmd_tre
 unfolding arg_tree
 tree_Back x = refl
 
-pub tree_Open : (m : Mode) (s : ℕ) (x : Arg) → redir_tree (r.Open m s x) ≡ t.Open (mode_of m) s (arg_tree x)
+pub tree_Open : (m : Mode) (s : ℕ) (x : Arg) → redir_tree (r.Open m s x) ≡ t.Open m s (arg_tree x)
 unfolding redir_tree
 tree_Open m s x = refl
 

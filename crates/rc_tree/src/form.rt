@@ -1,9 +1,9 @@
 //! What the text of a command depends on besides the texts of its parts.
 
 ghost use Rattle.std.specs.Prelude.{◌≡◌, ◌++◌, OnOk, string_bytes, codes, if◌then◌else◌};
-ghost use Rattle.rc_model.specs.Printing.{is_empty, stands_first, begins_with_case, begin_with_case, literal, bar, sign, opening, copying};
-ghost use Rattle.rc_world.specs.Views.{mode_of};
-ghost use Rattle.rc_tree.specs.View.{cmd_tree, arg_tree, args_tree, logic_of};
+ghost use Rattle.rc_model.specs.Syntax.Printing.{stands_first, begins_with_case, begin_with_case, literal, bar, sign, opening, copying};
+ghost use Rattle.rc_model.specs.Syntax.Tree.{is_empty};
+ghost use Rattle.rc_tree.specs.View.{cmd_tree, arg_tree, args_tree};
 
 use crate::{Arg, Cmd, Logic, Mode};
 use rc_text::push_quoted;
@@ -68,7 +68,7 @@ pub fn bar(slot: u8) -> &'static str
 
 /// How `&&` and `||` are written.
 pub fn sign(logic: Logic) -> &'static str
-    ensures { result.now ≡ sign (logic_of logic) }
+    ensures { result.now ≡ sign logic }
 {
     match logic {
         Logic::And => " && ",
@@ -78,7 +78,7 @@ pub fn sign(logic: Logic) -> &'static str
 
 /// What stands before a file's name.
 pub fn opening(mode: Mode, slot: u8) -> &'static str
-    ensures { result.now ≡ opening (mode_of mode) slot }
+    ensures { result.now ≡ opening mode slot }
 {
     match (mode, slot) {
         (Mode::Read, _) => "< ",

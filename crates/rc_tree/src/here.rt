@@ -1,7 +1,7 @@
 //! Whether a here document is inside a tree.
 
 ghost use Rattle.std.specs.Prelude.{◌≡◌};
-ghost use Rattle.rc_model.specs.Printing.{has_here, have_here};
+ghost use Rattle.rc_model.specs.Syntax.Printing.{has_here, have_here};
 ghost use Rattle.rc_tree.specs.View.{cmd_tree, arg_tree, redir_tree};
 ghost use Rattle.rc_tree.specs.View.{args_tree, items_tree, pairs_tree, redirs_tree, stages_tree, links_tree, branches_tree};
 

@@ -9,7 +9,7 @@ mod soundness;
 
 pub use clone::clone_tree;
 pub use printing::{PrintFault, print};
-pub use rc_world::Mode;
+pub use rc_model::{Logic, Mode};
 pub use soundness::well_formed;
 
 /// A command.
@@ -54,13 +54,6 @@ pub struct Item {
 pub struct Stage {
     pub cmd: Cmd,
     pub slot: u8,
-}
-
-/// Whether a command runs where the one before was true, or where it wasn't.
-#[derive(Clone, Copy)]
-pub enum Logic {
-    And,
-    Or,
 }
 
 /// A case line of a `switch`, with the commands that follow it.

@@ -1,8 +1,8 @@
 //! A tree as text.
 
 ghost use Rattle.std.specs.Prelude.{◌≡◌, ◌++◌, [], OnOk, IfOk, IsErrOf, true, false, string_bytes, codes};
-ghost use Rattle.rc_model.specs.Printing.{printed, has_here, cmd_text, arg_text, redir_text, arg_texts, pair_texts, redir_texts};
-ghost use Rattle.rc_model.specs.Printing.{stages_text, links_text, item_lines, branch_lines, branch_items, body_lines};
+ghost use Rattle.rc_model.specs.Syntax.Printing.{printed, has_here, cmd_text, arg_text, redir_text, arg_texts, pair_texts, redir_texts};
+ghost use Rattle.rc_model.specs.Syntax.Printing.{stages_text, links_text, item_lines, branch_lines, branch_items, body_lines};
 ghost use Rattle.rc_tree.specs.Lines.{led, trailed, behind, parting_after};
 ghost use Rattle.rc_tree.specs.View.{cmd_tree, arg_tree, redir_tree};
 ghost use Rattle.rc_tree.specs.View.{args_tree, items_tree, pairs_tree, redirs_tree, stages_tree, links_tree, branches_tree};

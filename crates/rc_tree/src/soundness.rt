@@ -1,8 +1,7 @@
 //! Which trees are well formed.
 
 ghost use Rattle.std.specs.Prelude.{◌≡◌};
-ghost use Rattle.rc_model.specs.WellFormed.{well_formed, is_output, opens, copies, without_zero, are_sound};
-ghost use Rattle.rc_world.specs.Views.{mode_of};
+ghost use Rattle.rc_model.specs.Syntax.WellFormed.{well_formed, is_output, opens, copies, without_zero, are_sound};
 ghost use Rattle.rc_tree.specs.View.{cmd_tree, arg_tree, redir_tree, pieces_tree};
 ghost use Rattle.rc_tree.specs.View.{args_tree, items_tree, pairs_tree, redirs_tree, stages_tree, links_tree, branches_tree};
 ghost use Rattle.rc_tree.specs.Fits.{fits, all_fit};
@@ -200,7 +199,7 @@ fn without_zero(text: &str) -> bool
 }
 
 fn opens(mode: Mode, slot: u8) -> bool
-    ensures { result ≡ opens (mode_of mode) slot }
+    ensures { result ≡ opens mode slot }
 {
     match mode {
         Mode::Read => slot == 0,

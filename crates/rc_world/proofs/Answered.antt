@@ -4,26 +4,26 @@ use Rattle.std.proofs.Common.{None, option_map, Result, Ok, Err, map, string_byt
 use Rattle.std.specs.declared.alloc.Global.{Global}
 use Rattle.std.specs.Prelude.{Bool, true, false, if◌then◌else◌}
 use Rattle.std.proofs.lemmas.Bool.{le-leb}
-use Rattle.rc_model.specs.Calls as calls
-use Rattle.rc_model.specs.Calls.{Call, Answer, Event, file, pair, done, bytes, child, ended}
-use Rattle.rc_model.specs.Calls.{names, found, refused, extend, told_by, was_made, is_halt, want, taken_as, Want}
-use Rattle.rc_model.specs.Calls.{WantsFile, WantsPair, WantsDone, WantsBytes, WantsChild, WantsEnding, WantsNames, WantsKind}
-use Rattle.rc_model.specs.Calls.{as_file, as_pair, as_done, as_bytes, as_child, as_ending, as_names, as_kind}
-use Rattle.rc_model.specs.Plans.{Plan, done_with, asks, Ran}
+use Rattle.rc_model.specs.Run.Calls.{Call, Answer, Event, file, pair, done, bytes, child, ended}
+use Rattle.rc_model.specs.Run.Calls.{names, found, refused, extend, told_by, was_made, is_halt, want, taken_as, Want}
+use Rattle.rc_model.specs.Run.Calls.{WantsFile, WantsPair, WantsDone, WantsBytes, WantsChild, WantsEnding, WantsNames, WantsKind}
+use Rattle.rc_model.specs.Run.Calls.{as_file, as_pair, as_done, as_bytes, as_child, as_ending, as_names, as_kind}
+use Rattle.rc_model.specs.Run.Plans.{Plan, done_with, asks, Ran}
 use Rattle.rc_world.specs.Comes.{Comes, unless_refused, was_done}
 use Rattle.rc_world.specs.Views.{answer_or_refused, file_answer, pair_answer, done_answer, bytes_answer, child_answer}
-use Rattle.rc_world.specs.Views.{ending_answer, names_answer, kind_answer, fault_of, ending_of, kind_of}
-use Rattle.rc_world.specs.declared.types.Fault.{Fault}
-use Rattle.rc_world.specs.declared.types.Fault.TheVariants.{NotFound, Denied, Exists, Broken, Full, Other, Halt, NoMemory}
+use Rattle.rc_world.specs.Views.{ending_answer, names_answer, kind_answer}
+use Rattle.rc_model.specs.declared.call.Fault.{Fault}
+use Rattle.rc_model.specs.declared.call.Fault.TheVariants.{NotFound, Denied, Exists, Broken, Full, Other, Halt, NoMemory}
 use Rattle.rc_world.specs.declared.types.Stop.{Stop}
-use Rattle.rc_world.specs.declared.types.Handle.{Handle}
-use Rattle.rc_world.specs.declared.types.ChildNo.{ChildNo}
-use Rattle.rc_world.specs.declared.types.Ending.{Ending}
-use Rattle.rc_world.specs.declared.types.Kind.{Kind}
-use Rattle.rc_world.proofs.Joins.{ran_call, left_no_memory, left_halt}
+use Rattle.rc_model.specs.declared.call.Handle.{Handle}
+use Rattle.rc_model.specs.declared.call.ChildNo.{ChildNo}
+use Rattle.rc_model.specs.declared.call.Ending.{Ending}
+use Rattle.rc_model.specs.declared.call.Kind.{Kind}
+use Rattle.law_plans.proofs.Runs.{ran_call}
+use Rattle.rc_world.proofs.Joins.{left_no_memory, left_halt}
 
 -- a refusal is taken in one way, whatever is wanted
-same_refusal : (w : Want) (f : calls.Fault) → taken_as w (refused f) ≡ taken_as WantsFile (refused f)
+same_refusal : (w : Want) (f : Fault) → taken_as w (refused f) ≡ taken_as WantsFile (refused f)
 same_refusal WantsFile f = refl
 same_refusal WantsPair f = refl
 same_refusal WantsDone f = refl
@@ -46,8 +46,8 @@ ran_asks {V = V} a b c seen x v g h =
     let P : V → Type 0 = λ v. Ran a b (asks c seen) (done_with v) in
     subst P g.viewed (ran_call a b c x (λ x. done_with (seen x)) g.made (record { came = g.came; fits = g.fits }) h)
 
--- a refusal, by a fault that is neither a halt nor want of memory
-ran_refused : {V : Type 0} (a b : Option (List Event)) (c : Call) (seen : Answer → V) (f : calls.Fault) (v : V) →
+-- a refusal, by a fault that is neither a halt nor memory that was refused
+ran_refused : {V : Type 0} (a b : Option (List Event)) (c : Call) (seen : Answer → V) (f : Fault) (v : V) →
     was_made (refused f) ≡ true → is_halt (refused f) ≡ false → taken_as WantsFile (refused f) ≡ refused f → seen (refused f) ≡ v →
     b ≡ extend a (told_by c (refused f)) → Ran a b (asks c seen) (done_with v)
 ran_refused a b c seen f v made came fits viewed h =
@@ -55,19 +55,19 @@ ran_refused a b c seen f v made came fits viewed h =
 
 -- the refusal of a call
 refusal_comes : {T V : Type 0} (a b : Option (List Event)) (c : Call) (seen : Answer → V) (view : Option T → V) (f : Fault) →
-    ((f : calls.Fault) → seen (refused f) ≡ view None) → b ≡ extend a (told_by c (refused (fault_of f))) →
+    ((f : Fault) → seen (refused f) ≡ view None) → b ≡ extend a (told_by c (refused f)) →
     Comes a b (asks c seen) view (unless_refused (Err f))
 refusal_comes a b c seen view Halt n h = left_halt a b c (λ x. done_with (seen x)) h
 refusal_comes a b c seen view NoMemory n h = left_no_memory a b (asks c seen) h
-refusal_comes a b c seen view NotFound n h = ran_refused a b c seen calls.NotFound (view None) refl refl refl (n calls.NotFound) h
-refusal_comes a b c seen view Denied n h = ran_refused a b c seen calls.Denied (view None) refl refl refl (n calls.Denied) h
-refusal_comes a b c seen view Exists n h = ran_refused a b c seen calls.Exists (view None) refl refl refl (n calls.Exists) h
-refusal_comes a b c seen view Broken n h = ran_refused a b c seen calls.Broken (view None) refl refl refl (n calls.Broken) h
-refusal_comes a b c seen view Full n h = ran_refused a b c seen calls.Full (view None) refl refl refl (n calls.Full) h
-refusal_comes a b c seen view Other n h = ran_refused a b c seen calls.Other (view None) refl refl refl (n calls.Other) h
+refusal_comes a b c seen view NotFound n h = ran_refused a b c seen NotFound (view None) refl refl refl (n NotFound) h
+refusal_comes a b c seen view Denied n h = ran_refused a b c seen Denied (view None) refl refl refl (n Denied) h
+refusal_comes a b c seen view Exists n h = ran_refused a b c seen Exists (view None) refl refl refl (n Exists) h
+refusal_comes a b c seen view Broken n h = ran_refused a b c seen Broken (view None) refl refl refl (n Broken) h
+refusal_comes a b c seen view Full n h = ran_refused a b c seen Full (view None) refl refl refl (n Full) h
+refusal_comes a b c seen view Other n h = ran_refused a b c seen Other (view None) refl refl refl (n Other) h
 
 came_to : {T V : Type 0} (a b : Option (List Event)) (c : Call) (good : T → Answer) (seen : Answer → V) (view : Option T → V) (r : Result T Fault) →
-    ((x : T) → r ≡ Ok x → Gives c seen (good x) (view (Some x))) → ((f : calls.Fault) → seen (refused f) ≡ view None) →
+    ((x : T) → r ≡ Ok x → Gives c seen (good x) (view (Some x))) → ((f : Fault) → seen (refused f) ≡ view None) →
     b ≡ extend a (told_by c (answer_or_refused good r)) → Comes a b (asks c seen) view (unless_refused r)
 came_to a b c good seen view (Ok x) g n h = ran_asks a b c seen (good x) (view (Some x)) (g x refl) h
 came_to a b c good seen view (Err f) g n h = refusal_comes a b c seen view f n h
@@ -99,11 +99,11 @@ child_comes a b c r s w h e =
     (λ x o. record { made = refl; came = refl; fits = ap (λ w. taken_as w (child x.0)) w; viewed = refl }) (λ f. refl) h)
 
 pub ending_comes : (a b : Option (List Event)) (c : Call) (r : Result Ending Fault) (s : Result (Option Ending) Stop) →
-    want c ≡ WantsEnding → b ≡ extend a (told_by c (ending_answer r)) → s ≡ unless_refused r → Comes a b (asks c as_ending) (option_map ending_of) s
+    want c ≡ WantsEnding → b ≡ extend a (told_by c (ending_answer r)) → s ≡ unless_refused r → Comes a b (asks c as_ending) (λ x. x) s
 ending_comes a b c r s w h e =
-    ends_so a b (asks c as_ending) (option_map ending_of) (unless_refused r) s e
-    (came_to a b c (λ x. ended (ending_of x)) as_ending (option_map ending_of) r
-    (λ x o. record { made = refl; came = refl; fits = ap (λ w. taken_as w (ended (ending_of x))) w; viewed = refl }) (λ f. refl) h)
+    ends_so a b (asks c as_ending) (λ x. x) (unless_refused r) s e
+    (came_to a b c (λ x. ended x) as_ending (λ x. x) r
+    (λ x o. record { made = refl; came = refl; fits = ap (λ w. taken_as w (ended x)) w; viewed = refl }) (λ f. refl) h)
 
 pub names_comes : (a b : Option (List Event)) (c : Call)
     (r : Result (Vec (String Global) Global) Fault) (s : Result (Option (Vec (String Global) Global)) Stop) →
@@ -115,11 +115,11 @@ names_comes a b c r s w h e =
     (λ x o. record { made = refl; came = refl; fits = ap (λ w. taken_as w (names (map string_bytes x.items))) w; viewed = refl }) (λ f. refl) h)
 
 pub kind_comes : (a b : Option (List Event)) (c : Call) (r : Result Kind Fault) (s : Result (Option Kind) Stop) →
-    want c ≡ WantsKind → b ≡ extend a (told_by c (kind_answer r)) → s ≡ unless_refused r → Comes a b (asks c as_kind) (option_map kind_of) s
+    want c ≡ WantsKind → b ≡ extend a (told_by c (kind_answer r)) → s ≡ unless_refused r → Comes a b (asks c as_kind) (λ x. x) s
 kind_comes a b c r s w h e =
-    ends_so a b (asks c as_kind) (option_map kind_of) (unless_refused r) s e
-    (came_to a b c (λ x. found (kind_of x)) as_kind (option_map kind_of) r
-    (λ x o. record { made = refl; came = refl; fits = ap (λ w. taken_as w (found (kind_of x))) w; viewed = refl }) (λ f. refl) h)
+    ends_so a b (asks c as_kind) (λ x. x) (unless_refused r) s e
+    (came_to a b c (λ x. found x) as_kind (λ x. x) r
+    (λ x o. record { made = refl; came = refl; fits = ap (λ w. taken_as w (found x)) w; viewed = refl }) (λ f. refl) h)
 
 bounded : (r : Result (Vec ℕ Global) Fault) (x : Vec ℕ Global) → IfOk r (λ x. vec_len x ≤ 4096) → r ≡ Ok x → vec_len x ≤ 4096
 bounded r x l o = let P : Result (Vec ℕ Global) Fault → Type 0 = λ r. IfOk r (λ x. vec_len x ≤ 4096) in subst P o l
@@ -128,7 +128,7 @@ bounded r x l o = let P : Result (Vec ℕ Global) Fault → Type 0 = λ r. IfOk 
 fits_read : (x : Vec ℕ Global) → vec_len x ≤ 4096 → taken_as WantsBytes (bytes x.items) ≡ bytes x.items
 fits_read x l =
     let short : length x.items ≤ 4096 = omega (arith, l, x.ok.0) in
-    ap (λ m. if m then bytes x.items else refused calls.Other) (le-leb (length x.items) 4096 short)
+    ap (λ m. if m then bytes x.items else refused Other) (le-leb (length x.items) 4096 short)
 
 pub bytes_comes : (a b : Option (List Event)) (c : Call) (r : Result (Vec ℕ Global) Fault) (s : Result (Option (Vec ℕ Global)) Stop) →
     want c ≡ WantsBytes → IfOk r (λ x. vec_len x ≤ 4096) → b ≡ extend a (told_by c (bytes_answer r)) → s ≡ unless_refused r →

@@ -1,4 +1,5 @@
 pub mod Joins
 pub mod Shells
 pub mod Answered
+pub mod Copies
 pub mod Tapes

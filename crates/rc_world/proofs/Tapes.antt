@@ -1,22 +1,29 @@
 -- What a tape tells when it plays one more call.
-use Rattle.std.proofs.Common.{arith, ℕ, ◌≡◌, refl, sym, ◌∙◌, ap, List, [], ◌∷◌, ◌++◌, length, map, string_bytes, ◌<◌, ◌≤◌, get_or, String}
-use Rattle.std.specs.Prelude.{true}
-use Rattle.std.specs.declared.alloc.Global.{Global}
-use Rattle.std.specs.List.{AllZip}
-use Rattle.rc_model.specs.Calls.{Call, Answer, file, pair, done, bytes, child, ended, names, found, refused}
-use Rattle.rc_model.specs.Calls.{event, fitting, taken_as, want, Want, was_made, calls}
-use Rattle.rc_model.specs.Calls.{WantsFile, WantsPair, WantsDone, WantsBytes, WantsChild, WantsEnding, WantsNames, WantsKind}
-use Rattle.rc_model.specs.Calls.{Fault, NotFound, Denied, Exists, Broken, Full, Other, Halt, NoMemory}
-use Rattle.rc_world.specs.Tapes.{call_of, answer_of, played, next_answer, refusal}
-use Rattle.rc_world.specs.declared.tape.Call.{Call as TapeCall}
-use Rattle.rc_world.specs.declared.tape.Answer.{Answer as TapeAnswer}
+use Rattle.std.proofs.Common.{arith, ℕ, ◌≡◌, refl, sym, ◌∙◌, ap, List, [], ◌∷◌, ◌++◌, length, map, ◌<◌, ◌≤◌, ◌+◌, get_or, take}
+use Rattle.std.specs.Prelude.{Bool, true, cond, not}
+use Rattle.std.specs.List.{position_or_len, before_first}
+use Rattle.std.proofs.lemmas.List.{take-map}
+use Rattle.rc_model.specs.Run.Calls.{Call, Answer, file, pair, done, bytes, child, ended, names, found, refused}
+use Rattle.rc_model.specs.Run.Calls.{event, is_halt, fitting, taken_as, want, Want, was_made, calls}
+use Rattle.rc_model.specs.Run.Calls.{WantsFile, WantsPair, WantsDone, WantsBytes, WantsChild, WantsEnding, WantsNames, WantsKind}
+use Rattle.rc_model.specs.declared.call.Fault.{Fault}
+use Rattle.rc_model.specs.declared.call.Fault.TheVariants.{NotFound, Denied, Exists, Broken, Full, Other, Halt, NoMemory}
+use Rattle.rc_world.specs.Tapes.{played, next_answer, refusal}
+use Rattle.rc_world.specs.Views.{call_of, answer_of}
+use Rattle.rc_world.specs.declared.event.Call.{Call as TapeCall}
+use Rattle.rc_world.specs.declared.event.Answer.{Answer as TapeAnswer}
 
--- copies of texts
-pub same_texts : (xs ys : List (String Global)) → AllZip (λ s t. string_bytes t ≡ string_bytes s) xs ys → map string_bytes ys ≡ map string_bytes xs
-same_texts [] [] h = refl
-same_texts [] (y ∷ ys) h = absurd h
-same_texts (x ∷ xs) [] h = absurd h
-same_texts (x ∷ xs) (y ∷ ys) h = ap (λ b. b ∷ map string_bytes ys) h.0 ∙ ap (λ bs. string_bytes x ∷ bs) (same_texts xs ys h.1)
+-- the first place, seen through a function
+position_map : {X Y : Type 0} (p : Y → Bool) (f : X → Y) (xs : List X) → position_or_len p (map f xs) ≡ position_or_len (λ x. p (f x)) xs
+position_map p f [] = refl
+position_map p f (x ∷ xs) = ap (λ n. cond (not (p (f x))) (1 + n) 0) (position_map p f xs)
+
+-- the answers before the first halt are those that a tape plays
+pub cut_at_halt : (given kept : List TapeAnswer) (n : ℕ) →
+    kept ≡ take n given → n ≡ position_or_len (λ a. is_halt (answer_of a)) given →
+    map answer_of kept ≡ before_first is_halt (map answer_of given)
+cut_at_halt given kept n k h =
+    ap (map answer_of) k ∙ (sym (take-map answer_of n given) ∙ ap (λ n. take n (map answer_of given)) (h ∙ sym (position_map is_halt answer_of given)))
 
 -- a halt fits each call
 halt_fits : (w : Want) → refused Halt ≡ taken_as w (refused Halt)

@@ -1,23 +1,70 @@
--- How code over a world ends: with the value of a plan, or the plan was left.
-use Rattle.std.specs.Prelude.{List, Option, Some, None, Result, Ok, Err, Bool, true, false}
+-- How code over a world ends: it comes to the value of what it does, or it is stopped on the way.
+use Rattle.std.specs.Prelude.{◌≡◌, List, [], Option, Some, None, Result, Ok, Err, Bool, true, false}
 use Rattle.std.specs.Result.{MatchResult}
-use Rattle.rc_model.specs.Calls.{Event}
-use Rattle.rc_model.specs.Plans.{Plan, done_with, Ran, Halted}
-use Rattle.rc_world.specs.declared.types.Fault.{Fault}
-use Rattle.rc_world.specs.declared.types.Fault.TheVariants as fault
+use Rattle.rc_model.specs.Run.Calls.{Call, Answer, Event, extend, told_by}
+use Rattle.rc_model.specs.Run.Plans.{Plan, done_with, asks, Ran, Halted}
+use Rattle.rc_model.specs.Run.State.{State}
+use Rattle.rc_model.specs.Run.Shell as shell
+use Rattle.rc_model.specs.Run.Shell.{Shell}
+use Rattle.rc_model.specs.declared.call.Fault.{Fault}
+use Rattle.rc_model.specs.declared.call.Fault.TheVariants as fault
 use Rattle.rc_world.specs.declared.types.Stop.{Stop}
 use Rattle.rc_world.specs.declared.types.Stop.TheVariants.{NoMemory, Halt}
+use Rattle.rc_world.specs.declared.types.Flow.{Flow}
+use Rattle.rc_world.specs.declared.types.Flow.TheVariants.{Next, Exit}
 
--- between two tellings of a world a plan was left: for want of memory at any place, or at a halt with its last call unanswered
+-- the events of a world so far: None where it does not tell them
+abbrev pub Telling : Type 0 → Type 0
+Telling W = W → Option (List Event)
+
+-- a world tells one call more, with its answer, and none that was not made
+abbrev pub Tells : {W : Type 0} → Telling W → W → W → Call → Answer → Type 0
+Tells events before after call answer = events after ≡ extend (events before) (told_by call answer)
+
+-- between two tellings of a world, a plan was left: out of memory somewhere, or at a halt with its last call unanswered
 pub data Left {X : Type 0} (before after : Option (List Event)) (plan : Plan X) : Stop → Type 0 where
   for_memory : (rest : Plan X) → Ran before after plan rest → Left before after plan NoMemory
   by_halt : Halted before after plan → Left before after plan Halt
 
 -- between two tellings of a world, code came to the value of a plan, as its result is viewed, or the plan was left
-abbrev pub Comes : {X T : Type 0} → Option (List Event) → Option (List Event) → Plan X → (T → X) → Result T Stop → Type 0
-Comes before after plan view result = MatchResult result (λ v. Ran before after plan (done_with (view v))) (Left before after plan)
+abbrev pub Comes : {X T : Type 0} → (before after : Option (List Event)) → Plan X →
+    (T → X) → Result T Stop → Type 0
+Comes before after plan view result =
+    MatchResult result (λ v. Ran before after plan (done_with (view v))) (Left before after plan)
 
--- what a call gives where only its refusal matters
+-- ** what code does, where it is not stopped
+
+-- one call, whose answer is taken so
+abbrev pub Asks : {W V T : Type 0} → Telling W → W → W → Call → (Answer → V) →
+    (T → V) → Result T Stop → Type 0
+Asks events before after call taken view result = Comes (events before) (events after) (asks call taken) view result
+
+-- an act of the shell that begins in this state and leaves it as it is
+abbrev pub Reads : {W A T : Type 0} → Telling W → W → W → State → Shell A →
+    (T → A) → Result T Stop → Type 0
+Reads events before after s act view result =
+    Comes (events before) (events after) (act s) (λ v. shell.Next (view v) s) result
+
+-- an act of the shell, from one state to the next
+abbrev pub Does : {W S A T : Type 0} → Telling W → W → W → (S → State) → S → S → Shell A →
+    (T → A) → Result T Stop → Type 0
+Does events before after state_of s t act view result =
+    Comes (events before) (events after) (act (state_of s)) (λ v. shell.Next (view v) (state_of t)) result
+
+-- how an act of the shell ends: in the next state with a value, or with the shell
+abbrev pub flow_of : {A T : Type 0} → (T → A) → State → Flow T → shell.Result A
+flow_of view s (Next v) = shell.Next (view v) s
+flow_of view s Exit = shell.Exit s []
+
+-- an act of the shell, from one state to the next or to the last
+abbrev pub Flows : {W S A T : Type 0} → Telling W → W → W → (S → State) → S → S → Shell A →
+    (T → A) → Result (Flow T) Stop → Type 0
+Flows events before after state_of s t act view result =
+    Comes (events before) (events after) (act (state_of s)) (flow_of view (state_of t)) result
+
+-- ** calls of which only the refusal matters
+
+-- what a call gives: nothing where it was refused
 abbrev pub unless_refused : {T : Type 0} → Result T Fault → Result (Option T) Stop
 unless_refused (Ok x) = Ok (Some x)
 unless_refused (Err fault.Halt) = Err Halt

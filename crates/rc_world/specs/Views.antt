@@ -1,77 +1,67 @@
--- How the values of a program stand for calls and answers.
-use Rattle.std.specs.Prelude.{ℕ, List, String, Option, Some, None, Result, Ok, Err, map, string_bytes, slice_index_or}
+-- How the values of a program stand for launches, calls and answers.
+use Rattle.std.specs.Prelude.{ℕ, List, String, Option, Some, None, Result, Ok, Err, map, string_bytes}
 use Rattle.std.specs.declared.alloc.Global.{Global}
 use Rattle.std.specs.Global.{Vec}
-use Rattle.rc_model.specs.Calls as calls
-use Rattle.rc_world.specs.declared.types.Fault.{Fault}
-use Rattle.rc_world.specs.declared.types.Fault.TheVariants as fault
-use Rattle.rc_world.specs.declared.types.Handle.{Handle}
-use Rattle.rc_world.specs.declared.types.ChildNo.{ChildNo}
-use Rattle.rc_world.specs.declared.types.Slot.{Slot}
-use Rattle.rc_world.specs.declared.types.Slot.TheVariants as slot
-use Rattle.rc_world.specs.declared.types.Slots.{Slots}
-use Rattle.rc_world.specs.declared.types.Mode.{Mode}
-use Rattle.rc_world.specs.declared.types.Mode.TheVariants as mode
-use Rattle.rc_world.specs.declared.types.Kind.{Kind}
-use Rattle.rc_world.specs.declared.types.Kind.TheVariants as kind
-use Rattle.rc_world.specs.declared.types.Ending.{Ending}
-use Rattle.rc_world.specs.declared.types.Ending.TheVariants as ending
+use Rattle.rc_model.specs.Run.Calls as calls
+use Rattle.rc_model.specs.declared.call.Fault.{Fault}
+use Rattle.rc_model.specs.declared.call.Handle.{Handle}
+use Rattle.rc_model.specs.declared.call.ChildNo.{ChildNo}
+use Rattle.rc_model.specs.declared.call.Kind.{Kind}
+use Rattle.rc_model.specs.declared.call.Ending.{Ending}
 use Rattle.rc_world.specs.declared.types.Program.{Program}
 use Rattle.rc_world.specs.declared.types.Program.TheVariants as program
 use Rattle.rc_world.specs.declared.types.Launch.{Launch}
+use Rattle.rc_world.specs.declared.event.Call.{Call}
+use Rattle.rc_world.specs.declared.event.Call.TheVariants as call
+use Rattle.rc_world.specs.declared.event.Answer.{Answer}
+use Rattle.rc_world.specs.declared.event.Answer.TheVariants as answer
 
-abbrev pub fault_of : Fault → calls.Fault
-fault_of fault.NotFound = calls.NotFound
-fault_of fault.Denied = calls.Denied
-fault_of fault.Exists = calls.Exists
-fault_of fault.Broken = calls.Broken
-fault_of fault.Full = calls.Full
-fault_of fault.Other = calls.Other
-fault_of fault.Halt = calls.Halt
-fault_of fault.NoMemory = calls.NoMemory
-
-abbrev pub slot_of : Slot → calls.Slot
-slot_of (slot.Own n) = calls.Own n
-slot_of (slot.To handle) = calls.To handle.0
-
--- what a descriptor is: there are three
-abbrev pub slot_at : Slots → ℕ → calls.Slot
-slot_at slots n = slot_of (slice_index_or slots.0 n (slot.Own 0))
-
-abbrev pub slots_of : Slots → calls.Slots
-slots_of slots = record { input = slot_at slots 0; output = slot_at slots 1; errors = slot_at slots 2 }
-
-abbrev pub mode_of : Mode → calls.Mode
-mode_of mode.Read = calls.Read
-mode_of mode.Write = calls.Write
-mode_of mode.Append = calls.Append
-
-abbrev pub kind_of : Kind → calls.Kind
-kind_of kind.Directory = calls.Directory
-kind_of kind.Program = calls.Program
-kind_of kind.Other = calls.OtherKind
-
-abbrev pub ending_of : Ending → calls.Ending
-ending_of (ending.Code n) = calls.Code n
-ending_of ending.Signal = calls.Signal
-
+-- the path of a program, none for the shell itself
 abbrev pub program_of : Program → Option (List ℕ)
 program_of program.Shell = None
 program_of (program.Path path) = Some (string_bytes path)
 
+-- what is started
 abbrev pub launch_of : Launch → calls.Launch
 launch_of launch = record {
   program = program_of launch.program;
   args = map string_bytes launch.args.items;
   entries = map string_bytes launch.env.items;
-  slots = slots_of launch.slots;
+  slots = launch.slots;
 }
+
+-- the call that a value stands for
+abbrev pub call_of : Call → calls.Call
+call_of (call.Open path mode) = calls.open_file (string_bytes path) mode
+call_of (call.Here text) = calls.here (string_bytes text)
+call_of call.Pipe = calls.make_pipe
+call_of (call.Close handle) = calls.close handle.0
+call_of (call.Read handle) = calls.read handle.0
+call_of (call.Write slot text) = calls.write slot text.items
+call_of (call.Start launch) = calls.start (launch_of launch)
+call_of (call.Wait child) = calls.wait child.0
+call_of (call.List path) = calls.list_names (string_bytes path)
+call_of (call.Probe path) = calls.probe (string_bytes path)
+call_of (call.Chdir path) = calls.change_dir (string_bytes path)
+
+-- the answer that a value stands for
+abbrev pub answer_of : Answer → calls.Answer
+answer_of (answer.File handle) = calls.file handle.0
+answer_of (answer.Pair r w) = calls.pair r.0 w.0
+answer_of answer.Done = calls.done
+answer_of (answer.Bytes bytes) = calls.bytes bytes.items
+answer_of (answer.Child child) = calls.child child.0
+answer_of (answer.Ended ending) = calls.ended ending
+answer_of (answer.Names names) = calls.names (map string_bytes names.items)
+answer_of (answer.Found kind) = calls.found kind
+answer_of (answer.Refused fault) = calls.refused fault
 
 -- what the result of a call says as an answer
 abbrev pub answer_or_refused : {T : Type 0} → (T → calls.Answer) → Result T Fault → calls.Answer
 answer_or_refused good (Ok x) = good x
-answer_or_refused good (Err f) = calls.refused (fault_of f)
+answer_or_refused good (Err fault) = calls.refused fault
 
+-- the answers, each by what its calls give
 abbrev pub file_answer : Result Handle Fault → calls.Answer
 file_answer result = answer_or_refused (λ handle. calls.file handle.0) result
 
@@ -88,10 +78,10 @@ abbrev pub child_answer : Result ChildNo Fault → calls.Answer
 child_answer result = answer_or_refused (λ child. calls.child child.0) result
 
 abbrev pub ending_answer : Result Ending Fault → calls.Answer
-ending_answer result = answer_or_refused (λ ending. calls.ended (ending_of ending)) result
+ending_answer result = answer_or_refused calls.ended result
 
 abbrev pub names_answer : Result (Vec (String Global)) Fault → calls.Answer
 names_answer result = answer_or_refused (λ names. calls.names (map string_bytes names.items)) result
 
 abbrev pub kind_answer : Result Kind Fault → calls.Answer
-kind_answer result = answer_or_refused (λ kind. calls.found (kind_of kind)) result
+kind_answer result = answer_or_refused calls.found result

@@ -1,10 +1,11 @@
 //! The calls of a world, for code that only asks whether they were refused.
+
 ghost use Rattle.std.specs.Prelude.{◌≡◌, ◌≤◌, option_map, IfOk, IfSome, is_some, map, string_bytes, vec_len};
-ghost use Rattle.rc_model.specs.Calls.{open_file, here, make_pipe, close, read, write, start, wait, list_names, probe, change_dir};
-ghost use Rattle.rc_model.specs.Calls.{as_file, as_pair, as_done, as_bytes, as_child, as_ending, as_names, as_kind};
-ghost use Rattle.rc_model.specs.Plans.{asks};
-ghost use Rattle.rc_world.specs.Comes.{Comes, unless_refused, was_done};
-ghost use Rattle.rc_world.specs.Views.{mode_of, slot_of, launch_of, ending_of, kind_of};
+ghost use Rattle.rc_model.specs.Run.Calls.{open_file, here, make_pipe, close, read, write, start, wait};
+ghost use Rattle.rc_model.specs.Run.Calls.{list_names, probe, change_dir};
+ghost use Rattle.rc_model.specs.Run.Calls.{as_file, as_pair, as_done, as_bytes, as_child, as_ending, as_names, as_kind};
+ghost use Rattle.rc_world.specs.Comes.{Asks, unless_refused, was_done};
+ghost use Rattle.rc_world.specs.Views.{launch_of};
 
 use crate::{ChildNo, Ending, Fault, Handle, Kind, Launch, Mode, Slot, Stop, World};
 
@@ -28,35 +29,36 @@ fn was_done(answer: Result<(), Fault>) -> Result<bool, Stop>
 
 /// The file that was opened.
 pub fn open<W: World>(world: &mut W, path: &str, mode: Mode) -> Result<Option<Handle>, Stop>
-    ensures { Comes (W.events world.old) (W.events world.new) (asks (open_file path.now (mode_of mode)) as_file) (option_map (λ file. file.0)) result }
+    ensures { Asks W.events world.old world.new (open_file path.now mode) as_file (option_map (λ file. file.0)) result }
 {
     unless_refused(world.open(path, mode))
 }
 
 /// A file for reading that holds this text.
 pub fn here<W: World>(world: &mut W, text: &str) -> Result<Option<Handle>, Stop>
-    ensures { Comes (W.events world.old) (W.events world.new) (asks (here text.now) as_file) (option_map (λ file. file.0)) result }
+    ensures { Asks W.events world.old world.new (here text.now) as_file (option_map (λ file. file.0)) result }
 {
     unless_refused(world.here(text))
 }
 
 /// The read end and the write end.
 pub fn pipe<W: World>(world: &mut W) -> Result<Option<(Handle, Handle)>, Stop>
-    ensures { Comes (W.events world.old) (W.events world.new) (asks make_pipe as_pair) (option_map (λ ends. (ends.0.0, ends.1.0))) result }
+    ensures { Asks W.events world.old world.new make_pipe as_pair (option_map (λ ends. (ends.0.0, ends.1.0))) result }
 {
     unless_refused(world.pipe())
 }
 
 /// Whether it was closed.
 pub fn close<W: World>(world: &mut W, handle: Handle) -> Result<bool, Stop>
-    ensures { Comes (W.events world.old) (W.events world.new) (asks (close handle.0) as_done) (λ closed. closed) result }
+    ensures { Asks W.events world.old world.new (close handle.0) as_done (λ closed. closed) result }
 {
     was_done(world.close(handle))
 }
 
 /// The next bytes, none at the end.
 pub fn read<W: World>(world: &mut W, handle: Handle) -> Result<Option<Vec<u8>>, Stop>
-    ensures came { Comes (W.events world.old) (W.events world.new) (asks (read handle.0) as_bytes) (option_map (λ bytes. bytes.items)) result }
+    ensures came { Asks W.events world.old world.new (read handle.0) as_bytes
+        (option_map (λ bytes. bytes.items)) result }
     ensures bound { IfOk result (λ given. IfSome given (λ bytes. vec_len bytes ≤ 4096)) }
 {
     unless_refused(world.read(handle))
@@ -64,28 +66,29 @@ pub fn read<W: World>(world: &mut W, handle: Handle) -> Result<Option<Vec<u8>>, 
 
 /// Whether the whole text was written.
 pub fn write<W: World>(world: &mut W, slot: Slot, text: &[u8]) -> Result<bool, Stop>
-    ensures { Comes (W.events world.old) (W.events world.new) (asks (write (slot_of slot) text.now) as_done) (λ written. written) result }
+    ensures { Asks W.events world.old world.new (write slot text.now) as_done (λ written. written) result }
 {
     was_done(world.write(slot, text))
 }
 
 /// The child that was started.
 pub fn start<W: World>(world: &mut W, launch: &Launch) -> Result<Option<ChildNo>, Stop>
-    ensures { Comes (W.events world.old) (W.events world.new) (asks (start (launch_of launch.now)) as_child) (option_map (λ child. child.0)) result }
+    ensures { Asks W.events world.old world.new (start (launch_of launch.now)) as_child
+        (option_map (λ child. child.0)) result }
 {
     unless_refused(world.start(launch))
 }
 
 /// How the child ended.
 pub fn wait<W: World>(world: &mut W, child: ChildNo) -> Result<Option<Ending>, Stop>
-    ensures { Comes (W.events world.old) (W.events world.new) (asks (wait child.0) as_ending) (option_map ending_of) result }
+    ensures { Asks W.events world.old world.new (wait child.0) as_ending (λ ending. ending) result }
 {
     unless_refused(world.wait(child))
 }
 
-/// The names in a folder, in any order.
+/// The names in a directory, in any order.
 pub fn list<W: World>(world: &mut W, path: &str) -> Result<Option<Vec<String>>, Stop>
-    ensures { Comes (W.events world.old) (W.events world.new) (asks (list_names path.now) as_names)
+    ensures { Asks W.events world.old world.new (list_names path.now) as_names
         (option_map (λ names. map string_bytes names.items)) result }
 {
     unless_refused(world.list(path))
@@ -93,14 +96,14 @@ pub fn list<W: World>(world: &mut W, path: &str) -> Result<Option<Vec<String>>, 
 
 /// What a path names.
 pub fn probe<W: World>(world: &mut W, path: &str) -> Result<Option<Kind>, Stop>
-    ensures { Comes (W.events world.old) (W.events world.new) (asks (probe path.now) as_kind) (option_map kind_of) result }
+    ensures { Asks W.events world.old world.new (probe path.now) as_kind (λ kind. kind) result }
 {
     unless_refused(world.probe(path))
 }
 
-/// Whether the folder that paths are taken from was changed.
+/// Whether the directory that paths are taken from was changed.
 pub fn chdir<W: World>(world: &mut W, path: &str) -> Result<bool, Stop>
-    ensures { Comes (W.events world.old) (W.events world.new) (asks (change_dir path.now) as_done) (λ changed. changed) result }
+    ensures { Asks W.events world.old world.new (change_dir path.now) as_done (λ changed. changed) result }
 {
     was_done(world.chdir(path))
 }

@@ -2,10 +2,13 @@
 #![tactic(auto)]
 
 pub mod calls;
+pub mod event;
 pub mod tape;
 pub mod types;
 pub mod world;
 
-pub use tape::{Answer, Call, Tape};
-pub use types::{ChildNo, Ending, Fault, Handle, Kind, Launch, Mode, Program, Slot, Slots, Stop};
+pub use event::{Answer, Call};
+pub use rc_model::{ChildNo, Ending, Fault, Handle, Kind, Mode, Slot, Slots};
+pub use tape::Tape;
+pub use types::{Flow, Launch, Program, Stop};
 pub use world::World;

@@ -1,64 +1,11 @@
-//! What the calls of a world take and answer.
-ghost use Rattle.std.specs.Prelude.{◌≡◌};
+//! What is started, and why work over a world is given up.
+
+ghost use Rattle.std.specs.Prelude.{◌≡◌, IfOk};
+ghost use Rattle.rc_world.specs.Views.{launch_of};
 ghost use Rattle.rc_world.specs.declared.types.Stop.TheVariants.{NoMemory};
 
+use rc_model::Slots;
 use std::alloc::{AllocError, AllocFailed};
-
-/// Why a call was refused. `Halt`: the world is over and the call was not answered.
-/// `NoMemory`: the call was not made.
-#[derive(Clone, Copy, PartialEq)]
-pub enum Fault {
-    NotFound,
-    Denied,
-    Exists,
-    Broken,
-    Full,
-    Other,
-    Halt,
-    NoMemory,
-}
-
-/// An open file, a here document or an end of a pipe.
-#[derive(Clone, Copy, PartialEq)]
-pub struct Handle(pub u32);
-
-/// A child that was started.
-#[derive(Clone, Copy, PartialEq)]
-pub struct ChildNo(pub u32);
-
-/// What a descriptor of a child stands for: a descriptor of the shell's own, or an open file.
-#[derive(Clone, Copy, PartialEq)]
-pub enum Slot {
-    Own(u8),
-    To(Handle),
-}
-
-/// The descriptors 0, 1 and 2.
-#[derive(Clone, Copy, PartialEq)]
-pub struct Slots(pub [Slot; 3]);
-
-/// How a file is opened. `Write` makes the file or cuts it to nothing.
-#[derive(Clone, Copy, PartialEq)]
-pub enum Mode {
-    Read,
-    Write,
-    Append,
-}
-
-/// What a path names.
-#[derive(Clone, Copy, PartialEq)]
-pub enum Kind {
-    Directory,
-    Program,
-    Other,
-}
-
-/// How a child ended.
-#[derive(Clone, Copy, PartialEq)]
-pub enum Ending {
-    Code(u8),
-    Signal,
-}
 
 /// What is started: this shell, or the program of a path.
 #[derive(Drop)]
@@ -77,11 +24,37 @@ pub struct Launch {
     pub slots: Slots,
 }
 
+impl Launch {
+    /// The same launch once more.
+    #[tactic(auto, using(crate::proofs::Copies::same_texts))]
+    pub fn copy(&self) -> Result<Launch, AllocError>
+        ensures { IfOk result (λ copy. launch_of copy ≡ launch_of self.now) }
+    {
+        let program = match &self.program {
+            Program::Shell => Program::Shell,
+            Program::Path(path) => Program::Path(path.clone()?),
+        };
+        Ok(Launch {
+            program,
+            args: self.args.clone()?,
+            env: self.env.clone()?,
+            slots: self.slots,
+        })
+    }
+}
+
 /// Why work over a world was given up: nothing is called after it.
 #[derive(Clone, Copy, PartialEq)]
 pub enum Stop {
     Halt,
     NoMemory,
+}
+
+/// How an act of the shell ends: with a value, or with the end of the shell.
+#[derive(Drop)]
+pub enum Flow<T> {
+    Next(T),
+    Exit,
 }
 
 impl From<AllocError> for Stop {

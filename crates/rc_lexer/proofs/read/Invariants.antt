@@ -2,8 +2,8 @@ use Rattle.std.proofs.Common.{◌≡◌, ◌≤◌, ◌+◌, [], drop, length}
 use Rattle.std.specs.Str.{chars}
 use denote.Shadow.{shadow}
 use denote.Text.{Utf8}
-use Rattle.rc_model.specs.Tokens as model
-use Rattle.rc_model.specs.Reading as reading
+use Rattle.rc_model.specs.Syntax.Tokens as model
+use Rattle.rc_model.specs.Mirrors.Reading as reading
 use Rattle.rc_lexer.specs.Machine.{place_of, tokens_in, bodies_in, state_in, due_left, Stands}
 use Rattle.rc_lexer.proofs.read.Given as goal
 

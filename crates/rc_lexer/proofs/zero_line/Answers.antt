@@ -1,6 +1,6 @@
 use Rattle.std.proofs.Common.{sym, ap, ◌∙◌}
 use Rattle.std.specs.Str.{chars}
-use Rattle.rc_model.specs.Reading.{zero_line}
+use Rattle.rc_model.specs.Mirrors.Reading.{zero_line}
 use Rattle.rc_lexer.proofs.Walk.{zero_past, lines_past, left_past}
 use Rattle.rc_lexer.proofs.zero_line.Goals as goal
 

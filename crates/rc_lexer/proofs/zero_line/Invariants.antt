@@ -2,7 +2,7 @@ use Rattle.std.proofs.Common.{◌≡◌, ◌≤◌, ◌+◌, length}
 use Rattle.std.specs.Str.{chars}
 use denote.Shadow.{shadow}
 use denote.Text.{Utf8}
-use Rattle.rc_model.specs.Reading.{zero_line}
+use Rattle.rc_model.specs.Mirrors.Reading.{zero_line}
 use Rattle.rc_lexer.proofs.zero_line.Given as goal
 
 abbrev pub invariant-loop-c : goal.invariant-loop-c

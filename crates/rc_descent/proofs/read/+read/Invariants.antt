@@ -1,7 +1,7 @@
 use Rattle.std.proofs.Common.{◌≡◌, ◌+◌, ◌-◌, ◌*◌, false, true}
-use Rattle.rc_model.specs.Descent as d
+use Rattle.rc_model.specs.Mirrors.Descent as d
 use Rattle.rc_tree.specs.View.{cmd_tree, args_tree, items_tree, pairs_tree, redirs_tree, stages_tree, links_tree, branches_tree}
-use Rattle.rc_descent.specs.Lexemes.{lexemes_of}
+use Rattle.rc_lexemes.specs.Lexemes.{lexemes_of}
 use Rattle.rc_descent.proofs.read.+read.Given as goal
 
 abbrev pub decreases-part : goal.decreases-part
@@ -137,7 +137,7 @@ abbrev pub invariant-branches-loop : goal.invariant-branches-loop
 invariant-branches-loop l = d.branches_from (d.read l.below) (l.turns - l.counter) (branches_tree l.branches.items) (lexemes_of l.rest) ≡ d.branches_by (d.read l.below) (lexemes_of l.lexemes)
 
 abbrev pub invariant-pipe-loop : goal.invariant-pipe-loop
-invariant-pipe-loop l = d.pipe_from (d.read l.below) (l.turns - l.counter) (stages_tree l.stages.items) (cmd_tree l.last) (lexemes_of l.rest) ≡ d.pipe_by (d.read l.below) (cmd_tree l.fn.first) (lexemes_of l.lexemes)
+invariant-pipe-loop l = d.pipe_from (d.read l.below) (l.turns - l.counter) (stages_tree l.stages.items) (cmd_tree l.last.value) (lexemes_of l.rest) ≡ d.pipe_by (d.read l.below) (cmd_tree l.fn.first.value) (lexemes_of l.lexemes)
 
 abbrev pub invariant-values-loop : goal.invariant-values-loop
 invariant-values-loop l = d.values_from (d.read l.below) (l.turns - l.counter) (pairs_tree l.pairs.items) (lexemes_of l.rest) ≡ d.values_by (d.read l.below) (pairs_tree l.fn.pairs.items) (lexemes_of l.lexemes)

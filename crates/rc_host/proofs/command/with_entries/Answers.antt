@@ -1,8 +1,8 @@
 use Rattle.std.proofs.Common.{◌≡◌, ℕ, zero, suc, ◌<◌, List, [], ◌∷◌, length, get_or, map, string_bytes, arith}
 use Rattle.std.proofs.lemmas.List.{get_or-map, length-map}
 use Rattle.std.proofs.lemmas.Result.{err_from_is_err_and}
-use Rattle.rc_world.specs.declared.types.Fault.{Fault}
-use Rattle.rc_world.specs.declared.types.Fault.TheVariants.{NotFound, Denied, Exists, Broken, Full, Other, Halt, NoMemory}
+use Rattle.rc_model.specs.declared.call.Fault.{Fault}
+use Rattle.rc_model.specs.declared.call.Fault.TheVariants.{NotFound, Denied, Exists, Broken, Full, Other, Halt, NoMemory}
 use Rattle.rc_host.specs.Commands.{IsNotMade}
 use Rattle.rc_host.proofs.command.with_entries.Goals as goal
 

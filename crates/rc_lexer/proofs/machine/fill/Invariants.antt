@@ -1,5 +1,5 @@
 use Rattle.std.proofs.Common.{◌≡◌, ℕ, List, ◌++◌, take, drop, map}
-use Rattle.rc_model.specs.Tokens as model
+use Rattle.rc_model.specs.Syntax.Tokens as model
 use Rattle.rc_lexer.specs.Views.{slice_at, tokens_of}
 use Rattle.rc_lexer.proofs.machine.fill.Given as goal
 

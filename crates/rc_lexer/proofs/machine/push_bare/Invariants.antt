@@ -1,5 +1,5 @@
 use Rattle.std.proofs.Common.{◌≡◌, ℕ, List, ◌++◌, take}
-use Rattle.rc_model.specs.Reading.{bare}
+use Rattle.rc_model.specs.Mirrors.Reading.{bare}
 use Rattle.rc_lexer.specs.Views.{tokens_of}
 use Rattle.rc_lexer.proofs.machine.push_bare.Given as goal
 

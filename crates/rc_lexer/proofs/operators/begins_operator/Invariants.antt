@@ -1,7 +1,7 @@
 use Rattle.std.proofs.Common.{◌≡◌, drop}
 use Rattle.std.specs.List.{list_any}
-use Rattle.rc_model.specs.Text.{begins_with}
-use Rattle.rc_model.specs.Tokens.{begins_operator}
+use Rattle.rc_model.specs.Syntax.Text.{begins_with}
+use Rattle.rc_model.specs.Syntax.Tokens.{begins_operator}
 use Rattle.rc_lexer.proofs.operators.begins_operator.Given as goal
 
 abbrev pub invariant-loop-operator : goal.invariant-loop-operator

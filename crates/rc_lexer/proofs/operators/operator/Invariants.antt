@@ -1,5 +1,5 @@
 use Rattle.std.proofs.Common.{◌≡◌, ℕ, List, drop}
-use Rattle.rc_model.specs.Tokens.{operator}
+use Rattle.rc_model.specs.Syntax.Tokens.{operator}
 use Rattle.rc_lexer.specs.Views.{lexeme_of}
 use Rattle.rc_lexer.proofs.Tables.{looked_up}
 use Rattle.rc_lexer.proofs.operators.operator.Given as goal

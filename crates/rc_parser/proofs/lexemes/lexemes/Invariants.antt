@@ -1,8 +1,8 @@
 use Rattle.std.proofs.Common.{◌≡◌, ◌++◌, drop}
-use Rattle.rc_model.specs.Accepted.{lexemes}
-use Rattle.rc_model.specs.Spelling.{AreSpelled}
+use Rattle.rc_model.specs.Syntax.Accepted.{lexemes}
+use Rattle.rc_model.specs.Mirrors.Spelling.{AreSpelled}
 use Rattle.rc_lexer.specs.Views.{tokens_of}
-use Rattle.rc_descent.specs.Lexemes.{lexemes_of}
+use Rattle.rc_lexemes.specs.Lexemes.{lexemes_of}
 use Rattle.rc_parser.proofs.lexemes.lexemes.Given as goal
 
 abbrev pub invariant-loop-token : goal.invariant-loop-token

@@ -1,20 +1,14 @@
 use Rattle.std.proofs.Common.{◌≡◌}
-use Rattle.rc_model.specs.Machine.{begin}
-use Rattle.rc_shell.specs.Codes.{code_of}
-use Rattle.rc_shell.specs.Machines.{config_of}
-use Rattle.rc_shell.specs.States.{state_of}
+use Rattle.rc_code.specs.Views.{code_of}
+use Rattle.rc_machine.specs.Configs.{config_of}
+use Rattle.rc_model.specs.Code.Machine.{begin}
+use Rattle.rc_scope.specs.States.{state_of}
 use Rattle.rc_tree.specs.View.{cmd_tree}
-use Rattle.rc_shell.proofs.Runs.{begins, never_stuck_from, told_ended, told_limit, told_halted, told_left, told_nothing}
+use Rattle.rc_shell.proofs.Runs.{begins, told_begun, told_ended, told_halted, told_limit, told_nothing}
 use Rattle.rc_shell.proofs.script.run_tree.Goals as goal
 
 pub returns-in_default : goal.returns-in_default
 returns-in_default g c = let before = g.W.World.events c.args.world.now in told_nothing c.args.limit (cmd_tree c.args.cmd.now) (state_of c.args.state) before before
-
-pub run-requires : goal.run-requires
-run-requires g c =
-    let t = cmd_tree c.args.cmd.now in
-    let s = state_of c.args.state in
-    never_stuck_from t s (config_of c.new-machine.result) (begins t s (code_of c.in-Ok.code) (config_of c.new-machine.result) c.new-machine.ensures c.in-Ok.ensures)
 
 pub returns-in-Ok-Ended : goal.returns-in-Ok-Ended
 returns-in-Ok-Ended g c =
@@ -37,9 +31,16 @@ returns-in-Ok-Halted g c =
     let start : config_of c.new-machine.result ≡ begin t s = begins t s (code_of c.in-Ok.code) (config_of c.new-machine.result) c.new-machine.ensures c.in-Ok.ensures in
     told_halted c.args.limit t s _ _ (rw (c.in-Ok-Halted.field-0-is, start) at c.in-Ok-Halted.ensures)
 
+pub returns-in-Ok-NotYet : goal.returns-in-Ok-NotYet
+returns-in-Ok-NotYet g c =
+    let t = cmd_tree c.args.cmd.now in
+    let s = state_of c.args.state in
+    let start : config_of c.new-machine.result ≡ begin t s = begins t s (code_of c.in-Ok.code) (config_of c.new-machine.result) c.new-machine.ensures c.in-Ok.ensures in
+    told_begun c.args.limit t s _ _ (rw (c.in-Ok-NotYet.field-0-is, start) at c.in-Ok-NotYet.ensures)
+
 pub returns-in-Err : goal.returns-in-Err
 returns-in-Err g c =
     let t = cmd_tree c.args.cmd.now in
     let s = state_of c.args.state in
     let start : config_of c.new-machine.result ≡ begin t s = begins t s (code_of c.in-Ok.code) (config_of c.new-machine.result) c.new-machine.ensures c.in-Ok.ensures in
-    told_left c.args.limit t s _ _ (rw start at c.in-Err.ensures)
+    told_begun c.args.limit t s _ _ (rw start at c.in-Err.ensures)

@@ -1,5 +1,5 @@
 use Rattle.std.proofs.Common.{◌≡◌, drop}
-use Rattle.rc_model.specs.Printing.{have_here}
+use Rattle.rc_model.specs.Syntax.Printing.{have_here}
 use Rattle.rc_tree.specs.View.{args_tree, items_tree, pairs_tree, redirs_tree, stages_tree, links_tree, branches_tree}
 use Rattle.rc_tree.proofs.here.+here.Given as goal
 

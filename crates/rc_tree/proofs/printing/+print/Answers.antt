@@ -1,5 +1,5 @@
 use Rattle.std.proofs.Common.{arith, refl, true}
-use Rattle.rc_model.specs.Printing.{branch_items, cmd_text}
+use Rattle.rc_model.specs.Syntax.Printing.{branch_items, cmd_text}
 use Rattle.std.proofs.lemmas.Grind.{common_steps}
 use Rattle.rc_tree.specs.View.{cmd_tree, tree_For}
 use Rattle.rc_tree.proofs.Forms.{not_listed}

@@ -1,7 +1,7 @@
 use Rattle.std.proofs.Common.{◌≡◌, ◌++◌, [], drop, codes, string_bytes}
 use denote.Shadow.{shadow}
 use denote.Text.{Utf8}
-use Rattle.rc_model.specs.Printing.{arg_texts, pair_texts, redir_texts, stages_text, links_text, item_lines, branch_lines}
+use Rattle.rc_model.specs.Syntax.Printing.{arg_texts, pair_texts, redir_texts, stages_text, links_text, item_lines, branch_lines}
 use Rattle.rc_tree.specs.Lines.{led, trailed, behind, parting_after}
 use Rattle.rc_tree.specs.View.{args_tree, items_tree, pairs_tree, redirs_tree, stages_tree, links_tree, branches_tree}
 use Rattle.rc_tree.proofs.printing.+print.Given as goal

@@ -1,5 +1,5 @@
 use Rattle.std.proofs.Common.{◌≡◌, drop}
-use Rattle.rc_model.specs.WellFormed.{are_sound}
+use Rattle.rc_model.specs.Syntax.WellFormed.{are_sound}
 use Rattle.rc_tree.specs.View.{pieces_tree}
 use Rattle.rc_tree.proofs.soundness.fit_pieces.Given as goal
 

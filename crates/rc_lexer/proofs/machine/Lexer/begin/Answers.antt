@@ -1,6 +1,6 @@
 use Rattle.std.proofs.Common.{refl, ap, ◌∙◌, ◌++◌, ◌∷◌, [], map}
-use Rattle.rc_model.specs.Tokens as model
-use Rattle.rc_model.specs.Reading as reading
+use Rattle.rc_model.specs.Syntax.Tokens as model
+use Rattle.rc_model.specs.Mirrors.Reading as reading
 use Rattle.rc_lexer.specs.Views.{slice_at, token_of}
 use Rattle.rc_lexer.specs.Classes.{class_is}
 use Rattle.rc_lexer.specs.Machine.{place_of, before_of, due_in, tokens_in, bodies_in, behind_step}

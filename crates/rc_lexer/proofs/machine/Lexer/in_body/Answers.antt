@@ -1,5 +1,5 @@
 use Rattle.std.proofs.Common.{◌≡◌, ℕ, List, ap, ◌∙◌, arith}
-use Rattle.rc_model.specs.Reading as reading
+use Rattle.rc_model.specs.Mirrors.Reading as reading
 use Rattle.rc_lexer.specs.declared.operators.Class.{Class}
 use Rattle.rc_lexer.specs.declared.machine.Head.{Head}
 use Rattle.rc_lexer.specs.declared.machine.Lexer.{Lexer}

@@ -1,6 +1,6 @@
 use Rattle.std.proofs.Common.{refl, ap, ◌∙◌}
 use Rattle.std.specs.Prelude.{slice_range}
-use Rattle.rc_model.specs.Tokens as model
+use Rattle.rc_model.specs.Syntax.Tokens as model
 use Rattle.rc_lexer.specs.Views.{token_of, lexeme_of}
 use Rattle.rc_lexer.specs.Machine.{place_of}
 use Rattle.rc_lexer.proofs.Operated.{here_does, dollar_does, sigil_does, plain_does}

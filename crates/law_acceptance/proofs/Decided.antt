@@ -1,0 +1,104 @@
+-- Each script is accepted or refused, and never both.
+use Rattle.std.proofs.Common.{◌≡◌, ℕ, ◌<◌, ◌≤◌, Bool, true, false, List, length, Result, Ok, Err, ◌⊎◌, inl, inr, refl, sym, subst, ◌∙◌, arith, nat_le}
+use Rattle.std.proofs.lemmas.Bool.{leb-true, leb-false}
+use Rattle.std.proofs.lemmas.Str.{IsUtf8-from_is_utf8}
+use Rattle.std.specs.Str.{is_utf8}
+use Rattle.std.specs.Str.Lossy.{utf8_valid_len}
+use Rattle.rc_model.specs.Syntax.Tokens.{Token, Lexeme, Lexes}
+use Rattle.rc_model.specs.Mirrors.Reading.{lexed}
+use Rattle.rc_model.specs.Mirrors.Spelling.{AreSpelled}
+use Rattle.rc_model.specs.Syntax.Tree.{Node, cmd}
+use Rattle.rc_model.specs.Syntax.WellFormed.{depth, most_stages, is_sound}
+use Rattle.rc_model.specs.declared.fault.SyntaxFault.{SyntaxFault}
+use Rattle.rc_model.specs.Syntax.Faults.{fault}
+use Rattle.rc_model.specs.Syntax.Accepted.{HasTokens, IsAccepted, IsRefused, IsLineOf, lexemes, line_of, longest_script}
+use Rattle.rc_model.specs.Syntax.Accepted as script
+use Rattle.rc_model.specs.Syntax.Grammar.{IsScript}
+use Rattle.rc_model.specs.Mirrors.Descent.{Fault, script_tree}
+use Rattle.rc_model.specs.Mirrors.Descent as descent
+use Rattle.rc_model.specs.Mirrors.ParsingLaws.{IsDecided, IsNeverBoth}
+use Rattle.law_grammar.proofs.Laws.{finds_only_trees, has_no_tree, has_too_many_stages, is_too_deep}
+use Rattle.law_grammar.proofs.Narrow.{and_second, formed_narrow}
+use Rattle.law_grammar.proofs.Sound.{has_sound_trees}
+use Rattle.law_lexing.proofs.Lexing.{law, one_reading, one_cut}
+use Rattle.law_lexing.proofs.Spelled.{spelled_tokens}
+use Rattle.rc_model.specs.declared.fault.FaultKind.TheVariants.{IfNot, NotText, TooDeep, TooLong, TooManyStages, Unexpected}
+
+-- the tokens of a script are spelled as the language has it
+pub are_spelled : {text : List ℕ} {tokens : List Token} → HasTokens text tokens → AreSpelled (lexemes tokens)
+are_spelled {text = text} {tokens = tokens} h = spelled_tokens text tokens (IsUtf8-from_is_utf8 text h.text) h.cut
+
+-- a script has no other tokens
+pub same_tokens : {text : List ℕ} {xs ys : List Token} → HasTokens text xs → HasTokens text ys → xs ≡ ys
+same_tokens h k = one_cut h.cut k.cut
+
+-- a tree of spelled lexemes isn't unsound while its pipelines are short
+pub deep : (ts : List Lexeme) (tree : Node cmd) → AreSpelled ts → IsScript ts tree → (200 < depth tree) ⊎ ((is_sound tree ≡ false) × (most_stages tree ≤ 64)) → 200 < depth tree
+deep ts tree spelled s (inl h) = h
+deep ts tree spelled s (inr h) = let e = has_sound_trees ts tree spelled s h.1 in absurd (differ (sym e ∙ h.0))
+  where
+    differ : true ≡ false → ⊥
+    differ k = cc
+
+-- a refused script isn't accepted
+no_script : {text : List ℕ} {xs ys : List Token} (tree : Node cmd) → HasTokens text xs → HasTokens text ys → ((other : Node cmd) → IsScript (lexemes xs) other → ⊥) →
+    IsScript (lexemes ys) tree → ⊥
+no_script tree h k none s = none tree (subst (λ z. IsScript (lexemes z) tree) (same_tokens k h) s)
+
+pub never_both : IsNeverBoth
+never_both text fault tree (script.too_long h) a = let short = a.has.short in omega arith
+never_both text fault tree (script.not_text short h) a = differ (sym a.has.text ∙ h)
+  where
+    differ : true ≡ false → ⊥
+    differ k = cc
+never_both text fault tree (script.no_tokens f short utf8 h) a = differ (one_reading a.has.cut h)
+  where
+    differ : {xs : List Token} {f : SyntaxFault} → ◌≡◌ {A = Result (List Token) SyntaxFault} (Ok xs) (Err f) → ⊥
+    differ k = cc
+never_both text fault tree (script.unexpected tokens line h at none) a = no_script tree h a.has none a.tree_is.script
+never_both text fault tree (script.if_not tokens line h at none) a = no_script tree h a.has none a.tree_is.script
+never_both text fault tree (script.too_deep tokens h far) a =
+    let deep = far tree (subst (λ z. IsScript (lexemes z) tree) (same_tokens a.has h) a.tree_is.script) in
+    let shallow = leb-true (depth tree) 200 (and_second (is_sound tree) (nat_le (depth tree) 200) a.tree_is.formed) in
+    omega arith
+never_both text fault tree (script.too_many_stages tokens line h at far) a =
+    let wide = far tree (subst (λ z. IsScript (lexemes z) tree) (same_tokens a.has h) a.tree_is.script) in
+    let narrow = formed_narrow tree a.tree_is.formed in
+    omega arith
+
+-- accepted with some tree, or refused with some fault
+abbrev pub Decided : List ℕ → Type 0
+Decided text = ((tree : Node cmd) × IsAccepted text tree) ⊎ ((f : SyntaxFault) × IsRefused text f)
+
+-- the line of the end
+abbrev last_line : List ℕ → ℕ
+last_line text = line_of text (length text)
+
+refused_by : (text : List ℕ) (tokens : List Token) (e : Fault) → HasTokens text tokens → script_tree 200 (lexemes tokens) ≡ Err e → (f : SyntaxFault) × IsRefused text f
+refused_by text tokens descent.Unexpected h e =
+    (fault Unexpected (last_line text), script.unexpected tokens (last_line text) h (inr refl) (λ tree s. has_no_tree 200 (lexemes tokens) tree (inl e) s))
+refused_by text tokens descent.IfNot h e =
+    (fault IfNot (last_line text), script.if_not tokens (last_line text) h (inr refl) (λ tree s. has_no_tree 200 (lexemes tokens) tree (inr e) s))
+refused_by text tokens descent.TooDeep h e =
+    (fault TooDeep 0, script.too_deep tokens h (λ tree s. deep (lexemes tokens) tree (are_spelled h) s (is_too_deep 200 (lexemes tokens) tree (omega arith) e s)))
+refused_by text tokens descent.TooManyStages h e =
+    (fault TooManyStages (last_line text), script.too_many_stages tokens (last_line text) h (inr refl) (λ tree s. has_too_many_stages 200 (lexemes tokens) tree e s))
+
+by_tree : (text : List ℕ) (tokens : List Token) (r : Result (Node cmd) Fault) → HasTokens text tokens → script_tree 200 (lexemes tokens) ≡ r → Decided text
+by_tree text tokens (Ok tree) h e = inl (tree, record { tokens = tokens; has = h; tree_is = finds_only_trees 200 (lexemes tokens) tree e })
+by_tree text tokens (Err f) h e = inr (refused_by text tokens f h e)
+
+by_tokens : (text : List ℕ) (r : Result (List Token) SyntaxFault) → length text ≤ longest_script → is_utf8 text ≡ true → Lexes text r → Decided text
+by_tokens text (Ok tokens) short utf8 read = by_tree text tokens (script_tree 200 (lexemes tokens)) (record { short = short; text = utf8; cut = read }) refl
+by_tokens text (Err f) short utf8 read = inr (f, script.no_tokens f short utf8 read)
+
+by_text : (text : List ℕ) (b : Bool) → is_utf8 text ≡ b → length text ≤ longest_script → Decided text
+by_text text true e short = by_tokens text (lexed text) short e (law text).found
+by_text text false e short = inr (fault NotText (line_of text (utf8_valid_len text)), script.not_text short e)
+
+by_length : (text : List ℕ) (b : Bool) → nat_le (length text) longest_script ≡ b → Decided text
+by_length text true e = by_text text (is_utf8 text) refl (leb-true (length text) longest_script e)
+by_length text false e = inr (fault TooLong 0, script.too_long (leb-false (length text) longest_script e))
+
+pub is_decided : IsDecided
+is_decided text = by_length text (nat_le (length text) longest_script) refl

@@ -1,0 +1,117 @@
+-- Steps of the machine, and what joins them.
+use Rattle.std.proofs.Common.{◌≡◌, ℕ, Bool, true, false, cond, ◌==◌, ◌||◌, List, [], ◌∷◌, ◌++◌, refl, append_assoc}
+use Rattle.std.specs.Prelude.{Ok, Err}
+use Rattle.std.proofs.lemmas.Bool.{eqb-true}
+use Rattle.rc_model.specs.Syntax.Tokens as t
+use Rattle.rc_model.specs.Syntax.Tokens.{Lexeme, Token, Place, Before, Due, Outcome, Class}
+use Rattle.rc_model.specs.declared.fault.SyntaxFault.{SyntaxFault}
+use Rattle.rc_model.specs.Mirrors.Reading.{State, Step, emit, step, closed, follow, run}
+
+-- what follows each step
+abbrev pub then_run : Place → List ℕ → State → List Due → Outcome
+then_run p cs s due = run s due p cs
+
+-- the run from a character of this class on
+abbrev pub run_at : State → List Due → Place → ℕ → List ℕ → Class → Outcome
+run_at s due p c cs k = follow (step s due p c k) (λ s' due'. run s' due' (t.behind_char p c) cs)
+
+pub join_nil : (o : Outcome) → t.join [] [] o ≡ o
+join_nil (Ok x) = refl
+join_nil (Err f) = refl
+
+pub join_join : (ts us : List Token) (bs cs : List (List ℕ)) (o : Outcome) → t.join (ts ++ us) (bs ++ cs) o ≡ t.join ts bs (t.join us cs o)
+join_join ts us bs cs (Ok x) = cong_pair (append_assoc ts us x.0) (append_assoc bs cs x.1)
+  where
+    cong_pair : {ts' us' : List Token} {bs' cs' : List (List ℕ)} → ts' ≡ us' → bs' ≡ cs' → ◌≡◌ {A = Outcome} (Ok (ts', bs')) (Ok (us', cs'))
+    cong_pair e f = cc
+join_join ts us bs cs (Err f) = refl
+
+pub join_tokens : (ts us : List Token) (o : Outcome) → t.join (ts ++ us) [] o ≡ t.join ts [] (t.join us [] o)
+join_tokens ts us o = join_join ts us [] [] o
+
+pub follow_emit : (ts : List Token) (x : Step) (f : State → List Due → Outcome) → follow (emit ts x) f ≡ t.join ts [] (follow x f)
+follow_emit ts (Ok x) f = join_join ts x.0 [] x.1 (f x.2 x.3)
+follow_emit ts (Err e) f = refl
+
+pub join_closed : (ts us : List Token) (bodies : List (List ℕ)) (due : List Due) → t.join ts [] (closed us bodies due) ≡ closed (ts ++ us) bodies due
+join_closed ts us bodies [] = refl
+join_closed ts us bodies (d ∷ due) = refl
+
+pub behind_append : (p : Place) (xs ys : List ℕ) → t.behind_chars p (xs ++ ys) ≡ t.behind_chars (t.behind_chars p xs) ys
+behind_append p [] ys = refl
+behind_append p (x ∷ xs) ys = behind_append (t.behind_char p x) xs ys
+
+-- what is known of a character by its class
+pick_quote : (a b c d e f : Bool) →
+    cond a t.Operates (cond b t.Blank (cond c t.LineEnd (cond d t.Hash (cond e t.Quote (cond f t.Backslash t.Ordinary))))) ≡ t.Quote → e ≡ true
+pick_quote true b c d e f h = absurd cc
+pick_quote false true c d e f h = absurd cc
+pick_quote false false true d e f h = absurd cc
+pick_quote false false false true e f h = absurd cc
+pick_quote false false false false true f h = refl
+pick_quote false false false false false true h = absurd cc
+pick_quote false false false false false false h = absurd cc
+
+pick_line_end : (a b c d e f : Bool) →
+    cond a t.Operates (cond b t.Blank (cond c t.LineEnd (cond d t.Hash (cond e t.Quote (cond f t.Backslash t.Ordinary))))) ≡ t.LineEnd → c ≡ true
+pick_line_end true b c d e f h = absurd cc
+pick_line_end false true c d e f h = absurd cc
+pick_line_end false false true d e f h = refl
+pick_line_end false false false true e f h = absurd cc
+pick_line_end false false false false true f h = absurd cc
+pick_line_end false false false false false true h = absurd cc
+pick_line_end false false false false false false h = absurd cc
+
+pick_hash : (a b c d e f : Bool) →
+    cond a t.Operates (cond b t.Blank (cond c t.LineEnd (cond d t.Hash (cond e t.Quote (cond f t.Backslash t.Ordinary))))) ≡ t.Hash → d ≡ true
+pick_hash true b c d e f h = absurd cc
+pick_hash false true c d e f h = absurd cc
+pick_hash false false true d e f h = absurd cc
+pick_hash false false false true e f h = refl
+pick_hash false false false false true f h = absurd cc
+pick_hash false false false false false true h = absurd cc
+pick_hash false false false false false false h = absurd cc
+
+pick_backslash : (a b c d e f : Bool) →
+    cond a t.Operates (cond b t.Blank (cond c t.LineEnd (cond d t.Hash (cond e t.Quote (cond f t.Backslash t.Ordinary))))) ≡ t.Backslash → f ≡ true
+pick_backslash true b c d e f h = absurd cc
+pick_backslash false true c d e f h = absurd cc
+pick_backslash false false true d e f h = absurd cc
+pick_backslash false false false true e f h = absurd cc
+pick_backslash false false false false true f h = absurd cc
+pick_backslash false false false false false true h = refl
+pick_backslash false false false false false false h = absurd cc
+
+pick_operates : (a b c d e f : Bool) →
+    cond a t.Operates (cond b t.Blank (cond c t.LineEnd (cond d t.Hash (cond e t.Quote (cond f t.Backslash t.Ordinary))))) ≡ t.Operates → a ≡ true
+pick_operates true b c d e f h = refl
+pick_operates false true c d e f h = absurd cc
+pick_operates false false true d e f h = absurd cc
+pick_operates false false false true e f h = absurd cc
+pick_operates false false false false true f h = absurd cc
+pick_operates false false false false false true h = absurd cc
+pick_operates false false false false false false h = absurd cc
+
+pub quote_is : (c : ℕ) → t.class_of c ≡ t.Quote → c ≡ 39
+quote_is c h = eqb-true c 39 (pick_quote (t.begins_operator (c ∷ [])) ((c == 32) || (c == 9)) (c == 10) (c == 35) (c == 39) (c == 92) h)
+
+pub line_end_is : (c : ℕ) → t.class_of c ≡ t.LineEnd → c ≡ 10
+line_end_is c h = eqb-true c 10 (pick_line_end (t.begins_operator (c ∷ [])) ((c == 32) || (c == 9)) (c == 10) (c == 35) (c == 39) (c == 92) h)
+
+pub hash_is : (c : ℕ) → t.class_of c ≡ t.Hash → c ≡ 35
+hash_is c h = eqb-true c 35 (pick_hash (t.begins_operator (c ∷ [])) ((c == 32) || (c == 9)) (c == 10) (c == 35) (c == 39) (c == 92) h)
+
+pub backslash_is : (c : ℕ) → t.class_of c ≡ t.Backslash → c ≡ 92
+backslash_is c h = eqb-true c 92 (pick_backslash (t.begins_operator (c ∷ [])) ((c == 32) || (c == 9)) (c == 10) (c == 35) (c == 39) (c == 92) h)
+
+pub operates_is : (c : ℕ) → t.class_of c ≡ t.Operates → t.begins_operator (c ∷ []) ≡ true
+operates_is c h = pick_operates (t.begins_operator (c ∷ [])) ((c == 32) || (c == 9)) (c == 10) (c == 35) (c == 39) (c == 92) h
+
+-- a class is no line end, or no quote
+pub not_line_end : Class → Bool
+not_line_end t.LineEnd = false
+not_line_end _ = true
+
+pub is_quote : Class → Bool
+is_quote t.Quote = true
+is_quote _ = false

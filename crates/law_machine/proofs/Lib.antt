@@ -1,0 +1,10 @@
+pub mod Less
+pub mod Place
+pub mod Run
+pub mod Legs
+pub mod Forms
+pub mod Follow
+pub mod Turns
+pub mod Ends
+pub mod Told
+pub mod Reached

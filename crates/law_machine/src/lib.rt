@@ -1,0 +1,13 @@
+//! The laws of the machine: the code of a script does what the script means.
+#![tactic(auto)]
+
+ghost use Rattle.rc_model.specs.Run.Calls.{Answer};
+ghost use Rattle.rc_model.specs.Run.Script.{Agrees};
+ghost use Rattle.rc_model.specs.Run.State.{State};
+ghost use Rattle.rc_model.specs.Syntax.Tree.{Node, cmd};
+ghost use Rattle.std.specs.Prelude.{List};
+
+/// The code of a script does what the script means, for all answers.
+pub fn machine_agrees()
+    ensures { (c : Node cmd) (s : State) (given : List Answer) → Agrees c s given }
+{}

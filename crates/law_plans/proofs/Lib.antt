@@ -1,0 +1,4 @@
+pub mod Goes
+pub mod Plays
+pub mod Tellings
+pub mod Runs

@@ -1,0 +1,19 @@
+-- What a world tells, extended by one trace and then by another.
+use Rattle.std.proofs.Common.{◌≡◌, refl, sym, ◌∙◌, ap, List, [], ◌∷◌, ◌++◌, Option, Some, None}
+use Rattle.std.proofs.lemmas.List.{append_assoc, append-nil}
+use Rattle.rc_model.specs.Run.Calls.{Event, extend}
+
+pub extend_append : (told : Option (List Event)) (es fs : List Event) → extend (extend told es) fs ≡ extend told (es ++ fs)
+extend_append None es fs = refl
+extend_append (Some before) es fs = ap Some (append_assoc before es fs)
+
+pub extend_nil : (told : Option (List Event)) → told ≡ extend told []
+extend_nil None = refl
+extend_nil (Some before) = ap Some (sym (append-nil before))
+
+pub told_append : (a b c : Option (List Event)) (es fs : List Event) → b ≡ extend a es → c ≡ extend b fs → c ≡ extend a (es ++ fs)
+told_append a b c es fs h k = k ∙ (ap (λ o. extend o fs) h ∙ extend_append a es fs)
+
+pub told_further : (a b c : Option (List Event)) (es fs : List Event) (e : Event) →
+    b ≡ extend a es → c ≡ extend b (fs ++ e ∷ []) → c ≡ extend a ((es ++ fs) ++ e ∷ [])
+told_further a b c es fs e h k = told_append a b c es (fs ++ e ∷ []) h k ∙ ap (extend a) (sym (append_assoc es fs (e ∷ [])))

@@ -1,0 +1,41 @@
+//! The laws of plans: what a plan goes on by, event by event, is what it plays over the answers.
+#![tactic(auto)]
+
+ghost use Rattle.std.specs.Prelude.{◌≡◌, ◌++◌, ◌∷◌, [], List};
+ghost use Rattle.rc_model.specs.Run.Calls.{Call, Answer, Event, event, answers, calls, refused};
+ghost use Rattle.rc_model.specs.Run.Plans.{Plan, done_with, ask, cut, Goes, Ends, Waits, Cut, play};
+ghost use Rattle.rc_model.specs.declared.call.Fault.TheVariants.{Halt};
+
+/// A run may be cut into one run and another.
+#[tactic(auto, using(crate::proofs::Goes::goes_append))]
+pub fn runs_join<X>()
+    ensures { (p q r : Plan X) (before next : List Event) → Goes p before q → Goes q next r
+        → Goes p (before ++ next) r }
+{}
+
+/// Over the answers of a run to its end, a plan makes the calls of the run and ends so.
+#[tactic(auto, using(crate::proofs::Plays::ends_over))]
+pub fn a_run_to_the_end_plays<X>()
+    ensures { (p : Plan X) (trace : List Event) (x : X) → Goes p trace (done_with x)
+        → play p (answers trace) ≡ Ends (calls trace) x [] }
+{}
+
+/// Over the answers of a run to a call, a plan makes the calls of the run and waits on that call.
+#[tactic(auto, using(crate::proofs::Plays::waits_over))]
+pub fn a_run_to_a_call_plays<X>()
+    ensures { (p : Plan X) (trace : List Event) (c : Call) (go : Answer → Plan X) → Goes p trace (ask c go)
+        → play p (answers trace) ≡ Waits (calls trace ++ c ∷ []) }
+{}
+
+/// A call that was answered by a halt is the one that the plan waits on.
+#[tactic(auto, using(crate::proofs::Plays::halts_over))]
+pub fn a_run_to_a_halt_plays<X>()
+    ensures { (p : Plan X) (before : List Event) (c : Call) (go : Answer → Plan X) → Goes p before (ask c go)
+        → let trace = before ++ event c (refused Halt) ∷ [] in play p (answers trace) ≡ Waits (calls trace) }
+{}
+
+/// Over the answers of a run to a cut, a plan makes the calls of the run and is cut.
+#[tactic(auto, using(crate::proofs::Plays::cut_over))]
+pub fn a_run_to_a_cut_plays<X>()
+    ensures { (p : Plan X) (trace : List Event) → Goes p trace cut → play p (answers trace) ≡ Cut (calls trace) }
+{}

@@ -1,0 +1,4 @@
+pub mod Entries
+pub mod Escapes
+pub mod Fits
+pub mod Search

@@ -1,0 +1,7 @@
+//! Programs and built-in commands.
+#![tactic(auto)]
+
+mod environment;
+mod programs;
+
+pub use programs::{fault, find_program, report, run_program};

@@ -1,0 +1,278 @@
+//! Programs: they are looked for, started and waited for.
+
+ghost use Rattle.std.specs.Prelude.{◌≡◌, ◌∷◌, ◌++◌, [], codes, IfOk, map, string_bytes, option_map};
+ghost use Rattle.rc_model.specs.Run.Acts.{report, fault, is_path, candidate, is_program, first_program, find_program, ending_status, started, refuse, wait_started, run_found, run_program};
+ghost use Rattle.rc_model.specs.Run.State as model;
+ghost use Rattle.rc_model.specs.Handed.Image.{is_short, is_fit, program_launch};
+ghost use Rattle.rc_model.specs.Run.Shell.{Next};
+ghost use Rattle.rc_world.specs.Comes.{Comes};
+ghost use Rattle.rc_world.specs.Views.{launch_of};
+ghost use Rattle.std.specs.List.{list_all};
+ghost use Rattle.rc_builtin.specs.Starts.{paths_in, started_of};
+ghost use Rattle.rc_scope.specs.States.{state_of};
+
+use crate::environment::entries;
+use rc_scope::State;
+use rc_world::{ChildNo, Ending, Kind, Launch, Program, Slots, Stop, World, calls};
+use std::alloc::{AllocError, Global};
+
+fn report_line(alloc: Global, text: &str) -> Result<String, AllocError>
+    ensures { IfOk result (λ line. string_bytes line ≡ (codes "rc: " ++ text.now ++ 10 ∷ [])) }
+{
+    format!(in alloc; "rc: {text}\n")
+}
+
+/// Writes `rc: TEXT` to descriptor 2.
+#[tactic(auto, using(rc_world::proofs::Joins::passed_up, law_plans::proofs::Runs::ran_none, rc_world::proofs::Joins::left_here))]
+pub fn report<W: World>(
+    alloc: Global,
+    world: &mut W,
+    state: &State,
+    slots: Slots,
+    text: &str,
+) -> Result<(), Stop>
+    ensures { Comes (W.events world.old) (W.events world.new) (report slots text.now (state_of state.now)) (λ x. Next x (state_of state.now)) result }
+{
+    let line = report_line(alloc, text)?;
+    calls::write(world, slots.errors, line.as_bytes())?;
+    Ok(())
+}
+
+/// Whether a program's name is its path.
+fn is_path(name: &str) -> bool
+    ensures { result ≡ is_path name.now }
+{
+    name.starts_with("/") || name.starts_with("./") || name.starts_with("../")
+}
+
+/// Where a program may be.
+fn candidate(alloc: Global, dir: &str, name: &str) -> Result<String, AllocError>
+    ensures { IfOk result (λ path. string_bytes path ≡ candidate dir.now name.now) }
+{
+    if dir.is_empty() || dir == "." {
+        return format!(in alloc; "./{name}");
+    }
+    format!(in alloc; "{dir}/{name}")
+}
+
+fn is_program(found: Option<Kind>) -> bool
+    ensures { result ≡ is_program found }
+{
+    matches!(found, Some(Kind::Program))
+}
+
+/// The path in the first of these directories that has the program.
+#[tactic(auto, using(rc_world::proofs::Joins::passed_up, law_plans::proofs::Runs::ran_none, rc_world::proofs::Joins::left_here))]
+fn first_program<W: World>(
+    alloc: Global,
+    world: &mut W,
+    state: &State,
+    name: &str,
+    dirs: &[String],
+) -> Result<Option<String>, Stop>
+    ensures { Comes (W.events world.old) (W.events world.new) (first_program (paths_in name.now dirs.now) (state_of state.now)) (λ found. Next (option_map string_bytes found) (state_of state.now)) result }
+{
+    for dir in dirs {
+        let path = candidate(alloc, dir, name)?;
+        if is_program(calls::probe(world, &path)?) {
+            return Ok(Some(path));
+        }
+    }
+    Ok(None)
+}
+
+/// The path of a program: its name where that is a path, else the first of `$path` that has it.
+#[tactic(auto, using(rc_world::proofs::Joins::passed_up, law_plans::proofs::Runs::ran_none, rc_world::proofs::Joins::left_here))]
+pub fn find_program<W: World>(
+    alloc: Global,
+    world: &mut W,
+    state: &State,
+    name: &str,
+) -> Result<Option<String>, Stop>
+    ensures { Comes (W.events world.old) (W.events world.new) (find_program name.now (state_of state.now)) (λ found. Next (option_map string_bytes found) (state_of state.now)) result }
+{
+    if is_path(name) {
+        return Ok(Some(String::from_str(alloc, name)?));
+    }
+    if name.is_empty() {
+        return Ok(None);
+    }
+    let dirs = state.get("path")?;
+    first_program(alloc, world, state, name, &dirs)
+}
+
+/// The status by which a child ended; `None` where it could not be waited for.
+fn ending_status(alloc: Global, ending: Option<Ending>) -> Result<String, AllocError>
+    ensures { IfOk result (λ status. string_bytes status ≡ ending_status ending) }
+{
+    match ending {
+        None => String::from_str(alloc, "cannot wait"),
+        Some(Ending::Code(0)) => Ok(String::new(alloc)),
+        Some(Ending::Code(code)) => code.to_string(alloc),
+        Some(Ending::Signal) => String::from_str(alloc, "signal"),
+    }
+}
+
+fn refusal_text(alloc: Global, name: &str, why: &str) -> Result<String, AllocError>
+    ensures { IfOk result (λ text. string_bytes text ≡ (name.now ++ codes ": " ++ why.now)) }
+{
+    format!(in alloc; "{name}: {why}")
+}
+
+/// A program that cannot be run, and why.
+#[tactic(auto, using(rc_world::proofs::Joins::passed_up, law_plans::proofs::Runs::ran_none, rc_world::proofs::Joins::left_here))]
+fn refuse<W: World>(
+    alloc: Global,
+    world: &mut W,
+    state: &mut State,
+    slots: Slots,
+    name: &str,
+    why: &str,
+) -> Result<(), Stop>
+    ensures { Comes (W.events world.old) (W.events world.new) (refuse slots name.now why.now (state_of state.old)) (λ x. Next x (state_of state.new)) result }
+{
+    let text = refusal_text(alloc, name, why)?;
+    report(alloc, world, state, slots, &text)?;
+    state.set_status(why)?;
+    Ok(())
+}
+
+/// What the start of a child gave.
+#[derive(Clone, Copy)]
+pub enum Started {
+    Child(ChildNo),
+    /// There is no child, and this is why.
+    NoChild(&'static str),
+}
+
+/// Whether an argument or an entry is short enough for a launch.
+fn is_short(text: &str) -> bool
+    ensures { result ≡ is_short text.now }
+{
+    text.len() <= 100_000
+}
+
+fn are_short(texts: &[String]) -> bool
+    ensures { result ≡ list_all (λ text. is_short (string_bytes text)) texts.now }
+{
+    texts.iter().all(|text| is_short(text))
+}
+
+/// Whether a launch can be made.
+fn is_fit(launch: &Launch) -> bool
+    ensures { result ≡ is_fit (launch_of launch.now) }
+{
+    are_short(&launch.args) && are_short(&launch.env)
+}
+
+/// Starts a child, where its arguments and entries are short enough.
+#[tactic(auto, using(rc_world::proofs::Joins::passed_up, law_plans::proofs::Runs::ran_none, rc_world::proofs::Joins::left_here))]
+pub fn make_started<W: World>(world: &mut W, launch: &Launch) -> Result<Started, Stop>
+    ensures { (s : model.State) → Comes (W.events world.old) (W.events world.new) (started (launch_of launch.now) s) (λ st. Next (started_of st) s) result }
+{
+    if !is_fit(launch) {
+        return Ok(Started::NoChild("too large"));
+    }
+    match calls::start(world, launch)? {
+        Some(child) => Ok(Started::Child(child)),
+        None => Ok(Started::NoChild("cannot start")),
+    }
+}
+
+/// A program that was started is waited for.
+#[tactic(auto, using(rc_world::proofs::Joins::passed_up, law_plans::proofs::Runs::ran_none, rc_world::proofs::Joins::left_here))]
+fn wait_started<W: World>(
+    alloc: Global,
+    world: &mut W,
+    state: &mut State,
+    slots: Slots,
+    name: &str,
+    started: Started,
+) -> Result<(), Stop>
+    ensures { Comes (W.events world.old) (W.events world.new) (wait_started slots name.now (started_of started) (state_of state.old)) (λ x. Next x (state_of state.new)) result }
+{
+    let child = match started {
+        Started::Child(child) => child,
+        Started::NoChild(why) => return refuse(alloc, world, state, slots, name, why),
+    };
+    let ending = calls::wait(world, child)?;
+    let status = ending_status(alloc, ending)?;
+    state.set_status(&status)?;
+    Ok(())
+}
+
+/// What is asked for a program.
+fn launch(
+    alloc: Global,
+    state: &State,
+    slots: Slots,
+    path: String,
+    args: &[String],
+) -> Result<Launch, AllocError>
+    ensures { IfOk result (λ l. launch_of l ≡ program_launch slots (string_bytes path) (map string_bytes args.now) (state_of state.now)) }
+{
+    let mut copy = Vec::new(alloc);
+    for arg in args {
+        copy.push(arg.clone()?)?;
+    }
+    let env = entries(alloc, state)?;
+    Ok(Launch {
+        program: Program::Path(path),
+        args: copy,
+        env,
+        slots,
+    })
+}
+
+/// A program that was looked for is started.
+#[tactic(auto, using(rc_world::proofs::Joins::passed_up, law_plans::proofs::Runs::ran_none, rc_world::proofs::Joins::left_here))]
+fn run_found<W: World>(
+    alloc: Global,
+    world: &mut W,
+    state: &mut State,
+    slots: Slots,
+    name: &str,
+    args: &[String],
+    path: Option<String>,
+) -> Result<(), Stop>
+    ensures { Comes (W.events world.old) (W.events world.new) (run_found slots name.now (map string_bytes args.now) (option_map string_bytes path) (state_of state.old)) (λ x. Next x (state_of state.new)) result }
+{
+    let Some(path) = path else {
+        return refuse(alloc, world, state, slots, name, "not found");
+    };
+    let launch = launch(alloc, state, slots, path, args)?;
+    let child = make_started(world, &launch)?;
+    wait_started(alloc, world, state, slots, name, child)
+}
+
+/// Runs a program by its name.
+#[tactic(auto, using(rc_world::proofs::Joins::passed_up, law_plans::proofs::Runs::ran_none, rc_world::proofs::Joins::left_here))]
+pub fn run_program<W: World>(
+    alloc: Global,
+    world: &mut W,
+    state: &mut State,
+    slots: Slots,
+    name: &str,
+    args: &[String],
+) -> Result<(), Stop>
+    ensures { Comes (W.events world.old) (W.events world.new) (run_program slots name.now (map string_bytes args.now) (state_of state.old)) (λ x. Next x (state_of state.new)) result }
+{
+    let path = find_program(alloc, world, state, name)?;
+    run_found(alloc, world, state, slots, name, args, path)
+}
+
+/// A runtime error: a report, and the status `error`. The shell ends then.
+#[tactic(auto, using(rc_world::proofs::Joins::passed_up, law_plans::proofs::Runs::ran_none, rc_world::proofs::Joins::left_here))]
+pub fn fault<W: World>(
+    alloc: Global,
+    world: &mut W,
+    state: &mut State,
+    slots: Slots,
+    text: &str,
+) -> Result<(), Stop>
+    ensures { Comes (W.events world.old) (W.events world.new) (fault slots text.now (state_of state.old)) (λ x. Next x (state_of state.new)) result }
+{
+    report(alloc, world, state, slots, text)?;
+    state.set_status("error")?;
+    Ok(())
+}

@@ -1,0 +1,14 @@
+use Rattle.std.proofs.Common.{◌≡◌, ℕ, List, [], ◌++◌, take, Option, Some, None, option_map, IfSome}
+use Rattle.rc_cli.proofs.reading.read_script.Goals as goal
+
+-- what was read of a reader with a limit, by what the reader had left
+read_of_left : (left : Option (List ℕ)) (limit most : ℕ) (read old : List ℕ)
+    → limit ≡ most → old ≡ [] → IfSome (option_map (take limit) left) (λ bytes. read ≡ old ++ bytes)
+    → IfSome left (λ bytes. read ≡ take most bytes)
+read_of_left None limit most read old e none h = h
+read_of_left (Some bytes) limit most read old e none h = cc
+
+pub returns-in-Ok-clause-script : goal.returns-in-Ok-clause-script
+returns-in-Ok-clause-script g c =
+    let h = rw c.take.ensures.inner at c.in-Ok.ensures.bytes in
+    read_of_left (g.R.Read.remaining c.args.input) c.take.result.limit 1048577 c.read_to_end.new.buf.items _ c.take.ensures.limit c.new-script.ensures.items h

@@ -1,0 +1,15 @@
+-- The line that says why a run failed.
+use Rattle.std.specs.Prelude.{ℕ, List, ◌++◌, codes}
+use Rattle.rc_model.specs.Syntax.Faults.{fault_words}
+use Rattle.rc_cli.specs.declared.fault.RunFault.{RunFault}
+use Rattle.rc_cli.specs.declared.fault.RunFault.TheVariants.{Usage, CannotRead, Syntax, NoMemory, Limit, Halted, NotYet}
+
+-- the line itself, without its newline
+abbrev pub fault_line : RunFault → List ℕ
+fault_line Usage = codes "rc: usage: rc [-c text | file] [arg ...]"
+fault_line CannotRead = codes "rc: cannot read standard input"
+fault_line (Syntax fault) = codes "rc: " ++ fault_words fault
+fault_line NoMemory = codes "rc: no memory"
+fault_line Limit = codes "rc: limit"
+fault_line Halted = codes "rc: halted"
+fault_line NotYet = codes "rc: not yet"

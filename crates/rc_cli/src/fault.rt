@@ -1,0 +1,69 @@
+//! Why a run failed.
+ghost use Rattle.std.specs.Prelude.{◌≡◌, ◌≢◌, ◌⊎◌, None, Some};
+ghost use Rattle.std.specs.IoError.{error_kind, raw_os_error};
+ghost use Rattle.rc_cli.specs.FaultLines.{fault_line};
+
+use rc_model::SyntaxFault;
+use std::alloc::AllocError;
+use std::error::Error;
+use std::io::ErrorKind;
+use std::{fmt, io};
+
+/// Why a run of the program failed. It is shown as the line that the program prints, without a
+/// newline.
+#[derive(Clone, Copy, Debug, PartialEq)]
+pub enum RunFault {
+    /// The program was given words.
+    Usage,
+    CannotRead,
+    Syntax(SyntaxFault),
+    NoMemory,
+    /// The script took too many instructions.
+    Limit,
+    /// The world did not answer.
+    Halted,
+    /// The script came to what can't be run yet.
+    NotYet,
+}
+
+impl From<AllocError> for RunFault {
+    ghost use Rattle.rc_cli.specs.declared.fault.RunFault.TheVariants.{NoMemory};
+
+    ghost from_gives = { λ _ fault. fault ≡ NoMemory };
+
+    fn from(_: AllocError) -> RunFault {
+        RunFault::NoMemory
+    }
+}
+
+impl RunFault {
+    /// The fault at an error of the system: out of memory is distinguished from any other.
+    pub(crate) fn at(error: &io::Error, other: RunFault) -> RunFault
+        ensures either { (result ≡ other) ⊎ (result ≡ RunFault.NoMemory) }
+        ensures other { error_kind error.now ≢ ErrorKind.OutOfMemory → result ≡ other }
+        ensures memory { error_kind error.now ≡ ErrorKind.OutOfMemory → raw_os_error error.now ≡ None → result ≡ RunFault.NoMemory }
+    {
+        match error.kind() {
+            ErrorKind::OutOfMemory if error.raw_os_error().is_none() => RunFault::NoMemory,
+            _ => other,
+        }
+    }
+}
+
+impl fmt::Display for RunFault {
+    ghost output = { λ fault. Some (fault_line fault) };
+
+    fn fmt<W: fmt::Write>(&self, f: &mut fmt::Formatter<W>) -> fmt::Result {
+        match self {
+            RunFault::Usage => f.write_str("rc: usage: rc [-c text | file] [arg ...]"),
+            RunFault::CannotRead => f.write_str("rc: cannot read standard input"),
+            RunFault::Syntax(fault) => write!(f, "rc: {fault}"),
+            RunFault::NoMemory => f.write_str("rc: no memory"),
+            RunFault::Limit => f.write_str("rc: limit"),
+            RunFault::Halted => f.write_str("rc: halted"),
+            RunFault::NotYet => f.write_str("rc: not yet"),
+        }
+    }
+}
+
+impl Error for RunFault {}

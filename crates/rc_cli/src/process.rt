@@ -1,0 +1,20 @@
+//! What the program leaves to its process.
+ghost use Rattle.std.specs.Prelude.{◌≡◌, IfOk, OnErr};
+ghost use Rattle.std.specs.Process.{exit_status};
+
+use crate::fault::RunFault;
+use std::process::ExitCode;
+
+/// Prints the line of a fault to descriptor 2, and gives what the process ends with.
+pub fn report<R: Eprint>(rt: &R, run: Result<u8, RunFault>) -> ExitCode
+    ensures ended { IfOk run (λ status. exit_status result ≡ status) }
+    ensures failed { OnErr run (exit_status result ≡ 1) }
+{
+    match run {
+        Ok(status) => ExitCode::from(status),
+        Err(fault) => {
+            let _ = rt.eprintln(fault);
+            ExitCode::FAILURE
+        }
+    }
+}

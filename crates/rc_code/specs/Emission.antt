@@ -1,0 +1,105 @@
+-- How the compiler writes a part: behind what stands there, with the jumps put in when their targets are known.
+use Rattle.std.specs.Prelude.{◌≡◌, ℕ, List, [], ◌∷◌, ◌++◌, length, slice_set, Bool, true, false, codes}
+use Rattle.rc_model.specs.Syntax.Tree.{Node, Many, cmd, arg, pair, redir, branch, Pair, Branch, none, more, has_no_items}
+use Rattle.rc_model.specs.Syntax.Tree as tree
+use Rattle.rc_model.specs.Code.Layout.{Op, Nil, Word, Value, Glob, For, Next, Open, Copy, Here, Jump, IfFalse, Case}
+use Rattle.rc_model.specs.Code.Layout.{If, WasTrue, Stages, EndPipe, Subject}
+use Rattle.rc_model.specs.Code.Layout.{Kept, KeptPieces, Code, Part, Nothing, Do, Keep, Past, Loop, ◌⨾◌}
+use Rattle.rc_model.specs.Code.Layout.{ops_of, kept_of, assign_by, condition_code, cmd_code, arg_code, args_code}
+use Rattle.rc_code.specs.Views.{code_of}
+use Rattle.rc_code.specs.declared.code.Code as program
+
+-- the code with a part behind it
+unfoldable pub with_part : Code → Part → Code
+with_part c part = record { ops = c.ops ++ ops_of part (length c.ops) (length c.kept); kept = c.kept ++ kept_of part }
+
+-- the code with something more beside it
+unfoldable pub with_kept : Code → Kept → Code
+with_kept c x = record c { kept = c.kept ++ x ∷ [] }
+
+-- the code with another instruction at a place
+unfoldable pub patched : Code → (p : ℕ) → Op → Code
+patched c p op = record c { ops = slice_set c.ops p op }
+
+-- the code with jumps to one place at several
+unfoldable pub redirected : Code → List ℕ → (p : ℕ) → Code
+redirected c [] p = c
+redirected c (from ∷ places) p = redirected (patched c from (Jump p)) places p
+
+-- a part was written
+abbrev pub Writes : (old new : program.Code) → Part → Type 0
+Writes old new part = code_of new ≡ with_part (code_of old) part
+
+-- The parts that have a function of their own.
+
+-- a list of words
+abbrev pub list_code : Many arg → Part
+list_code words = Do Nil ⨾ args_code words
+
+-- the list and the name of a loop
+abbrev pub star_code : (name : Node arg) → Part
+star_code name = Do (Word (codes "*") false) ⨾ Do Value ⨾ arg_code name
+
+abbrev pub members_code : Many arg → (name : Node arg) → Part
+members_code words name = list_code words ⨾ Do Glob ⨾ arg_code name
+
+-- the turns of a loop over a list
+abbrev pub turns_code : (body : Part) → Part
+turns_code body = Do For ⨾ Loop Nothing Next body
+
+-- the condition of a `while`, and its body, which goes back to the condition
+abbrev pub test_code : (test : Node cmd) → Part
+test_code test = condition_code (has_no_items test) (cmd_code test true)
+
+abbrev pub repeat_code : (start : ℕ) → (body : Part) → Part
+repeat_code start body = Past IfFalse (body ⨾ Do (Jump start))
+
+-- the body of an `if`
+abbrev pub body_code : (body : Part) → Part
+body_code body = Past If (body ⨾ Do WasTrue)
+
+-- the last stage of a pipeline, behind the start of the others
+abbrev pub last_stage_code : (stages : ℕ) → (last : Part) → Part
+last_stage_code stages last = Past (Stages stages) (last ⨾ Do EndPipe)
+
+-- the word of a `switch` or a match
+abbrev pub subject_code : Node arg → Part
+subject_code word = arg_code word ⨾ Do Subject
+
+abbrev pub match_code : Node arg → Many arg → Part
+match_code word patterns = cmd_code (tree.Match word patterns) false
+
+abbrev pub define_code : Many arg → Node cmd → Part
+define_code names body = cmd_code (tree.Define names body) false
+
+abbrev pub undefine_code : Many arg → Part
+undefine_code names = cmd_code (tree.Undefine names) false
+
+abbrev pub subshell_code : Node cmd → Part
+subshell_code body = cmd_code (tree.Subshell body) false
+
+-- assignments, without what stands behind them
+abbrev pub pair_code : Node pair → (bare : Bool) → Part
+pair_code (Pair name value) bare = arg_code name ⨾ arg_code value ⨾ Do Glob ⨾ Do (assign_by bare)
+
+abbrev pub pairs_alone : Many pair → (bare : Bool) → Part
+pairs_alone none bare = Nothing
+pairs_alone (more x rest) bare = pair_code x bare ⨾ pairs_alone rest bare
+
+-- redirections, without what stands behind them
+abbrev pub redir_code : Node redir → Part
+redir_code (tree.Open mode slot path) = arg_code path ⨾ Do Glob ⨾ Do (Open mode slot)
+redir_code (tree.Copy to from) = Do (Copy to from)
+redir_code (tree.Here pieces) = Keep Here (KeptPieces pieces)
+
+abbrev pub redirs_alone : Many redir → Part
+redirs_alone none = Nothing
+redirs_alone (more x rest) = redir_code x ⨾ redirs_alone rest
+
+-- a branch of a `switch` that is left for a known place
+abbrev pub branch_to : Node branch → (guarded : Bool) → (p : ℕ) → Part
+branch_to (Branch patterns body) g p = list_code patterns ⨾ Past Case (cmd_code body g ⨾ Do (Jump p))
+
+abbrev pub branches_to : Many branch → (guarded : Bool) → (p : ℕ) → Part
+branches_to none g p = Nothing
+branches_to (more b rest) g p = branch_to b g p ⨾ branches_to rest g p

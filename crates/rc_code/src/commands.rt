@@ -1,0 +1,256 @@
+//! The code of commands.
+
+ghost use Rattle.std.specs.Prelude.{◌≡◌, ◌+◌, IfOk, OnOk, length};
+ghost use Rattle.rc_model.specs.Code.Layout.{Past, IfNot, cmd_code, items_code, links_code, branches_code};
+ghost use Rattle.rc_tree.specs.View.{cmd_tree, items_tree, links_tree, branch_tree, branches_tree};
+ghost use Rattle.rc_code.specs.Views.{code_of};
+ghost use Rattle.rc_code.specs.Emission.{Writes, last_stage_code, body_code, test_code, repeat_code, turns_code};
+ghost use Rattle.rc_code.specs.Emission.{branch_to};
+
+use crate::args::emit_list;
+use crate::code::{Code, Op};
+use crate::forms::{guards, has_no_items, is_empty, skip};
+use crate::kept::{kept_stages, kept_tree};
+use crate::plain::{
+    emit_define, emit_match, emit_members, emit_pairs, emit_redirs, emit_simple, emit_star,
+    emit_subject, emit_subshell, emit_undefine, emit_unlocal,
+};
+use rc_tree::{Branch, Cmd, Item, Logic};
+use std::alloc::{AllocError, Global};
+
+#[cycle(emit)]
+#[tactic(auto, using(crate::proofs::Parts::emitting))]
+pub fn emit_cmd(alloc: Global, code: &mut Code, cmd: &Cmd, guarded: bool) -> Result<(), AllocError>
+    ensures { OnOk result (Writes code.old code.new (cmd_code (cmd_tree cmd.now) guarded)) }
+{
+    match cmd {
+        Cmd::Empty => Ok(()),
+        Cmd::Seq(items) => emit_items(alloc, code, items, guarded),
+        Cmd::Simple(words) => emit_simple(alloc, code, words, guarded),
+        Cmd::Assign(pairs, body) => {
+            let bare = is_empty(body);
+            emit_pairs(alloc, code, pairs, bare)?;
+            emit_cmd(alloc, code, body, guarded)?;
+            emit_unlocal(code, bare, pairs.len())
+        }
+        Cmd::Redirect(redirs, body) => {
+            emit_redirs(alloc, code, redirs)?;
+            emit_cmd(alloc, code, body, guarded)?;
+            code.put(Op::Unredir(redirs.len()))
+        }
+        Cmd::Pipeline(stages, last) => {
+            let number = code.keep(kept_stages(alloc, stages)?)?;
+            emit_last_stage(alloc, code, number, last, guarded)
+        }
+        Cmd::AndOr(first, links) => {
+            emit_cmd(alloc, code, first, guards(links, guarded))?;
+            emit_links(alloc, code, links, guarded)
+        }
+        Cmd::Not(body) => {
+            emit_cmd(alloc, code, body, true)?;
+            code.put(Op::Invert)
+        }
+        Cmd::Subshell(body) => emit_subshell(alloc, code, body),
+        Cmd::If(test, body) => {
+            emit_cmd(alloc, code, test, true)?;
+            emit_if_body(alloc, code, body, guarded)
+        }
+        Cmd::IfNot(body) => emit_if_not(alloc, code, body, guarded),
+        Cmd::While(test, body) => {
+            let start = code.end();
+            emit_condition(alloc, code, test)?;
+            emit_while_body(alloc, code, start, body, guarded)
+        }
+        Cmd::ForAll(name, body) => {
+            emit_star(alloc, code, name)?;
+            emit_turns(alloc, code, body, guarded)
+        }
+        Cmd::For(name, words, body) => {
+            emit_members(alloc, code, words, name)?;
+            emit_turns(alloc, code, body, guarded)
+        }
+        Cmd::Switch(word, branches) => {
+            emit_subject(alloc, code, word)?;
+            emit_branches(alloc, code, branches, guarded)?;
+            code.put(Op::Drop)
+        }
+        Cmd::Match(word, patterns) => emit_match(alloc, code, word, patterns),
+        Cmd::Define(names, body) => emit_define(alloc, code, names, body),
+        Cmd::Undefine(names) => emit_undefine(alloc, code, names),
+        Cmd::Brace(body) => emit_cmd(alloc, code, body, guarded),
+    }
+}
+
+/// Items in the background are kept.
+#[cycle(emit)]
+#[tactic(auto, using(crate::proofs::Parts::emitting))]
+fn emit_items(
+    alloc: Global,
+    code: &mut Code,
+    items: &[Item],
+    guarded: bool,
+) -> Result<(), AllocError>
+    ensures { OnOk result (Writes code.old code.new (items_code (items_tree items.now) guarded)) }
+{
+    for item in items {
+        if item.background {
+            let number = code.keep(kept_tree(alloc, &item.cmd)?)?;
+            code.put(Op::Background(number))?;
+        } else {
+            emit_cmd(alloc, code, &item.cmd, guarded)?;
+        }
+    }
+    Ok(())
+}
+
+/// The start of the stages of this number, and the last stage.
+#[cycle(emit)]
+#[tactic(auto, using(crate::proofs::Parts::emitting))]
+fn emit_last_stage(
+    alloc: Global,
+    code: &mut Code,
+    stages: usize,
+    last: &Cmd,
+    guarded: bool,
+) -> Result<(), AllocError>
+    ensures { OnOk result (Writes code.old code.new (last_stage_code stages (cmd_code (cmd_tree last.now) guarded))) }
+{
+    let start = code.put_later()?;
+    emit_cmd(alloc, code, last, guarded)?;
+    code.put(Op::EndPipe)?;
+    let end = code.end();
+    code.patch(start, Op::Stages { stages, end });
+    Ok(())
+}
+
+/// What `&&` and `||` skip.
+#[cycle(emit)]
+#[tactic(auto, using(crate::proofs::Parts::emitting))]
+fn emit_links(
+    alloc: Global,
+    code: &mut Code,
+    links: &[(Logic, Cmd)],
+    guarded: bool,
+) -> Result<(), AllocError>
+    ensures { OnOk result (Writes code.old code.new (links_code (links_tree links.now) guarded)) }
+{
+    for (i, link) in links.iter().enumerate() {
+        let place = code.put_later()?;
+        emit_cmd(alloc, code, &link.1, guards(&links[i + 1..], guarded))?;
+        let end = code.end();
+        code.patch(place, skip(link.0, end));
+    }
+    Ok(())
+}
+
+#[cycle(emit)]
+#[tactic(auto, using(crate::proofs::Parts::emitting))]
+fn emit_if_body(alloc: Global, code: &mut Code, body: &Cmd, guarded: bool) -> Result<(), AllocError>
+    ensures { OnOk result (Writes code.old code.new (body_code (cmd_code (cmd_tree body.now) guarded))) }
+{
+    let place = code.put_later()?;
+    emit_cmd(alloc, code, body, guarded)?;
+    code.put(Op::WasTrue)?;
+    let end = code.end();
+    code.patch(place, Op::If(end));
+    Ok(())
+}
+
+#[cycle(emit)]
+#[tactic(auto, using(crate::proofs::Parts::emitting))]
+fn emit_if_not(alloc: Global, code: &mut Code, body: &Cmd, guarded: bool) -> Result<(), AllocError>
+    ensures { OnOk result (Writes code.old code.new (Past IfNot (cmd_code (cmd_tree body.now) guarded))) }
+{
+    let place = code.put_later()?;
+    emit_cmd(alloc, code, body, guarded)?;
+    let end = code.end();
+    code.patch(place, Op::IfNot(end));
+    Ok(())
+}
+
+#[cycle(emit)]
+#[tactic(auto, using(crate::proofs::Parts::emitting))]
+fn emit_condition(alloc: Global, code: &mut Code, test: &Cmd) -> Result<(), AllocError>
+    ensures { OnOk result (Writes code.old code.new (test_code (cmd_tree test.now))) }
+{
+    if has_no_items(test) {
+        code.put(Op::SetNull)
+    } else {
+        emit_cmd(alloc, code, test, true)
+    }
+}
+
+/// The body of a `while` whose condition starts at a place.
+#[cycle(emit)]
+#[tactic(auto, using(crate::proofs::Parts::emitting))]
+fn emit_while_body(
+    alloc: Global,
+    code: &mut Code,
+    start: usize,
+    body: &Cmd,
+    guarded: bool,
+) -> Result<(), AllocError>
+    ensures { OnOk result (Writes code.old code.new (repeat_code start (cmd_code (cmd_tree body.now) guarded))) }
+{
+    let place = code.put_later()?;
+    emit_cmd(alloc, code, body, guarded)?;
+    code.put(Op::Jump(start))?;
+    let end = code.end();
+    code.patch(place, Op::IfFalse(end));
+    Ok(())
+}
+
+/// The turns of a `for`.
+#[cycle(emit)]
+#[tactic(auto, using(crate::proofs::Parts::emitting))]
+fn emit_turns(alloc: Global, code: &mut Code, body: &Cmd, guarded: bool) -> Result<(), AllocError>
+    ensures { OnOk result (Writes code.old code.new (turns_code (cmd_code (cmd_tree body.now) guarded))) }
+{
+    code.put(Op::For)?;
+    let turn = code.put_later()?;
+    emit_cmd(alloc, code, body, guarded)?;
+    code.put(Op::Jump(turn))?;
+    let end = code.end();
+    code.patch(turn, Op::Next(end));
+    Ok(())
+}
+
+#[cycle(emit)]
+#[tactic(auto, using(crate::proofs::Parts::emitting))]
+fn emit_branches(
+    alloc: Global,
+    code: &mut Code,
+    branches: &[Branch],
+    guarded: bool,
+) -> Result<(), AllocError>
+    ensures { OnOk result (Writes code.old code.new (branches_code (branches_tree branches.now) guarded)) }
+{
+    let mut ends = Vec::new(alloc);
+    for branch in branches {
+        ends.push(emit_branch(alloc, code, branch, guarded)?)?;
+    }
+    let end = code.end();
+    code.redirect(&ends, end);
+    Ok(())
+}
+
+/// A branch, and the place of its last instruction, the jump to the end of the `switch`.
+#[cycle(emit)]
+#[tactic(auto, using(crate::proofs::Parts::emitting))]
+fn emit_branch(
+    alloc: Global,
+    code: &mut Code,
+    branch: &Branch,
+    guarded: bool,
+) -> Result<usize, AllocError>
+    ensures branch { OnOk result (Writes code.old code.new (branch_to (branch_tree branch.now) guarded 0)) }
+    ensures last { IfOk result (λ last. last + 1 ≡ length (code_of code.new).ops) }
+{
+    emit_list(alloc, code, &branch.patterns)?;
+    let place = code.put_later()?;
+    emit_cmd(alloc, code, &branch.body, guarded)?;
+    let last = code.put_later()?;
+    let end = code.end();
+    code.patch(place, Op::Case(end));
+    Ok(last)
+}

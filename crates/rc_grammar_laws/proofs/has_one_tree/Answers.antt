@@ -1,5 +1,0 @@
-use Rattle.rc_grammar_laws.proofs.Laws as laws
-use Rattle.rc_grammar_laws.proofs.has_one_tree.Goals as goal
-
-pub returns : goal.returns
-returns c = laws.has_one_tree

@@ -1,0 +1,30 @@
+-- What Linux says, as what a world answers.
+use Rattle.std.specs.Prelude.{◌≡◌, ◌<◌, nat_abs, bit_and, None, option_map, unwrap_or}
+use Rattle.std.specs.Fs.{IsFile, file_type, metadata_mode}
+use Rattle.std.specs.IoError.{error_kind, raw_os_error}
+use Rattle.std.specs.Process.{exit_code}
+use Rattle.std.specs.declared.fs.attrs.Metadata.{Metadata}
+use Rattle.std.specs.declared.io.Error.{Error}
+use Rattle.std.specs.declared.io.ErrorKind.TheVariants as kind
+use Rattle.std.specs.declared.process.status.ExitStatus.{ExitStatus}
+use Rattle.rc_model.specs.declared.call.Ending.{Ending}
+use Rattle.rc_model.specs.declared.call.Ending.TheVariants.{Code, Signal}
+use Rattle.rc_model.specs.declared.call.Fault.{Fault}
+use Rattle.rc_host.specs.Faults as faults
+use Rattle.rc_host.specs.declared.answers.TheConstants.{EXECUTE}
+
+-- the fault that an error stands for
+abbrev pub fault_at : Error → Fault
+fault_at error = faults.fault_of (error_kind error) (raw_os_error error)
+
+-- how a child ended: with its code, or where it has none by a signal
+abbrev pub ending_of : ExitStatus → Ending
+ending_of status = unwrap_or (option_map (λ code. Code (nat_abs code)) (exit_code status)) Signal
+
+-- a plain file that its owner, its group or all others may execute
+abbrev pub IsProgram : Metadata → Type 0
+IsProgram found = IsFile (file_type found) × 0 < bit_and (metadata_mode found) EXECUTE
+
+-- the error of an entry whose name is not UTF-8, which did not come from Linux
+abbrev pub IsNoText : Error → Type 0
+IsNoText error = (error_kind error ≡ kind.InvalidFilename) × (raw_os_error error ≡ None)

@@ -1,0 +1,156 @@
+//! The plan of a launch.
+ghost use Rattle.std.specs.Prelude.{◌≡◌, ◌↔◌, ◌⊎◌, ◌++◌, Some, None, Err, IfOk, IfErr, OnOk};
+ghost use Rattle.std.specs.Prelude.{map, string_bytes, option_map, unwrap_or};
+ghost use Rattle.rc_model.specs.declared.call.Fault.TheVariants.{NoMemory, Other};
+ghost use Rattle.rc_world.specs.Views.{launch_of, program_of};
+ghost use Rattle.rc_host.specs.Plan.{plan_of, plain_plan, copying_plan, copying_of, is_in_place, has_equals};
+ghost use Rattle.rc_host.specs.PlanViews.{plan_view, copying_view};
+
+use crate::planned::Plan;
+use rc_world::{Fault, Launch, Program, Slot, Slots};
+use std::alloc::{AllocError, Global};
+
+/// What `/bin/sh` is told, so that descriptor 2 becomes a copy of descriptor 1.
+const ERRORS_TO_OUTPUT: &str = "exec \"$@\" 2>&1";
+
+/// The other way round.
+const OUTPUT_TO_ERRORS: &str = "exec \"$@\" 1>&2";
+
+/// The two change places.
+const EXCHANGED: &str = "exec \"$@\" 3>&1 1>&2 2>&3 3>&-";
+
+/// What a launch asks of Linux, where `shell` is the path of the shell's own program. `Other`: its
+/// descriptors cannot be had.
+pub fn plan(alloc: Global, launch: &Launch, shell: &str) -> Result<Plan, Fault>
+    ensures planned { IfOk result (λ plan. plan_of shell.now (launch_of launch.now) ≡ Some (plan_view plan)) }
+    ensures unplanned { (result ≡ Err Other) ↔ (plan_of shell.now (launch_of launch.now) ≡ None) }
+    ensures err { IfErr result (λ fault. (fault ≡ Other) ⊎ (fault ≡ NoMemory)) }
+{
+    let program = path_of(shell, &launch.program);
+    let Slots {
+        input,
+        output,
+        errors,
+    } = launch.slots;
+    if !is_in_place(0, input) {
+        return Err(Fault::Other);
+    }
+    let made = if is_in_place(1, output) && is_in_place(2, errors) {
+        plain_plan(alloc, program, launch)
+    } else {
+        match copying_of(output, errors) {
+            Some(copying) if !has_equals(program) => {
+                copying_plan(alloc, program, launch, copying)
+            }
+            _ => return Err(Fault::Other),
+        }
+    };
+    made.map_err(|_| Fault::NoMemory)
+}
+
+fn path_of<'a>(shell: &'a str, program: &'a Program) -> &'a str
+    ensures { result.now ≡ unwrap_or (program_of program.now) shell.now }
+{
+    match program {
+        Program::Shell => shell,
+        Program::Path(path) => path.as_str(),
+    }
+}
+
+fn is_in_place(descriptor: u8, slot: Slot) -> bool
+    ensures { result ≡ is_in_place descriptor slot }
+{
+    match slot {
+        Slot::Own(own) => own == descriptor,
+        Slot::To(_) => true,
+    }
+}
+
+/// How copies of descriptors come about.
+#[derive(Clone, Copy)]
+struct Copying {
+    text: &'static str,
+    output: Slot,
+    errors: Slot,
+}
+
+/// The copying for descriptors 1 and 2 that are not in their places.
+fn copying_of(output: Slot, errors: Slot) -> Option<Copying>
+    ensures { option_map copying_view result ≡ copying_of output errors }
+{
+    let (text, output, errors) = match (output, errors) {
+        (Slot::Own(1), Slot::Own(1)) => (ERRORS_TO_OUTPUT, Slot::Own(1), Slot::Own(2)),
+        (Slot::Own(2), Slot::Own(2)) => (OUTPUT_TO_ERRORS, Slot::Own(1), Slot::Own(2)),
+        (Slot::Own(2), Slot::To(_)) => (EXCHANGED, errors, Slot::Own(2)),
+        (Slot::To(_), Slot::Own(1)) => (EXCHANGED, Slot::Own(1), output),
+        _ => return None,
+    };
+    Some(Copying {
+        text,
+        output,
+        errors,
+    })
+}
+
+fn has_equals(program: &str) -> bool
+    ensures { result ≡ has_equals program.now }
+{
+    program.as_bytes().contains(&b'=')
+}
+
+#[tactic(auto, using(rc_world::proofs::Copies::same_texts))]
+fn plain_plan(alloc: Global, program: &str, launch: &Launch) -> Result<Plan, AllocError>
+    ensures { IfOk result (λ plan. plan_view plan ≡ plain_plan program.now (launch_of launch.now)) }
+{
+    Ok(Plan {
+        program: String::from_str(alloc, program)?,
+        args: launch.args.clone()?,
+        env: launch.env.clone()?,
+        slots: launch.slots,
+    })
+}
+
+fn copying_plan(
+    alloc: Global,
+    program: &str,
+    launch: &Launch,
+    copying: Copying,
+) -> Result<Plan, AllocError>
+    ensures { IfOk result (λ plan.
+        plan_view plan ≡ copying_plan program.now (launch_of launch.now) (copying_view copying)) }
+{
+    let mut args = texts(alloc, &["-c", copying.text, "sh", "/usr/bin/env", "-i"])?;
+    push_texts(&mut args, &launch.env)?;
+    args.push(String::from_str(alloc, program)?)?;
+    push_texts(&mut args, &launch.args)?;
+    Ok(Plan {
+        program: String::from_str(alloc, "/bin/sh")?,
+        args,
+        env: Vec::new(alloc),
+        slots: Slots {
+            input: launch.slots.input,
+            output: copying.output,
+            errors: copying.errors,
+        },
+    })
+}
+
+fn texts(alloc: Global, all: &[&str]) -> Result<Vec<String>, AllocError>
+    ensures { IfOk result (λ copies. map string_bytes copies.items ≡ map (λ text. text.now) all.now) }
+{
+    let mut copies = Vec::new(alloc);
+    for text in all {
+        copies.push(String::from_str(alloc, text)?)?;
+    }
+    Ok(copies)
+}
+
+fn push_texts(to: &mut Vec<String>, texts: &[String]) -> Result<(), AllocError>
+    ensures { OnOk result
+        (map string_bytes to.new.items ≡ map string_bytes to.old.items ++ map string_bytes texts.now) }
+{
+    for text in texts {
+        to.push(text.clone()?)?;
+    }
+    Ok(())
+}

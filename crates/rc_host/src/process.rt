@@ -1,0 +1,124 @@
+//! What a program takes from its process.
+ghost use Rattle.std.specs.Prelude.{◌≡◌, ◌++◌, None, IfOk, OnErr, codes, string_bytes};
+ghost use Rattle.std.specs.Fmt.{decimal};
+ghost use Rattle.std.specs.IoError.{error_kind, raw_os_error};
+ghost use Rattle.std.specs.Path.{path_buf_bytes};
+ghost use Rattle.rc_host.specs.Process.{arguments_fault};
+
+use std::alloc::{AllocError, AllocGlobal, Global};
+use std::env::FillError;
+use std::fs::File;
+use std::io::ErrorKind;
+use std::os::fd::{AsFd, IntoRawFd};
+use std::path::PathBuf;
+use std::rt::{Env, HostRuntime};
+use std::{env, io, process};
+use thiserror::Error;
+
+/// Linux's number for a descriptor that is not open.
+const NOT_OPEN: i32 = 9;
+
+/// Why the arguments of a program could not be taken.
+#[derive(Debug, Drop, Error)]
+pub enum ArgumentsFault {
+    #[error("an argument is not UTF-8")]
+    NotText,
+    #[error("out of memory")]
+    NoMemory,
+}
+
+/// The arguments of the program, without its own name.
+pub fn arguments<R: Env + AllocGlobal>(rt: &R) -> Result<Vec<String>, ArgumentsFault> {
+    match env::args(rt) {
+        Ok(all) => all
+            .skip(1)
+            .collect(rt.alloc())
+            .map_err(|_| ArgumentsFault::NoMemory),
+        Err(error) => Err(arguments_fault(&error)),
+    }
+}
+
+fn arguments_fault(error: &io::Error) -> ArgumentsFault
+    ensures { result ≡ arguments_fault (error_kind error.now) (raw_os_error error.now) }
+{
+    match error.kind() {
+        ErrorKind::OutOfMemory if error.raw_os_error().is_none() => ArgumentsFault::NoMemory,
+        _ => ArgumentsFault::NotText,
+    }
+}
+
+/// The entries of the environment that are UTF-8, in their order.
+pub fn entries<R: Env + AllocGlobal>(rt: &R) -> Result<Vec<String>, AllocError> {
+    let mut entries = Vec::new(rt.alloc());
+    for place in 0..usize::MAX {
+        let Some(bytes) = entry_at(rt, place)? else {
+            break;
+        };
+        if let Ok(entry) = String::from_utf8(bytes) {
+            entries.push(entry)?;
+        }
+    }
+    Ok(entries)
+}
+
+/// The entry at a place of the environment. A buffer that is too small is doubled.
+fn entry_at<R: Env + AllocGlobal>(rt: &R, place: usize) -> Result<Option<Vec<u8>>, AllocError> {
+    let mut size = 256usize;
+    for _ in 0..usize::BITS {
+        let mut bytes = vec![in rt.alloc(); 0u8; size]?;
+        match rt.var_at(place, &mut bytes) {
+            Ok(length) => {
+                bytes.truncate(length);
+                return Ok(Some(bytes));
+            }
+            Err(FillError::NotPresent) => return Ok(None),
+            Err(FillError::TooLong) => size = size.saturating_mul(2),
+        }
+    }
+    Err(AllocError)
+}
+
+/// The path by which the program starts itself: its own as Linux names it, or else the link that
+/// Linux keeps to the program of a process.
+pub fn own_path(rt: &HostRuntime) -> Result<String, AllocError> {
+    path_or_link(rt.alloc(), env::current_exe(rt), process::id(rt.process()))
+}
+
+fn path_or_link(
+    alloc: Global,
+    found: io::Result<PathBuf>,
+    process: u32,
+) -> Result<String, AllocError>
+    ensures found { IfOk found (λ path. IfOk result (λ text. string_bytes text ≡ path_buf_bytes path)) }
+    ensures unknown { OnErr found (IfOk result (λ text.
+        string_bytes text ≡ codes "/proc/" ++ (decimal process ++ codes "/exe"))) }
+{
+    match found {
+        Ok(path) => String::from_str(alloc, path.as_str()),
+        Err(_) => format!(in alloc; "/proc/{process}/exe"),
+    }
+}
+
+/// Opens `/dev/null` as each of the descriptors 0, 1 and 2 that is absent, so that no other file
+/// takes its number. To be called before any file is opened.
+pub fn open_standard(rt: &HostRuntime) -> io::Result<()> {
+    open_if_absent(rt, &rt.stdin())?;
+    open_if_absent(rt, &rt.stdout())?;
+    open_if_absent(rt, &rt.stderr())
+}
+
+/// Opens `/dev/null` as a descriptor that is absent: Linux gives it the least number that is free,
+/// so the descriptors before this one must be open.
+fn open_if_absent<F: AsFd>(rt: &HostRuntime, own: &F) -> io::Result<()> {
+    match own.as_fd().try_clone_to_owned() {
+        Err(error) if error.raw_os_error() == Some(NOT_OPEN) => {
+            let null = File::options()
+                .read(true)
+                .write(true)
+                .open(rt, "/dev/null")?;
+            null.into_raw_fd();
+            Ok(())
+        }
+        _ => Ok(()),
+    }
+}

@@ -1,0 +1,10 @@
+-- How the definitions see what has begun in a here document.
+use Rattle.std.specs.Prelude.{string_bytes}
+use Rattle.rc_model.specs.Syntax.HereDocs as model
+use Rattle.rc_lexemes.specs.declared.here.Begun.{Begun}
+use Rattle.rc_lexemes.specs.declared.here.Begun.TheVariants.{Plain, Dollar, Naming}
+
+abbrev pub begun_of : Begun → model.Begun
+begun_of (Plain text) = model.Plain (string_bytes text)
+begun_of (Dollar text) = model.Dollar (string_bytes text)
+begun_of (Naming name) = model.Naming (string_bytes name)

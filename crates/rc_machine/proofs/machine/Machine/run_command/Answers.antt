@@ -1,0 +1,65 @@
+use Rattle.std.proofs.Common.{rules, ◌≡◌, [], Some, List, map, string_bytes, refl}
+use Rattle.std.specs.Prelude.{true}
+use Rattle.rc_model.specs.Code.Machine.{Step, enter, next, unwind}
+use Rattle.rc_model.specs.Run.Builtins.{Finished, run_words}
+use Rattle.rc_model.specs.Run.Calls.{plain}
+use Rattle.rc_model.specs.Syntax.Words.{Word, word_texts}
+use Rattle.law_plans.proofs.Runs.{ran_next, ran_exit, ran_none, ran_join, ran_under}
+use Rattle.rc_stack.specs.Lists.{top_of}
+use Rattle.rc_world.specs.declared.types.Stop.TheVariants.{NoMemory}
+use Rattle.rc_world.proofs.Joins.{left_as, left_memory, ran_as}
+use Rattle.rc_world.proofs.Shells.{left_under}
+use Rattle.rc_machine.specs.Configs.{config_of}
+use Rattle.rc_machine.proofs.Acts.{runs_top}
+use Rattle.rc_machine.proofs.Left.{step_left}
+use Rattle.rc_machine.proofs.Runs.{begun_as, begun_under}
+use Rattle.rc_scope.specs.States.{state_of}
+use Rattle.rc_machine.proofs.machine.Machine.run_command.Goals as goal
+
+pub returns-in_err-texts : goal.returns-in_err-texts
+returns-in_err-texts g c = step_left _ _ _ _ c.from_residual.result NoMemory c.from_residual.ensures.1 (left_memory _ _)
+
+pub returns-in_err-run_words : goal.returns-in_err-run_words
+returns-in_err-run_words g c =
+    let m = c.args.self.now in
+    let v = c.in-Some.words.now in
+    let rest = c.drop_top.new.self in
+    let top : top_of m.words ≡ Some v = search rules in
+    let texts : map string_bytes c.deref.result.now ≡ word_texts v = search rules in
+    step_left _ _ _ _ c.from_residual-in_err-run_words.result c.in_err-run_words.field-0.0 c.from_residual-in_err-run_words.ensures.1
+    (left_as _ _ _ _ _ (runs_top (config_of m) m.words v refl top rest _ c.drop_top.ensures)
+    (left_under _ _ _ (run_words plain (word_texts v) (state_of m.state)) (λ d s. enter (config_of m) rest d s) (unwind [])
+    (rw texts at c.in_err-run_words.ensures)))
+
+pub returns-in-Finished : goal.returns-in-Finished
+returns-in-Finished g c =
+    let m = c.args.self.now in
+    let v = c.in-Some.words.now in
+    let rest = c.drop_top.new.self in
+    let top : top_of m.words ≡ Some v = search rules in
+    let texts : map string_bytes c.deref.result.now ≡ word_texts v = search rules in
+    ran_as _ _ _ _ _ (runs_top (config_of m) m.words v refl top rest _ c.drop_top.ensures)
+    (ran_next _ _ _ (run_words plain (word_texts v) (state_of m.state)) Finished (state_of c.run_words.new.state) (λ d s. enter (config_of m) rest d s) (unwind []) _
+    (rw (c.in-Finished.is, texts) at c.in_ok-run_words.ensures) (ran_none _ _))
+
+pub returns-in-Exit : goal.returns-in-Exit
+returns-in-Exit g c =
+    let m = c.args.self.now in
+    let v = c.in-Some.words.now in
+    let rest = c.drop_top.new.self in
+    let top : top_of m.words ≡ Some v = search rules in
+    let texts : map string_bytes c.deref.result.now ≡ word_texts v = search rules in
+    ran_as _ _ _ _ _ (runs_top (config_of m) m.words v refl top rest _ c.drop_top.ensures)
+    (ran_exit _ _ _ (run_words plain (word_texts v) (state_of m.state)) (state_of c.run_words.new.state) [] (λ d s. enter (config_of m) rest d s) (unwind []) _
+    (rw (c.in-Exit.is, texts) at c.in_ok-run_words.ensures) (ran_none _ _))
+
+pub returns : goal.returns
+returns g c =
+    let m = c.args.self.now in
+    let v = c.in-Some.words.now in
+    let rest = c.drop_top.new.self in
+    let top : top_of m.words ≡ Some v = search rules in
+    let texts : map string_bytes c.deref.result.now ≡ word_texts v = search rules in
+    let f = rw (c.in-NotYet.is, texts) at c.in_ok-run_words.ensures in
+    begun_as (runs_top (config_of m) m.words v refl top rest _ c.drop_top.ensures)
+    (begun_under (run_words plain (word_texts v) (state_of m.state)) (λ d s. enter (config_of m) rest d s) (unwind []) f)

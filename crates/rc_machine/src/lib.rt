@@ -1,0 +1,7 @@
+//! The machine, which runs compiled code over a world.
+#![tactic(auto)]
+
+mod machine;
+mod words;
+
+pub use machine::{Machine, Progress};

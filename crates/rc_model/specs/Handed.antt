@@ -1,0 +1,12 @@
+pub mod Pieces
+pub mod Image
+pub mod TreeSpelling
+pub mod TreeReading
+pub mod WordsReading
+pub mod Environment
+pub mod Arguments
+pub mod Proper
+pub mod Handed
+pub mod TreeLaws
+pub mod WordsLaws
+pub mod HandedLaws

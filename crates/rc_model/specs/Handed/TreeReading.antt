@@ -1,0 +1,235 @@
+-- Reading a tree from left to right, with the first fault that is met.
+use Rattle.std.specs.Prelude.{ℕ, zero, suc, nat_lt, nat_le, length, take, drop, List, [], ◌∷◌, Bool, true, false, ◌&&◌, ◌==◌, if◌then◌else◌, Result, Ok, Err, codes}
+use Rattle.rc_model.specs.Run.Numbers.{is_digit, digits_value, greatest_number}
+use Rattle.rc_model.specs.Syntax.Text.{begins_with}
+use Rattle.rc_model.specs.Run.Calls.{Read, Write, Append}
+use Rattle.rc_model.specs.Syntax.Tree.{Sort, Node, Many, cmd, arg, item, pair, redir, stage, link, branch, piece, none, more, And, Or}
+use Rattle.rc_model.specs.Syntax.Tree as t
+use Rattle.rc_model.specs.Syntax.WellFormed.{has_text}
+use Rattle.rc_model.specs.Handed.TreeSpelling.{is_numeral, is_text}
+
+-- what can be wrong with the spelling of a tree
+pub data ImageFault : Type 0 where
+  BadTag : ImageFault
+  BadLength : ImageFault
+  Trailing : ImageFault
+  TooDeep : ImageFault
+  Version : ImageFault
+
+-- what stands at the front of a text, and what stands behind it
+abbrev pub Reader : Type 0 → Type 0
+Reader X = List ℕ → Result (X × List ℕ) ImageFault
+
+infixl 10 ◌>>=◌
+abbrev pub ◌>>=◌ : {A B : Type 0} → Result A ImageFault → (A → Result B ImageFault) → Result B ImageFault
+(Ok x) >>= f = f x
+(Err e) >>= f = Err e
+
+-- what is made of the thing that was read
+abbrev pub made : {X Y : Type 0} → (X → Y) → Reader X → Reader Y
+made f r bytes = r bytes >>= λ x. Ok (f x.0, x.1)
+
+-- two things, one behind the other
+abbrev pub both : {X Y : Type 0} → Reader X → Reader Y → Reader (X × Y)
+both r q bytes = r bytes >>= λ x. q x.1 >>= λ y. Ok ((x.0, y.0), y.1)
+
+-- a thing that passes a test
+abbrev pub tested : {X : Type 0} → (X → Bool) → Reader X → Reader X
+tested test r bytes = r bytes >>= λ x. if test x.0 then Ok x else Err BadLength
+
+-- the reader that belongs to a byte
+abbrev pub chosen : {X : Type 0} → List (ℕ × Reader X) → ℕ → Reader X
+chosen [] b rest = Err BadTag
+chosen (row ∷ rows) b rest = if b == row.0 then row.1 rest else chosen rows b rest
+
+-- a byte, and what belongs to it
+abbrev pub tagged : {X : Type 0} → List (ℕ × Reader X) → Reader X
+tagged rows [] = Err BadTag
+tagged rows (b ∷ rest) = chosen rows b rest
+
+-- nothing is read
+abbrev pub given : {X : Type 0} → X → Reader X
+given x bytes = Ok (x, bytes)
+
+-- the digits at the front, and what stands behind them
+abbrev pub digit_run : List ℕ → List ℕ
+digit_run [] = []
+digit_run (b ∷ bs) = if is_digit b then b ∷ digit_run bs else []
+
+abbrev pub past_digits : List ℕ → List ℕ
+past_digits [] = []
+past_digits (b ∷ bs) = if is_digit b then past_digits bs else b ∷ bs
+
+-- whether digits are a number of the right size
+abbrev pub is_count : List ℕ → Bool
+is_count digits = is_numeral digits && nat_le (digits_value 0 digits) greatest_number
+
+-- what follows a number: this mark
+abbrev pub marked : ℕ → ℕ → Reader ℕ
+marked mark n [] = Err BadLength
+marked mark n (b ∷ rest) = if b == mark then Ok (n, rest) else Err BadLength
+
+-- a number and a mark
+abbrev pub count_at : ℕ → Reader ℕ
+count_at mark bytes = if is_count (digit_run bytes) then marked mark (digits_value 0 (digit_run bytes)) (past_digits bytes) else Err BadLength
+
+-- so many bytes, which are a text
+abbrev pub bytes_at : ℕ → Reader (List ℕ)
+bytes_at n bytes = if nat_le n (length bytes) && is_text (take n bytes) then Ok (take n bytes, drop n bytes) else Err BadLength
+
+-- a text with its length
+abbrev pub text_at : Reader (List ℕ)
+text_at bytes = count_at 58 bytes >>= λ n. bytes_at n.0 n.1
+
+-- so many nodes
+abbrev pub nodes_at : {s : Sort} → Reader (Node s) → ℕ → Reader (Many s)
+nodes_at r zero bytes = Ok (none, bytes)
+nodes_at r (suc n) bytes = r bytes >>= λ x. nodes_at r n x.1 >>= λ y. Ok (more x.0 y.0, y.1)
+
+-- a number that passes a test, and so many nodes
+abbrev pub listed : {s : Sort} → (ℕ → Bool) → Reader (Node s) → Reader (Many s)
+listed test r bytes = tested test (count_at 44) bytes >>= λ n. nodes_at r n.0 n.1
+
+-- `1` or `2`; `12` or `21`
+abbrev pub output_rows : List (ℕ × Reader ℕ)
+output_rows = (49, given 1) ∷ (50, given 2) ∷ []
+
+abbrev pub output_at : Reader ℕ
+output_at = tagged output_rows
+
+abbrev pub crossing_rows : List (ℕ × Reader (ℕ × ℕ))
+crossing_rows = (49, tagged ((50, given (1, 2)) ∷ [])) ∷ (50, tagged ((49, given (2, 1)) ∷ [])) ∷ []
+
+abbrev pub crossing_at : Reader (ℕ × ℕ)
+crossing_at = tagged crossing_rows
+
+-- a test that is made where trees must be well formed
+abbrev pub need : Bool → Bool → Bool
+need true test = test
+need false test = true
+
+-- how many nodes a list may have
+abbrev pub any : ℕ → Bool
+any n = true
+
+abbrev pub some : Bool → ℕ → Bool
+some k n = need k (nat_lt 0 n)
+
+abbrev pub several : Bool → ℕ → Bool
+several k n = need k (nat_lt 1 n)
+
+abbrev pub few : Bool → ℕ → Bool
+few k n = need k (nat_lt 0 n && nat_lt n 64)
+
+-- the nodes of a list, given the readers of commands and arguments
+abbrev pub item_rows : Reader (Node cmd) → List (ℕ × Reader (Node item))
+item_rows c = (59, made (λ x. t.Item x false) c) ∷ (38, made (λ x. t.Item x true) c) ∷ []
+
+abbrev pub item_at : Reader (Node cmd) → Reader (Node item)
+item_at c = tagged (item_rows c)
+
+abbrev pub pair_at : Reader (Node arg) → Reader (Node pair)
+pair_at a = made (λ x. t.Pair x.0 x.1) (both a a)
+
+abbrev pub stage_at : Reader (Node cmd) → Reader (Node stage)
+stage_at c = made (λ x. t.Stage x.1 x.0) (both output_at c)
+
+abbrev pub link_rows : Reader (Node cmd) → List (ℕ × Reader (Node link))
+link_rows c = (38, made (t.Link And) c) ∷ (124, made (t.Link Or) c) ∷ []
+
+abbrev pub link_at : Reader (Node cmd) → Reader (Node link)
+link_at c = tagged (link_rows c)
+
+abbrev pub branch_at : Reader (Node cmd) → Reader (Node arg) → Reader (Node branch)
+branch_at c a = made (λ x. t.Branch x.0 x.1) (both (listed any a) c)
+
+abbrev pub piece_rows : List (ℕ × Reader (Node piece))
+piece_rows = (116, made t.Text text_at) ∷ (118, made t.Name text_at) ∷ []
+
+abbrev pub piece_at : Reader (Node piece)
+piece_at = tagged piece_rows
+
+abbrev pub redir_rows : Reader (Node arg) → List (ℕ × Reader (Node redir))
+redir_rows a =
+    (60, made (t.Open Read 0) a)
+    ∷ (62, made (λ x. t.Open Write x.0 x.1) (both output_at a))
+    ∷ (43, made (λ x. t.Open Append x.0 x.1) (both output_at a))
+    ∷ (61, made (λ x. t.Copy x.0 x.1) crossing_at)
+    ∷ (104, made t.Here (listed any piece_at))
+    ∷ []
+
+abbrev pub redir_at : Reader (Node arg) → Reader (Node redir)
+redir_at a = tagged (redir_rows a)
+
+-- a command, by its tag
+abbrev pub cmd_rows : Bool → Reader (Node cmd) → Reader (Node arg) → List (ℕ × Reader (Node cmd))
+cmd_rows k c a =
+    (101, given t.Empty)
+    ∷ (115, made t.Seq (listed any (item_at c)))
+    ∷ (99, made t.Simple (listed (some k) a))
+    ∷ (61, made (λ x. t.Assign x.0 x.1) (both (listed (some k) (pair_at a)) c))
+    ∷ (114, made (λ x. t.Redirect x.0 x.1) (both (listed (some k) (redir_at a)) c))
+    ∷ (112, made (λ x. t.Pipeline x.0 x.1) (both (listed (few k) (stage_at c)) c))
+    ∷ (97, made (λ x. t.AndOr x.0 x.1) (both c (listed (some k) (link_at c))))
+    ∷ (33, made t.Not c)
+    ∷ (64, made t.Subshell c)
+    ∷ (105, made (λ x. t.If x.0 x.1) (both c c))
+    ∷ (110, made t.IfNot c)
+    ∷ (119, made (λ x. t.While x.0 x.1) (both c c))
+    ∷ (102, made (λ x. t.ForAll x.0 x.1) (both a c))
+    ∷ (70, made (λ x. t.For x.0 x.1.0 x.1.1) (both a (both (listed any a) c)))
+    ∷ (83, made (λ x. t.Switch x.0 x.1) (both a (listed any (branch_at c a))))
+    ∷ (126, made (λ x. t.Match x.0 x.1) (both a (listed any a)))
+    ∷ (100, made (λ x. t.Define x.0 x.1) (both (listed (some k) a) c))
+    ∷ (117, made t.Undefine (listed (some k) a))
+    ∷ (98, made t.Brace c)
+    ∷ []
+
+-- an argument, by its tag
+abbrev pub arg_rows : Bool → Reader (Node cmd) → Reader (Node arg) → List (ℕ × Reader (Node arg))
+arg_rows k c a =
+    (119, made (λ x. t.Lit x false) (tested (λ x. need k (has_text x)) text_at))
+    ∷ (113, made (λ x. t.Lit x true) text_at)
+    ∷ (94, made t.Concat (listed (several k) a))
+    ∷ (40, made t.Paren (listed any a))
+    ∷ (36, made t.Var a)
+    ∷ (35, made t.Count a)
+    ∷ (34, made t.Flat a)
+    ∷ (91, made (λ x. t.Sub x.0 x.1) (both a (listed any a)))
+    ∷ (96, made t.Back c)
+    ∷ []
+
+-- a node with at most so many commands and arguments on one way from it
+unfoldable mutual
+  pub cmd_at : Bool → ℕ → Reader (Node cmd)
+  cmd_at k zero bytes = Err TooDeep
+  cmd_at k (suc d) bytes = tagged (cmd_rows k (cmd_at k d) (arg_at k d)) bytes
+
+  pub arg_at : Bool → ℕ → Reader (Node arg)
+  arg_at k zero bytes = Err TooDeep
+  arg_at k (suc d) bytes = tagged (arg_rows k (cmd_at k d) (arg_at k d)) bytes
+
+-- nothing stands behind it
+abbrev pub whole : {X : Type 0} → Result (X × List ℕ) ImageFault → Result X ImageFault
+whole (Ok x) = if length x.1 == 0 then Ok x.0 else Err Trailing
+whole (Err e) = Err e
+
+-- whether the digits of a version are followed by `;`
+abbrev pub other_version : List ℕ → Bool
+other_version [] = false
+other_version (b ∷ bs) = b == 59
+
+-- the fault of another beginning than `rc1;`: `rc`, another number and `;` are another version
+abbrev pub beginning_fault : List ℕ → ImageFault
+beginning_fault text =
+    if begins_with (codes "rc") text && (is_count (digit_run (drop 2 text)) && other_version (past_digits (drop 2 text)))
+    then Version
+    else BadTag
+
+-- the tree of a spelling
+abbrev pub read_spelling : List ℕ → Result (Node cmd) ImageFault
+read_spelling text = whole (cmd_at true 200 text)
+
+-- the tree of a text
+abbrev pub read_tree : List ℕ → Result (Node cmd) ImageFault
+read_tree text = if begins_with (codes "rc1;") text then read_spelling (drop 4 text) else Err (beginning_fault text)

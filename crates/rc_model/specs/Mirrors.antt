@@ -1,0 +1,6 @@
+pub mod Reading
+pub mod Descent
+pub mod Spelling
+pub mod TreeOfText
+pub mod ParsingLaws
+pub mod Greedy

@@ -1,0 +1,437 @@
+-- The descent: a script is read token by token, with one token in sight and so many levels of the tree at most.
+use Rattle.std.specs.Prelude.{ℕ, zero, suc, nat_lt, Bool, true, false, not, ◌&&◌, if◌then◌else◌, List, [], ◌∷◌, length, Option, Some, None, Result, Ok, Err}
+use Rattle.rc_model.specs.Syntax.Tokens.{Lexeme, Word, Quoted, Semicolon, Ampersand, Newline, AndAnd, OrOr, Bar, Equals}
+use Rattle.rc_model.specs.Syntax.Tokens.{LeftParen, RightParen, LeftBrace, RightBrace, Backquote, Redirection, CopyTo, HereDoc}
+use Rattle.rc_model.specs.Syntax.Tokens.{Dollar, DollarCount, DollarFlat, Name, Subscript}
+use Rattle.rc_model.specs.Syntax.Tree.{Node, Many, none, more, count, snoc}
+use Rattle.rc_model.specs.Syntax.Tree as t
+use Rattle.rc_model.specs.Syntax.HereDocs.{pieces_of}
+use Rattle.rc_model.specs.Syntax.WellFormed.{well_formed}
+use Rattle.rc_model.specs.Syntax.Grammar.{Keyword, ForWord, InWord, WhileWord, IfWord, NotWord, SwitchWord, FnWord, MatchWord, BangWord, AtWord, NoKeyword, keyword, is_case}
+use Rattle.rc_model.specs.Syntax.Grammar.{begins_arg, begins_redir, begins_brace, begins_command, begins_link, closes, ends, ends_case}
+use Rattle.rc_model.specs.Syntax.Grammar.{past_newlines, past_blanks, past_caret, after_caret, concat_of, redirect, and_or, is_if}
+
+-- why tokens aren't read to their end
+pub data Fault : Type 0 where
+  Unexpected : Fault
+  -- an `if not` that isn't behind an `if`
+  IfNot : Fault
+  -- the tree has too many levels, or a pipeline in it too many stages
+  TooDeep : Fault
+  TooManyStages : Fault
+
+-- what is read, with the tokens behind it
+abbrev pub Read : Type 0 → Type 0
+Read A = Result (A × List Lexeme) Fault
+
+abbrev pub Reader : Type 0 → Type 0
+Reader A = List Lexeme → Read A
+
+infixl 10 ◌>>=◌
+abbrev pub ◌>>=◌ : {A B : Type 0} → Result A Fault → (A → Result B Fault) → Result B Fault
+(Ok x) >>= f = f x
+(Err e) >>= f = Err e
+
+-- what is read one level deeper: a name, a part of an argument, an operand, what follows a bar, a command, the commands of a list
+pub data Nested : Type 0 where
+  a_name : Nested
+  a_part : (inside : Bool) → Nested
+  an_operand : Nested
+  a_piped : Nested
+  a_command : (after_if : Bool) → Nested
+  a_list : (in_switch : Bool) → Nested
+
+abbrev pub Inner : Nested → Type 0
+Inner a_name = Node t.arg
+Inner (a_part inside) = Node t.arg
+Inner an_operand = Node t.cmd
+Inner a_piped = Node t.cmd × Bool
+Inner (a_command after_if) = Node t.cmd
+Inner (a_list in_switch) = Many t.item
+
+abbrev pub Readers : Type 0
+Readers = (n : Nested) → Reader (Inner n)
+
+-- a name behind a `$`
+unfoldable pub name_by : Readers → Reader (Node t.arg)
+name_by deeper (Name text ∷ ts) = Ok (t.Lit text false, ts)
+name_by deeper (Quoted text ∷ ts) = Ok (t.Lit text true, ts)
+name_by deeper (Dollar ∷ ts) = deeper a_name ts >>= λ n. Ok (t.Var n.0, n.1)
+name_by deeper _ = Err Unexpected
+
+-- the parts behind carets, behind those that were read before
+abbrev pub parts_turn : Reader (Node t.arg) → (inside : Bool) → (Many t.arg → Reader (Many t.arg)) → Many t.arg → List Lexeme → Option (List Lexeme) → Read (Many t.arg)
+parts_turn part inside go_on front ts None = Ok (front, ts)
+parts_turn part inside go_on front ts (Some next) = part (past_blanks inside next) >>= λ a. go_on (snoc front a.0) a.1
+
+unfoldable pub parts_from : Reader (Node t.arg) → (inside : Bool) → ℕ → Many t.arg → Reader (Many t.arg)
+parts_from part inside zero front ts = Ok (front, ts)
+parts_from part inside (suc turns) front ts = parts_turn part inside (λ as' u. parts_from part inside turns as' u) front ts (after_caret (past_blanks inside ts))
+
+unfoldable pub parts_by : Reader (Node t.arg) → (inside : Bool) → Reader (Many t.arg)
+parts_by part inside ts = parts_from part inside (length ts) none ts
+
+unfoldable pub arg_by : Reader (Node t.arg) → (inside : Bool) → Reader (Node t.arg)
+arg_by part inside ts = do
+  a ← part ts
+  as' ← parts_by part inside a.1
+  Ok (concat_of a.0 as'.0, as'.1)
+
+-- arguments up to a `)`, where newlines are blanks
+abbrev pub members_turn : Reader (Node t.arg) → (Many t.arg → Reader (Many t.arg)) → Many t.arg → Reader (Many t.arg)
+members_turn part go_on front (RightParen ∷ ts) = Ok (front, ts)
+members_turn part go_on front (Newline ∷ ts) = go_on front ts
+members_turn part go_on front ts = arg_by part true ts >>= λ a. go_on (snoc front a.0) a.1
+
+unfoldable pub members_from : Reader (Node t.arg) → ℕ → Many t.arg → Reader (Many t.arg)
+members_from part zero front ts = Err Unexpected
+members_from part (suc turns) front ts = members_turn part (λ as' u. members_from part turns as' u) front ts
+
+unfoldable pub members_by : Reader (Node t.arg) → Reader (Many t.arg)
+members_by part ts = members_from part (length ts) none ts
+
+unfoldable pub words_from : Reader (Node t.arg) → ℕ → Many t.arg → Reader (Many t.arg)
+words_from part zero front ts = Ok (front, ts)
+words_from part (suc turns) front ts =
+    if begins_arg ts then (arg_by part false ts >>= λ a. words_from part turns (snoc front a.0) a.1) else Ok (front, ts)
+
+unfoldable pub words_by : Reader (Node t.arg) → Reader (Many t.arg)
+words_by part ts = words_from part (length ts) none ts
+
+-- a redirection, several, and words and redirections in any order
+unfoldable pub redir_by : Reader (Node t.arg) → Reader (Node t.redir)
+redir_by part (Redirection mode slot ∷ ts) = arg_by part false ts >>= λ a. Ok (t.Open mode slot a.0, a.1)
+redir_by part (CopyTo to from ∷ ts) = Ok (t.Copy to from, ts)
+redir_by part (HereDoc quoted text ∷ ts) = Ok (t.Here (pieces_of quoted text), ts)
+redir_by part _ = Err Unexpected
+
+unfoldable pub redirs_from : Reader (Node t.arg) → ℕ → Many t.redir → Reader (Many t.redir)
+redirs_from part zero front ts = Ok (front, ts)
+redirs_from part (suc turns) front ts =
+    if begins_redir ts then (redir_by part ts >>= λ r. redirs_from part turns (snoc front r.0) r.1) else Ok (front, ts)
+
+unfoldable pub redirs_by : Reader (Node t.arg) → Reader (Many t.redir)
+redirs_by part ts = redirs_from part (length ts) none ts
+
+unfoldable pub simple_from : Reader (Node t.arg) → ℕ → Many t.arg → Many t.redir → Reader (Many t.arg × Many t.redir)
+simple_from part zero words redirs ts = Ok ((words, redirs), ts)
+simple_from part (suc turns) words redirs ts =
+    if begins_arg ts then (arg_by part false ts >>= λ a. simple_from part turns (snoc words a.0) redirs a.1)
+    else if begins_redir ts then (redir_by part ts >>= λ r. simple_from part turns words (snoc redirs r.0) r.1)
+    else Ok ((words, redirs), ts)
+
+unfoldable pub simple_by : Reader (Node t.arg) → Reader (Many t.arg × Many t.redir)
+simple_by part ts = simple_from part (length ts) none none ts
+
+-- a list in braces, and one in parentheses
+abbrev pub closed_by_brace : Read (Many t.item) → Read (Node t.cmd)
+closed_by_brace (Ok (is, RightBrace ∷ ts)) = Ok (t.Seq is, ts)
+closed_by_brace (Ok _) = Err Unexpected
+closed_by_brace (Err e) = Err e
+
+abbrev pub closed_by_paren : Read (Many t.item) → Read (Node t.cmd)
+closed_by_paren (Ok (is, RightParen ∷ ts)) = Ok (t.Seq is, ts)
+closed_by_paren (Ok _) = Err Unexpected
+closed_by_paren (Err e) = Err e
+
+unfoldable pub brace_by : Readers → Reader (Node t.cmd)
+brace_by deeper (LeftBrace ∷ ts) = closed_by_brace (deeper (a_list false) ts)
+brace_by deeper _ = Err Unexpected
+
+unfoldable pub paren_by : Readers → Reader (Node t.cmd)
+paren_by deeper (LeftParen ∷ ts) = closed_by_paren (deeper (a_list false) ts)
+paren_by deeper _ = Err Unexpected
+
+-- a part of an argument
+abbrev pub value_by : Readers → Node t.arg → Reader (Node t.arg)
+value_by deeper n (Subscript ∷ ts) = members_by (deeper (a_part true)) ts >>= λ as'. Ok (t.Sub n as'.0, as'.1)
+value_by deeper n ts = Ok (t.Var n, ts)
+
+unfoldable pub dollar_by : Readers → Reader (Node t.arg)
+dollar_by deeper ts = deeper a_name ts >>= λ n. value_by deeper n.0 n.1
+
+unfoldable pub part_by : Readers → (inside : Bool) → Reader (Node t.arg)
+part_by deeper inside (Word text ∷ ts) = Ok (t.Lit text false, ts)
+part_by deeper inside (Quoted text ∷ ts) = Ok (t.Lit text true, ts)
+part_by deeper inside (LeftParen ∷ ts) = members_by (deeper (a_part true)) ts >>= λ as'. Ok (t.Paren as'.0, as'.1)
+part_by deeper inside (Backquote ∷ ts) = brace_by deeper (past_blanks inside ts) >>= λ c. Ok (t.Back c.0, c.1)
+part_by deeper inside (Dollar ∷ ts) = dollar_by deeper ts
+part_by deeper inside (DollarCount ∷ ts) = deeper a_name ts >>= λ n. Ok (t.Count n.0, n.1)
+part_by deeper inside (DollarFlat ∷ ts) = deeper a_name ts >>= λ n. Ok (t.Flat n.0, n.1)
+part_by deeper inside _ = Err Unexpected
+
+-- what follows `switch`, `~` and `fn`
+unfoldable pub branch_by : Readers → Reader (Node t.branch)
+branch_by deeper ts = do
+  as' ← words_by (deeper (a_part false)) ts
+  is ← (if ends_case as'.1 then deeper (a_list true) as'.1 else Err Unexpected)
+  Ok (t.Branch as'.0 (t.Seq is.0), is.1)
+
+abbrev pub branches_turn : Readers → (Many t.branch → Reader (Many t.branch)) → Many t.branch → Reader (Many t.branch)
+branches_turn deeper go_on front (RightBrace ∷ ts) = Ok (front, ts)
+branches_turn deeper go_on front (Semicolon ∷ ts) = go_on front ts
+branches_turn deeper go_on front (Newline ∷ ts) = go_on front ts
+branches_turn deeper go_on front (Word text ∷ ts) = if is_case text then (branch_by deeper (past_caret ts) >>= λ b. go_on (snoc front b.0) b.1) else Err Unexpected
+branches_turn deeper go_on front _ = Err Unexpected
+
+unfoldable pub branches_from : Readers → ℕ → Many t.branch → Reader (Many t.branch)
+branches_from deeper zero front ts = Err Unexpected
+branches_from deeper (suc turns) front ts = branches_turn deeper (λ bs u. branches_from deeper turns bs u) front ts
+
+unfoldable pub branches_by : Readers → Reader (Many t.branch)
+branches_by deeper (LeftBrace ∷ ts) = branches_from deeper (length ts) none ts
+branches_by deeper _ = Err Unexpected
+
+unfoldable pub switch_by : Readers → Reader (Node t.cmd)
+switch_by deeper ts = do
+  a ← arg_by (deeper (a_part false)) false ts
+  bs ← branches_by deeper (past_newlines a.1)
+  rs ← redirs_by (deeper (a_part false)) bs.1
+  Ok (redirect rs.0 (t.Switch a.0 bs.0), rs.1)
+
+unfoldable pub match_by : Readers → Reader (Node t.cmd)
+match_by deeper ts = do
+  a ← arg_by (deeper (a_part false)) false ts
+  as' ← words_by (deeper (a_part false)) a.1
+  Ok (t.Match a.0 as'.0, as'.1)
+
+abbrev pub defined_by : Readers → Many t.arg → Reader (Node t.cmd)
+defined_by deeper names ts = if begins_brace ts then (brace_by deeper ts >>= λ c. Ok (t.Define names c.0, c.1)) else Ok (t.Undefine names, ts)
+
+unfoldable pub define_by : Readers → Reader (Node t.cmd)
+define_by deeper ts = do
+  a ← arg_by (deeper (a_part false)) false ts
+  as' ← words_by (deeper (a_part false)) a.1
+  defined_by deeper (more a.0 as'.0) as'.1
+
+unfoldable pub block_by : Readers → Reader (Node t.cmd)
+block_by deeper ts = do
+  c ← brace_by deeper ts
+  rs ← redirs_by (deeper (a_part false)) c.1
+  Ok (redirect rs.0 (t.Brace c.0), rs.1)
+
+-- a stage of a pipeline, or the name of an assignment with the `=` behind it
+pub data Opening : Type 0 where
+  Staged : Node t.cmd → Opening
+  Named : Node t.arg → Opening
+
+abbrev pub staged : Read (Node t.cmd) → Read Opening
+staged read = read >>= λ c. Ok (Staged c.0, c.1)
+
+abbrev pub behind_first : Readers → Node t.arg → Reader Opening
+behind_first deeper a (Equals ∷ ts) = Ok (Named a, ts)
+behind_first deeper a ts = simple_by (deeper (a_part false)) ts >>= λ x. Ok (Staged (redirect x.0.1 (t.Simple (more a x.0.0))), x.1)
+
+unfoldable pub first_by : Readers → Reader Opening
+first_by deeper ts = arg_by (deeper (a_part false)) false ts >>= λ a. behind_first deeper a.0 a.1
+
+unfoldable pub worded_by : Readers → Keyword → (word : Lexeme) → Reader Opening
+worded_by deeper SwitchWord word ts = staged (switch_by deeper (past_caret ts))
+worded_by deeper MatchWord word ts = staged (match_by deeper (past_caret ts))
+worded_by deeper FnWord word ts = staged (define_by deeper (past_caret ts))
+worded_by deeper NoKeyword word ts = first_by deeper (word ∷ ts)
+worded_by deeper _ word ts = Err Unexpected
+
+unfoldable pub opening_by : Readers → Reader Opening
+opening_by deeper (Word text ∷ ts) = worded_by deeper (keyword text) (Word text) ts
+opening_by deeper (LeftBrace ∷ ts) = staged (block_by deeper (LeftBrace ∷ ts))
+opening_by deeper ts = first_by deeper ts
+
+-- the body of a control form, and an operand that may be absent
+unfoldable pub body_by : Readers → Reader (Node t.cmd)
+body_by deeper ts =
+    if begins_command (past_newlines ts) then deeper (a_command false) (past_newlines ts)
+    else if begins_link (past_newlines ts) then Err Unexpected
+    else Ok (t.Empty, past_newlines ts)
+
+unfoldable pub optional_by : Readers → Reader (Node t.cmd)
+optional_by deeper ts = if begins_command ts then deeper an_operand ts else Ok (t.Empty, ts)
+
+-- what follows `if`, `while` and `for`
+abbrev pub not_by : Readers → (after_if : Bool) → Keyword → Reader (Node t.cmd)
+not_by deeper true NotWord ts = body_by deeper (past_caret ts) >>= λ d. Ok (t.IfNot d.0, d.1)
+not_by deeper false NotWord ts = Err IfNot
+not_by deeper after_if _ ts = Err Unexpected
+
+abbrev pub condition_by : Readers → Reader (Node t.cmd)
+condition_by deeper ts = do
+  c ← paren_by deeper ts
+  d ← body_by deeper c.1
+  Ok (t.If c.0 d.0, d.1)
+
+unfoldable pub if_by : Readers → (after_if : Bool) → Reader (Node t.cmd)
+if_by deeper after_if (Word text ∷ ts) = not_by deeper after_if (keyword text) ts
+if_by deeper after_if ts = condition_by deeper ts
+
+unfoldable pub while_by : Readers → Reader (Node t.cmd)
+while_by deeper ts = do
+  c ← paren_by deeper ts
+  d ← body_by deeper c.1
+  Ok (t.While c.0 d.0, d.1)
+
+abbrev pub in_by : Readers → Node t.arg → Keyword → Reader (Node t.cmd)
+in_by deeper a InWord ts = do
+  as' ← members_by (deeper (a_part true)) (past_caret ts)
+  d ← body_by deeper as'.1
+  Ok (t.For a as'.0 d.0, d.1)
+in_by deeper a _ ts = Err Unexpected
+
+unfoldable pub over_by : Readers → Node t.arg → Reader (Node t.cmd)
+over_by deeper a (RightParen ∷ ts) = body_by deeper ts >>= λ d. Ok (t.ForAll a d.0, d.1)
+over_by deeper a (Word text ∷ ts) = in_by deeper a (keyword text) ts
+over_by deeper a _ = Err Unexpected
+
+unfoldable pub for_by : Readers → Reader (Node t.cmd)
+for_by deeper (LeftParen ∷ ts) = arg_by (deeper (a_part true)) true (past_newlines ts) >>= λ a. over_by deeper a.0 (past_newlines a.1)
+for_by deeper _ = Err Unexpected
+
+-- an operand that begins with `!`, `@`, a control word or a redirection
+abbrev pub is_leading : Keyword → Bool
+is_leading ForWord = true
+is_leading WhileWord = true
+is_leading IfWord = true
+is_leading BangWord = true
+is_leading AtWord = true
+is_leading _ = false
+
+abbrev pub begins_leading : List Lexeme → Bool
+begins_leading (Word text ∷ ts) = is_leading (keyword text)
+begins_leading ts = begins_redir ts
+
+unfoldable pub control_by : Readers → (after_if : Bool) → Keyword → Reader (Node t.cmd)
+control_by deeper after_if BangWord ts = deeper an_operand (past_caret ts) >>= λ c. Ok (t.Not c.0, c.1)
+control_by deeper after_if AtWord ts = deeper an_operand (past_caret ts) >>= λ c. Ok (t.Subshell c.0, c.1)
+control_by deeper after_if IfWord ts = if_by deeper after_if (past_caret ts)
+control_by deeper after_if WhileWord ts = while_by deeper (past_caret ts)
+control_by deeper after_if ForWord ts = for_by deeper (past_caret ts)
+control_by deeper after_if _ ts = Err Unexpected
+
+unfoldable pub redirected_by : Readers → Reader (Node t.cmd)
+redirected_by deeper ts = do
+  r ← redir_by (deeper (a_part false)) ts
+  rs ← redirs_by (deeper (a_part false)) r.1
+  c ← optional_by deeper rs.1
+  Ok (t.Redirect (more r.0 rs.0) c.0, c.1)
+
+unfoldable pub leading_by : Readers → (after_if : Bool) → Reader (Node t.cmd)
+leading_by deeper after_if (Word text ∷ ts) = control_by deeper after_if (keyword text) ts
+leading_by deeper after_if ts = redirected_by deeper ts
+
+-- pipelines and assignments: a pipeline with these stages and a last one so far, and an assignment with these pairs so far
+abbrev pub pipeline_of : Many t.stage → Node t.cmd → Node t.cmd
+pipeline_of none last = last
+pipeline_of (more s ss) last = t.Pipeline (more s ss) last
+
+-- a bar reads what follows it, and goes on behind a stage
+abbrev pub pipe_turn : Readers → (Many t.stage → Node t.cmd → Reader (Node t.cmd)) → Many t.stage → Node t.cmd → Reader (Node t.cmd)
+pipe_turn deeper go_on stages last (Bar slot ∷ ts) =
+    if nat_lt (count stages) 63 then (deeper a_piped (past_newlines ts) >>= λ p.
+    (if p.0.1 then go_on (snoc stages (t.Stage last slot)) p.0.0 p.1 else Ok (pipeline_of (snoc stages (t.Stage last slot)) p.0.0, p.1)))
+    else Err TooManyStages
+pipe_turn deeper go_on stages last ts = Ok (pipeline_of stages last, ts)
+
+unfoldable pub pipe_from : Readers → ℕ → Many t.stage → Node t.cmd → Reader (Node t.cmd)
+pipe_from deeper zero stages last ts = Ok (pipeline_of stages last, ts)
+pipe_from deeper (suc turns) stages last ts = pipe_turn deeper (λ ss c u. pipe_from deeper turns ss c u) stages last ts
+
+unfoldable pub pipe_by : Readers → Node t.cmd → Reader (Node t.cmd)
+pipe_by deeper first ts = pipe_from deeper (length ts) none first ts
+
+abbrev pub value_turn : Readers → (Many t.pair → Reader (Node t.cmd)) → Many t.pair → Opening → Reader (Node t.cmd)
+value_turn deeper go_on pairs (Named a) ts = arg_by (deeper (a_part false)) false ts >>= λ v. go_on (snoc pairs (t.Pair a v.0)) v.1
+value_turn deeper go_on pairs (Staged c) ts = pipe_by deeper c ts >>= λ p. Ok (t.Assign pairs p.0, p.1)
+
+unfoldable pub values_from : Readers → ℕ → Many t.pair → Reader (Node t.cmd)
+values_from deeper zero pairs ts = Ok (t.Assign pairs t.Empty, ts)
+values_from deeper (suc turns) pairs ts =
+    if begins_leading ts then (leading_by deeper false ts >>= λ c. Ok (t.Assign pairs c.0, c.1))
+    else if begins_command ts then (opening_by deeper ts >>= λ o. value_turn deeper (λ ps u. values_from deeper turns ps u) pairs o.0 o.1)
+    else Ok (t.Assign pairs t.Empty, ts)
+
+unfoldable pub values_by : Readers → Many t.pair → Reader (Node t.cmd)
+values_by deeper pairs ts = values_from deeper (length ts) pairs ts
+
+unfoldable pub assigned_by : Readers → Node t.arg → Reader (Node t.cmd)
+assigned_by deeper a ts = arg_by (deeper (a_part false)) false ts >>= λ v. values_by deeper (more (t.Pair a v.0) none) v.1
+
+-- an operand; what follows a bar, and whether it is a stage, behind which there may be a further bar
+abbrev pub opened_by : Readers → Opening → Reader (Node t.cmd)
+opened_by deeper (Named a) ts = assigned_by deeper a ts
+opened_by deeper (Staged c) ts = pipe_by deeper c ts
+
+unfoldable pub operand_by : Readers → (after_if : Bool) → Reader (Node t.cmd)
+operand_by deeper after_if ts = if begins_leading ts then leading_by deeper after_if ts else (opening_by deeper ts >>= λ o. opened_by deeper o.0 o.1)
+
+abbrev pub last_stage : Read (Node t.cmd) → Read (Node t.cmd × Bool)
+last_stage read = read >>= λ c. Ok ((c.0, false), c.1)
+
+abbrev pub piped_open : Readers → Opening → Reader (Node t.cmd × Bool)
+piped_open deeper (Named a) ts = last_stage (assigned_by deeper a ts)
+piped_open deeper (Staged c) ts = Ok ((c, true), ts)
+
+unfoldable pub piped_by : Readers → Reader (Node t.cmd × Bool)
+piped_by deeper ts = if begins_leading ts then last_stage (leading_by deeper false ts) else (opening_by deeper ts >>= λ o. piped_open deeper o.0 o.1)
+
+-- a command, and the commands of a list
+abbrev pub links_turn : Readers → (Many t.link → Reader (Many t.link)) → Many t.link → Reader (Many t.link)
+links_turn deeper go_on front (AndAnd ∷ ts) = operand_by deeper false (past_newlines ts) >>= λ c. go_on (snoc front (t.Link t.And c.0)) c.1
+links_turn deeper go_on front (OrOr ∷ ts) = operand_by deeper false (past_newlines ts) >>= λ c. go_on (snoc front (t.Link t.Or c.0)) c.1
+links_turn deeper go_on front ts = Ok (front, ts)
+
+unfoldable pub links_from : Readers → ℕ → Many t.link → Reader (Many t.link)
+links_from deeper zero front ts = Ok (front, ts)
+links_from deeper (suc turns) front ts = links_turn deeper (λ ls u. links_from deeper turns ls u) front ts
+
+unfoldable pub links_by : Readers → Reader (Many t.link)
+links_by deeper ts = links_from deeper (length ts) none ts
+
+unfoldable pub command_by : Readers → (after_if : Bool) → Reader (Node t.cmd)
+command_by deeper after_if ts = do
+  c ← operand_by deeper after_if ts
+  ls ← links_by deeper c.1
+  Ok (and_or c.0 ls.0, ls.1)
+
+-- what ends an item, and whether it is in the background
+unfoldable pub item_end : Reader Bool
+item_end (Semicolon ∷ ts) = Ok (false, ts)
+item_end (Newline ∷ ts) = Ok (false, ts)
+item_end (Ampersand ∷ ts) = Ok (true, ts)
+item_end ts = if closes ts then Ok (false, ts) else Err Unexpected
+
+abbrev pub item_turn : Readers → (Bool → Many t.item → Reader (Many t.item)) → Bool → Many t.item → Reader (Many t.item)
+item_turn deeper go_on after_if front (Semicolon ∷ ts) = go_on after_if front ts
+item_turn deeper go_on after_if front (Newline ∷ ts) = go_on after_if front ts
+item_turn deeper go_on after_if front ts = do
+  c ← deeper (a_command after_if) ts
+  b ← item_end c.1
+  go_on (not b.0 && is_if c.0) (snoc front (t.Item c.0 b.0)) b.1
+
+unfoldable pub items_from : Readers → (in_switch : Bool) → ℕ → (after_if : Bool) → Many t.item → Reader (Many t.item)
+items_from deeper in_switch zero after_if front ts = Ok (front, ts)
+items_from deeper in_switch (suc turns) after_if front ts =
+    if ends in_switch ts then Ok (front, ts) else item_turn deeper (λ b is u. items_from deeper in_switch turns b is u) after_if front ts
+
+unfoldable pub items_by : Readers → (in_switch : Bool) → Reader (Many t.item)
+items_by deeper in_switch ts = items_from deeper in_switch (length ts) false none ts
+
+-- Reading with so many levels left.
+unfoldable pub read_by : Readers → Readers
+read_by deeper a_name ts = name_by deeper ts
+read_by deeper (a_part inside) ts = part_by deeper inside ts
+read_by deeper an_operand ts = operand_by deeper false ts
+read_by deeper a_piped ts = piped_by deeper ts
+read_by deeper (a_command after_if) ts = command_by deeper after_if ts
+read_by deeper (a_list in_switch) ts = items_by deeper in_switch ts
+
+unfoldable pub read : ℕ → Readers
+read zero n ts = Err TooDeep
+read (suc left) n ts = read_by (λ m u. read left m u) n ts
+
+-- The tree of a script, or why it has none. Reading goes so many levels deep at most.
+abbrev pub whole : Read (Many t.item) → Result (Node t.cmd) Fault
+whole (Ok (is, [])) = if well_formed (t.Seq is) then Ok (t.Seq is) else Err TooDeep
+whole (Ok _) = Err Unexpected
+whole (Err e) = Err e
+
+unfoldable pub script_tree : ℕ → List Lexeme → Result (Node t.cmd) Fault
+script_tree levels ts = whole (read levels (a_list false) ts)

@@ -1,0 +1,17 @@
+pub mod Calls
+pub mod Plans
+pub mod State
+pub mod Shell
+pub mod Numbers
+pub mod Lists
+pub mod Joining
+pub mod Selecting
+pub mod Splitting
+pub mod Patterns
+pub mod Matching
+pub mod FileNames
+pub mod PathNames
+pub mod Acts
+pub mod Builtins
+pub mod Meaning
+pub mod Script

@@ -1,0 +1,406 @@
+-- What an instruction of the machine and a step of the meaning share.
+use Rattle.std.specs.Prelude.{◌&&◌, ℕ, zero, suc, length, ◌==◌, true, false, not, List, [], ◌∷◌, ◌++◌, Bool, ◌||◌, if◌then◌else◌, Option, Some, None, codes, nat_eq, nat_le, map, Result, Ok, Err, filter}
+use Rattle.std.specs.List.{starts_with, join_with_byte, concat}
+use Rattle.std.specs.Str.{bytes_eq}
+use Rattle.std.specs.Str.Lossy.{utf8_lossy}
+use Rattle.std.specs.Fmt.{decimal}
+use Rattle.rc_model.specs.Syntax.Text.{spaced}
+use Rattle.rc_model.specs.Syntax.Words.{Word, word_texts, plain_words}
+use Rattle.rc_model.specs.Run.Lists.{ListFault, EmptyConcat, CountMismatch, concatenated, selected, split}
+use Rattle.rc_model.specs.Run.Patterns.{matched}
+use Rattle.rc_model.specs.Run.Calls.{Mode, Read, to_file, Slots, with_slot, Kind, Program, Ending, Code, Signal, Launch, open_file, here, make_pipe, close, read, write, start, wait, probe, as_file, as_pair, as_bytes, as_kind, as_child, as_ending}
+use Rattle.rc_model.specs.Run.Plans.{Plan, ask, done_with}
+use Rattle.rc_model.specs.Syntax.Tree.{Node, Many, cmd, stage, piece, none, more, Stage, Text, Name}
+use Rattle.rc_model.specs.Run.State.{is_true, State, value_of, set_value, got, is_name, is_readable, is_function_name, with_status, define, add_child}
+use Rattle.rc_model.specs.Run.Shell.{Shell, Next, ◌>>=◌, ◌>>◌, pure, skip, call, say, get, change, exits}
+use Rattle.rc_model.specs.Handed.Image.{program_launch, shell_launch, is_fit}
+
+-- the status becomes this
+abbrev pub set_status : List ℕ → Shell (Unit {0})
+set_status text = change (λ s. with_status s text)
+
+-- a report goes to descriptor 2 in one call
+abbrev pub report : Slots → List ℕ → Shell (Unit {0})
+report slots text = say (write slots.errors (codes "rc: " ++ text ++ 10 ∷ []))
+
+-- what a runtime error leaves: a report, and the status `error`
+abbrev pub fault : Slots → List ℕ → Shell (Unit {0})
+fault slots text = do
+  report slots text
+  set_status (codes "error")
+
+-- a runtime error ends the shell
+abbrev pub fails : {A : Type 0} → Slots → List ℕ → Shell A
+fails slots text = do
+  fault slots text
+  exits
+
+-- an open file that may be held is closed first
+abbrev pub closing : {X : Type 0} → Option ℕ → Plan X → Plan X
+closing None p = p
+closing (Some h) p = ask (close h) (λ a. p)
+
+abbrev pub close_end : Option ℕ → Shell (Unit {0})
+close_end h s = closing h (done_with (Next tt s))
+
+-- where the flag is set and the status isn't true, the shell ends
+abbrev pub check : Shell (Unit {0})
+check = λ s. if s.strict && not (is_true s.status) then exits s else skip s
+
+-- ** names and values
+
+-- the one name that a list of words is, if it is one
+abbrev pub one_name : Slots → (List ℕ → Bool) → List (List ℕ) → Shell (List ℕ)
+one_name slots fits [] = fails slots (codes "bad name")
+one_name slots fits (x ∷ []) = if fits x then pure x else fails slots (codes "bad name")
+one_name slots fits (x ∷ y ∷ ys) = fails slots (codes "bad name")
+
+-- a name that can be given a value
+abbrev pub variable : Slots → List Word → Shell (List ℕ)
+variable slots words = one_name slots is_name (word_texts words)
+
+-- what stands behind `$`, with what it gives
+abbrev pub value : Slots → List Word → Shell (List (List ℕ))
+value slots words = do
+  x ← one_name slots is_readable (word_texts words)
+  s ← get
+  pure (got s x)
+
+-- `$x`, `$#x` and `$"x`
+abbrev pub value_words : Slots → List Word → Shell (List Word)
+value_words slots words = do
+  v ← value slots words
+  pure (plain_words v)
+
+abbrev pub count_words : Slots → List Word → Shell (List Word)
+count_words slots words = do
+  v ← value slots words
+  pure (plain_words (decimal (length v) ∷ []))
+
+abbrev pub flat_words : Slots → List Word → Shell (List Word)
+flat_words slots words = do
+  v ← value slots words
+  pure (plain_words (spaced v ∷ []))
+
+-- `$x(s ...)`
+abbrev pub selected_words : Slots → List Word → List Word → Shell (List Word)
+selected_words slots words subscripts = do
+  v ← value slots words
+  pure (plain_words (selected v (word_texts subscripts)))
+
+-- `a^b`
+abbrev pub joined_lists : Slots → Result (List Word) ListFault → Shell (List Word)
+joined_lists slots (Ok ws) = pure ws
+joined_lists slots (Err EmptyConcat) = fails slots (codes "empty list in concatenation")
+joined_lists slots (Err CountMismatch) = fails slots (codes "list lengths differ in concatenation")
+
+abbrev pub concat_words : Slots → List Word → List Word → Shell (List Word)
+concat_words slots a b = joined_lists slots (concatenated a b)
+
+-- the status of a match
+abbrev pub match_status : List Word → List Word → List ℕ
+match_status subject patterns = if matched subject patterns then [] else codes "no match"
+
+-- each name becomes a function with this body
+abbrev pub define_each : Slots → List (List ℕ) → Node cmd → Shell (Unit {0})
+define_each slots [] body = skip
+define_each slots (x ∷ xs) body = do
+  y ← one_name slots is_function_name (x ∷ [])
+  change (λ s. define s y body)
+  define_each slots xs body
+
+-- ** redirections
+
+-- a file that was opened
+abbrev pub opened : Slots → List ℕ → Option ℕ → Shell ℕ
+opened slots name (Some h) = pure h
+opened slots name None = fails slots (codes "cannot open " ++ name)
+
+-- the one file that a list of words names
+abbrev pub open_one : Slots → Mode → List (List ℕ) → Shell ℕ
+open_one slots mode [] = fails slots (codes "redirection needs one word")
+open_one slots mode (name ∷ []) = do
+  a ← call (open_file name mode)
+  opened slots name (as_file a)
+open_one slots mode (name ∷ other ∷ others) = fails slots (codes "redirection needs one word")
+
+-- the text of a here document: a bad name stands for nothing
+abbrev pub here_text : State → Many piece → List ℕ
+here_text s none = []
+here_text s (more (Text text) pieces) = text ++ here_text s pieces
+here_text s (more (Name name) pieces) = spaced (if is_readable name then got s name else []) ++ here_text s pieces
+
+abbrev pub open_here : Slots → Many piece → Shell ℕ
+open_here slots pieces = do
+  s ← get
+  a ← call (here (here_text s pieces))
+  opened slots (codes "here document") (as_file a)
+
+-- ** programs and children
+
+-- a name that is a path is taken as it is
+abbrev pub is_path : List ℕ → Bool
+is_path name = starts_with nat_eq name (codes "/") || starts_with nat_eq name (codes "./") || starts_with nat_eq name (codes "../")
+
+-- where a program may be
+abbrev pub candidate : List ℕ → List ℕ → List ℕ
+candidate dir name = if (length dir == 0) || bytes_eq dir (codes ".") then codes "./" ++ name else dir ++ 47 ∷ name
+
+-- the paths by which a name is looked for: the empty name is never found
+abbrev pub candidates : State → List ℕ → List (List ℕ)
+candidates s name =
+    if length name == 0 then []
+    else (if is_path name then name ∷ [] else map (λ d. candidate d name) (value_of s (codes "path")))
+
+-- whether a program stands there
+abbrev pub is_program : Option Kind → Bool
+is_program (Some Program) = true
+is_program _ = false
+
+-- the first path that is a program
+abbrev pub first_program : List (List ℕ) → Shell (Option (List ℕ))
+first_program [] = pure None
+first_program (path ∷ paths) = do
+  a ← call (probe path)
+  if is_program (as_kind a) then pure (Some path) else first_program paths
+
+-- a program by its name: one that is a path is not looked for
+abbrev pub find_program : List ℕ → Shell (Option (List ℕ))
+find_program name = if is_path name then pure (Some name) else (λ s. first_program (candidates s name) s)
+
+-- the status by which a child ended
+abbrev pub ending_status : Option Ending → List ℕ
+ending_status None = codes "cannot wait"
+ending_status (Some (Code zero)) = []
+ending_status (Some (Code (suc n))) = decimal (suc n)
+ending_status (Some Signal) = codes "signal"
+
+-- a child that is waited for, and its status
+abbrev pub waited : ℕ → Shell (List ℕ)
+waited n = do
+  a ← call (wait n)
+  pure (ending_status (as_ending a))
+
+-- waits for each in order, with their statuses
+abbrev pub wait_each : List ℕ → Shell (List (List ℕ))
+wait_each [] = pure []
+wait_each (n ∷ ns) = do
+  first ← waited n
+  others ← wait_each ns
+  pure (first ∷ others)
+
+-- what a start gives: a child, or why there is none
+pub data Started : Type 0 where
+  Child : ℕ → Started
+  NoChild : (why : List ℕ) → Started
+
+abbrev pub child_of : Option ℕ → Started
+child_of (Some n) = Child n
+child_of None = NoChild (codes "cannot start")
+
+abbrev pub begun : Launch → Shell Started
+begun l = do
+  a ← call (start l)
+  pure (child_of (as_child a))
+
+-- a launch is made where it fits
+abbrev pub started : Launch → Shell Started
+started l = if is_fit l then begun l else pure (NoChild (codes "too large"))
+
+-- the shell is started with a command
+abbrev pub start_shell : Slots → Node cmd → Shell Started
+start_shell slots body = do
+  s ← get
+  started (shell_launch slots body s)
+
+-- a program that cannot be run, and why
+abbrev pub refuse : Slots → List ℕ → List ℕ → Shell (Unit {0})
+refuse slots name why = do
+  report slots (name ++ codes ": " ++ why)
+  set_status why
+
+-- a program that was started is waited for
+abbrev pub wait_started : Slots → List ℕ → Started → Shell (Unit {0})
+wait_started slots name (NoChild why) = refuse slots name why
+wait_started slots name (Child n) = do
+  status ← waited n
+  set_status status
+
+-- a program that was looked for is started
+abbrev pub run_found : Slots → List ℕ → List (List ℕ) → Option (List ℕ) → Shell (Unit {0})
+run_found slots name args None = refuse slots name (codes "not found")
+run_found slots name args (Some path) = do
+  s ← get
+  child ← started (program_launch slots path args s)
+  wait_started slots name child
+
+-- a program is looked for, started and waited for
+abbrev pub run_program : Slots → List ℕ → List (List ℕ) → Shell (Unit {0})
+run_program slots name args = do
+  path ← find_program name
+  run_found slots name args path
+
+-- `@ cmd`
+abbrev pub wait_subshell : Started → Shell (Unit {0})
+wait_subshell (NoChild why) = set_status why
+wait_subshell (Child n) = do
+  status ← waited n
+  set_status status
+
+abbrev pub subshell : Slots → Node cmd → Shell (Unit {0})
+subshell slots body = do
+  child ← start_shell slots body
+  wait_subshell child
+
+-- `cmd &`
+abbrev pub kept_child : Started → Shell (Unit {0})
+kept_child (NoChild why) = set_status why
+kept_child (Child n) = change (λ s. set_value (add_child s n) (codes "apid") (decimal n ∷ []))
+
+abbrev pub background_with : Slots → Node cmd → Option ℕ → Shell (Unit {0})
+background_with slots body None = set_status (codes "cannot open")
+background_with slots body (Some h) = do
+  child ← start_shell (with_slot slots 0 (to_file h)) body
+  say (close h)
+  kept_child child
+
+abbrev pub background : Slots → Node cmd → Shell (Unit {0})
+background slots body = do
+  a ← call (open_file (codes "/dev/null") Read)
+  background_with slots body (as_file a)
+
+-- ** pipelines
+
+-- the stages but the last, once they are started: the read end before the last, and the children. Or one was refused
+pub data StartedStages : Type 0 where
+  Running : (read_end : Option ℕ) (children : List ℕ) → StartedStages
+  Refused : StartedStages
+
+-- statuses in the order of their stages
+abbrev pub stages_status : List (List ℕ) → List ℕ
+stages_status statuses = join_with_byte 124 statuses
+
+-- after a refusal: the children so far are waited for
+abbrev pub no_stages : Option ℕ → List ℕ → List ℕ → Shell StartedStages
+no_stages before children why = do
+  close_end before
+  statuses ← wait_each children
+  set_status (stages_status (statuses ++ why ∷ []))
+  pure Refused
+
+-- the slots with the read end of the pipe before
+abbrev pub from_pipe : Option ℕ → Slots → Slots
+from_pipe None slots = slots
+from_pipe (Some h) slots = with_slot slots 0 (to_file h)
+
+abbrev pub next_stage : (Option ℕ → List ℕ → Shell StartedStages) → Option ℕ → List ℕ → ℕ → ℕ → Started → Shell StartedStages
+next_stage go before children read_end write_end (Child n) = do
+  say (close write_end)
+  close_end before
+  go (Some read_end) (children ++ n ∷ [])
+next_stage go before children read_end write_end (NoChild why) = do
+  say (close write_end)
+  say (close read_end)
+  no_stages before children why
+
+abbrev pub stage_with : (Option ℕ → List ℕ → Shell StartedStages) → Slots → Node cmd → ℕ → Option ℕ → List ℕ → Option (ℕ × ℕ) → Shell StartedStages
+stage_with go slots body slot before children None = no_stages before children (codes "cannot pipe")
+stage_with go slots body slot before children (Some (read_end, write_end)) = do
+  child ← start_shell (with_slot (from_pipe before slots) slot (to_file write_end)) body
+  next_stage go before children read_end write_end child
+
+abbrev pub stages_from : Slots → Many stage → Option ℕ → List ℕ → Shell StartedStages
+stages_from slots none before children = pure (Running before children)
+stages_from slots (more (Stage body slot) stages) before children = do
+  a ← call make_pipe
+  stage_with (stages_from slots stages) slots body slot before children (as_pair a)
+
+abbrev pub start_stages : Slots → Many stage → Shell StartedStages
+start_stages slots stages = stages_from slots stages None []
+
+-- the end of a pipeline whose last stage is done
+abbrev pub end_stages : Option ℕ → List ℕ → Shell (Unit {0})
+end_stages read_end children = do
+  close_end read_end
+  statuses ← wait_each children
+  change (λ s. with_status s (stages_status (statuses ++ s.status ∷ [])))
+
+-- ** reading
+
+-- what reading up to the end gives, with why it stopped before
+pub record Got : Type 0 where
+  pub text : List ℕ
+  pub why : Option (List ℕ)
+
+abbrev pub got_all : List ℕ → Option (List ℕ) → Got
+got_all text why = record { text = text; why = why }
+
+abbrev pub read_on : (List ℕ → Shell Got) → ℕ → List ℕ → Option (List ℕ) → Shell Got
+read_on again most text None = pure (got_all text (Some (codes "cannot read")))
+read_on again most text (Some []) = pure (got_all text None)
+read_on again most text (Some (b ∷ bs)) =
+    if nat_le (length (text ++ b ∷ bs)) most then again (text ++ b ∷ bs) else pure (got_all (text ++ b ∷ bs) (Some (codes "too large")))
+
+-- reads up to the empty answer; each but the last gives a byte, so that more than most reads are never made
+abbrev pub reading : ℕ → ℕ → ℕ → List ℕ → Shell Got
+reading zero most h text = pure (got_all text (Some (codes "too large")))
+reading (suc n) most h text = do
+  a ← call (read h)
+  read_on (reading n most h) most text (as_bytes a)
+
+-- the most that a backquote and a file give
+unfoldable pub longest_output : ℕ
+longest_output = 16777216
+
+unfoldable pub longest_file : ℕ
+longest_file = 1048576
+
+abbrev pub read_all : ℕ → ℕ → Shell Got
+read_all most h = reading (suc most) most h []
+
+-- ** backquotes
+
+-- output as text: bytes 0 are dropped, and what is not UTF-8 becomes U+FFFD
+abbrev pub text_of : List ℕ → List ℕ
+text_of bytes = utf8_lossy (filter (λ b. not (b == 0)) bytes)
+
+abbrev pub members_of : State → List ℕ → List (List ℕ)
+members_of s bytes = split (text_of bytes) (concat (value_of s (codes "ifs")))
+
+-- the status of a backquote: why its reading stopped, else that of the child
+abbrev pub back_status : Option (List ℕ) → List ℕ → List ℕ
+back_status None status = status
+back_status (Some why) status = why
+
+abbrev pub back_child : ℕ → ℕ → Started → Shell (List (List ℕ))
+back_child read_end write_end (NoChild why) = do
+  say (close write_end)
+  say (close read_end)
+  set_status why
+  pure []
+back_child read_end write_end (Child n) = do
+  say (close write_end)
+  out ← read_all longest_output read_end
+  say (close read_end)
+  status ← waited n
+  set_status (back_status out.why status)
+  s ← get
+  pure (members_of s out.text)
+
+abbrev pub back_pipe : Slots → Node cmd → Option (ℕ × ℕ) → Shell (List (List ℕ))
+back_pipe slots body None = do
+  set_status (codes "cannot pipe")
+  pure []
+back_pipe slots body (Some (read_end, write_end)) = do
+  child ← start_shell (with_slot slots 1 (to_file write_end)) body
+  back_child read_end write_end child
+
+abbrev pub backquote : Slots → Node cmd → Shell (List (List ℕ))
+backquote slots body = do
+  a ← call make_pipe
+  back_pipe slots body (as_pair a)
+
+abbrev pub back_words : Slots → Node cmd → Shell (List Word)
+back_words slots body = do
+  members ← backquote slots body
+  pure (plain_words members)

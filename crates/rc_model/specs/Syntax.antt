@@ -1,0 +1,10 @@
+pub mod Text
+pub mod Words
+pub mod Tokens
+pub mod Tree
+pub mod HereDocs
+pub mod Grammar
+pub mod WellFormed
+pub mod Printing
+pub mod Faults
+pub mod Accepted

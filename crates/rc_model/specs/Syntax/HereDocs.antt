@@ -1,0 +1,50 @@
+-- Here documents: the pieces of a body.
+use Rattle.std.specs.Prelude.{ℕ, Bool, true, false, if◌then◌else◌, ◌==◌, List, [], ◌∷◌, ◌++◌}
+use Rattle.std.specs.Char.{encode_utf8}
+use Rattle.std.specs.Str.{chars}
+use Rattle.rc_model.specs.Syntax.Tokens.{is_name_char}
+use Rattle.rc_model.specs.Syntax.Tree.{Many, none, snoc}
+use Rattle.rc_model.specs.Syntax.Tree as t
+
+-- what has begun: a text, a text with a `$` behind it, or a name
+pub data Begun : Type 0 where
+  Plain : (text : List ℕ) → Begun
+  Dollar : (text : List ℕ) → Begun
+  Naming : (name : List ℕ) → Begun
+
+-- a text is a piece behind the others unless it is empty
+abbrev pub with_text : Many t.piece → List ℕ → Many t.piece
+with_text pieces [] = pieces
+with_text pieces (b ∷ bs) = snoc pieces (t.Text (b ∷ bs))
+
+-- what a character begins where nothing has begun
+abbrev pub begun_by : ℕ → Begun
+begun_by c = if c == 36 then Dollar [] else Plain (encode_utf8 c)
+
+-- what has begun behind one more character: `$$` is `$`, a `$` with no name behind it stays, and a `^` behind a name is left out
+abbrev pub behind : Begun → ℕ → Begun
+behind (Plain text) c = if c == 36 then Dollar text else Plain (text ++ encode_utf8 c)
+behind (Dollar text) c = if is_name_char c then Naming (encode_utf8 c) else if c == 36 then Plain (text ++ 36 ∷ []) else Plain (text ++ 36 ∷ encode_utf8 c)
+behind (Naming name) c = if is_name_char c then Naming (name ++ encode_utf8 c) else if c == 94 then Plain [] else begun_by c
+
+-- the pieces so far, with the one that one more character ends
+abbrev pub ended_by : Begun → ℕ → Many t.piece → Many t.piece
+ended_by (Plain text) c pieces = pieces
+ended_by (Dollar text) c pieces = if is_name_char c then with_text pieces text else pieces
+ended_by (Naming name) c pieces = if is_name_char c then pieces else snoc pieces (t.Name name)
+
+-- the pieces so far, with the last one
+abbrev pub with_last : Begun → Many t.piece → Many t.piece
+with_last (Plain text) pieces = with_text pieces text
+with_last (Dollar text) pieces = with_text pieces (text ++ 36 ∷ [])
+with_last (Naming name) pieces = snoc pieces (t.Name name)
+
+-- the pieces so far, with those of the characters that follow
+abbrev pub pieces_from : Begun → Many t.piece → List ℕ → Many t.piece
+pieces_from begun pieces [] = with_last begun pieces
+pieces_from begun pieces (c ∷ cs) = pieces_from (behind begun c) (ended_by begun c pieces) cs
+
+-- The pieces of a body: behind a quoted mark its text as it stands, else the longest texts between names.
+abbrev pub pieces_of : (quoted : Bool) → List ℕ → Many t.piece
+pieces_of true body = with_text none body
+pieces_of false body = pieces_from (Plain []) none (chars body)

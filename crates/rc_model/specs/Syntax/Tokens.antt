@@ -1,0 +1,408 @@
+-- Tokens: the pieces of a script that the grammar speaks of, and how a text is cut into them.
+use Rattle.std.specs.Prelude.{◌≡◌, ◌≢◌, ℕ, suc, ◌+◌, Bool, true, false, not, if◌then◌else◌, ◌==◌, ◌||◌, ◌&&◌, nat_le, List, [], ◌∷◌, ◌++◌, find, codes}
+use Rattle.std.specs.Prelude.{Option, Some, None, option_map, Result, Ok, Err}
+use Rattle.std.specs.Char.{len_utf8}
+use Rattle.std.specs.List.{list_any, list_all}
+use Rattle.std.specs.Str.{bytes_eq, chars, encode_utf8_all}
+use Rattle.rc_model.specs.Run.Calls.{Mode, Read, Write, Append}
+use Rattle.rc_model.specs.Syntax.Text.{begins_with}
+pub use Rattle.rc_model.specs.Syntax.Faults.{SyntaxFault, fault, OpenQuote, OpenHere, BadDescriptor, ZeroByte}
+
+-- what a token is
+pub data Lexeme : Type 0 where
+  -- an unquoted word, and what a quoted word says
+  Word : (text : List ℕ) → Lexeme
+  Quoted : (text : List ℕ) → Lexeme
+  -- `;` `&` newline `&&` `||`
+  Semicolon : Lexeme
+  Ampersand : Lexeme
+  Newline : Lexeme
+  AndAnd : Lexeme
+  OrOr : Lexeme
+  -- `|` with the descriptor that goes into the pipe
+  Bar : (slot : ℕ) → Lexeme
+  -- a `^` that is written, and one that is inserted between two tokens with nothing between them
+  Caret : Lexeme
+  FreeCaret : Lexeme
+  -- `=` `(` `)` `{` `}` and the backquote
+  Equals : Lexeme
+  LeftParen : Lexeme
+  RightParen : Lexeme
+  LeftBrace : Lexeme
+  RightBrace : Lexeme
+  Backquote : Lexeme
+  -- `<` `>` `>>` with the descriptor; a copy of one descriptor to another; `<<` with its mark, as the text of its body
+  Redirection : Mode → (slot : ℕ) → Lexeme
+  CopyTo : (to from : ℕ) → Lexeme
+  HereDoc : (quoted : Bool) → (body : List ℕ) → Lexeme
+  -- `$` `$#` `$"` with a name behind them, a name that is not quoted, and a `(` directly behind a name
+  Dollar : Lexeme
+  DollarCount : Lexeme
+  DollarFlat : Lexeme
+  Name : (text : List ℕ) → Lexeme
+  Subscript : Lexeme
+  -- `$` `$#` `$"` with no name behind them, and `<<` with no mark behind it: no command takes them
+  BareDollar : Lexeme
+  BareHere : Lexeme
+
+-- a lexeme with its span, in bytes, and the line where it begins
+pub record Token : Type 0 where
+  pub lexeme : Lexeme
+  pub start : ℕ
+  pub stop : ℕ
+  pub line : ℕ
+
+-- the place of a character: how many bytes stand before it, and its line
+pub record Place : Type 0 where
+  pub byte : ℕ
+  pub line : ℕ
+
+-- the place of the first character
+abbrev pub first_place : Place
+first_place = record { byte = 0; line = 1 }
+
+-- the place behind a character, and behind several
+abbrev pub behind_char : Place → ℕ → Place
+behind_char p c = record { byte = p.byte + len_utf8 c; line = if c == 10 then suc p.line else p.line }
+
+-- behind several characters
+abbrev pub behind_chars : Place → List ℕ → Place
+behind_chars p [] = p
+behind_chars p (c ∷ cs) = behind_chars (behind_char p c) cs
+
+-- the token between two places
+abbrev pub token : Lexeme → Place → Place → Token
+token l p q = record { lexeme = l; start = p.byte; stop = q.byte; line = p.line }
+
+-- how each operator is written. `<<` has no mark as yet, and each `$` a name
+abbrev pub operators : List (List ℕ × Lexeme)
+operators =
+    (codes ";", Semicolon) ∷ (codes "&", Ampersand) ∷ (codes "&&", AndAnd) ∷ (codes "||", OrOr)
+    ∷ (codes "|", Bar 1) ∷ (codes "|[1]", Bar 1) ∷ (codes "|[2]", Bar 2)
+    ∷ (codes "^", Caret) ∷ (codes "=", Equals) ∷ (codes "(", LeftParen) ∷ (codes ")", RightParen) ∷ (codes "{", LeftBrace) ∷ (codes "}", RightBrace) ∷ (codes "`", Backquote)
+    ∷ (codes ">", Redirection Write 1) ∷ (codes ">[1]", Redirection Write 1) ∷ (codes ">[2]", Redirection Write 2)
+    ∷ (codes ">>", Redirection Append 1) ∷ (codes ">>[1]", Redirection Append 1) ∷ (codes ">>[2]", Redirection Append 2)
+    ∷ (codes "<", Redirection Read 0) ∷ (codes "<[0]", Redirection Read 0) ∷ (codes ">[1=2]", CopyTo 1 2) ∷ (codes ">[2=1]", CopyTo 2 1)
+    ∷ (codes "<<", BareHere) ∷ (codes "<<[0]", BareHere)
+    ∷ (codes "$", Dollar) ∷ (codes "$#", DollarCount) ∷ (36 ∷ 34 ∷ [], DollarFlat) ∷ []
+
+-- the operator that is written so
+abbrev pub operator : List ℕ → Option Lexeme
+operator cs = option_map (λ o. o.1) (find (λ o. bytes_eq o.0 cs) operators)
+
+-- an operator begins so
+abbrev pub begins_operator : List ℕ → Bool
+begins_operator cs = list_any (λ o. begins_with cs o.0) operators
+
+-- an operator begins with these characters and the next one of the text
+abbrev pub goes_on : List ℕ → List ℕ → Bool
+goes_on cs [] = false
+goes_on cs (c ∷ rest) = begins_operator (cs ++ c ∷ [])
+
+-- what a character is outside of quotes and comments
+pub data Class : Type 0 where
+  Operates : Class
+  Blank : Class
+  LineEnd : Class
+  Hash : Class
+  Quote : Class
+  Backslash : Class
+  Ordinary : Class
+
+-- the class of a character
+abbrev pub class_of : ℕ → Class
+class_of c =
+    if begins_operator (c ∷ []) then Operates
+    else (if (c == 32) || (c == 9) then Blank
+    else (if c == 10 then LineEnd else (if c == 35 then Hash else (if c == 39 then Quote else (if c == 92 then Backslash else Ordinary)))))
+
+-- whether a newline comes next
+abbrev pub at_newline : List ℕ → Bool
+at_newline [] = false
+at_newline (c ∷ cs) = c == 10
+
+-- a backslash belongs to a word where no newline follows it
+abbrev pub is_in_word : Class → List ℕ → Bool
+is_in_word Ordinary rest = true
+is_in_word Backslash rest = not (at_newline rest)
+is_in_word _ rest = false
+
+-- the text goes on with a character of an unquoted word, with one of a name, with one of a line
+abbrev pub word_goes_on : List ℕ → Bool
+word_goes_on [] = false
+word_goes_on (c ∷ cs) = is_in_word (class_of c) cs
+
+-- ASCII letters, digits, `_` and `*`
+abbrev pub is_name_char : ℕ → Bool
+is_name_char c =
+    (nat_le 48 c && nat_le c 57) || (nat_le 65 c && nat_le c 90) || (nat_le 97 c && nat_le c 122) || (c == 95) || (c == 42)
+
+-- a name goes on
+abbrev pub name_goes_on : List ℕ → Bool
+name_goes_on [] = false
+name_goes_on (c ∷ cs) = is_name_char c
+
+-- a line goes on
+abbrev pub line_goes_on : List ℕ → Bool
+line_goes_on [] = false
+line_goes_on (c ∷ cs) = not (c == 10)
+
+-- a name stands here: a name character, a quote, or a `$` with a name behind it
+abbrev pub names : List ℕ → Bool
+names [] = false
+names (c ∷ cs) = if is_name_char c || (c == 39) then true else (if c == 36 then names cs else false)
+
+-- the longest run of characters with which a text goes on, and what is behind it
+pub data Run (more : List ℕ → Bool) : List ℕ → List ℕ → Type 0 where
+  stop : (rest : List ℕ) → more rest ≡ false → Run more [] rest
+  next : (c : ℕ) (run rest : List ℕ) → more (c ∷ run ++ rest) ≡ true → Run more run rest → Run more (c ∷ run) rest
+
+-- between quotes each quote is doubled
+pub data InQuotes : List ℕ → Type 0 where
+  nothing : InQuotes []
+  plain : (c : ℕ) (cs : List ℕ) → (c == 39) ≡ false → InQuotes cs → InQuotes (c ∷ cs)
+  doubled : (cs : List ℕ) → InQuotes cs → InQuotes (39 ∷ 39 ∷ cs)
+
+-- a text in quotes
+abbrev pub doubled_quotes : List ℕ → List ℕ
+doubled_quotes [] = []
+doubled_quotes (b ∷ bs) = if b == 39 then 39 ∷ 39 ∷ doubled_quotes bs else b ∷ doubled_quotes bs
+
+-- the text as a quoted word
+abbrev pub quoted_text : List ℕ → List ℕ
+quoted_text text = 39 ∷ doubled_quotes text ++ 39 ∷ []
+
+-- what a quoted word says: of each two quotes the first falls away, and so do those at the ends
+abbrev pub without_quotes : Bool → List ℕ → List ℕ
+without_quotes after_quote [] = []
+without_quotes true (b ∷ bs) = b ∷ without_quotes false bs
+without_quotes false (b ∷ bs) = if b == 39 then without_quotes true bs else b ∷ without_quotes false bs
+
+-- a quoted word without its quotes
+abbrev pub unquoted_text : List ℕ → List ℕ
+unquoted_text [] = []
+unquoted_text (q ∷ bs) = without_quotes false bs
+
+-- What stands directly before a place: nothing that matters, an unquoted word, a quoted word, a name, a `$` with its name still to come, or a `<<` between these places
+-- with its mark still to come.
+pub data Before : Type 0 where
+  Apart : Before
+  WordBefore : Before
+  QuotedBefore : Before
+  NameBefore : Before
+  DollarBefore : Before
+  HereBefore : Place → Place → Before
+
+-- the mark of a here document is still to come
+abbrev pub awaits_mark : Before → Bool
+awaits_mark (HereBefore p q) = true
+awaits_mark _ = false
+
+-- blanks may stand before a mark
+abbrev pub behind_blank : Before → Before
+behind_blank (HereBefore p q) = HereBefore p q
+behind_blank _ = Apart
+
+-- the character begins a name
+abbrev pub begins_name : Before → ℕ → Bool
+begins_name DollarBefore c = is_name_char c
+begins_name _ c = false
+
+-- a `$` without a name is bare, and a `(` directly behind a name is a subscript
+abbrev pub meant : Before → List ℕ → Lexeme → Lexeme
+meant NameBefore rest LeftParen = Subscript
+meant prev rest Dollar = if names rest then Dollar else BareDollar
+meant prev rest DollarCount = if names rest then DollarCount else BareDollar
+meant prev rest DollarFlat = if names rest then DollarFlat else BareDollar
+meant prev rest l = l
+
+-- a `$`, a quoted word or a backquote; an unquoted word
+abbrev pub begins_part : Lexeme → Bool
+begins_part (Quoted text) = true
+begins_part Backquote = true
+begins_part Dollar = true
+begins_part DollarCount = true
+begins_part DollarFlat = true
+begins_part BareDollar = true
+begins_part _ = false
+
+-- an unquoted word
+abbrev pub is_word : Lexeme → Bool
+is_word (Word text) = true
+is_word _ = false
+
+-- a `^` is inserted before this lexeme
+abbrev pub joins : Before → Lexeme → Bool
+joins WordBefore l = begins_part l
+joins QuotedBefore l = begins_part l || is_word l
+joins NameBefore l = begins_part l || is_word l
+joins _ l = false
+
+-- a word as the mark of a here document, whose body is still to come, and the text of the mark
+abbrev pub as_mark : Lexeme → Lexeme
+as_mark (Quoted text) = HereDoc true []
+as_mark _ = HereDoc false []
+
+-- the text of a word
+abbrev pub text_of : Lexeme → List ℕ
+text_of (Word text) = text
+text_of (Quoted text) = text
+text_of _ = []
+
+-- a `^` where the lexeme wants one
+abbrev pub caret : Before → Lexeme → Place → List Token
+caret prev l p = if joins prev l then token FreeCaret p p ∷ [] else []
+
+-- the tokens of a lexeme between two places
+abbrev pub tokens_of : Before → Lexeme → Place → Place → List Token
+tokens_of (HereBefore begin end) l p q = token (as_mark l) begin q ∷ []
+tokens_of prev l p q = caret prev l p ++ token l p q ∷ []
+
+-- what it is for what follows
+abbrev pub as_before : Before → Lexeme → Before
+as_before (HereBefore begin end) l = Apart
+as_before DollarBefore (Quoted text) = NameBefore
+as_before prev (Word text) = WordBefore
+as_before prev (Quoted text) = QuotedBefore
+as_before prev (Name text) = NameBefore
+as_before prev Dollar = DollarBefore
+as_before prev DollarCount = DollarBefore
+as_before prev DollarFlat = DollarBefore
+as_before prev _ = Apart
+
+-- a here document whose body is still to come: the text of its mark, and the line of its `<<`
+pub record Due : Type 0 where
+  pub mark : List ℕ
+  pub line : ℕ
+
+-- a mark makes a here document due
+abbrev pub due_after : Before → Lexeme → List Due → List Due
+due_after (HereBefore begin end) l due = due ++ record { mark = text_of l; line = begin.line } ∷ []
+due_after prev l due = due
+
+-- The characters are this lexeme, where that stands before them and this behind.
+pub data Spells : Before → List ℕ → List ℕ → Lexeme → Type 0 where
+  word : (prev : Before) (c : ℕ) (cs rest : List ℕ) → begins_name prev c ≡ false → Run word_goes_on (c ∷ cs) rest →
+      Spells prev (c ∷ cs) rest (Word (encode_utf8_all (c ∷ cs)))
+  name : (c : ℕ) (cs rest : List ℕ) → Run name_goes_on (c ∷ cs) rest → Spells DollarBefore (c ∷ cs) rest (Name (encode_utf8_all (c ∷ cs)))
+  quoted : (prev : Before) (cs rest : List ℕ) → InQuotes cs → begins_with (39 ∷ []) rest ≡ false →
+      Spells prev (39 ∷ cs ++ 39 ∷ []) rest (Quoted (unquoted_text (encode_utf8_all (39 ∷ cs ++ 39 ∷ []))))
+  operated : (prev : Before) (cs rest : List ℕ) (l : Lexeme) → awaits_mark prev ≡ false → operator cs ≡ Some l → l ≢ BareHere → goes_on cs rest ≡ false →
+      Spells prev cs rest (meant prev rest l)
+
+-- The text begins with the body of a here document and with its end, a line that is the mark. That line may be the last one, without a newline.
+pub data Body (mark : List ℕ) : List ℕ → List ℕ → List ℕ → Type 0 where
+  marked : (line rest : List ℕ) → Run line_goes_on line (10 ∷ rest) → encode_utf8_all line ≡ mark → Body mark [] (line ++ 10 ∷ []) rest
+  marked_last : (line : List ℕ) → Run line_goes_on line [] → line ≢ [] → encode_utf8_all line ≡ mark → Body mark [] line []
+  other : (line body end rest : List ℕ) → Run line_goes_on line (10 ∷ body ++ end ++ rest) → encode_utf8_all line ≢ mark → Body mark body end rest →
+      Body mark (line ++ 10 ∷ body) end rest
+
+-- No line of the text is the mark.
+pub data NoBody (mark : List ℕ) : List ℕ → Type 0 where
+  nothing : NoBody mark []
+  other_last : (line : List ℕ) → Run line_goes_on line [] → line ≢ [] → encode_utf8_all line ≢ mark → NoBody mark line
+  other : (line rest : List ℕ) → Run line_goes_on line (10 ∷ rest) → encode_utf8_all line ≢ mark → NoBody mark rest → NoBody mark (line ++ 10 ∷ rest)
+
+-- The text begins with the bodies of these here documents and their ends, one behind the other.
+pub data Bodies : List Due → List ℕ → List ℕ → List (List ℕ) → Type 0 where
+  all : (rest : List ℕ) → Bodies [] [] rest []
+  one : (d : Due) (due : List Due) (body end cs rest : List ℕ) (bodies : List (List ℕ)) → Body d.mark body end (cs ++ rest) → Bodies due cs rest bodies →
+      Bodies (d ∷ due) (body ++ end ++ cs) rest (encode_utf8_all body ∷ bodies)
+
+-- One of the bodies has no end: the first such here document begins at this line.
+pub data OpenBody : List Due → List ℕ → ℕ → Type 0 where
+  first : (d : Due) (due : List Due) (text : List ℕ) → NoBody d.mark text → OpenBody (d ∷ due) text d.line
+  later : (d : Due) (due : List Due) (body end text : List ℕ) (line : ℕ) → Body d.mark body end text → OpenBody due text line →
+      OpenBody (d ∷ due) (body ++ end ++ text) line
+
+-- what a text is cut into: its tokens, and the bodies of its here documents in the order of their marks
+abbrev pub Outcome : Type 0
+Outcome = Result (List Token × List (List ℕ)) SyntaxFault
+
+-- what comes first, with what comes then
+abbrev pub join : List Token → List (List ℕ) → Outcome → Outcome
+join ts bodies (Ok then') = Ok (ts ++ then'.0, bodies ++ then'.1)
+join ts bodies (Err f) = Err f
+
+-- a mark stands here, perhaps behind blanks
+abbrev pub is_mark : Class → Bool
+is_mark Blank = true
+is_mark Quote = true
+is_mark Backslash = true
+is_mark Ordinary = true
+is_mark _ = false
+
+-- the text goes on with a mark
+abbrev pub mark_goes_on : List ℕ → Bool
+mark_goes_on [] = false
+mark_goes_on (c ∷ cs) = is_mark (class_of c)
+
+-- The text at this place, behind that and with these here documents due, is cut into longest pieces with this outcome.
+pub data Cuts : Before → List Due → Place → List ℕ → Outcome → Type 0 where
+  -- the end, with no body due, and with one
+  finish : (prev : Before) (p : Place) → awaits_mark prev ≡ false → Cuts prev [] p [] (Ok ([], []))
+  open_here : (prev : Before) (d : Due) (due : List Due) (p : Place) → awaits_mark prev ≡ false → Cuts prev (d ∷ due) p [] (Err (fault OpenHere d.line))
+  -- a blank, a newline behind a backslash, and a comment
+  blank : (prev : Before) (due : List Due) (p : Place) (c : ℕ) (cs : List ℕ) (o : Outcome) → class_of c ≡ Blank →
+      Cuts (behind_blank prev) due (behind_char p c) cs o → Cuts prev due p (c ∷ cs) o
+  continued : (prev : Before) (due : List Due) (p : Place) (cs : List ℕ) (o : Outcome) →
+      Cuts (behind_blank prev) due (behind_chars p (92 ∷ 10 ∷ [])) cs o → Cuts prev due p (92 ∷ 10 ∷ cs) o
+  comment : (prev : Before) (due : List Due) (p : Place) (cs rest : List ℕ) (o : Outcome) → awaits_mark prev ≡ false → Run line_goes_on cs rest →
+      Cuts Apart due (behind_chars p (35 ∷ cs)) rest o → Cuts prev due p (35 ∷ cs ++ rest) o
+  -- a word, a name, an operator
+  lexeme : (prev : Before) (due : List Due) (p : Place) (cs rest : List ℕ) (l : Lexeme) (o : Outcome) → Spells prev cs rest l →
+      Cuts (as_before prev l) (due_after prev l due) (behind_chars p cs) rest o →
+      Cuts prev due p (cs ++ rest) (join (tokens_of prev l p (behind_chars p cs)) [] o)
+  open_quote : (prev : Before) (due : List Due) (p : Place) (cs : List ℕ) → InQuotes cs → Cuts prev due p (39 ∷ cs) (Err (fault OpenQuote p.line))
+  bad_descriptor : (prev : Before) (due : List Due) (p : Place) (c : ℕ) (cs rest : List ℕ) → awaits_mark prev ≡ false → begins_operator (c ∷ cs) ≡ true →
+      operator (c ∷ cs) ≡ None →
+      goes_on (c ∷ cs) rest ≡ false → Cuts prev due p (c ∷ cs ++ rest) (Err (fault BadDescriptor p.line))
+  -- a `<<`, and one without a mark
+  here : (prev : Before) (due : List Due) (p : Place) (cs rest : List ℕ) (o : Outcome) → awaits_mark prev ≡ false → operator cs ≡ Some BareHere →
+      goes_on cs rest ≡ false →
+      Cuts (HereBefore p (behind_chars p cs)) due (behind_chars p cs) rest o → Cuts prev due p (cs ++ rest) o
+  no_mark : (begin end : Place) (due : List Due) (p : Place) (text : List ℕ) (o : Outcome) → mark_goes_on text ≡ false →
+      Cuts Apart due p text o → Cuts (HereBefore begin end) due p text (join (token BareHere begin end ∷ []) [] o)
+  -- a newline with the bodies that are due
+  newline : (prev : Before) (due : List Due) (p : Place) (cs rest : List ℕ) (bodies : List (List ℕ)) (o : Outcome) → awaits_mark prev ≡ false →
+      Bodies due cs rest bodies →
+      Cuts Apart [] (behind_chars p (10 ∷ cs)) rest o → Cuts prev due p (10 ∷ cs ++ rest) (join (token Newline p (behind_char p 10) ∷ []) bodies o)
+  open_body : (prev : Before) (due : List Due) (p : Place) (rest : List ℕ) (line : ℕ) → awaits_mark prev ≡ false → OpenBody due rest line →
+      Cuts prev due p (10 ∷ rest) (Err (fault OpenHere line))
+
+-- each here document takes the next body
+abbrev pub with_body : Lexeme → List ℕ → Lexeme
+with_body (HereDoc is_quoted none_yet) body = HereDoc is_quoted body
+with_body l body = l
+
+-- a here document
+abbrev pub is_here : Lexeme → Bool
+is_here (HereDoc is_quoted body) = true
+is_here _ = false
+
+-- the tokens with the bodies of their here documents
+abbrev pub filled : List Token → List (List ℕ) → List Token
+filled [] bodies = []
+filled (t ∷ ts) [] = t ∷ ts
+filled (t ∷ ts) (body ∷ bodies) =
+    if is_here t.lexeme then record { lexeme = with_body t.lexeme body; start = t.start; stop = t.stop; line = t.line } ∷ filled ts bodies
+    else t ∷ filled ts (body ∷ bodies)
+
+-- the tokens of an outcome, with their bodies
+abbrev pub result_of : Outcome → Result (List Token) SyntaxFault
+result_of (Ok read) = Ok (filled read.0 read.1)
+result_of (Err f) = Err f
+
+-- no character is 0
+abbrev pub has_no_zero : List ℕ → Bool
+has_no_zero cs = list_all (λ c. not (c == 0)) cs
+
+-- The text has these tokens, or this is its first fault. A byte 0 is looked for first.
+pub data Lexes (text : List ℕ) : Result (List Token) SyntaxFault → Type 0 where
+  zero_byte : (cs rest : List ℕ) → chars text ≡ cs ++ 0 ∷ rest → has_no_zero cs ≡ true → Lexes text (Err (fault ZeroByte (behind_chars first_place cs).line))
+  cut : (o : Outcome) → has_no_zero (chars text) ≡ true → Cuts Apart [] first_place (chars text) o → Lexes text (result_of o)
+
+-- this and nothing else comes of the text
+pub record IsCut (text : List ℕ) (read : Result (List Token) SyntaxFault) : Type 0 where
+  pub found : Lexes text read
+  pub only : (other : Result (List Token) SyntaxFault) → Lexes text other → other ≡ read

@@ -1,0 +1,62 @@
+//! What the calls of a world take and answer.
+
+/// Why a call was refused.
+#[derive(Clone, Copy, PartialEq)]
+pub enum Fault {
+    NotFound,
+    Denied,
+    Exists,
+    Broken,
+    Full,
+    Other,
+    /// The world is over, and the call was not answered.
+    Halt,
+    /// The call was not made.
+    NoMemory,
+}
+
+/// An open file, a here document or an end of a pipe.
+#[derive(Clone, Copy, PartialEq)]
+pub struct Handle(pub u32);
+
+/// A child that was started.
+#[derive(Clone, Copy, PartialEq)]
+pub struct ChildNo(pub u32);
+
+/// What a descriptor of a child stands for: a descriptor of the shell's own, or an open file.
+#[derive(Clone, Copy, PartialEq)]
+pub enum Slot {
+    Own(u8),
+    To(Handle),
+}
+
+/// The descriptors 0, 1 and 2.
+#[derive(Clone, Copy, PartialEq)]
+pub struct Slots {
+    pub input: Slot,
+    pub output: Slot,
+    pub errors: Slot,
+}
+
+/// How a file is opened. `Write` creates the file, or cuts it to nothing.
+#[derive(Clone, Copy, PartialEq)]
+pub enum Mode {
+    Read,
+    Write,
+    Append,
+}
+
+/// What a path names.
+#[derive(Clone, Copy, PartialEq)]
+pub enum Kind {
+    Directory,
+    Program,
+    Other,
+}
+
+/// How a child ended.
+#[derive(Clone, Copy, PartialEq)]
+pub enum Ending {
+    Code(u8),
+    Signal,
+}

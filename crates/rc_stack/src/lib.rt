@@ -1,0 +1,89 @@
+//! A stack of lists, over one buffer of elements.
+#![tactic(auto)]
+
+ghost use Rattle.std.specs.Prelude.{◌≡◌, [], ◌∷◌, ◌++◌, length, option_map, OnOk, OnErr, IfOk};
+ghost use Rattle.std.specs.Option.{option_copied};
+ghost use Rattle.rc_stack.specs.Lists.{Joins, Extends, IsPopped, IsDropped, top_of};
+
+use smallvec::SmallVec;
+use std::alloc::{AllocError, Global};
+use std::marker::Model;
+
+/// Lists, each on top of those before it. The elements of all lists stand in one buffer, and the
+/// places where the lists begin in another.
+#[derive(Drop)]
+pub struct Stack<T> {
+    items: Vec<T>,
+    starts: Vec<usize>,
+}
+
+impl<T> Model for Stack<T> {
+    ghost use Rattle.std.specs.Prelude.{List, length, reverse};
+    ghost use Rattle.rc_stack.specs.Lists.{lists_of, AreStarts};
+
+    ghost Value = { List (List T) };
+
+    ghost view = { λ s. lists_of s.items.items (reverse s.starts.items) };
+
+    ghost invariant = { λ s. AreStarts (length s.items.items) (reverse s.starts.items) };
+}
+
+impl<T: Drop> Stack<T> {
+    /// No lists.
+    pub fn new(alloc: Global) -> Stack<T>
+        ensures { result ≡ [] }
+    {
+        Stack {
+            items: Vec::new(alloc),
+            starts: Vec::new(alloc),
+        }
+    }
+
+    /// The empty list comes on top.
+    pub fn begin(&mut self) -> Result<(), AllocError>
+        ensures { OnOk result (self.new ≡ [] ∷ self.old) }
+    {
+        self.starts.push(self.items.len())?;
+        Ok(())
+    }
+
+    /// Adds an element to the list on top, where there is one.
+    pub fn push(&mut self, item: T) -> Result<(), AllocError>
+        ensures { OnOk result (Extends self.old self.new (item ∷ [])) }
+    {
+        self.items.push(item)?;
+        Ok(())
+    }
+
+    /// Adds the two lists on top to one, and says whether there were two.
+    pub fn join(&mut self) -> bool
+        ensures { Joins self.old self.new result }
+    {
+        if self.starts.len() < 2 {
+            return false;
+        }
+        self.starts.pop();
+        true
+    }
+
+    /// The list on top.
+    pub fn top(&self) -> Option<&[T]>
+        ensures { option_map (λ list. list.now) result ≡ top_of self.now }
+    {
+        let start = *self.starts.last()?;
+        Some(&self.items[start..])
+    }
+
+    /// Takes the list on top off.
+    pub fn drop_top(&mut self) -> bool
+        ensures { IsDropped self.old self.new result }
+    {
+        match self.starts.pop() {
+            Some(start) => {
+                self.items.truncate(start);
+                true
+            }
+            None => false,
+        }
+    }
+}

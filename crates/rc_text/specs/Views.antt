@@ -1,0 +1,10 @@
+-- The characters of a word as the definitions have them.
+use Rattle.std.specs.Prelude.{ℕ, Bool, List, map}
+use Rattle.rc_text.specs.declared.words.Ch.{Ch}
+
+-- a character and its mark
+abbrev pub mark_of : Ch → ℕ × Bool
+mark_of ch = (ch.c, ch.pat)
+
+abbrev pub marks : List Ch → List (ℕ × Bool)
+marks chs = map mark_of chs

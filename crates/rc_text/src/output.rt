@@ -1,0 +1,64 @@
+//! What the output of a command becomes.
+ghost use Rattle.std.specs.Prelude.{◌≡◌, [], map, string_bytes, IfOk, OnOk};
+ghost use Rattle.rc_model.specs.Run.Acts.{text_of};
+ghost use Rattle.rc_model.specs.Run.Lists.{split};
+ghost use Rattle.rc_model.specs.Run.Splitting.{is_among};
+ghost use Rattle.rc_text.specs.Members.{EndsMember};
+
+use crate::characters::first_char;
+use bstr::ByteSlice;
+use std::alloc::{AllocError, Global};
+use std::mem;
+
+/// The bytes but those that are 0 as text, with U+FFFD for what is no UTF-8.
+#[tactic(auto, using(crate::proofs::Decoding::decoding))]
+pub fn lossy(alloc: Global, bytes: &[u8]) -> Result<String, AllocError>
+    ensures { IfOk result (λ text. string_bytes text ≡ text_of bytes.now) }
+{
+    let kept: Vec<u8> = bytes.iter().copied().filter(|b| *b != 0).collect(alloc)?;
+    let mut text = String::new(alloc);
+    kept.as_slice().to_str_lossy_into(&mut text)?;
+    Ok(text)
+}
+
+/// The longest runs of characters that are not among the separators.
+pub fn split(alloc: Global, text: &str, separators: &str) -> Result<Vec<String>, AllocError>
+    ensures { IfOk result (λ members. map string_bytes members.items ≡ split text.now separators.now) }
+{
+    let mut members = Vec::new(alloc);
+    let mut member = String::new(alloc);
+    let mut rest = text;
+    while let Some((c, more)) = first_char(rest) {
+        if is_among(separators, c) {
+            end_member(alloc, &mut members, &mut member)?;
+        } else {
+            member.push(c)?;
+        }
+        rest = more;
+    }
+    end_member(alloc, &mut members, &mut member)?;
+    Ok(members)
+}
+
+fn is_among(separators: &str, c: char) -> bool
+    ensures { result ≡ is_among separators.now c }
+{
+    separators.chars().any(|d| d == c)
+}
+
+/// Ends a member, if one has begun.
+fn end_member(
+    alloc: Global,
+    members: &mut Vec<String>,
+    member: &mut String,
+) -> Result<(), AllocError>
+    ensures ended { OnOk result (EndsMember
+        (map string_bytes members.old.items) (string_bytes member.old) (map string_bytes members.new.items)) }
+    ensures cleared { OnOk result (string_bytes member.new ≡ []) }
+{
+    if !member.is_empty() {
+        let whole = mem::replace(member, String::new(alloc));
+        members.push(whole)?;
+    }
+    Ok(())
+}

@@ -1,0 +1,29 @@
+//! Values as texts.
+ghost use Rattle.std.specs.Prelude.{◌≡◌, map, string_bytes, IfOk};
+ghost use Rattle.rc_model.specs.Run.State.{is_true};
+ghost use Rattle.rc_model.specs.Syntax.Text.{spaced};
+
+use std::alloc::{AllocError, Global};
+
+/// The members joined by spaces.
+pub fn flat(alloc: Global, value: &[String]) -> Result<String, AllocError>
+    ensures { IfOk result (λ text. string_bytes text ≡ spaced (map string_bytes value.now)) }
+{
+    let mut text = String::new(alloc);
+    let Some((first, others)) = value.split_first() else {
+        return Ok(text);
+    };
+    text.push_str(first)?;
+    for member in others {
+        text.push(' ')?;
+        text.push_str(member)?;
+    }
+    Ok(text)
+}
+
+/// Whether each character of a status is `0` or `|`.
+pub fn is_true(status: &str) -> bool
+    ensures { result ≡ is_true status.now }
+{
+    status.bytes().all(|b| b == b'0' || b == b'|')
+}

@@ -1,0 +1,138 @@
+//! A host, and what is launched on it.
+use rc_host::{HostWorld, entries};
+use rc_world::{Ending, Fault, Handle, Launch, Mode, Program, Slot, Slots, World};
+use std::alloc::{AllocError, Global};
+use std::process;
+use std::rt::HostRuntime;
+use std::test::Fail;
+
+/// The entry that says that this process was started by its own test.
+const AGAIN: &str = "RC_HOST_TEST=again";
+
+/// Each descriptor is that of this process.
+pub const PLAIN: Slots = Slots {
+    input: Slot::Own(0),
+    output: Slot::Own(1),
+    errors: Slot::Own(2),
+};
+
+/// A host that has opened and started nothing.
+pub fn host(rt: HostRuntime) -> Result<HostWorld, AllocError> {
+    let shell = String::from_str(rt.alloc(), "/bin/false")?;
+    Ok(HostWorld::new(rt, shell))
+}
+
+/// What a call gave. A refusal fails the test; one out of memory does so by its own error.
+pub fn granted<T: Drop>(answer: Result<T, Fault>) -> Result<T, Fail> {
+    match answer {
+        Ok(value) => Ok(value),
+        Err(Fault::NoMemory) => Err(Fail::from(AllocError)),
+        Err(_) => Err(Fail::new("a call was refused")),
+    }
+}
+
+pub fn texts(alloc: Global, all: &[&str]) -> Result<Vec<String>, AllocError> {
+    let mut copies = Vec::new(alloc);
+    for text in all {
+        copies.push(String::from_str(alloc, text)?)?;
+    }
+    Ok(copies)
+}
+
+pub fn launch(
+    alloc: Global,
+    path: &str,
+    args: &[&str],
+    entries: &[&str],
+    slots: Slots,
+) -> Result<Launch, AllocError> {
+    Ok(Launch {
+        program: Program::Path(String::from_str(alloc, path)?),
+        args: texts(alloc, args)?,
+        env: texts(alloc, entries)?,
+        slots,
+    })
+}
+
+/// A script of `/bin/sh`, whose `$0` is this word.
+pub fn script(alloc: Global, text: &str, word: &str, slots: Slots) -> Result<Launch, AllocError> {
+    launch(
+        alloc,
+        "/bin/sh",
+        &["-c", text, word],
+        &["PATH=/bin:/usr/bin"],
+        slots,
+    )
+}
+
+/// How a launch ends.
+pub fn run(host: &mut HostWorld, launch: &Launch) -> Result<Ending, Fail> {
+    let child = granted(host.start(launch))?;
+    granted(host.wait(child))
+}
+
+/// How a script of `/bin/sh` ends, with the descriptors of this process.
+pub fn run_script(alloc: Global, host: &mut HostWorld, text: &str) -> Result<Ending, Fail> {
+    run(host, &script(alloc, text, "sh", PLAIN)?)
+}
+
+/// What is left to read of a file or a pipe, which is closed.
+pub fn read_all(alloc: Global, host: &mut HostWorld, file: Handle) -> Result<String, Fail> {
+    let mut all = Vec::new(alloc);
+    for _ in 0..u64::MAX {
+        let bytes = granted(host.read(file))?;
+        if bytes.is_empty() {
+            break;
+        }
+        all.extend_from_slice(&bytes)?;
+    }
+    granted(host.close(file))?;
+    match String::from_utf8(all) {
+        Ok(text) => Ok(text),
+        Err(_) => Err(Fail::new("it is not UTF-8")),
+    }
+}
+
+/// The text of a file.
+pub fn contents(alloc: Global, host: &mut HostWorld, path: &str) -> Result<String, Fail> {
+    let file = granted(host.open(path, Mode::Read))?;
+    read_all(alloc, host, file)
+}
+
+/// Makes a fresh directory, and goes there.
+pub fn enter_fresh_directory(rt: HostRuntime, host: &mut HostWorld) -> Result<String, Fail> {
+    let process = process::id(rt.process());
+    let path = format!(in rt.alloc(); "/tmp/rc_host.{process}")?;
+    std::fs::create_dir(&rt, path.as_str())?;
+    granted(host.chdir(&path))?;
+    Ok(path)
+}
+
+/// Leaves the directory, and removes it with all that is there.
+pub fn leave_directory(rt: HostRuntime, host: &mut HostWorld, path: &str) -> Result<(), Fail> {
+    granted(host.chdir("/"))?;
+    std::fs::remove_dir_all(&rt, path)?;
+    Ok(())
+}
+
+/// Whether this process was started by its own test.
+pub fn is_started_again(rt: HostRuntime) -> Result<bool, Fail> {
+    Ok(entries(&rt)?.iter().any(|entry| entry.as_str() == AGAIN))
+}
+
+/// The program of this test with its arguments, after these words of another program, and with the
+/// entry that says so.
+pub fn again(
+    alloc: Global,
+    host: &mut HostWorld,
+    path: &str,
+    words: &[&str],
+    slots: Slots,
+) -> Result<Launch, Fail> {
+    let line = contents(alloc, host, "/proc/self/cmdline")?;
+    let mut launch = launch(alloc, path, words, &[AGAIN], slots)?;
+    for arg in line.as_str().trim_end_matches('\0').split('\0').skip(1) {
+        launch.args.push(String::from_str(alloc, arg)?)?;
+    }
+    Ok(launch)
+}

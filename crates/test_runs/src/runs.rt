@@ -1,0 +1,89 @@
+//! The runs, and how each is shown.
+use anyhow::Result;
+use std::alloc::{AllocError, AllocGlobal, Global};
+use std::fs;
+use std::fs::File;
+use std::io::Write;
+use std::process::{Command, Output, Processes, Stdio};
+use std::rt::Files;
+
+/// What is to be seen of each run, and its script: a text so many times.
+const RUNS: [(&str, &[u8], usize); 14] = [
+    ("a command", b"echo hello\n", 1),
+    (
+        "newlines and semicolons",
+        b"echo a; echo b c\necho d;;\n\necho e",
+        1,
+    ),
+    ("the environment of a command", b"false; env", 1),
+    ("an empty script", b"", 1),
+    ("1,000 commands", b"true\n", 1000),
+    ("a program that isn't found", b"nope", 1),
+    ("a path that can't be started", b"./nope\necho on", 1),
+    ("a program that ends with 3", b"sh ends_with_3.sh", 1),
+    (
+        "a program that ends by a signal",
+        b"sh ends_by_signal.sh",
+        1,
+    ),
+    ("a script of the greatest size", b" ", 1_048_576),
+    ("a script over that size", b" ", 1_048_577),
+    ("a byte that is no text", b"true\ntrue \xff\n", 1),
+    ("a token that fits no script", b"a | ;", 1),
+    ("a form that doesn't run yet", b"echo first; echo $x", 1),
+];
+
+/// Shows each run: its status, what it wrote to descriptor 1, and what to descriptor 2.
+pub fn show_all<R: Print + Files<File = File> + Processes + AllocGlobal>(rt: &R) -> Result<()> {
+    for (what, text, times) in RUNS {
+        show(rt, what, &with_text(rt, text, times)?)?;
+    }
+    show(rt, "a word", &with_word(rt)?)?;
+    show(rt, "an input that can't be read", &with_directory(rt)?)
+}
+
+/// The shell as a process.
+fn shell(alloc: Global) -> Result<Command, AllocError> {
+    let mut command = Command::new(alloc, "/proc/self/exe")?;
+    command.arg("rc")?;
+    Ok(command)
+}
+
+fn with_text<R: Processes + AllocGlobal>(rt: &R, text: &[u8], times: usize) -> Result<Output> {
+    let mut script = Vec::new(rt.alloc());
+    for _ in 0..times {
+        script.extend_from_slice(text)?;
+    }
+    let mut child = shell(rt.alloc())?
+        .stdin(Stdio::piped())
+        .stdout(Stdio::piped())
+        .stderr(Stdio::piped())
+        .spawn(rt)?;
+    if let Some(mut input) = child.stdin.take() {
+        input.write_all(script.as_slice())?;
+    }
+    Ok(child.wait_with_output(rt.alloc())?)
+}
+
+fn with_word<R: Processes + AllocGlobal>(rt: &R) -> Result<Output> {
+    Ok(shell(rt.alloc())?.arg("word")?.output(rt)?)
+}
+
+fn with_directory<R: Files<File = File> + Processes + AllocGlobal>(rt: &R) -> Result<Output> {
+    let directory = fs::open(rt, "/")?;
+    Ok(shell(rt.alloc())?.stdin(directory).output(rt)?)
+}
+
+fn show<R: Print>(rt: &R, what: &str, output: &Output) -> Result<()> {
+    let status = output.status.code().unwrap_or(-1);
+    println!(rt; "{what}: {status}")?;
+    show_lines(rt, "1", output.stdout.as_slice())?;
+    show_lines(rt, "2", output.stderr.as_slice())
+}
+
+fn show_lines<R: Print>(rt: &R, descriptor: &str, bytes: &[u8]) -> Result<()> {
+    for line in std::str::from_utf8(bytes).unwrap_or("not UTF-8").lines() {
+        println!(rt; "    {descriptor}> {line}")?;
+    }
+    Ok(())
+}

@@ -1,0 +1,9 @@
+//! Tests of the public calls that run scripts.
+#![tactic(auto)]
+
+#[cfg(test)]
+mod program;
+#[cfg(test)]
+mod shell;
+#[cfg(test)]
+mod world;

@@ -1,0 +1,185 @@
+//! Runs over a tape.
+use rc_cli::{RunFault, process_status, run_rc};
+use rc_model::{FaultKind, SyntaxFault};
+use rc_world::{Answer, Call, ChildNo, Ending, Kind, Program, Slot, Slots, Tape};
+use std::alloc::{AllocError, Global};
+use std::io;
+use std::io::{ErrorKind, Read};
+use std::test::Fail;
+
+const PLAIN: Slots = Slots {
+    input: Slot::Own(0),
+    output: Slot::Own(1),
+    errors: Slot::Own(2),
+};
+
+/// A reader that gives a text once and then fails.
+#[derive(Drop)]
+struct Broken {
+    text: &'static [u8],
+}
+
+impl Read for Broken {
+    fn read(&mut self, buf: &mut [u8]) -> io::Result<usize> {
+        if self.text.is_empty() {
+            return Err(io::Error::from(ErrorKind::Other));
+        }
+        let read = self.text.read(buf)?;
+        self.text = &[];
+        Ok(read)
+    }
+}
+
+/// The answers to a program that is found at the first place and ends so.
+fn one_program(alloc: Global, ending: Ending) -> Result<Tape, AllocError> {
+    Ok(Tape::new(vec![in alloc;
+        Answer::Found(Kind::Program),
+        Answer::Child(ChildNo(7)),
+        Answer::Ended(ending),
+    ]?))
+}
+
+fn no_answers(alloc: Global) -> Tape {
+    Tape::new(Vec::new(alloc))
+}
+
+fn syntax(kind: FaultKind, line: usize) -> RunFault {
+    RunFault::Syntax(SyntaxFault { kind, line })
+}
+
+#[test]
+fn runs_a_command(rt: HostRuntime) -> Result<(), Fail> {
+    let alloc = rt.alloc();
+    let mut tape = one_program(alloc, Ending::Code(0))?;
+    let ended = run_rc(alloc, &mut tape, &[], b"echo hello\n".as_slice());
+    assert_eq!(rt; ended, Ok(0));
+    let [Call::Probe(path), Call::Start(launch), Call::Wait(child)] = tape.calls() else {
+        panic!(rt; "other calls");
+    };
+    assert_eq!(rt; path.as_str(), "/bin/echo");
+    assert!(rt; matches!(&launch.program, Program::Path(path) if path.as_str() == "/bin/echo"));
+    assert_eq!(rt; launch.args.len(), 1);
+    assert_eq!(rt; launch.args[0].as_str(), "hello");
+    let entries = ["ifs= \t\n", "path=/bin\u{1}/usr/bin", "status="];
+    assert_eq!(rt; launch.env.len(), 3);
+    for (entry, want) in launch.env.iter().zip(entries) {
+        assert_eq!(rt; entry.as_str(), want);
+    }
+    assert!(rt; launch.slots == PLAIN);
+    assert!(rt; *child == ChildNo(7));
+    Ok(())
+}
+
+#[test]
+fn out_of_memory_is_reported(rt: HostRuntime) -> Result<(), Fail> {
+    let mut tape = no_answers(rt.alloc());
+    let ended = run_rc(rt.alloc(), &mut tape, &[], b"c".as_slice());
+    if ended == Err(RunFault::NoMemory) {
+        assert!(rt; tape.calls().is_empty());
+        return Err(Fail::from(AllocError));
+    }
+    assert_eq!(rt; ended, Err(RunFault::Halted));
+    assert_eq!(rt; tape.calls().len(), 1);
+    Ok(())
+}
+
+#[test]
+fn ends_as_the_script(rt: HostRuntime) -> Result<(), Fail> {
+    for (ending, want) in [
+        (Ending::Code(0), 0),
+        (Ending::Code(3), 3),
+        (Ending::Code(255), 255),
+        (Ending::Signal, 1),
+    ] {
+        let mut tape = one_program(rt.alloc(), ending)?;
+        let ended = run_rc(rt.alloc(), &mut tape, &[], b"c".as_slice());
+        assert_eq!(rt; ended, Ok(want));
+    }
+    let mut tape = no_answers(rt.alloc());
+    assert_eq!(rt;
+        run_rc(rt.alloc(), &mut tape, &[], b"# note".as_slice()),
+        Ok(0)
+    );
+    assert!(rt; tape.calls().is_empty());
+    Ok(())
+}
+
+#[test]
+fn numbers_statuses(rt: HostRuntime) {
+    for (status, want) in [
+        ("", 0),
+        ("0", 0),
+        ("|", 0),
+        ("0|0", 0),
+        ("1", 1),
+        ("12", 12),
+        ("255", 255),
+        ("256", 1),
+        ("007", 1),
+        ("+5", 1),
+        ("5 ", 1),
+        ("2|0", 1),
+        ("not found", 1),
+    ] {
+        assert_eq!(rt; process_status(status), want, "{status}");
+    }
+}
+
+#[test]
+fn looks_for_faults_in_order(rt: HostRuntime) -> Result<(), Fail> {
+    let alloc = rt.alloc();
+    let mut tape = no_answers(alloc);
+    let words = vec![in alloc; String::from_str(alloc, "script")?]?;
+    let ended = run_rc(alloc, &mut tape, &words, Broken { text: b"" });
+    assert_eq!(rt; ended, Err(RunFault::Usage));
+    let ended = run_rc(alloc, &mut tape, &[], Broken { text: b"\xff" });
+    assert_eq!(rt; ended, Err(RunFault::CannotRead));
+    let ended = run_rc(alloc, &mut tape, &[], b"c\n\xff".as_slice());
+    assert_eq!(rt; ended, Err(syntax(FaultKind::NotText, 2)));
+    assert!(rt; tape.calls().is_empty());
+    let ended = run_rc(alloc, &mut tape, &[], b"c".as_slice());
+    assert_eq!(rt; ended, Err(RunFault::Halted));
+    assert_eq!(rt; tape.calls().len(), 1);
+    Ok(())
+}
+
+#[test]
+fn reads_no_more_than_it_needs(rt: HostRuntime) {
+    let mut tape = no_answers(rt.alloc());
+    let ended = run_rc(rt.alloc(), &mut tape, &[], io::repeat(b' '));
+    assert_eq!(rt; ended, Err(syntax(FaultKind::TooLong, 0)));
+}
+
+#[test]
+fn shows_faults(rt: HostRuntime) -> Result<(), Fail> {
+    for (fault, line) in [
+        (RunFault::Usage, "rc: usage: rc [-c text | file] [arg ...]"),
+        (RunFault::CannotRead, "rc: cannot read standard input"),
+        (RunFault::NoMemory, "rc: no memory"),
+        (RunFault::Limit, "rc: limit"),
+        (RunFault::Halted, "rc: halted"),
+        (RunFault::NotYet, "rc: not yet"),
+        (syntax(FaultKind::OpenQuote, 1), "rc: line 1: open quote"),
+        (
+            syntax(FaultKind::OpenHere, 12),
+            "rc: line 12: open here document",
+        ),
+        (
+            syntax(FaultKind::BadDescriptor, 1),
+            "rc: line 1: bad descriptor",
+        ),
+        (syntax(FaultKind::ZeroByte, 1), "rc: line 1: zero byte"),
+        (syntax(FaultKind::NotText, 1), "rc: line 1: not UTF-8"),
+        (syntax(FaultKind::Unexpected, 2), "rc: line 2: unexpected"),
+        (syntax(FaultKind::IfNot, 1), "rc: line 1: misplaced if not"),
+        (syntax(FaultKind::TooDeep, 0), "rc: line 0: too deep"),
+        (syntax(FaultKind::TooLong, 0), "rc: line 0: too long"),
+        (
+            syntax(FaultKind::TooManyStages, 1),
+            "rc: line 1: too many stages",
+        ),
+    ] {
+        assert_eq!(rt; format!(in rt.alloc(); "{fault}")?.as_str(), line);
+    }
+    Ok(())
+}
