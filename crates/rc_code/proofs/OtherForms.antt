@@ -6,12 +6,12 @@ use Rattle.rc_model.specs.Syntax.Tree.{Node, item, link, nodes, is_empty, has_no
 use Rattle.rc_model.specs.Syntax.Tree as tree
 use Rattle.std.proofs.lemmas.Grind.{common_steps}
 use Rattle.std.proofs.lemmas.Bool.Decides.{nat_tests}
-use Rattle.rc_tree.specs.declared.Cmd.{Cmd}
-use Rattle.rc_tree.specs.declared.Cmd.TheVariants as c
-use Rattle.rc_tree.specs.declared.Item.{Item}
-use Rattle.rc_tree.specs.View.{cmd_tree}
-use Rattle.rc_tree.specs.declared.Arg.TheBlock as rows
-use Rattle.rc_tree.specs.declared.Arg.TheViews as views
+use Rattle.rc_tree_types.specs.declared.Cmd.{Cmd}
+use Rattle.rc_tree_types.specs.declared.Cmd.TheVariants as c
+use Rattle.rc_tree_types.specs.declared.Item.{Item}
+use Rattle.rc_tree_types.specs.View.{cmd_tree}
+use Rattle.rc_tree_types.specs.declared.Arg.TheBlock as rows
+use Rattle.rc_tree_types.specs.declared.Arg.TheViews as views
 
 pub not_empty : (x : Cmd) → (x ≡ c.Empty → ⊥) → is_empty (cmd_tree x) ≡ false
 unfolding cmd_tree

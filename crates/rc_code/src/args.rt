@@ -2,7 +2,7 @@
 
 ghost use Rattle.std.specs.Prelude.{OnOk};
 ghost use Rattle.rc_model.specs.Code.Layout.{arg_code, parts_code};
-ghost use Rattle.rc_tree.specs.View.{arg_tree, args_tree};
+ghost use Rattle.rc_tree_types.specs.View.{arg_tree, args_tree};
 ghost use Rattle.rc_code.specs.Emission.{Writes, list_code};
 
 use crate::code::{Code, Op};

@@ -3,7 +3,7 @@
 ghost use Rattle.std.specs.Prelude.{◌≡◌, ◌<◌, ◌^◌, [], All, IfOk, OnOk, IsSome, length, option_map, slice_get};
 ghost use Rattle.std.specs.Option.{option_copied};
 ghost use Rattle.rc_model.specs.Code.Layout.{Do, Jump};
-ghost use Rattle.rc_tree.specs.View.{cmd_tree, stages_tree, pieces_tree};
+ghost use Rattle.rc_tree_types.specs.View.{cmd_tree, stages_tree, pieces_tree};
 ghost use Rattle.rc_code.specs.Views.{op_of, kept_of, code_of, tree_at, stages_at, pieces_at};
 ghost use Rattle.rc_code.specs.Emission.{Writes, with_kept, patched, redirected};
 

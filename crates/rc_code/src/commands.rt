@@ -2,7 +2,7 @@
 
 ghost use Rattle.std.specs.Prelude.{◌≡◌, ◌+◌, IfOk, OnOk, length};
 ghost use Rattle.rc_model.specs.Code.Layout.{Past, IfNot, cmd_code, items_code, links_code, branches_code};
-ghost use Rattle.rc_tree.specs.View.{cmd_tree, items_tree, links_tree, branch_tree, branches_tree};
+ghost use Rattle.rc_tree_types.specs.View.{cmd_tree, items_tree, links_tree, branch_tree, branches_tree};
 ghost use Rattle.rc_code.specs.Views.{code_of};
 ghost use Rattle.rc_code.specs.Emission.{Writes, last_stage_code, body_code, test_code, repeat_code, turns_code};
 ghost use Rattle.rc_code.specs.Emission.{branch_to};

@@ -3,7 +3,7 @@
 ghost use Rattle.std.specs.Prelude.{◌≡◌};
 ghost use Rattle.rc_model.specs.Syntax.Tree.{is_empty, has_no_items, guards};
 ghost use Rattle.rc_model.specs.Code.Layout.{skip_by};
-ghost use Rattle.rc_tree.specs.View.{cmd_tree, links_tree};
+ghost use Rattle.rc_tree_types.specs.View.{cmd_tree, links_tree};
 ghost use Rattle.rc_code.specs.Views.{op_of};
 
 use crate::code::Op;
@@ -28,7 +28,7 @@ pub fn guards(links: &[(Logic, Cmd)], guarded: bool) -> bool
 }
 
 /// Whether it is the empty command.
-#[tactic(auto, using(rc_tree::specs::View::tree_walks))]
+#[tactic(auto, using(rc_tree_types::specs::View::tree_walks))]
 pub fn is_empty(cmd: &Cmd) -> bool
     ensures { result ≡ is_empty (cmd_tree cmd.now) }
 {
@@ -36,7 +36,7 @@ pub fn is_empty(cmd: &Cmd) -> bool
 }
 
 /// Whether it is a sequence with no items.
-#[tactic(auto, using(crate::proofs::OtherForms::listed, rc_tree::specs::View::tree_walks))]
+#[tactic(auto, using(crate::proofs::OtherForms::listed, rc_tree_types::specs::View::tree_walks))]
 pub fn has_no_items(cmd: &Cmd) -> bool
     ensures { result ≡ has_no_items (cmd_tree cmd.now) }
 {

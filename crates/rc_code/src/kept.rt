@@ -2,7 +2,7 @@
 
 ghost use Rattle.std.specs.Prelude.{◌≡◌, IfOk};
 ghost use Rattle.rc_model.specs.Code.Layout as model;
-ghost use Rattle.rc_tree.specs.View.{cmd_tree, stages_tree, pieces_tree};
+ghost use Rattle.rc_tree_types.specs.View.{cmd_tree, stages_tree, pieces_tree};
 ghost use Rattle.rc_code.specs.Views.{kept_of};
 
 use crate::code::Kept;
@@ -17,7 +17,7 @@ pub fn kept_tree(alloc: Global, tree: &Cmd) -> Result<Kept, AllocError>
     Ok(Kept::Tree(Rc::new(alloc, clone_tree(alloc, tree)?)?))
 }
 
-#[tactic(auto, using(rc_tree::specs::View::tree_lists))]
+#[tactic(auto, using(rc_tree_types::specs::View::tree_lists))]
 pub fn kept_stages(alloc: Global, stages: &[Stage]) -> Result<Kept, AllocError>
     ensures { IfOk result (λ kept. kept_of kept ≡ model.KeptStages (stages_tree stages.now)) }
 {
@@ -31,7 +31,7 @@ pub fn kept_stages(alloc: Global, stages: &[Stage]) -> Result<Kept, AllocError>
     Ok(Kept::Stages(copies))
 }
 
-#[tactic(auto, using(rc_tree::specs::View::tree_lists))]
+#[tactic(auto, using(rc_tree_types::specs::View::tree_lists))]
 pub fn kept_pieces(alloc: Global, pieces: &[Piece]) -> Result<Kept, AllocError>
     ensures { IfOk result (λ kept. kept_of kept ≡ model.KeptPieces (pieces_tree pieces.now)) }
 {

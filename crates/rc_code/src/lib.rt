@@ -11,7 +11,7 @@ mod plain;
 
 ghost use Rattle.std.specs.Prelude.{◌≡◌, IfOk};
 ghost use Rattle.rc_model.specs.Code.Layout.{code};
-ghost use Rattle.rc_tree.specs.View.{cmd_tree};
+ghost use Rattle.rc_tree_types.specs.View.{cmd_tree};
 ghost use Rattle.rc_code.specs.Views.{code_of};
 
 pub use code::{Code, Op};

@@ -3,7 +3,7 @@
 ghost use Rattle.std.specs.Prelude.{OnOk};
 ghost use Rattle.rc_model.specs.Syntax.Tree as tree;
 ghost use Rattle.rc_model.specs.Code.Layout.{cmd_code, unlocal};
-ghost use Rattle.rc_tree.specs.View.{cmd_tree, arg_tree, args_tree, pairs_tree, redir_tree, redirs_tree};
+ghost use Rattle.rc_tree_types.specs.View.{cmd_tree, arg_tree, args_tree, pairs_tree, redir_tree, redirs_tree};
 ghost use Rattle.rc_code.specs.Emission.{Writes, star_code, members_code, pairs_alone, redir_code, redirs_alone};
 ghost use Rattle.rc_code.specs.Emission.{subject_code, match_code, define_code, undefine_code, subshell_code};
 

@@ -8,8 +8,8 @@ use Rattle.rc_model.specs.Syntax.Grammar.{IsScript, IsAccepted}
 use Rattle.rc_model.specs.Mirrors.Descent as d
 use Rattle.law_grammar.proofs.Laws as laws
 use Rattle.rc_lexemes.specs.declared.lexeme.Lexeme.{Lexeme}
-use Rattle.rc_tree.specs.View.{cmd_tree}
-use Rattle.rc_tree.specs.declared.Cmd.{Cmd}
+use Rattle.rc_tree_types.specs.View.{cmd_tree}
+use Rattle.rc_tree_types.specs.declared.Cmd.{Cmd}
 use Rattle.rc_lexemes.specs.declared.fault.Fault.{Fault}
 use Rattle.rc_lexemes.specs.declared.fault.Fault.TheVariants as f
 use Rattle.rc_lexemes.specs.Lexemes.{lexemes_of}

@@ -9,7 +9,7 @@ use Rattle.rc_model.specs.Syntax.Tree as t
 use Rattle.rc_model.specs.Syntax.Grammar.{begins_arg, begins_redir, begins_command, past_blanks, past_newlines, after_caret, ends}
 use Rattle.rc_model.specs.Mirrors.Descent as d
 use Rattle.rc_model.specs.Mirrors.Descent.{Reader, Readers, Read, ◌>>=◌}
-use Rattle.rc_tree.specs.View.{nodes_push}
+use Rattle.rc_tree_types.specs.View.{nodes_push}
 use Rattle.rc_lexemes.specs.declared.lexeme.Lexeme.{Lexeme}
 use Rattle.rc_lexemes.specs.Lexemes.{lexemes_of}
 

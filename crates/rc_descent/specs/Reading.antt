@@ -1,6 +1,6 @@
 -- What the reading functions answer.
 use Rattle.rc_model.specs.Mirrors.Descent as d
-use Rattle.rc_tree.specs.View.{cmd_tree, arg_tree}
+use Rattle.rc_tree_types.specs.View.{cmd_tree, arg_tree}
 use Rattle.rc_descent.specs.declared.read.Opening.{Opening}
 use Rattle.rc_descent.specs.declared.read.Opening.TheVariants as o
 

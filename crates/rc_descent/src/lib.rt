@@ -6,7 +6,7 @@ ghost use Rattle.rc_model.specs.Syntax.Tree.{Node, cmd};
 ghost use Rattle.rc_model.specs.Syntax.WellFormed.{depth, most_stages, is_sound};
 ghost use Rattle.rc_model.specs.Syntax.Grammar.{IsScript, IsAccepted};
 ghost use Rattle.rc_model.specs.Mirrors.Descent.{script_tree};
-ghost use Rattle.rc_tree.specs.View.{cmd_tree};
+ghost use Rattle.rc_tree_types.specs.View.{cmd_tree};
 ghost use Rattle.rc_lexemes.specs.Lexemes.{lexemes_of};
 ghost use Rattle.rc_lexemes.specs.Reading.{Gives, HasFault};
 

@@ -4,7 +4,7 @@ ghost use Rattle.std.specs.Prelude.{◌≡◌, true, false, IfOk, string_bytes};
 ghost use Rattle.rc_model.specs.Syntax.Tree.{Lit};
 ghost use Rattle.rc_model.specs.Syntax.Grammar.{concat_of, redirect, and_or, is_if};
 ghost use Rattle.rc_model.specs.Mirrors.Descent.{read, a_name, a_part, an_operand, a_piped, a_command, a_list, parts_by, arg_by, members_by, words_by, redir_by, redirs_by, simple_by, brace_by, paren_by, dollar_by, branch_by, branches_by, switch_by, match_by, define_by, block_by, first_by, opening_by, body_by, optional_by, if_by, while_by, over_by, for_by, control_by, redirected_by, leading_by, pipe_by, pipeline_of, values_by, assigned_by, operand_by, links_by, item_end, items_by};
-ghost use Rattle.rc_tree.specs.View.{cmd_tree, arg_tree, redir_tree, args_tree, items_tree, pairs_tree, redirs_tree, stages_tree, links_tree, branches_tree, branch_tree};
+ghost use Rattle.rc_tree_types.specs.View.{cmd_tree, arg_tree, redir_tree, args_tree, items_tree, pairs_tree, redirs_tree, stages_tree, links_tree, branches_tree, branch_tree};
 ghost use Rattle.rc_lexemes.specs.Lexemes.{lexemes_of};
 ghost use Rattle.rc_lexemes.specs.Reading.{Gives};
 ghost use Rattle.rc_descent.specs.Reading.{opening_of};
@@ -734,7 +734,7 @@ fn piped(
 
 /// The value behind a `=`, further assignments and the command behind them.
 #[cycle(read)]
-#[tactic(auto, using(rc_tree::specs::View::tree_lists), unfolding(rc_model::specs::Mirrors::Descent::assigned_by))]
+#[tactic(auto, using(rc_tree_types::specs::View::tree_lists), unfolding(rc_model::specs::Mirrors::Descent::assigned_by))]
 fn assigned(
     alloc: Global,
     below: usize,

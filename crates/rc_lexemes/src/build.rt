@@ -6,7 +6,7 @@ ghost use Rattle.rc_model.specs.Syntax.Tree.{more, snoc};
 ghost use Rattle.rc_model.specs.Syntax.HereDocs.{pieces_of};
 ghost use Rattle.rc_model.specs.Syntax.Grammar.{concat_of, redirect, and_or, is_if};
 ghost use Rattle.rc_model.specs.Mirrors.Descent.{pipeline_of, item_end};
-ghost use Rattle.rc_tree.specs.View.{cmd_tree, arg_tree, redir_tree, args_tree, items_tree, pairs_tree, redirs_tree, stages_tree, links_tree, branches_tree};
+ghost use Rattle.rc_tree_types.specs.View.{cmd_tree, arg_tree, redir_tree, args_tree, items_tree, pairs_tree, redirs_tree, stages_tree, links_tree, branches_tree};
 ghost use Rattle.rc_lexemes.specs.Lexemes.{lexemes_of};
 ghost use Rattle.rc_lexemes.specs.Reading.{Gives};
 
@@ -18,7 +18,7 @@ use rc_tree::{Arg, Branch, Cmd, Item, Redir, Stage};
 use std::alloc::{AllocError, Global};
 
 /// The empty command.
-#[tactic(auto, using(rc_tree::specs::View::tree_Empty, std::proofs::lemmas::Grind::common_steps))]
+#[tactic(auto, using(rc_tree_types::specs::View::tree_Empty, std::proofs::lemmas::Grind::common_steps))]
 pub fn empty(alloc: Global) -> Result<Box<Cmd>, AllocError>
     ensures { IfOk result (λ b. cmd_tree b.value ≡ t.Empty) }
 {
@@ -26,7 +26,7 @@ pub fn empty(alloc: Global) -> Result<Box<Cmd>, AllocError>
 }
 
 /// A sequence.
-#[tactic(auto, using(rc_tree::specs::View::tree_Seq, std::proofs::lemmas::Grind::common_steps))]
+#[tactic(auto, using(rc_tree_types::specs::View::tree_Seq, std::proofs::lemmas::Grind::common_steps))]
 pub fn seq(alloc: Global, items: Vec<Item>) -> Result<Box<Cmd>, AllocError>
     ensures { IfOk result (λ b. cmd_tree b.value ≡ t.Seq (items_tree items.items)) }
 {
@@ -34,7 +34,7 @@ pub fn seq(alloc: Global, items: Vec<Item>) -> Result<Box<Cmd>, AllocError>
 }
 
 /// A simple command.
-#[tactic(auto, using(rc_tree::specs::View::tree_Simple, std::proofs::lemmas::Grind::common_steps))]
+#[tactic(auto, using(rc_tree_types::specs::View::tree_Simple, std::proofs::lemmas::Grind::common_steps))]
 pub fn simple(alloc: Global, words: Vec<Arg>) -> Result<Box<Cmd>, AllocError>
     ensures { IfOk result (λ b. cmd_tree b.value ≡ t.Simple (args_tree words.items)) }
 {
@@ -42,7 +42,7 @@ pub fn simple(alloc: Global, words: Vec<Arg>) -> Result<Box<Cmd>, AllocError>
 }
 
 /// Assignments before a command.
-#[tactic(auto, using(rc_tree::specs::View::tree_Assign, std::proofs::lemmas::Grind::common_steps))]
+#[tactic(auto, using(rc_tree_types::specs::View::tree_Assign, std::proofs::lemmas::Grind::common_steps))]
 pub fn assigned(
     alloc: Global,
     pairs: Vec<(Arg, Arg)>,
@@ -54,7 +54,7 @@ pub fn assigned(
 }
 
 /// Redirections of a command.
-#[tactic(auto, using(rc_tree::specs::View::tree_Redirect, std::proofs::lemmas::Grind::common_steps))]
+#[tactic(auto, using(rc_tree_types::specs::View::tree_Redirect, std::proofs::lemmas::Grind::common_steps))]
 pub fn redirected(alloc: Global, redirs: Vec<Redir>, body: Box<Cmd>) -> Result<Box<Cmd>, AllocError>
     ensures { IfOk result (λ b. cmd_tree b.value ≡ t.Redirect (redirs_tree redirs.items) (cmd_tree body.value)) }
 {
@@ -62,7 +62,7 @@ pub fn redirected(alloc: Global, redirs: Vec<Redir>, body: Box<Cmd>) -> Result<B
 }
 
 /// A command turned round.
-#[tactic(auto, using(rc_tree::specs::View::tree_Not, std::proofs::lemmas::Grind::common_steps))]
+#[tactic(auto, using(rc_tree_types::specs::View::tree_Not, std::proofs::lemmas::Grind::common_steps))]
 pub fn not(alloc: Global, body: Box<Cmd>) -> Result<Box<Cmd>, AllocError>
     ensures { IfOk result (λ b. cmd_tree b.value ≡ t.Not (cmd_tree body.value)) }
 {
@@ -70,7 +70,7 @@ pub fn not(alloc: Global, body: Box<Cmd>) -> Result<Box<Cmd>, AllocError>
 }
 
 /// A command in a subshell.
-#[tactic(auto, using(rc_tree::specs::View::tree_Subshell, std::proofs::lemmas::Grind::common_steps))]
+#[tactic(auto, using(rc_tree_types::specs::View::tree_Subshell, std::proofs::lemmas::Grind::common_steps))]
 pub fn subshell(alloc: Global, body: Box<Cmd>) -> Result<Box<Cmd>, AllocError>
     ensures { IfOk result (λ b. cmd_tree b.value ≡ t.Subshell (cmd_tree body.value)) }
 {
@@ -78,7 +78,7 @@ pub fn subshell(alloc: Global, body: Box<Cmd>) -> Result<Box<Cmd>, AllocError>
 }
 
 /// What runs where the `if` before didn't.
-#[tactic(auto, using(rc_tree::specs::View::tree_IfNot, std::proofs::lemmas::Grind::common_steps))]
+#[tactic(auto, using(rc_tree_types::specs::View::tree_IfNot, std::proofs::lemmas::Grind::common_steps))]
 pub fn if_not(alloc: Global, body: Box<Cmd>) -> Result<Box<Cmd>, AllocError>
     ensures { IfOk result (λ b. cmd_tree b.value ≡ t.IfNot (cmd_tree body.value)) }
 {
@@ -86,7 +86,7 @@ pub fn if_not(alloc: Global, body: Box<Cmd>) -> Result<Box<Cmd>, AllocError>
 }
 
 /// A list in braces.
-#[tactic(auto, using(rc_tree::specs::View::tree_Brace, std::proofs::lemmas::Grind::common_steps))]
+#[tactic(auto, using(rc_tree_types::specs::View::tree_Brace, std::proofs::lemmas::Grind::common_steps))]
 pub fn block(alloc: Global, body: Box<Cmd>) -> Result<Box<Cmd>, AllocError>
     ensures { IfOk result (λ b. cmd_tree b.value ≡ t.Brace (cmd_tree body.value)) }
 {
@@ -94,7 +94,7 @@ pub fn block(alloc: Global, body: Box<Cmd>) -> Result<Box<Cmd>, AllocError>
 }
 
 /// An `if`.
-#[tactic(auto, using(rc_tree::specs::View::tree_If, std::proofs::lemmas::Grind::common_steps))]
+#[tactic(auto, using(rc_tree_types::specs::View::tree_If, std::proofs::lemmas::Grind::common_steps))]
 pub fn conditional(
     alloc: Global,
     condition: Box<Cmd>,
@@ -106,7 +106,7 @@ pub fn conditional(
 }
 
 /// A `while`.
-#[tactic(auto, using(rc_tree::specs::View::tree_While, std::proofs::lemmas::Grind::common_steps))]
+#[tactic(auto, using(rc_tree_types::specs::View::tree_While, std::proofs::lemmas::Grind::common_steps))]
 pub fn repeated(alloc: Global, condition: Box<Cmd>, body: Box<Cmd>) -> Result<Box<Cmd>, AllocError>
     ensures { IfOk result (λ b. cmd_tree b.value ≡ t.While (cmd_tree condition.value) (cmd_tree body.value)) }
 {
@@ -114,7 +114,7 @@ pub fn repeated(alloc: Global, condition: Box<Cmd>, body: Box<Cmd>) -> Result<Bo
 }
 
 /// A `for` over `$*`.
-#[tactic(auto, using(rc_tree::specs::View::tree_ForAll, std::proofs::lemmas::Grind::common_steps))]
+#[tactic(auto, using(rc_tree_types::specs::View::tree_ForAll, std::proofs::lemmas::Grind::common_steps))]
 pub fn for_all(alloc: Global, name: Box<Arg>, body: Box<Cmd>) -> Result<Box<Cmd>, AllocError>
     ensures { IfOk result (λ b. cmd_tree b.value ≡ t.ForAll (arg_tree name.value) (cmd_tree body.value)) }
 {
@@ -122,7 +122,7 @@ pub fn for_all(alloc: Global, name: Box<Arg>, body: Box<Cmd>) -> Result<Box<Cmd>
 }
 
 /// A `for` over words.
-#[tactic(auto, using(rc_tree::specs::View::tree_For, std::proofs::lemmas::Grind::common_steps))]
+#[tactic(auto, using(rc_tree_types::specs::View::tree_For, std::proofs::lemmas::Grind::common_steps))]
 pub fn for_each(
     alloc: Global,
     name: Box<Arg>,
@@ -135,7 +135,7 @@ pub fn for_each(
 }
 
 /// A `switch`.
-#[tactic(auto, using(rc_tree::specs::View::tree_Switch, std::proofs::lemmas::Grind::common_steps))]
+#[tactic(auto, using(rc_tree_types::specs::View::tree_Switch, std::proofs::lemmas::Grind::common_steps))]
 pub fn switched(
     alloc: Global,
     subject: Box<Arg>,
@@ -147,7 +147,7 @@ pub fn switched(
 }
 
 /// A match.
-#[tactic(auto, using(rc_tree::specs::View::tree_Match, std::proofs::lemmas::Grind::common_steps))]
+#[tactic(auto, using(rc_tree_types::specs::View::tree_Match, std::proofs::lemmas::Grind::common_steps))]
 pub fn matching(
     alloc: Global,
     subject: Box<Arg>,
@@ -159,7 +159,7 @@ pub fn matching(
 }
 
 /// The definition of functions.
-#[tactic(auto, using(rc_tree::specs::View::tree_Define, std::proofs::lemmas::Grind::common_steps))]
+#[tactic(auto, using(rc_tree_types::specs::View::tree_Define, std::proofs::lemmas::Grind::common_steps))]
 pub fn defined(alloc: Global, names: Vec<Arg>, body: Box<Cmd>) -> Result<Box<Cmd>, AllocError>
     ensures { IfOk result (λ b. cmd_tree b.value ≡ t.Define (args_tree names.items) (cmd_tree body.value)) }
 {
@@ -167,7 +167,7 @@ pub fn defined(alloc: Global, names: Vec<Arg>, body: Box<Cmd>) -> Result<Box<Cmd
 }
 
 /// The end of functions.
-#[tactic(auto, using(rc_tree::specs::View::tree_Undefine, std::proofs::lemmas::Grind::common_steps))]
+#[tactic(auto, using(rc_tree_types::specs::View::tree_Undefine, std::proofs::lemmas::Grind::common_steps))]
 pub fn undefined(alloc: Global, names: Vec<Arg>) -> Result<Box<Cmd>, AllocError>
     ensures { IfOk result (λ b. cmd_tree b.value ≡ t.Undefine (args_tree names.items)) }
 {
@@ -175,7 +175,7 @@ pub fn undefined(alloc: Global, names: Vec<Arg>) -> Result<Box<Cmd>, AllocError>
 }
 
 /// A word as it is written.
-#[tactic(auto, using(rc_tree::specs::View::tree_Lit, std::proofs::lemmas::Grind::common_steps))]
+#[tactic(auto, using(rc_tree_types::specs::View::tree_Lit, std::proofs::lemmas::Grind::common_steps))]
 pub fn literal(alloc: Global, text: &String, quoted: bool) -> Result<Box<Arg>, AllocError>
     ensures { IfOk result (λ b. arg_tree b.value ≡ t.Lit (string_bytes text.now) quoted) }
 {
@@ -184,7 +184,7 @@ pub fn literal(alloc: Global, text: &String, quoted: bool) -> Result<Box<Arg>, A
 }
 
 /// A list of arguments.
-#[tactic(auto, using(rc_tree::specs::View::tree_Paren, std::proofs::lemmas::Grind::common_steps))]
+#[tactic(auto, using(rc_tree_types::specs::View::tree_Paren, std::proofs::lemmas::Grind::common_steps))]
 pub fn paren(alloc: Global, words: Vec<Arg>) -> Result<Box<Arg>, AllocError>
     ensures { IfOk result (λ b. arg_tree b.value ≡ t.Paren (args_tree words.items)) }
 {
@@ -192,7 +192,7 @@ pub fn paren(alloc: Global, words: Vec<Arg>) -> Result<Box<Arg>, AllocError>
 }
 
 /// The value of a variable.
-#[tactic(auto, using(rc_tree::specs::View::tree_Var, std::proofs::lemmas::Grind::common_steps))]
+#[tactic(auto, using(rc_tree_types::specs::View::tree_Var, std::proofs::lemmas::Grind::common_steps))]
 pub fn variable(alloc: Global, name: Box<Arg>) -> Result<Box<Arg>, AllocError>
     ensures { IfOk result (λ b. arg_tree b.value ≡ t.Var (arg_tree name.value)) }
 {
@@ -200,7 +200,7 @@ pub fn variable(alloc: Global, name: Box<Arg>) -> Result<Box<Arg>, AllocError>
 }
 
 /// How many values a variable has.
-#[tactic(auto, using(rc_tree::specs::View::tree_Count, std::proofs::lemmas::Grind::common_steps))]
+#[tactic(auto, using(rc_tree_types::specs::View::tree_Count, std::proofs::lemmas::Grind::common_steps))]
 pub fn count(alloc: Global, name: Box<Arg>) -> Result<Box<Arg>, AllocError>
     ensures { IfOk result (λ b. arg_tree b.value ≡ t.Count (arg_tree name.value)) }
 {
@@ -208,7 +208,7 @@ pub fn count(alloc: Global, name: Box<Arg>) -> Result<Box<Arg>, AllocError>
 }
 
 /// The values of a variable as one word.
-#[tactic(auto, using(rc_tree::specs::View::tree_Flat, std::proofs::lemmas::Grind::common_steps))]
+#[tactic(auto, using(rc_tree_types::specs::View::tree_Flat, std::proofs::lemmas::Grind::common_steps))]
 pub fn flat(alloc: Global, name: Box<Arg>) -> Result<Box<Arg>, AllocError>
     ensures { IfOk result (λ b. arg_tree b.value ≡ t.Flat (arg_tree name.value)) }
 {
@@ -216,7 +216,7 @@ pub fn flat(alloc: Global, name: Box<Arg>) -> Result<Box<Arg>, AllocError>
 }
 
 /// Some of a variable's values.
-#[tactic(auto, using(rc_tree::specs::View::tree_Sub, std::proofs::lemmas::Grind::common_steps))]
+#[tactic(auto, using(rc_tree_types::specs::View::tree_Sub, std::proofs::lemmas::Grind::common_steps))]
 pub fn subscripted(
     alloc: Global,
     name: Box<Arg>,
@@ -228,7 +228,7 @@ pub fn subscripted(
 }
 
 /// What a command writes.
-#[tactic(auto, using(rc_tree::specs::View::tree_Back, std::proofs::lemmas::Grind::common_steps))]
+#[tactic(auto, using(rc_tree_types::specs::View::tree_Back, std::proofs::lemmas::Grind::common_steps))]
 pub fn back(alloc: Global, body: Box<Cmd>) -> Result<Box<Arg>, AllocError>
     ensures { IfOk result (λ b. arg_tree b.value ≡ t.Back (cmd_tree body.value)) }
 {
@@ -236,7 +236,7 @@ pub fn back(alloc: Global, body: Box<Cmd>) -> Result<Box<Arg>, AllocError>
 }
 
 /// A file's redirection.
-#[tactic(auto, using(rc_tree::specs::View::tree_Open, std::proofs::lemmas::Grind::common_steps))]
+#[tactic(auto, using(rc_tree_types::specs::View::tree_Open, std::proofs::lemmas::Grind::common_steps))]
 pub fn opening(
     alloc: Global,
     mode: Mode,
@@ -256,7 +256,7 @@ pub fn opening(
 }
 
 /// A copy of a descriptor.
-#[tactic(auto, using(rc_tree::specs::View::tree_Copy, std::proofs::lemmas::Grind::common_steps))]
+#[tactic(auto, using(rc_tree_types::specs::View::tree_Copy, std::proofs::lemmas::Grind::common_steps))]
 pub fn copying(alloc: Global, to: u8, from: u8) -> Result<Box<Redir>, AllocError>
     ensures { IfOk result (λ b. redir_tree b.value ≡ t.Copy to from) }
 {
@@ -264,7 +264,7 @@ pub fn copying(alloc: Global, to: u8, from: u8) -> Result<Box<Redir>, AllocError
 }
 
 /// A here document.
-#[tactic(auto, using(rc_tree::specs::View::tree_Here, std::proofs::lemmas::Grind::common_steps))]
+#[tactic(auto, using(rc_tree_types::specs::View::tree_Here, std::proofs::lemmas::Grind::common_steps))]
 pub fn here_doc(alloc: Global, quoted: bool, body: &str) -> Result<Box<Redir>, AllocError>
     ensures { IfOk result (λ b. redir_tree b.value ≡ t.Here (pieces_of quoted body.now)) }
 {
@@ -273,7 +273,7 @@ pub fn here_doc(alloc: Global, quoted: bool, body: &str) -> Result<Box<Redir>, A
 }
 
 /// One part stands alone, and several are joined.
-#[tactic(auto, using(crate::proofs::Parts::concat_one, crate::proofs::Parts::concat_several, rc_tree::specs::View::tree_Concat, std::proofs::lemmas::Grind::common_steps))]
+#[tactic(auto, using(crate::proofs::Parts::concat_one, crate::proofs::Parts::concat_several, rc_tree_types::specs::View::tree_Concat, std::proofs::lemmas::Grind::common_steps))]
 pub fn concat(alloc: Global, first: Box<Arg>, mut others: Vec<Arg>) -> Result<Box<Arg>, AllocError>
     ensures { IfOk result (λ b. arg_tree b.value ≡ concat_of (arg_tree first.value) (args_tree others.items)) }
 {
@@ -285,7 +285,7 @@ pub fn concat(alloc: Global, first: Box<Arg>, mut others: Vec<Arg>) -> Result<Bo
 }
 
 /// A command with the redirections behind it.
-#[tactic(auto, using(crate::proofs::Parts::redirect_none, crate::proofs::Parts::redirect_some, rc_tree::specs::View::tree_Redirect, std::proofs::lemmas::Grind::common_steps))]
+#[tactic(auto, using(crate::proofs::Parts::redirect_none, crate::proofs::Parts::redirect_some, rc_tree_types::specs::View::tree_Redirect, std::proofs::lemmas::Grind::common_steps))]
 pub fn redirect(alloc: Global, redirs: Vec<Redir>, body: Box<Cmd>) -> Result<Box<Cmd>, AllocError>
     ensures { IfOk result (λ b. cmd_tree b.value ≡ redirect (redirs_tree redirs.items) (cmd_tree body.value)) }
 {
@@ -296,7 +296,7 @@ pub fn redirect(alloc: Global, redirs: Vec<Redir>, body: Box<Cmd>) -> Result<Box
 }
 
 /// A pipeline of stages before a last one.
-#[tactic(auto, using(crate::proofs::Parts::pipeline_none, crate::proofs::Parts::pipeline_some, rc_tree::specs::View::tree_Pipeline, std::proofs::lemmas::Grind::common_steps))]
+#[tactic(auto, using(crate::proofs::Parts::pipeline_none, crate::proofs::Parts::pipeline_some, rc_tree_types::specs::View::tree_Pipeline, std::proofs::lemmas::Grind::common_steps))]
 pub fn pipeline(alloc: Global, stages: Vec<Stage>, last: Box<Cmd>) -> Result<Box<Cmd>, AllocError>
     ensures { IfOk result (λ b. cmd_tree b.value ≡ pipeline_of (stages_tree stages.items) (cmd_tree last.value)) }
 {
@@ -307,7 +307,7 @@ pub fn pipeline(alloc: Global, stages: Vec<Stage>, last: Box<Cmd>) -> Result<Box
 }
 
 /// A command of one operand or several.
-#[tactic(auto, using(crate::proofs::Parts::and_or_none, crate::proofs::Parts::and_or_some, rc_tree::specs::View::tree_AndOr, std::proofs::lemmas::Grind::common_steps))]
+#[tactic(auto, using(crate::proofs::Parts::and_or_none, crate::proofs::Parts::and_or_some, rc_tree_types::specs::View::tree_AndOr, std::proofs::lemmas::Grind::common_steps))]
 pub fn and_or(
     alloc: Global,
     first: Box<Cmd>,
@@ -322,7 +322,7 @@ pub fn and_or(
 }
 
 /// One more argument.
-#[tactic(auto, using(rc_tree::specs::View::tree_lists))]
+#[tactic(auto, using(rc_tree_types::specs::View::tree_lists))]
 pub fn push_arg(args: &mut Vec<Arg>, arg: Box<Arg>) -> Result<(), AllocError>
     ensures { OnOk result (args_tree args.new.items ≡ snoc (args_tree args.old.items) (arg_tree arg.value)) }
 {
@@ -330,7 +330,7 @@ pub fn push_arg(args: &mut Vec<Arg>, arg: Box<Arg>) -> Result<(), AllocError>
 }
 
 /// One argument before the others.
-#[tactic(auto, using(rc_tree::specs::View::tree_lists))]
+#[tactic(auto, using(rc_tree_types::specs::View::tree_lists))]
 pub fn insert_arg(args: &mut Vec<Arg>, arg: Box<Arg>) -> Result<(), AllocError>
     ensures { OnOk result (args_tree args.new.items ≡ more (arg_tree arg.value) (args_tree args.old.items)) }
 {
@@ -338,7 +338,7 @@ pub fn insert_arg(args: &mut Vec<Arg>, arg: Box<Arg>) -> Result<(), AllocError>
 }
 
 /// One more redirection.
-#[tactic(auto, using(rc_tree::specs::View::tree_lists))]
+#[tactic(auto, using(rc_tree_types::specs::View::tree_lists))]
 pub fn push_redir(redirs: &mut Vec<Redir>, redir: Box<Redir>) -> Result<(), AllocError>
     ensures { OnOk result (redirs_tree redirs.new.items ≡ snoc (redirs_tree redirs.old.items) (redir_tree redir.value)) }
 {
@@ -346,7 +346,7 @@ pub fn push_redir(redirs: &mut Vec<Redir>, redir: Box<Redir>) -> Result<(), Allo
 }
 
 /// One redirection before the others.
-#[tactic(auto, using(rc_tree::specs::View::tree_lists))]
+#[tactic(auto, using(rc_tree_types::specs::View::tree_lists))]
 pub fn insert_redir(redirs: &mut Vec<Redir>, redir: Box<Redir>) -> Result<(), AllocError>
     ensures { OnOk result (redirs_tree redirs.new.items ≡ more (redir_tree redir.value) (redirs_tree redirs.old.items)) }
 {
@@ -354,7 +354,7 @@ pub fn insert_redir(redirs: &mut Vec<Redir>, redir: Box<Redir>) -> Result<(), Al
 }
 
 /// One more item.
-#[tactic(auto, using(rc_tree::specs::View::tree_lists))]
+#[tactic(auto, using(rc_tree_types::specs::View::tree_lists))]
 pub fn push_item(items: &mut Vec<Item>, cmd: Box<Cmd>, background: bool) -> Result<(), AllocError>
     ensures { OnOk result (items_tree items.new.items ≡ snoc (items_tree items.old.items) (t.Item (cmd_tree cmd.value) background)) }
 {
@@ -365,7 +365,7 @@ pub fn push_item(items: &mut Vec<Item>, cmd: Box<Cmd>, background: bool) -> Resu
 }
 
 /// One more stage.
-#[tactic(auto, using(rc_tree::specs::View::tree_lists))]
+#[tactic(auto, using(rc_tree_types::specs::View::tree_lists))]
 pub fn push_stage(stages: &mut Vec<Stage>, cmd: Box<Cmd>, slot: u8) -> Result<(), AllocError>
     ensures { OnOk result (stages_tree stages.new.items ≡ snoc (stages_tree stages.old.items) (t.Stage (cmd_tree cmd.value) slot)) }
 {
@@ -376,7 +376,7 @@ pub fn push_stage(stages: &mut Vec<Stage>, cmd: Box<Cmd>, slot: u8) -> Result<()
 }
 
 /// One more operand.
-#[tactic(auto, using(rc_tree::specs::View::tree_lists))]
+#[tactic(auto, using(rc_tree_types::specs::View::tree_lists))]
 pub fn push_link(
     links: &mut Vec<(Logic, Cmd)>,
     logic: Logic,
@@ -388,7 +388,7 @@ pub fn push_link(
 }
 
 /// One more assignment.
-#[tactic(auto, using(rc_tree::specs::View::tree_lists))]
+#[tactic(auto, using(rc_tree_types::specs::View::tree_lists))]
 pub fn push_pair(
     pairs: &mut Vec<(Arg, Arg)>,
     name: Box<Arg>,
@@ -400,7 +400,7 @@ pub fn push_pair(
 }
 
 /// Whether an `if not` may follow.
-#[tactic(auto, using(rc_tree::specs::View::tree_nodes))]
+#[tactic(auto, using(rc_tree_types::specs::View::tree_nodes))]
 pub fn is_if(cmd: &Cmd) -> bool
     ensures { result ≡ is_if (cmd_tree cmd.now) }
 {

@@ -4,7 +4,7 @@ ghost use Rattle.std.specs.Prelude.{◌≡◌, ◌++◌, IfOk, OnOk, string_byte
 ghost use Rattle.std.specs.Char.{encode_utf8};
 ghost use Rattle.rc_model.specs.Syntax.Tokens.{is_name_char};
 ghost use Rattle.rc_model.specs.Syntax.HereDocs.{behind, ended_by, with_text, with_last, pieces_of};
-ghost use Rattle.rc_tree.specs.View.{pieces_tree};
+ghost use Rattle.rc_tree_types.specs.View.{pieces_tree};
 ghost use Rattle.rc_lexemes.specs.Begun.{begun_of};
 
 use rc_text::{first_char, is_name_char};
@@ -50,7 +50,7 @@ fn with_char(mut text: String, c: char) -> Result<String, AllocError>
 }
 
 /// What has begun behind one more character. A piece that it ends is pushed.
-#[tactic(auto, using(rc_tree::specs::View::tree_lists))]
+#[tactic(auto, using(rc_tree_types::specs::View::tree_lists))]
 fn next(alloc: Global, pieces: &mut Vec<Piece>, begun: Begun, c: char) -> Result<Begun, AllocError>
     ensures begun { IfOk result (λ b. begun_of b ≡ behind (begun_of begun) c) }
     ensures pieces { OnOk result (pieces_tree pieces.new.items ≡ ended_by (begun_of begun) c (pieces_tree pieces.old.items)) }
@@ -91,7 +91,7 @@ fn next(alloc: Global, pieces: &mut Vec<Piece>, begun: Begun, c: char) -> Result
 }
 
 /// A text is a piece unless it is empty.
-#[tactic(auto, using(crate::proofs::Pieces::with_text_empty, crate::proofs::Pieces::with_text_some, rc_tree::specs::View::tree_lists))]
+#[tactic(auto, using(crate::proofs::Pieces::with_text_empty, crate::proofs::Pieces::with_text_some, rc_tree_types::specs::View::tree_lists))]
 fn push_text(pieces: &mut Vec<Piece>, text: String) -> Result<(), AllocError>
     ensures { OnOk result (pieces_tree pieces.new.items ≡ with_text (pieces_tree pieces.old.items) (string_bytes text)) }
 {
@@ -102,7 +102,7 @@ fn push_text(pieces: &mut Vec<Piece>, text: String) -> Result<(), AllocError>
 }
 
 /// The last piece is pushed.
-#[tactic(auto, using(rc_tree::specs::View::tree_lists))]
+#[tactic(auto, using(rc_tree_types::specs::View::tree_lists))]
 fn finish(pieces: &mut Vec<Piece>, begun: Begun) -> Result<(), AllocError>
     ensures { OnOk result (pieces_tree pieces.new.items ≡ with_last (begun_of begun) (pieces_tree pieces.old.items)) }
 {

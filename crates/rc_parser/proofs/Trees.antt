@@ -21,7 +21,7 @@ use Rattle.rc_lexemes.specs.declared.fault.Fault.{Fault}
 use Rattle.rc_lexemes.specs.declared.fault.Fault.TheVariants as descent
 use Rattle.rc_lexemes.specs.declared.fault.TokenFault.{TokenFault}
 use Rattle.rc_lexemes.specs.Reading.{HasFault, TokenError}
-use Rattle.rc_tree.specs.declared.Cmd.{Cmd}
+use Rattle.rc_tree_types.specs.declared.Cmd.{Cmd}
 use Rattle.rc_parser.specs.Faults.{IsPlaced, Refuses}
 
 -- the lexer's tokens and its fault are the script's

@@ -6,7 +6,7 @@ ghost use Rattle.rc_model.specs.Syntax.Accepted.{IsAccepted, HasTokens};
 ghost use Rattle.rc_model.specs.Syntax.Tree.{Node, cmd};
 ghost use Rattle.rc_lexer.specs.Views.{tokens_of};
 ghost use Rattle.rc_parser.specs.Faults.{Refuses};
-ghost use Rattle.rc_tree.specs.View.{cmd_tree};
+ghost use Rattle.rc_tree_types.specs.View.{cmd_tree};
 
 mod fault;
 mod lexemes;

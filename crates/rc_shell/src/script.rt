@@ -7,7 +7,7 @@ ghost use Rattle.rc_model.specs.Run.Script.{Agrees, Told};
 ghost use Rattle.rc_model.specs.Syntax.Tree.{Node, cmd};
 ghost use Rattle.rc_scope.specs.States.{state_of};
 ghost use Rattle.rc_shell.specs.Executed.{IfSyntax, RunsAsMeant};
-ghost use Rattle.rc_tree.specs.View.{cmd_tree};
+ghost use Rattle.rc_tree_types.specs.View.{cmd_tree};
 
 use rc_code::compile;
 use rc_machine::{Machine, Progress};

@@ -1,4 +1,4 @@
-use Rattle.rc_tree.specs.View.{cmd_tree}
+use Rattle.rc_tree_types.specs.View.{cmd_tree}
 use Rattle.rc_code.proofs.Parts.{whole_code}
 use Rattle.rc_code.proofs.compile.Goals as goal
 

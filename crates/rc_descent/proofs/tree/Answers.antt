@@ -1,6 +1,6 @@
 use Rattle.std.proofs.Common.{◌≡◌, true, false, ap, sym, subst, ◌∙◌}
 use Rattle.rc_model.specs.Syntax.WellFormed.{well_formed}
-use Rattle.rc_tree.specs.View.{cmd_tree, items_tree}
+use Rattle.rc_tree_types.specs.View.{cmd_tree, items_tree}
 use Rattle.rc_descent.proofs.Scripts.{script_fits, script_unfit}
 use Rattle.rc_descent.proofs.tree.Goals as goal
 

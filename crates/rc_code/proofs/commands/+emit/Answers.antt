@@ -1,7 +1,7 @@
 use Rattle.std.proofs.Common.{◌≡◌, ◌∙◌, ◌+◌, ◌≤◌, sym, ap, arith, length, drop, drop_of_length-le}
 use Rattle.std.proofs.lemmas.Grind.{common_steps}
 use Rattle.rc_model.specs.Syntax.Tree.{more}
-use Rattle.rc_tree.specs.View.{branch_tree, branches_tree, tree_For}
+use Rattle.rc_tree_types.specs.View.{branch_tree, branches_tree, tree_For}
 use Rattle.rc_code.specs.Views.{code_of}
 use Rattle.rc_code.specs.Emission.{redirected}
 use Rattle.rc_code.proofs.Parts.{starts, stays, put_last, for_parts}

@@ -1,5 +1,5 @@
 use Rattle.std.proofs.Common.{◌≡◌, take}
-use Rattle.rc_tree.specs.View.{pieces_tree}
+use Rattle.rc_tree_types.specs.View.{pieces_tree}
 use Rattle.rc_code.proofs.kept.kept_pieces.Given as goal
 
 abbrev pub invariant-loop-piece : goal.invariant-loop-piece

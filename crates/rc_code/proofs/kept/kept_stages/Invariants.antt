@@ -1,5 +1,5 @@
 use Rattle.std.proofs.Common.{◌≡◌, take}
-use Rattle.rc_tree.specs.View.{stages_tree}
+use Rattle.rc_tree_types.specs.View.{stages_tree}
 use Rattle.rc_code.proofs.kept.kept_stages.Given as goal
 
 abbrev pub invariant-loop-stage : goal.invariant-loop-stage

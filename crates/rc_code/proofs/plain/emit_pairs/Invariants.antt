@@ -1,5 +1,5 @@
 use Rattle.std.proofs.Common.{◌≡◌, drop}
-use Rattle.rc_tree.specs.View.{pairs_tree}
+use Rattle.rc_tree_types.specs.View.{pairs_tree}
 use Rattle.rc_code.specs.Views.{code_of}
 use Rattle.rc_code.specs.Emission.{with_part, pairs_alone}
 use Rattle.rc_code.proofs.plain.emit_pairs.Given as goal

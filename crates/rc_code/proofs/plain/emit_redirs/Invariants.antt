@@ -1,5 +1,5 @@
 use Rattle.std.proofs.Common.{◌≡◌, drop}
-use Rattle.rc_tree.specs.View.{redirs_tree}
+use Rattle.rc_tree_types.specs.View.{redirs_tree}
 use Rattle.rc_code.specs.Views.{code_of}
 use Rattle.rc_code.specs.Emission.{with_part, redirs_alone}
 use Rattle.rc_code.proofs.plain.emit_redirs.Given as goal

@@ -1,6 +1,6 @@
 use Rattle.std.proofs.Common.{◌≡◌, ◌+◌, ◌-◌, ◌*◌, false, true}
 use Rattle.rc_model.specs.Mirrors.Descent as d
-use Rattle.rc_tree.specs.View.{cmd_tree, args_tree, items_tree, pairs_tree, redirs_tree, stages_tree, links_tree, branches_tree}
+use Rattle.rc_tree_types.specs.View.{cmd_tree, args_tree, items_tree, pairs_tree, redirs_tree, stages_tree, links_tree, branches_tree}
 use Rattle.rc_lexemes.specs.Lexemes.{lexemes_of}
 use Rattle.rc_descent.proofs.read.+read.Given as goal
 

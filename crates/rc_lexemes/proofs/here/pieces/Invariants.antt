@@ -3,7 +3,7 @@ use Rattle.std.specs.Str.{chars}
 use denote.Shadow.{shadow}
 use denote.Text.{Utf8}
 use Rattle.rc_model.specs.Syntax.HereDocs.{pieces_of, pieces_from}
-use Rattle.rc_tree.specs.View.{pieces_tree}
+use Rattle.rc_tree_types.specs.View.{pieces_tree}
 use Rattle.rc_lexemes.specs.Begun.{begun_of}
 use Rattle.rc_lexemes.proofs.here.pieces.Given as goal
 

@@ -1,4 +1,4 @@
-use Rattle.rc_tree.specs.View.{cmd_tree}
+use Rattle.rc_tree_types.specs.View.{cmd_tree}
 use Rattle.rc_scope.specs.States.{state_of}
 use Rattle.rc_shell.proofs.Runs.{told_nothing}
 use Rattle.rc_shell.proofs.Scripts.{meant_by, not_refused}

@@ -3,7 +3,7 @@ use Rattle.rc_code.specs.Views.{code_of}
 use Rattle.rc_machine.specs.Configs.{config_of}
 use Rattle.rc_model.specs.Code.Machine.{begin}
 use Rattle.rc_scope.specs.States.{state_of}
-use Rattle.rc_tree.specs.View.{cmd_tree}
+use Rattle.rc_tree_types.specs.View.{cmd_tree}
 use Rattle.rc_shell.proofs.Runs.{begins, told_begun, told_ended, told_halted, told_limit, told_nothing}
 use Rattle.rc_shell.proofs.script.run_tree.Goals as goal
 

@@ -1,0 +1,6 @@
+//! Copies of trees.
+#![tactic(auto)]
+
+mod clone;
+
+pub use clone::clone_tree;

@@ -1,0 +1,21 @@
+use Rattle.std.proofs.Common.{arith, refl, true}
+use Rattle.rc_model.specs.Syntax.Printing.{branch_items, cmd_text}
+use Rattle.std.proofs.lemmas.Grind.{common_steps}
+use Rattle.rc_tree_types.specs.View.{cmd_tree, tree_For}
+use Rattle.rc_print.proofs.Bodies.{not_listed}
+use Rattle.rc_print.proofs.Texts.{cmd_text_For, space_is_text, writing}
+use Rattle.rc_print.proofs.printing.+print.Goals as goal
+
+pub print_cmd-returns-in_ok-print_args-in-For : goal.print_cmd-returns-in_ok-print_args-in-For
+print_cmd-returns-in_ok-print_args-in-For t c = rw (c.in-For.is, tree_For, cmd_text_For) (grind (arith, common_steps))
+
+pub print_body-returns-in_ok-print_cmd-in_default : goal.print_body-returns-in_ok-print_cmd-in_default
+print_body-returns-in_ok-print_cmd-in_default t c =
+    let lines = not_listed c.args.body.now (branch_items (cmd_tree c.args.body.now)) (cmd_text (cmd_tree c.args.body.now) true) c.in_default.not-Seq in
+    rw lines (record { written = grind (arith, common_steps); after = refl })
+
+pub print_pairs-loop-x-preserved : goal.print_pairs-loop-x-preserved
+print_pairs-loop-x-preserved t c = (space_is_text, grind (arith, writing))
+
+pub print_redirs-loop-x-preserved : goal.print_redirs-loop-x-preserved
+print_redirs-loop-x-preserved t c = (space_is_text, grind (arith, writing))

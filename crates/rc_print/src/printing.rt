@@ -1,0 +1,339 @@
+//! A tree as text.
+
+ghost use Rattle.std.specs.Prelude.{◌≡◌, ◌++◌, [], OnOk, IfOk, IsErrOf, true, false, string_bytes, codes};
+ghost use Rattle.rc_model.specs.Syntax.Printing.{printed, has_here, cmd_text, arg_text, redir_text, arg_texts, pair_texts, redir_texts};
+ghost use Rattle.rc_model.specs.Syntax.Printing.{stages_text, links_text, item_lines, branch_lines, branch_items, body_lines};
+ghost use Rattle.rc_print.specs.Lines.{led, trailed, behind, parting_after};
+ghost use Rattle.rc_tree_types.specs.View.{cmd_tree, arg_tree, redir_tree};
+ghost use Rattle.rc_tree_types.specs.View.{args_tree, items_tree, pairs_tree, redirs_tree, stages_tree, links_tree, branches_tree};
+
+use rc_form::{
+    bar, copying, has_here, is_empty, opening, parting, print_literal, sign, stands_first,
+};
+use rc_model::Logic;
+use rc_tree_types::{Arg, Branch, Cmd, Item, Redir, Stage};
+use std::alloc::{AllocError, Global};
+use thiserror::Error;
+
+/// Why a tree has no text.
+#[derive(Debug, Drop, Error)]
+pub enum PrintFault {
+    #[error("a here document is inside")]
+    HereInside,
+    #[error("no memory")]
+    NoMemory,
+}
+
+/// The text of the tree. What is read back from it is the tree, if that was read from a script and the text is
+/// no longer than a script may be.
+pub fn print(alloc: Global, cmd: &Cmd) -> Result<String, PrintFault>
+    ensures text { IfOk result (λ text. string_bytes text ≡ printed (cmd_tree cmd.now)) }
+    ensures without { OnOk result (has_here (cmd_tree cmd.now) ≡ false) }
+    ensures inside { IsErrOf result PrintFault.HereInside → has_here (cmd_tree cmd.now) ≡ true }
+{
+    if has_here(cmd) {
+        return Err(PrintFault::HereInside);
+    }
+    let mut out = String::new(alloc);
+    print_cmd(&mut out, cmd, false).map_err(|_| PrintFault::NoMemory)?;
+    Ok(out)
+}
+
+/// Writes a command. `begins` says that an item of a branch begins with it.
+#[cycle(print)]
+#[tactic(auto, using(crate::proofs::Texts::writing))]
+fn print_cmd(out: &mut String, cmd: &Cmd, begins: bool) -> Result<(), AllocError>
+    ensures { OnOk result (string_bytes out.new ≡ string_bytes out.old ++ cmd_text (cmd_tree cmd.now) begins) }
+{
+    match cmd {
+        Cmd::Empty => Ok(()),
+        Cmd::Seq(items) => {
+            print_items(out, items, "", begins, false)?;
+            Ok(())
+        }
+        Cmd::Simple(words) => print_args(out, words, "", " "),
+        Cmd::Assign(pairs, body) => {
+            print_pairs(out, pairs)?;
+            if is_empty(body) {
+                Ok(())
+            } else {
+                print_behind(out, " ", body)
+            }
+        }
+        Cmd::Redirect(redirs, body) => {
+            if is_empty(body) {
+                print_redirs(out, redirs, "")
+            } else if stands_first(body, begins) {
+                print_cmd(out, body, false)?;
+                print_redirs(out, redirs, " ")
+            } else {
+                print_redirs_before(out, redirs)?;
+                print_cmd(out, body, false)
+            }
+        }
+        Cmd::Pipeline(stages, last) => {
+            print_stages(out, stages, begins)?;
+            print_cmd(out, last, false)
+        }
+        Cmd::AndOr(first, links) => {
+            print_cmd(out, first, begins)?;
+            print_links(out, links)
+        }
+        Cmd::Not(body) => print_behind(out, "! ", body),
+        Cmd::Subshell(body) => print_behind(out, "@ ", body),
+        Cmd::If(condition, body) => {
+            print_behind(out, "if(", condition)?;
+            print_behind(out, ") ", body)
+        }
+        Cmd::IfNot(body) => print_behind(out, "if not ", body),
+        Cmd::While(condition, body) => {
+            print_behind(out, "while(", condition)?;
+            print_behind(out, ") ", body)
+        }
+        Cmd::ForAll(name, body) => {
+            print_arg_behind(out, "for(", name)?;
+            print_behind(out, ") ", body)
+        }
+        Cmd::For(name, words, body) => {
+            print_arg_behind(out, "for(", name)?;
+            out.push_str(" in ")?;
+            print_args(out, words, "", " ")?;
+            print_behind(out, ") ", body)
+        }
+        Cmd::Switch(subject, branches) => {
+            print_arg_behind(out, "switch ", subject)?;
+            out.push_str(" {")?;
+            print_branches(out, branches)?;
+            out.push_str("}")
+        }
+        Cmd::Match(subject, patterns) => {
+            print_arg_behind(out, "~ ", subject)?;
+            print_args(out, patterns, " ", " ")
+        }
+        Cmd::Define(names, body) => {
+            out.push_str("fn ")?;
+            print_args(out, names, "", " ")?;
+            print_braced(out, " {", body)
+        }
+        Cmd::Undefine(names) => {
+            out.push_str("fn ")?;
+            print_args(out, names, "", " ")
+        }
+        Cmd::Brace(body) => print_braced(out, "{", body),
+    }
+}
+
+#[cycle(print)]
+fn print_behind(out: &mut String, text: &str, cmd: &Cmd) -> Result<(), AllocError>
+    ensures { OnOk result (string_bytes out.new ≡ string_bytes out.old ++ (text.now ++ cmd_text (cmd_tree cmd.now) false)) }
+{
+    out.push_str(text)?;
+    print_cmd(out, cmd, false)
+}
+
+#[cycle(print)]
+fn print_braced(out: &mut String, text: &str, cmd: &Cmd) -> Result<(), AllocError>
+    ensures { OnOk result
+        (string_bytes out.new ≡ string_bytes out.old ++ (text.now ++ (cmd_text (cmd_tree cmd.now) false ++ codes "}"))) }
+{
+    out.push_str(text)?;
+    print_cmd(out, cmd, false)?;
+    out.push_str("}")
+}
+
+#[cycle(print)]
+fn print_arg_behind(out: &mut String, text: &str, arg: &Arg) -> Result<(), AllocError>
+    ensures { OnOk result (string_bytes out.new ≡ string_bytes out.old ++ (text.now ++ arg_text (arg_tree arg.now))) }
+{
+    out.push_str(text)?;
+    print_arg(out, arg)
+}
+
+#[cycle(print)]
+#[tactic(auto, using(crate::proofs::Texts::writing))]
+fn print_arg(out: &mut String, arg: &Arg) -> Result<(), AllocError>
+    ensures { OnOk result (string_bytes out.new ≡ string_bytes out.old ++ arg_text (arg_tree arg.now)) }
+{
+    match arg {
+        Arg::Lit { text, quoted } => print_literal(out, text, *quoted),
+        Arg::Concat(parts) => print_args(out, parts, "", "^"),
+        Arg::Paren(words) => {
+            out.push_str("(")?;
+            print_args(out, words, "", " ")?;
+            out.push_str(")")
+        }
+        Arg::Var(name) => print_arg_behind(out, "$", name),
+        Arg::Count(name) => print_arg_behind(out, "$#", name),
+        Arg::Flat(name) => print_arg_behind(out, "$\"", name),
+        Arg::Sub(name, subscripts) => {
+            print_arg_behind(out, "$", name)?;
+            out.push_str("(")?;
+            print_args(out, subscripts, "", " ")?;
+            out.push_str(")")
+        }
+        Arg::Back(body) => print_braced(out, "`{", body),
+    }
+}
+
+#[cycle(print)]
+#[tactic(auto, using(crate::proofs::Texts::writing))]
+fn print_redir(out: &mut String, redir: &Redir) -> Result<(), AllocError>
+    ensures { OnOk result (string_bytes out.new ≡ string_bytes out.old ++ redir_text (redir_tree redir.now)) }
+{
+    match redir {
+        Redir::Open { mode, slot, file } => print_arg_behind(out, opening(*mode, *slot), file),
+        Redir::Copy { to, from } => out.push_str(copying(*to, *from)),
+        // no tree that is written has one
+        Redir::Here(_) => Ok(()),
+    }
+}
+
+/// Writes `between` before the first argument and `mark` before each further one.
+#[cycle(print)]
+#[tactic(auto, using(crate::proofs::Texts::writing))]
+fn print_args(out: &mut String, args: &[Arg], between: &str, mark: &str) -> Result<(), AllocError>
+    ensures { OnOk result
+        (string_bytes out.new ≡ string_bytes out.old ++ led between.now mark.now (arg_texts (args_tree args.now))) }
+{
+    let mut between = between;
+    for x in args {
+        out.push_str(between)?;
+        print_arg(out, x)?;
+        between = mark;
+    }
+    Ok(())
+}
+
+#[cycle(print)]
+#[tactic(auto, using(crate::proofs::Texts::writing))]
+fn print_pairs(out: &mut String, pairs: &[(Arg, Arg)]) -> Result<(), AllocError>
+    ensures { OnOk result
+        (string_bytes out.new ≡ string_bytes out.old ++ led [] (codes " ") (pair_texts (pairs_tree pairs.now))) }
+{
+    let mut between = "";
+    for x in pairs {
+        print_arg_behind(out, between, &x.0)?;
+        print_arg_behind(out, "=", &x.1)?;
+        between = " ";
+    }
+    Ok(())
+}
+
+#[cycle(print)]
+#[tactic(auto, using(crate::proofs::Texts::writing))]
+fn print_redirs(out: &mut String, redirs: &[Redir], between: &str) -> Result<(), AllocError>
+    ensures { OnOk result
+        (string_bytes out.new ≡ string_bytes out.old ++ led between.now (codes " ") (redir_texts (redirs_tree redirs.now))) }
+{
+    let mut between = between;
+    for x in redirs {
+        out.push_str(between)?;
+        print_redir(out, x)?;
+        between = " ";
+    }
+    Ok(())
+}
+
+#[cycle(print)]
+#[tactic(auto, using(crate::proofs::Texts::writing))]
+fn print_redirs_before(out: &mut String, redirs: &[Redir]) -> Result<(), AllocError>
+    ensures { OnOk result (string_bytes out.new ≡ string_bytes out.old ++ trailed (redir_texts (redirs_tree redirs.now))) }
+{
+    for x in redirs {
+        print_redir(out, x)?;
+        out.push_str(" ")?;
+    }
+    Ok(())
+}
+
+#[cycle(print)]
+#[tactic(auto, using(crate::proofs::Texts::writing))]
+fn print_stages(out: &mut String, stages: &[Stage], begins: bool) -> Result<(), AllocError>
+    ensures { OnOk result (string_bytes out.new ≡ string_bytes out.old ++ stages_text (stages_tree stages.now) begins) }
+{
+    let mut begins = begins;
+    for x in stages {
+        print_cmd(out, &x.cmd, begins)?;
+        out.push_str(bar(x.slot))?;
+        begins = false;
+    }
+    Ok(())
+}
+
+#[cycle(print)]
+#[tactic(auto, using(crate::proofs::Texts::writing))]
+fn print_links(out: &mut String, links: &[(Logic, Cmd)]) -> Result<(), AllocError>
+    ensures { OnOk result (string_bytes out.new ≡ string_bytes out.old ++ links_text (links_tree links.now)) }
+{
+    for x in links {
+        print_behind(out, sign(x.0), &x.1)?;
+    }
+    Ok(())
+}
+
+/// Writes items with `between` before the first one, and gives what stands before a further one. `begins` says that an item of a branch
+/// begins with the first item, and `others` says so of each other one.
+#[cycle(print)]
+#[tactic(auto, using(crate::proofs::Texts::writing))]
+fn print_items<'a>(
+    out: &mut String,
+    items: &[Item],
+    between: &'a str,
+    begins: bool,
+    others: bool,
+) -> Result<&'a str, AllocError>
+    ensures written { OnOk result
+        (string_bytes out.new ≡ string_bytes out.old ++ behind between.now (item_lines (items_tree items.now) begins others)) }
+    ensures after { IfOk result (λ text. text.now ≡ parting_after between.now (item_lines (items_tree items.now) begins others)) }
+{
+    let mut between = between;
+    let mut begins = begins;
+    for x in items {
+        out.push_str(between)?;
+        print_cmd(out, &x.cmd, begins)?;
+        if x.background {
+            out.push_str(" &")?;
+        }
+        between = parting(x.background);
+        begins = others;
+    }
+    Ok(between)
+}
+
+#[cycle(print)]
+#[tactic(auto, using(crate::proofs::Texts::writing))]
+fn print_branches(out: &mut String, branches: &[Branch]) -> Result<(), AllocError>
+    ensures { OnOk result
+        (string_bytes out.new ≡ string_bytes out.old ++ behind [] (branch_lines (branches_tree branches.now))) }
+{
+    let mut between = "";
+    for x in branches {
+        out.push_str(between)?;
+        out.push_str("case")?;
+        print_args(out, &x.patterns, " ", " ")?;
+        between = print_body(out, &x.body)?;
+    }
+    Ok(())
+}
+
+/// Writes what follows a case line, and gives what stands before a further line.
+#[cycle(print)]
+#[tactic(auto, using(crate::proofs::Texts::writing))]
+fn print_body(out: &mut String, body: &Cmd) -> Result<&'static str, AllocError>
+    ensures written { OnOk result
+        (string_bytes out.new
+        ≡ string_bytes out.old
+        ++ behind (codes "; ") (body_lines (cmd_tree body.now) (branch_items (cmd_tree body.now)) (cmd_text (cmd_tree body.now) true))) }
+    ensures after { IfOk result
+        (λ text. text.now
+        ≡ parting_after (codes "; ") (body_lines (cmd_tree body.now) (branch_items (cmd_tree body.now)) (cmd_text (cmd_tree body.now) true))) }
+{
+    match body {
+        Cmd::Seq(items) => print_items(out, items, "; ", true, true),
+        _ => {
+            out.push_str("; ")?;
+            print_cmd(out, body, true)?;
+            Ok("; ")
+        }
+    }
+}

@@ -1,3 +1,0 @@
-pub mod View
-pub mod Fits
-pub mod Lines
