@@ -1,10 +1,12 @@
 -- A family of shells, each with its own answers, over every order of them.
-use Rattle.std.specs.Prelude.{◌≡◌, ◌≢◌, ℕ, zero, suc, ◌≤◌, ◌<◌, List, [], ◌∷◌, ◌++◌, Option, Some, None, ◌⊎◌}
+use Rattle.std.specs.Prelude.{◌≡◌, ◌≢◌, ℕ, zero, suc, ◌≤◌, ◌<◌, List, [], ◌∷◌, ◌++◌, Option, Some, None, unwrap_or, ◌⊎◌}
 use Rattle.rc_model.specs.Run.Calls.{Slot, Own, To, slot_of, Launch, Call, Answer, start, wait, read, child, Event, event, calls, answers}
 use Rattle.rc_model.specs.Run.Plans.{IsAnswered, Ends, Waits}
-use Rattle.rc_model.specs.Syntax.Tree.{Node, cmd}
-use Rattle.rc_model.specs.Run.State.{State}
+use Rattle.rc_model.specs.Syntax.Tree.{Node, cmd, Empty}
+use Rattle.rc_model.specs.Run.State.{State, new_state}
 use Rattle.rc_model.specs.Run.Script.{script}
+use Rattle.rc_model.specs.Handed.Arguments.{entry_state, reads}
+use Rattle.rc_model.specs.Handed.Proper.{IsScript, IsProper}
 use Rattle.rc_model.specs.Handed.Handed.{IsHanded}
 use Rattle.rc_model.specs.Family.Accounts.{Thing, a_file, read_end, write_end, Account, put, account, at_start, IsFresh, NothingLost, NothingLeft}
 
@@ -232,3 +234,28 @@ module _ (reads : Launch → Node cmd × State) where
     pub nothing_left : EachOf (λ p. (n : ℕ) (t : State) → script n p.tree p.state (answers p.trace) ≡ Ends (calls p.trace) t [] → NothingLeft p.state p.trace t) f
     pub write_ends : WriteEnds f
     pub no_ring : NoRing f
+
+-- ** shells that read what they were handed
+
+-- the script and the state that a shell reads; nothing is done by one that can't read them
+abbrev pub read_launch : Launch → Node cmd × State
+read_launch l = unwrap_or (reads l.args l.entries) (Empty, new_state)
+
+-- process j was started by process k: it began with the tree that k handed over, and with the entry of the state that k handed over
+pub record BeganAsHanded (f : Family) (j k : ℕ) : Type 0 where
+  pub started : WasStarted read_launch f j k
+  pub handed : IsHanded started.launch
+  pub tree : (f.at j).tree ≡ handed.tree
+  pub state : (f.at j).state ≡ entry_state handed.state
+
+abbrev pub BeganSo : Family → ℕ → Type 0
+BeganSo f zero = Unit {0}
+BeganSo f (suc j) = (k : ℕ) × BeganAsHanded f (suc j) k
+
+-- each process began with what it was handed, which is a tree that a shell holds and a proper state
+abbrev pub AllRead : Family → Type 0
+AllRead f = (j : ℕ) → j < f.count → IsScript (f.at j).tree × IsProper (f.at j).state × BeganSo f j
+
+abbrev pub FamiliesRead : Type 0
+FamiliesRead = (c : Node cmd) (s : State) (es : List Step) → IsScript c → IsProper s → IsFamily read_launch c s es →
+    AllRead (family read_launch (first read_launch c s) es)

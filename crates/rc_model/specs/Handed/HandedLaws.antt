@@ -1,10 +1,15 @@
 -- What is handed over reads back.
-use Rattle.std.specs.Prelude.{◌≡◌, ℕ, List, Bool, Some, Ok}
+use Rattle.std.specs.Prelude.{◌≡◌, ℕ, List, [], ◌∷◌, Bool, Option, Some, None, Ok}
 use Rattle.rc_model.specs.Syntax.Tree.{Node, cmd}
+use Rattle.rc_model.specs.Syntax.Accepted.{IsAccepted}
+use Rattle.rc_model.specs.Run.Calls.{Launch, Call, start, Answer, Event, calls}
+use Rattle.rc_model.specs.Run.Plans.{Ends, calls_made}
 use Rattle.rc_model.specs.Run.State.{State}
+use Rattle.rc_model.specs.Run.Script.{script, EndsAsMeant, IsBegunAsMeant}
 use Rattle.rc_model.specs.Handed.Environment.{read_state}
 use Rattle.rc_model.specs.Handed.Arguments.{handed, entry_state, read_image, reads}
 use Rattle.rc_model.specs.Handed.Proper.{IsScript, IsProper}
+use Rattle.rc_model.specs.Handed.Handed.{IsHanded}
 
 -- what is handed over reads back
 abbrev pub HandedReadsBack : Type 0
@@ -19,3 +24,45 @@ ReadsProper = (own : Bool) (args entries : List (List ℕ)) (s : State) → read
 abbrev pub ReadsScripts : Type 0
 ReadsScripts = (strict : Bool) (words entries : List (List ℕ)) (x : Node cmd × State) → read_image strict words entries ≡ Ok x →
     IsScript x.0 × IsProper x.1
+
+-- ** the shells that a script starts
+
+-- a launch hands over a tree that a shell holds and a proper state, and reads back as that tree and the state in which a subshell begins
+pub record IsReadBack (l : Launch) : Type 0 where
+  pub handed : IsHanded l
+  pub tree : IsScript handed.tree
+  pub state : IsProper handed.state
+  pub back : reads l.args l.entries ≡ Some (handed.tree, entry_state handed.state)
+
+abbrev pub ReadBackBy : Option (List ℕ) → Launch → Type 0
+ReadBackBy None l = IsReadBack l
+ReadBackBy (Some path) l = Unit {0}
+
+-- a shell that is started by this call reads back what it is handed
+abbrev pub ReadsBack : Call → Type 0
+ReadsBack (start l) = ReadBackBy l.program l
+ReadsBack _ = Unit {0}
+
+abbrev pub AllReadBack : List Call → Type 0
+AllReadBack [] = Unit {0}
+AllReadBack (c ∷ cs) = ReadsBack c × AllReadBack cs
+
+-- the tree of an accepted text is one that a shell holds
+abbrev pub AcceptedAreScripts : Type 0
+AcceptedAreScripts = (text : List ℕ) (c : Node cmd) → IsAccepted text c → IsScript c
+
+-- whatever the answers, each shell that a script starts reads back what it is handed
+abbrev pub ScriptsReadBack : Type 0
+ScriptsReadBack = (n : ℕ) (c : Node cmd) (s : State) (given : List Answer) → IsScript c → IsProper s → AllReadBack (calls_made (script n c s given))
+
+-- and the state at its end is proper
+abbrev pub EndsAreProper : Type 0
+EndsAreProper = (n : ℕ) (c : Node cmd) (s t : State) (given left : List Answer) (made : List Call) → IsScript c → IsProper s →
+    script n c s given ≡ Ends made t left → IsProper t
+
+-- the same of a trace that is begun as the script means, or ends as it means
+abbrev pub TracesReadBack : Type 0
+TracesReadBack = (c : Node cmd) (s : State) (trace : List Event) → IsScript c → IsProper s → IsBegunAsMeant c s trace → AllReadBack (calls trace)
+
+abbrev pub TracesEndProper : Type 0
+TracesEndProper = (c : Node cmd) (s t : State) (trace : List Event) → IsScript c → IsProper s → EndsAsMeant c s trace t → IsProper t
