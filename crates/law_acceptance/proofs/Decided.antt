@@ -1,6 +1,7 @@
 -- Each script is accepted or refused, and never both.
-use Rattle.std.proofs.Common.{◌≡◌, ℕ, ◌<◌, ◌≤◌, Bool, true, false, List, length, Result, Ok, Err, ◌⊎◌, inl, inr, refl, sym, subst, ◌∙◌, arith, nat_le}
+use Rattle.std.proofs.Common.{◌≡◌, ℕ, ◌<◌, ◌≤◌, Bool, true, false, ◌&&◌, List, length, Result, Ok, Err, ◌⊎◌, inl, inr, refl, sym, subst, ◌∙◌, arith, nat_le}
 use Rattle.std.proofs.lemmas.Bool.{leb-true, leb-false}
+use Rattle.std.proofs.lemmas.Bool.Decides.{nat_tests}
 use Rattle.std.proofs.lemmas.Str.{IsUtf8-from_is_utf8}
 use Rattle.std.specs.Str.{is_utf8}
 use Rattle.std.specs.Str.Lossy.{utf8_valid_len}
@@ -16,9 +17,8 @@ use Rattle.rc_model.specs.Syntax.Accepted as script
 use Rattle.rc_model.specs.Syntax.Grammar.{IsScript}
 use Rattle.rc_model.specs.Mirrors.Descent.{Fault, script_tree}
 use Rattle.rc_model.specs.Mirrors.Descent as descent
-use Rattle.rc_model.specs.Mirrors.ParsingLaws.{IsDecided, IsNeverBoth}
+use Rattle.rc_model.specs.Mirrors.ParsingLaws.{AcceptedAreWellFormed, IsDecided, IsNeverBoth}
 use Rattle.law_grammar.proofs.Laws.{finds_only_trees, has_no_tree, has_too_many_stages, is_too_deep}
-use Rattle.law_grammar.proofs.Narrow.{and_second, formed_narrow}
 use Rattle.law_grammar.proofs.Sound.{has_sound_trees}
 use Rattle.law_lexing.proofs.Lexing.{law, one_reading, one_cut}
 use Rattle.law_lexing.proofs.Spelled.{spelled_tokens}
@@ -32,13 +32,14 @@ are_spelled {text = text} {tokens = tokens} h = spelled_tokens text tokens (IsUt
 pub same_tokens : {text : List ℕ} {xs ys : List Token} → HasTokens text xs → HasTokens text ys → xs ≡ ys
 same_tokens h k = one_cut h.cut k.cut
 
--- a tree of spelled lexemes isn't unsound while its pipelines are short
-pub deep : (ts : List Lexeme) (tree : Node cmd) → AreSpelled ts → IsScript ts tree → (200 < depth tree) ⊎ ((is_sound tree ≡ false) × (most_stages tree ≤ 64)) → 200 < depth tree
-deep ts tree spelled s (inl h) = h
-deep ts tree spelled s (inr h) = let e = has_sound_trees ts tree spelled s h.1 in absurd (differ (sym e ∙ h.0))
+-- an accepted script has a well formed tree
+pub accepted_formed : AcceptedAreWellFormed
+accepted_formed text tree a =
+    let sound = has_sound_trees (lexemes a.tokens) tree (are_spelled a.has) a.tree_is.script a.tree_is.narrow in
+    formed (is_sound tree) (depth tree) sound a.tree_is.shallow
   where
-    differ : true ≡ false → ⊥
-    differ k = cc
+    formed : (b : Bool) (n : ℕ) → b ≡ true → n ≤ 200 → (b && nat_le n 200) ≡ true
+    formed b n e h = grind (arith, nat_tests)
 
 -- a refused script isn't accepted
 no_script : {text : List ℕ} {xs ys : List Token} (tree : Node cmd) → HasTokens text xs → HasTokens text ys → ((other : Node cmd) → IsScript (lexemes xs) other → ⊥) →
@@ -59,11 +60,11 @@ never_both text fault tree (script.unexpected tokens line h at none) a = no_scri
 never_both text fault tree (script.if_not tokens line h at none) a = no_script tree h a.has none a.tree_is.script
 never_both text fault tree (script.too_deep tokens h far) a =
     let deep = far tree (subst (λ z. IsScript (lexemes z) tree) (same_tokens a.has h) a.tree_is.script) in
-    let shallow = leb-true (depth tree) 200 (and_second (is_sound tree) (nat_le (depth tree) 200) a.tree_is.formed) in
+    let shallow = a.tree_is.shallow in
     omega arith
 never_both text fault tree (script.too_many_stages tokens line h at far) a =
     let wide = far tree (subst (λ z. IsScript (lexemes z) tree) (same_tokens a.has h) a.tree_is.script) in
-    let narrow = formed_narrow tree a.tree_is.formed in
+    let narrow = a.tree_is.narrow in
     omega arith
 
 -- accepted with some tree, or refused with some fault
@@ -80,7 +81,7 @@ refused_by text tokens descent.Unexpected h e =
 refused_by text tokens descent.IfNot h e =
     (fault IfNot (last_line text), script.if_not tokens (last_line text) h (inr refl) (λ tree s. has_no_tree 200 (lexemes tokens) tree (inr e) s))
 refused_by text tokens descent.TooDeep h e =
-    (fault TooDeep 0, script.too_deep tokens h (λ tree s. deep (lexemes tokens) tree (are_spelled h) s (is_too_deep 200 (lexemes tokens) tree (omega arith) e s)))
+    (fault TooDeep 0, script.too_deep tokens h (λ tree s. is_too_deep 200 (lexemes tokens) tree (omega arith) e s))
 refused_by text tokens descent.TooManyStages h e =
     (fault TooManyStages (last_line text), script.too_many_stages tokens (last_line text) h (inr refl) (λ tree s. has_too_many_stages 200 (lexemes tokens) tree e s))
 

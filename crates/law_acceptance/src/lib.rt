@@ -1,7 +1,7 @@
 //! Laws of whole scripts. Each function does nothing: its contract is the law.
 #![tactic(auto)]
 
-ghost use Rattle.rc_model.specs.Mirrors.ParsingLaws.{IsDecided, IsNeverBoth};
+ghost use Rattle.rc_model.specs.Mirrors.ParsingLaws.{AcceptedAreWellFormed, IsDecided, IsNeverBoth};
 ghost use Rattle.rc_model.specs.Mirrors.TreeOfText.{FindsTheTree};
 
 /// The tree of a text, as a function, is found exactly where the text is an accepted script with that tree.
@@ -17,4 +17,9 @@ pub fn is_decided()
 /// No script is both.
 pub fn is_never_both()
     ensures { IsNeverBoth }
+{}
+
+/// The tree of an accepted script is well formed.
+pub fn accepted_are_well_formed()
+    ensures { AcceptedAreWellFormed }
 {}

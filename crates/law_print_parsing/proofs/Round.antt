@@ -1,12 +1,14 @@
 -- Each tree of a text is that of its print.
-use Rattle.std.proofs.Common.{◌≡◌, sym, subst, ℕ, ◌≤◌, true, false, List, length, Ok, IsUtf8}
+use Rattle.std.proofs.Common.{◌≡◌, sym, subst, ℕ, ◌≤◌, true, false, List, length, Ok, IsUtf8, nat_le}
+use Rattle.std.proofs.lemmas.Bool.{leb-true}
 use Rattle.std.proofs.lemmas.Str.{is_utf8-from_IsUtf8}
 use Rattle.rc_model.specs.Syntax.Tree.{Node, cmd}
 use Rattle.rc_model.specs.Syntax.Tokens.{Token, Lexes}
 use Rattle.rc_model.specs.Syntax.Grammar.{IsScript}
-use Rattle.rc_model.specs.Syntax.WellFormed.{well_formed}
+use Rattle.rc_model.specs.Syntax.WellFormed.{depth, is_sound, well_formed}
 use Rattle.rc_model.specs.Syntax.Printing.{has_here, printed}
 use Rattle.rc_model.specs.Syntax.Accepted.{IsAccepted, lexemes, longest_script}
+use Rattle.law_grammar.proofs.Narrow.{and_second, formed_narrow}
 use Rattle.law_print_lexing.specs.Lexemes.{IsWritable}
 use Rattle.law_print_lexing.proofs.Trees.{cmd_piece}
 use Rattle.law_print_lexing.proofs.Tokens.{printed_tokens}
@@ -26,6 +28,7 @@ round_trip text tokens tree u r s formed none_here short =
       has = record { short = short; text = is_utf8-from_IsUtf8 (printed tree) (printed_text tree w); cut = again.1.0 };
       tree_is = record {
         script = subst (λ ls. IsScript ls tree) (sym again.1.1) (script_prints (lexemes tokens) tree s none_here);
-        formed = formed;
+        shallow = leb-true (depth tree) 200 (and_second (is_sound tree) (nat_le (depth tree) 200) formed);
+        narrow = formed_narrow tree formed;
       };
     }

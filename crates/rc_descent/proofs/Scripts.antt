@@ -1,9 +1,9 @@
 -- The tree of a script, and what the laws say of it.
-use Rattle.std.proofs.Common.{◌≡◌, ℕ, ◌<◌, ◌≤◌, true, false, List, [], ◌∷◌, length, Result, Ok, Err, IfOk, ◌⊎◌, inl, inr, refl, ap, subst, ◌∙◌, arith}
+use Rattle.std.proofs.Common.{◌≡◌, ℕ, ◌<◌, ◌≤◌, true, false, List, [], ◌∷◌, length, Result, Ok, Err, IfOk, ◌⊎◌, inl, inr, refl, ap, subst, ◌∙◌, arith, nat_le}
 use Rattle.rc_model.specs.Syntax.Tokens as model
 use Rattle.rc_model.specs.Syntax.Tree.{Node, Many}
 use Rattle.rc_model.specs.Syntax.Tree as t
-use Rattle.rc_model.specs.Syntax.WellFormed.{well_formed, depth, most_stages, is_sound}
+use Rattle.rc_model.specs.Syntax.WellFormed.{depth, most_stages}
 use Rattle.rc_model.specs.Syntax.Grammar.{IsScript, IsAccepted}
 use Rattle.rc_model.specs.Mirrors.Descent as d
 use Rattle.law_grammar.proofs.Laws as laws
@@ -15,22 +15,22 @@ use Rattle.rc_lexemes.specs.declared.fault.Fault.TheVariants as f
 use Rattle.rc_lexemes.specs.Lexemes.{lexemes_of}
 use Rattle.rc_lexemes.specs.Reading.{Gives, HasFault, TokenError, fault_of}
 
--- the list is the whole script, and its tree is well formed or not
+-- the list is the whole script, and its tree has few levels or too many
 pub script_fits : (levels : ℕ) (ts : List model.Lexeme) (is : Many t.item) (xs : List Lexeme) → d.read levels (d.a_list false) ts ≡ Ok (is, lexemes_of xs) → length xs ≡ 0 →
-    well_formed (t.Seq is) ≡ true → d.script_tree levels ts ≡ Ok (t.Seq is)
+    nat_le (depth (t.Seq is)) 200 ≡ true → d.script_tree levels ts ≡ Ok (t.Seq is)
 unfolding d.script_tree
 script_fits levels ts is [] h e k = ap (λ o. d.whole o) h ∙ whole_fits is k
   where
-    whole_fits : (is : Many t.item) → well_formed (t.Seq is) ≡ true → d.whole (Ok (is, [])) ≡ Ok (t.Seq is)
+    whole_fits : (is : Many t.item) → nat_le (depth (t.Seq is)) 200 ≡ true → d.whole (Ok (is, [])) ≡ Ok (t.Seq is)
     whole_fits is k = rw k refl
 script_fits levels ts is (x ∷ xs) h e k = absurd (omega arith)
 
 pub script_unfit : (levels : ℕ) (ts : List model.Lexeme) (is : Many t.item) (xs : List Lexeme) → d.read levels (d.a_list false) ts ≡ Ok (is, lexemes_of xs) → length xs ≡ 0 →
-    well_formed (t.Seq is) ≡ false → d.script_tree levels ts ≡ Err d.TooDeep
+    nat_le (depth (t.Seq is)) 200 ≡ false → d.script_tree levels ts ≡ Err d.TooDeep
 unfolding d.script_tree
 script_unfit levels ts is [] h e k = ap (λ o. d.whole o) h ∙ whole_unfit is k
   where
-    whole_unfit : (is : Many t.item) → well_formed (t.Seq is) ≡ false → d.whole (Ok (is, [])) ≡ Err d.TooDeep
+    whole_unfit : (is : Many t.item) → nat_le (depth (t.Seq is)) 200 ≡ false → d.whole (Ok (is, [])) ≡ Err d.TooDeep
     whole_unfit is k = rw k refl
 script_unfit levels ts is (x ∷ xs) h e k = absurd (omega arith)
 
@@ -69,5 +69,5 @@ pub stages_by : (o : Result Cmd TokenError) (ts : List model.Lexeme) → Gives (
 stages_by o ts h e tree p = laws.has_too_many_stages 200 ts tree (fault_by o f.TooManyStages ts h e) p
 
 pub levels_by : (o : Result Cmd TokenError) (ts : List model.Lexeme) → Gives (λ c. cmd_tree c) o (d.script_tree 200 ts) → HasFault o f.TooDeep → (tree : Node t.cmd) → IsScript ts tree →
-    (200 < depth tree) ⊎ ((is_sound tree ≡ false) × (most_stages tree ≤ 64))
+    200 < depth tree
 levels_by o ts h e tree p = laws.is_too_deep 200 ts tree (omega arith) (fault_by o f.TooDeep ts h e) p

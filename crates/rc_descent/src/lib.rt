@@ -1,9 +1,9 @@
 //! The parser: the tree of a script.
 #![tactic(auto)]
 
-ghost use Rattle.std.specs.Prelude.{◌≡◌, ◌<◌, ◌≤◌, ◌⊎◌, false, IfOk};
+ghost use Rattle.std.specs.Prelude.{◌≡◌, ◌<◌, ◌⊎◌, IfOk};
 ghost use Rattle.rc_model.specs.Syntax.Tree.{Node, cmd};
-ghost use Rattle.rc_model.specs.Syntax.WellFormed.{depth, most_stages, is_sound};
+ghost use Rattle.rc_model.specs.Syntax.WellFormed.{depth, most_stages};
 ghost use Rattle.rc_model.specs.Syntax.Grammar.{IsScript, IsAccepted};
 ghost use Rattle.rc_model.specs.Mirrors.Descent.{script_tree};
 ghost use Rattle.rc_tree_types.specs.View.{cmd_tree};
@@ -14,7 +14,7 @@ mod read;
 
 pub use rc_lexemes::{Fault, Lexeme, TokenError, TokenFault};
 use rc_lexemes::{fault_at, seq};
-use rc_tree::{Cmd, well_formed};
+use rc_tree::{Cmd, is_within};
 use std::alloc::Global;
 
 /// How many levels a tree may have.
@@ -30,9 +30,8 @@ pub fn script(alloc: Global, lexemes: &[Lexeme]) -> Result<Cmd, TokenError>
     ensures none { HasFault result Fault.Unexpected ⊎ HasFault result Fault.IfNot → (tree : Node cmd) → IsScript (lexemes_of lexemes.now) tree → ⊥ }
     // Too many stages are found only where a pipeline has them.
     ensures stages { HasFault result Fault.TooManyStages → (tree : Node cmd) → IsScript (lexemes_of lexemes.now) tree → 64 < most_stages tree }
-    // Too many levels are found only where the tree has them, or where its lexemes aren't those of a text.
-    ensures levels { HasFault result Fault.TooDeep → (tree : Node cmd) → IsScript (lexemes_of lexemes.now) tree →
-        (200 < depth tree) ⊎ ((is_sound tree ≡ false) × (most_stages tree ≤ 64)) }
+    // Too many levels are found only where the tree has them.
+    ensures levels { HasFault result Fault.TooDeep → (tree : Node cmd) → IsScript (lexemes_of lexemes.now) tree → 200 < depth tree }
 {
     tree(alloc, lexemes)
 }
@@ -47,7 +46,7 @@ fn tree(alloc: Global, lexemes: &[Lexeme]) -> Result<Cmd, TokenError>
         return Err(fault_at(Fault::Unexpected, rest));
     }
     let tree = seq(alloc, items)?;
-    if !well_formed(&tree) {
+    if !is_within(&tree, LEVELS) {
         return Err(fault_at(Fault::TooDeep, lexemes));
     }
     Ok(Box::into_inner(tree))

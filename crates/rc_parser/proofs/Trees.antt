@@ -11,7 +11,7 @@ use Rattle.rc_model.specs.Syntax.Accepted.{HasTokens, IsAccepted, IsRefused, lex
 use Rattle.rc_model.specs.Syntax.Accepted as script
 use Rattle.rc_model.specs.Syntax.Grammar.{IsScript}
 use Rattle.rc_model.specs.Syntax.Grammar as grammar
-use Rattle.law_acceptance.proofs.Decided.{are_spelled, same_tokens, deep}
+use Rattle.law_acceptance.proofs.Decided.{are_spelled, same_tokens}
 use Rattle.rc_model.specs.declared.fault.SyntaxFault.{SyntaxFault}
 use Rattle.rc_model.specs.declared.fault.InputError.TheVariants as error
 use Rattle.rc_lexer.specs.declared.Token as lexer
@@ -60,12 +60,12 @@ has_no_other text tokens ts tree h e only other a = only other (subst (λ z. IsS
 pub record Says (ts : List t.Lexeme) (fault : Fault) : Type 0 where
   pub none : (fault ≡ descent.Unexpected) ⊎ (fault ≡ descent.IfNot) → (tree : Node cmd) → IsScript ts tree → ⊥
   pub stages : fault ≡ descent.TooManyStages → (tree : Node cmd) → IsScript ts tree → 64 < most_stages tree
-  pub levels : fault ≡ descent.TooDeep → (tree : Node cmd) → IsScript ts tree → (200 < depth tree) ⊎ ((is_sound tree ≡ false) × (most_stages tree ≤ 64))
+  pub levels : fault ≡ descent.TooDeep → (tree : Node cmd) → IsScript ts tree → 200 < depth tree
 
 pub says : (o : Result Cmd TokenError) (ts : List t.Lexeme) (found : TokenFault) → o ≡ Err (error.Fault found) →
     (HasFault o descent.Unexpected ⊎ HasFault o descent.IfNot → (tree : Node cmd) → IsScript ts tree → ⊥) →
     (HasFault o descent.TooManyStages → (tree : Node cmd) → IsScript ts tree → 64 < most_stages tree) →
-    (HasFault o descent.TooDeep → (tree : Node cmd) → IsScript ts tree → (200 < depth tree) ⊎ ((is_sound tree ≡ false) × (most_stages tree ≤ 64))) → Says ts found.fault
+    (HasFault o descent.TooDeep → (tree : Node cmd) → IsScript ts tree → 200 < depth tree) → Says ts found.fault
 says o ts found e none stages levels = record { none = λ h. none (either h); stages = λ h. stages (at h); levels = λ h. levels (at h) }
   where
     at : {other : Fault} → found.fault ≡ other → HasFault o other
@@ -84,6 +84,6 @@ is_refused text tokens ts descent.IfNot f h e says p =
     subst (IsRefused text) (sym p.0) (script.if_not tokens f.line h p.1 (λ tree s. says.none (inr refl) tree (subst (λ z. IsScript z tree) (sym e) s)))
 is_refused text tokens ts descent.TooDeep f h e says p =
     subst (IsRefused text) (sym p) (script.too_deep tokens h
-    (λ tree s. deep (lexemes tokens) tree (are_spelled h) s (says.levels refl tree (subst (λ z. IsScript z tree) (sym e) s))))
+    (λ tree s. says.levels refl tree (subst (λ z. IsScript z tree) (sym e) s)))
 is_refused text tokens ts descent.TooManyStages f h e says p =
     subst (IsRefused text) (sym p.0) (script.too_many_stages tokens f.line h p.1 (λ tree s. says.stages refl tree (subst (λ z. IsScript z tree) (sym e) s)))

@@ -1,7 +1,8 @@
-//! The tree of a script: its types, copies, well-formedness and its text.
+//! The tree of a script: its types, copies, depth, well-formedness and its text.
 #![tactic(auto)]
 
 pub use rc_copy::clone_tree;
+pub use rc_depth::is_within;
 pub use rc_model::{Logic, Mode};
 pub use rc_print::{PrintFault, print};
 pub use rc_soundness::well_formed;

@@ -1,19 +1,19 @@
-use Rattle.std.proofs.Common.{◌≡◌, true, false, ap, sym, subst, ◌∙◌}
-use Rattle.rc_model.specs.Syntax.WellFormed.{well_formed}
+use Rattle.std.proofs.Common.{◌≡◌, nat_le, true, false, ap, sym, subst, ◌∙◌}
+use Rattle.rc_model.specs.Syntax.WellFormed.{depth}
 use Rattle.rc_tree_types.specs.View.{cmd_tree, items_tree}
 use Rattle.rc_descent.proofs.Scripts.{script_fits, script_unfit}
 use Rattle.rc_descent.proofs.tree.Goals as goal
 
-pub returns-then-not-well_formed : goal.returns-then-not-well_formed
-returns-then-not-well_formed c =
+pub returns-then-not-is_within : goal.returns-then-not-is_within
+returns-then-not-is_within c =
     let e = c.in_ok-tree.ensures in
-    let d = ap (λ z. well_formed (cmd_tree z)) c.deref.ensures in
-    rw c.fault_at-then-not-well_formed.ensures (script_unfit _ _ (items_tree c.in_ok-items.items.items) c.in_ok-items.rest.now c.in_ok-items.ensures
-    c.if-rest-ne0.false (subst (λ z. well_formed z ≡ false) e (sym d ∙ sym c.well_formed-2.ensures ∙ c.if-not-well_formed.true)))
+    let d = ap (λ z. nat_le (depth (cmd_tree z)) 200) c.deref.ensures in
+    rw c.fault_at-then-not-is_within.ensures (script_unfit _ _ (items_tree c.in_ok-items.items.items) c.in_ok-items.rest.now c.in_ok-items.ensures
+    c.if-rest-ne0.false (subst (λ z. nat_le (depth z) 200 ≡ false) e (sym d ∙ sym c.is_within.ensures ∙ c.if-not-is_within.true)))
 
 pub returns : goal.returns
 returns c =
     let e = c.in_ok-tree.ensures in
-    let d = ap (λ z. well_formed (cmd_tree z)) c.deref.ensures in
+    let d = ap (λ z. nat_le (depth (cmd_tree z)) 200) c.deref.ensures in
     rw (c.into_inner.ensures, e) (script_fits _ _ (items_tree c.in_ok-items.items.items) c.in_ok-items.rest.now c.in_ok-items.ensures c.if-rest-ne0.false
-    (subst (λ z. well_formed z ≡ true) e (sym d ∙ sym c.well_formed-2.ensures ∙ c.if-not-well_formed.false)))
+    (subst (λ z. nat_le (depth z) 200 ≡ true) e (sym d ∙ sym c.is_within.ensures ∙ c.if-not-is_within.false)))

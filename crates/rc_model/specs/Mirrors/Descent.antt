@@ -1,12 +1,12 @@
 -- The descent: a script is read token by token, with one token in sight and so many levels of the tree at most.
-use Rattle.std.specs.Prelude.{ℕ, zero, suc, nat_lt, Bool, true, false, not, ◌&&◌, if◌then◌else◌, List, [], ◌∷◌, length, Option, Some, None, Result, Ok, Err}
+use Rattle.std.specs.Prelude.{ℕ, zero, suc, nat_le, nat_lt, Bool, true, false, not, ◌&&◌, if◌then◌else◌, List, [], ◌∷◌, length, Option, Some, None, Result, Ok, Err}
 use Rattle.rc_model.specs.Syntax.Tokens.{Lexeme, Word, Quoted, Semicolon, Ampersand, Newline, AndAnd, OrOr, Bar, Equals}
 use Rattle.rc_model.specs.Syntax.Tokens.{LeftParen, RightParen, LeftBrace, RightBrace, Backquote, Redirection, CopyTo, HereDoc}
 use Rattle.rc_model.specs.Syntax.Tokens.{Dollar, DollarCount, DollarFlat, Name, Subscript}
 use Rattle.rc_model.specs.Syntax.Tree.{Node, Many, none, more, count, snoc}
 use Rattle.rc_model.specs.Syntax.Tree as t
 use Rattle.rc_model.specs.Syntax.HereDocs.{pieces_of}
-use Rattle.rc_model.specs.Syntax.WellFormed.{well_formed}
+use Rattle.rc_model.specs.Syntax.WellFormed.{depth}
 use Rattle.rc_model.specs.Syntax.Grammar.{Keyword, ForWord, InWord, WhileWord, IfWord, NotWord, SwitchWord, FnWord, MatchWord, BangWord, AtWord, NoKeyword, keyword, is_case}
 use Rattle.rc_model.specs.Syntax.Grammar.{begins_arg, begins_redir, begins_brace, begins_command, begins_link, closes, ends, ends_case}
 use Rattle.rc_model.specs.Syntax.Grammar.{past_newlines, past_blanks, past_caret, after_caret, concat_of, redirect, and_or, is_if}
@@ -429,7 +429,7 @@ read (suc left) n ts = read_by (λ m u. read left m u) n ts
 
 -- The tree of a script, or why it has none. Reading goes so many levels deep at most.
 abbrev pub whole : Read (Many t.item) → Result (Node t.cmd) Fault
-whole (Ok (is, [])) = if well_formed (t.Seq is) then Ok (t.Seq is) else Err TooDeep
+whole (Ok (is, [])) = if nat_le (depth (t.Seq is)) 200 then Ok (t.Seq is) else Err TooDeep
 whole (Ok _) = Err Unexpected
 whole (Err e) = Err e
 

@@ -32,10 +32,9 @@ HasNoTree = (levels : ℕ) (ts : List Lexeme) (tree : Node t.cmd) → (script_tr
 abbrev pub HasTooManyStages : Type 0
 HasTooManyStages = (levels : ℕ) (ts : List Lexeme) (tree : Node t.cmd) → script_tree levels ts ≡ Err TooManyStages → IsScript ts tree → 64 < most_stages tree
 
--- and too many levels only where the tree has them, or isn't sound although no pipeline has too many stages
+-- and too many levels only where the tree has them
 abbrev pub IsTooDeep : Type 0
-IsTooDeep = (levels : ℕ) (ts : List Lexeme) (tree : Node t.cmd) → 200 ≤ levels → script_tree levels ts ≡ Err TooDeep → IsScript ts tree →
-    (200 < depth tree) ⊎ ((is_sound tree ≡ false) × (most_stages tree ≤ 64))
+IsTooDeep = (levels : ℕ) (ts : List Lexeme) (tree : Node t.cmd) → 200 ≤ levels → script_tree levels ts ≡ Err TooDeep → IsScript ts tree → 200 < depth tree
 
 -- a tree of spelled lexemes is sound, unless it has too many stages
 abbrev pub HasSoundTrees : Type 0
@@ -45,6 +44,10 @@ HasSoundTrees = (ts : List Lexeme) (tree : Node t.cmd) → AreSpelled ts → IsS
 abbrev pub RoundTrip : Type 0
 RoundTrip = (text : List ℕ) (tokens : List Token) (tree : Node t.cmd) → IsUtf8 text → Lexes text (Ok tokens) → IsScript (lexemes tokens) tree →
     well_formed tree ≡ true → has_here tree ≡ false → length (printed tree) ≤ longest_script → script.IsAccepted (printed tree) tree
+
+-- the tree of an accepted script is well formed
+abbrev pub AcceptedAreWellFormed : Type 0
+AcceptedAreWellFormed = (text : List ℕ) (tree : Node t.cmd) → script.IsAccepted text tree → well_formed tree ≡ true
 
 -- each script is accepted or refused
 abbrev pub IsDecided : Type 0

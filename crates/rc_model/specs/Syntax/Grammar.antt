@@ -1,12 +1,12 @@
 -- The grammar: which tokens are a script, and its tree.
-use Rattle.std.specs.Prelude.{◌≡◌, ℕ, Bool, true, false, ◌||◌, if◌then◌else◌, List, [], ◌∷◌, Option, Some, None, bytes_eq, codes}
+use Rattle.std.specs.Prelude.{◌≡◌, ◌≤◌, ℕ, Bool, true, false, ◌||◌, if◌then◌else◌, List, [], ◌∷◌, Option, Some, None, bytes_eq, codes}
 use Rattle.rc_model.specs.Run.Calls.{Mode}
 use Rattle.rc_model.specs.Syntax.Tokens.{Lexeme, Word, Quoted, Semicolon, Ampersand, Newline, AndAnd, OrOr, Bar, Caret, FreeCaret, Equals}
 use Rattle.rc_model.specs.Syntax.Tokens.{LeftParen, RightParen, LeftBrace, RightBrace, Backquote, Redirection, CopyTo, HereDoc}
 use Rattle.rc_model.specs.Syntax.Tokens.{Dollar, DollarCount, DollarFlat, Name, Subscript}
 use Rattle.rc_model.specs.Syntax.Tree.{Node, Many, none, more}
 use Rattle.rc_model.specs.Syntax.Tree as t
-use Rattle.rc_model.specs.Syntax.WellFormed.{well_formed}
+use Rattle.rc_model.specs.Syntax.WellFormed.{depth, most_stages}
 use Rattle.rc_model.specs.Syntax.HereDocs.{pieces_of}
 pub use Rattle.rc_model.specs.declared.syntax.Keyword.{Keyword}
 pub use Rattle.rc_model.specs.declared.syntax.Keyword.TheVariants.{For as ForWord, In as InWord, While as WhileWord, If as IfWord, Not as NotWord, Switch as SwitchWord, Fn as FnWord, Match as MatchWord, Bang as BangWord, At as AtWord, Plain as NoKeyword}
@@ -354,7 +354,8 @@ pub data Phrase : (l : Level) → List Lexeme → Out l → List Lexeme → Type
 abbrev pub IsScript : List Lexeme → Node t.cmd → Type 0
 IsScript ts tree = (is : Many t.item) × Phrase (items false false) ts is [] × (tree ≡ t.Seq is)
 
--- A script is accepted where it has a well formed tree: of at most 200 levels, with at most 64 stages in each pipeline.
+-- A script is accepted where it has a tree of at most 200 levels, with at most 64 stages in each pipeline.
 pub record IsAccepted (ts : List Lexeme) (tree : Node t.cmd) : Type 0 where
   pub script : IsScript ts tree
-  pub formed : well_formed tree ≡ true
+  pub shallow : depth tree ≤ 200
+  pub narrow : most_stages tree ≤ 64
