@@ -1,0 +1,5 @@
+use Rattle.law_handed.proofs.Played.{traces_read_back as the_law}
+use Rattle.law_handed.proofs.traces_read_back.Goals as goal
+
+pub returns : goal.returns
+returns c = the_law
