@@ -1,4 +1,4 @@
--- Row E, by the greedy matcher.
+-- Worked matches, by the greedy matcher.
 use Rattle.std.proofs.Common.{◌≡◌, true, false, Some, refl}
 use Rattle.std.specs.Prelude.{codes}
 use Rattle.std.specs.Str.{chars}

@@ -1,19 +1,15 @@
-//! The laws of patterns, lists and file names: what is computed is what the relations say.
+//! The laws of patterns and file names: what is computed is what the relations say.
 #![tactic(auto)]
 
-ghost use Rattle.std.specs.Prelude.{◌≡◌, ◌↔◌, ℕ, Bool, true, List, Some, Result};
+ghost use Rattle.std.specs.Prelude.{◌≡◌, ◌↔◌, ℕ, Bool, true, List, Some};
 ghost use Rattle.rc_model.specs.Syntax.Words.{Word, has_pattern};
 ghost use Rattle.rc_model.specs.Run.Patterns.{matches};
 ghost use Rattle.rc_model.specs.Run.Matching.{Matches};
 ghost use Rattle.rc_model.specs.Mirrors.Greedy.{greedy};
-ghost use Rattle.rc_model.specs.Run.Lists.{ListFault, concatenated, selected_by, split};
-ghost use Rattle.rc_model.specs.Run.Splitting.{Splits, AreMembers};
-ghost use Rattle.rc_model.specs.Run.Joining.{Joins};
-ghost use Rattle.rc_model.specs.Run.Selecting.{Selects};
 ghost use Rattle.rc_model.specs.Run.Calls.{Call, Answer, Event};
 ghost use Rattle.rc_model.specs.Run.Plans.{Plan, done_with, Goes};
 ghost use Rattle.rc_model.specs.Run.State.{State};
-ghost use Rattle.rc_model.specs.Run.Shell.{Result as Outcome, Next};
+ghost use Rattle.rc_model.specs.Run.Shell.{Result, Next};
 ghost use Rattle.rc_model.specs.Run.FileNames.{names_of, expanded};
 ghost use Rattle.rc_model.specs.Run.PathNames.{Agreeing, AllExpand, Expands};
 
@@ -27,40 +23,20 @@ pub fn greedy_matches()
     ensures { (e : Bool) (w : Word) (t : List ℕ) → greedy e w t ≡ Some (matches w t e) }
 {}
 
-/// Splitting gives the members of a text.
-pub fn split_by_rule()
-    ensures { (text separators : List ℕ) (texts : List (List ℕ)) → (texts ≡ split text separators) ↔ AreMembers text separators texts }
-{}
-
-/// A text has one list of members.
-pub fn one_split()
-    ensures { (p : ℕ → Bool) (cs : List ℕ) (ms ns : List (List ℕ)) → Splits p cs ms → Splits p cs ns → ms ≡ ns }
-{}
-
-/// Joining two lists gives what the rule of joining says.
-pub fn concat_by_rule()
-    ensures { (xs ys : List Word) (r : Result (List Word) ListFault) → (r ≡ concatenated xs ys) ↔ Joins xs ys r }
-{}
-
-/// A subscript selects the members at the places that it names.
-pub fn select_by_rule()
-    ensures { (value : List (List ℕ)) (text : List ℕ) (r : List (List ℕ)) → (r ≡ selected_by value text) ↔ Selects value text r }
-{}
-
 /// The calls of expansion give the names that the word stands for by their answers.
 pub fn names_by_rule()
-    ensures { (w : Word) (s : State) (trace : List Event) (r : Outcome (List Word)) (tells : Call → Answer) → has_pattern w ≡ true → Goes (names_of w s) trace (done_with r) → Agreeing tells trace →
+    ensures { (w : Word) (s : State) (trace : List Event) (r : Result (List Word)) (tells : Call → Answer) → has_pattern w ≡ true → Goes (names_of w s) trace (done_with r) → Agreeing tells trace →
         (ws : List Word) × (r ≡ Next ws s) × Expands tells w ws }
 {}
 
 /// Expansion makes no call twice: for each of its traces there is a world in which each call has one answer, that of the trace.
 pub fn names_ask_once()
-    ensures { (w : Word) (s : State) (trace : List Event) (q : Plan (Outcome (List Word))) → Goes (names_of w s) trace q → (tells : Call → Answer) × Agreeing tells trace }
+    ensures { (w : Word) (s : State) (trace : List Event) (q : Plan (Result (List Word))) → Goes (names_of w s) trace q → (tells : Call → Answer) × Agreeing tells trace }
 {}
 
 /// Words are expanded from left to right, each to what it stands for by the answers to its own calls.
 pub fn expanded_by_rule()
-    ensures { (ws : List Word) (s : State) (trace : List Event) (r : Outcome (List Word)) → Goes (expanded ws s) trace (done_with r) → (vs : List Word) × (r ≡ Next vs s) × AllExpand ws trace vs }
+    ensures { (ws : List Word) (s : State) (trace : List Event) (r : Result (List Word)) → Goes (expanded ws s) trace (done_with r) → (vs : List Word) × (r ≡ Next vs s) × AllExpand ws trace vs }
 {}
 
 /// The answers tell what a word becomes.

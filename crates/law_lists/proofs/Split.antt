@@ -7,7 +7,7 @@ use Rattle.std.specs.List.{list_all, list_any, slice_split, onto_first}
 use Rattle.std.specs.Str.{chars, encode_utf8_all}
 use Rattle.rc_model.specs.Run.Lists.{split}
 use Rattle.rc_model.specs.Run.Splitting.{is_cut, Splits, gap, next, is_among, AreMembers}
-use Rattle.law_patterns.proofs.Steps.{both_true}
+use Rattle.law_lists.proofs.Booleans.{both_true}
 
 -- the parts that aren't empty
 abbrev pub filled : List (List ℕ) → List (List ℕ)

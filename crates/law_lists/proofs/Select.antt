@@ -9,7 +9,7 @@ use Rattle.std.proofs.lemmas.List.{take_at, drop_at, length_push}
 use Rattle.rc_model.specs.Run.Numbers.{is_digit, digits_value, bounded, number_of}
 use Rattle.rc_model.specs.Run.Lists.{member, up_to, from_place, front, selected_by}
 use Rattle.rc_model.specs.Run.Selecting.{Names, one, range, onward, members_between, Selects, places, at_zero, other}
-use Rattle.law_patterns.proofs.Steps.{both_true}
+use Rattle.law_lists.proofs.Booleans.{both_true}
 
 abbrev Texts : Type 0
 Texts = List (List ℕ)

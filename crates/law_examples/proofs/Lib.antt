@@ -1,0 +1,17 @@
+mod Words
+mod Lists
+mod Variables
+mod Conditions
+mod Loops
+mod Functions
+mod Redirections
+mod Pipelines
+mod Backquotes
+mod Subshells
+mod FileNames
+mod Programs
+mod Builtins
+mod Strict
+mod Endings
+mod Layouts
+mod Limits

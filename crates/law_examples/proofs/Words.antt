@@ -1,0 +1,62 @@
+-- Words, quotes and comments.
+use Rattle.std.proofs.Common.{refl, ◌∷◌, ◌++◌, []}
+use Rattle.std.specs.Prelude.{codes}
+use Rattle.rc_model.specs.Run.Calls.{write, done}
+use Rattle.rc_model.specs.declared.call.Slot.TheVariants.{Own}
+use Rattle.law_examples.specs.Shown.{fresh, with_value, usual, runs, Does, meant, ran, ◌▸◌}
+
+-- a quote is doubled inside of quotes, and a list goes to each side of a free caret
+quotes_are_taken_off_and_a_list_distributes :
+    Does (codes "echo 'it''s'$x.c") (with_value fresh (codes "x") (codes "a" ∷ codes "b" ∷ []))
+    (runs (codes "echo") (codes "it'sa.c" ∷ codes "it'sb.c" ∷ []) (usual ++ codes "x=a\u{1}b" ∷ []) 7 0)
+    []
+unfolding meant ran
+quotes_are_taken_off_and_a_list_distributes = (refl, refl)
+
+-- a quoted text with a blank is no name
+quotes_make_no_name :
+    Does (codes "echo $'a b'") fresh
+    (write (Own 2) (codes "rc: bad name\n") ▸ done ∷ [])
+    (codes "error")
+unfolding meant ran
+quotes_make_no_name = (refl, refl)
+
+-- `$'x'` is `$x`
+a_quoted_name_is_a_name : Does (codes "exit $'x'") (with_value fresh (codes "x") (codes "v" ∷ [])) [] (codes "v")
+unfolding meant ran
+a_quoted_name_is_a_name = (refl, refl)
+
+-- a script of comments and blank lines asks nothing
+comments_and_blank_lines_do_nothing : Does (codes "# note\n\n  # more") fresh [] []
+unfolding meant ran
+comments_and_blank_lines_do_nothing = (refl, refl)
+
+-- the empty script asks nothing
+the_empty_script_does_nothing : Does [] fresh [] []
+unfolding meant ran
+the_empty_script_does_nothing = (refl, refl)
+
+-- a command goes on behind a backslash and a newline
+a_backslash_at_the_end_of_a_line_is_a_blank : Does (codes "exit a\\\nb") fresh [] (codes "a b")
+unfolding meant ran
+a_backslash_at_the_end_of_a_line_is_a_blank = (refl, refl)
+
+-- a word may hold any character in quotes
+an_unquoted_equals_sign_stands_in_quotes : Does (codes "exit 'a=b#c'") fresh [] (codes "a=b#c")
+unfolding meant ran
+an_unquoted_equals_sign_stands_in_quotes = (refl, refl)
+
+-- newlines inside of parentheses are blanks
+newlines_are_blanks_in_parentheses : Does (codes "x=(a\nb)\nexit $#x") fresh [] (codes "2")
+unfolding meant ran
+newlines_are_blanks_in_parentheses = (refl, refl)
+
+-- quotes without a text are one member
+an_empty_word_is_a_word : Does (codes "x=('' '') exit $#x") fresh [] (codes "2")
+unfolding meant ran
+an_empty_word_is_a_word = (refl, refl)
+
+-- words are texts of UTF-8
+accented_letters_are_bytes : Does (codes "exit Ã©") fresh [] (codes "Ã©")
+unfolding meant ran
+accented_letters_are_bytes = (refl, refl)

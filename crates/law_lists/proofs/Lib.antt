@@ -1,0 +1,4 @@
+pub mod Booleans
+pub mod Split
+pub mod Join
+pub mod Select

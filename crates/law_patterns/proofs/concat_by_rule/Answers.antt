@@ -1,5 +1,0 @@
-use Rattle.law_patterns.proofs.Join.{concatenated-is}
-use Rattle.law_patterns.proofs.concat_by_rule.Goals as goal
-
-pub returns : goal.returns
-returns c = concatenated-is
