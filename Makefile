@@ -37,6 +37,7 @@ tracked:
 # test_scripts reads each example that lies in its data/.
 test:
 	@release/fits
+	@tests/places
 	rm -f crates/test_scripts/data/*.rc
 	cp examples/*.rc crates/test_scripts/data
 	$(RT) ci
