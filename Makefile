@@ -1,29 +1,50 @@
-# make           builds ./rc and runs `echo hello` through it
-# make test      proves, builds and tests everything, and reads the examples
+# make           puts the shell at ./rc and runs `echo hello` through it: the release where it is that of these sources,
+#                and else what `make prove` builds
+# make prove     proves and builds ./rc
+# make release   proves and builds the program, and puts it and the hash of its sources into release/
+# make test      proves, builds and tests everything from nothing, and compares the program with the release
 # make install   copies the shell and its manual page to PREFIX
 
 RT = rt
 PREFIX = /usr/local
+RELEASE = release/rc-x86_64-linux
+BUILT = crates/rc_main/out/rc_main
 
 hello: rc
 	echo 'echo hello' | ./rc
 
-rc: build
-	cp crates/rc_main/out/rc_main $@
+rc:
+	if release/fits; then install -m 755 $(RELEASE) rc; else $(MAKE) prove; fi
+
+prove: build
+	install -m 755 $(BUILT) rc
 
 build:
 	cd crates/rc_main && $(RT) run < /dev/null
 
-test: lay-examples
-	$(RT) ci
+# The hash is taken before the build: sources that change meanwhile don't fit it.
+release: tracked
+	rm -f $(RELEASE)
+	release/hash > release/sources
+	$(MAKE) build
+	install -m 755 $(BUILT) $(RELEASE)
 
-# test_scripts reads each example that lies in its data/
-lay-examples:
+# The hash covers each file that is built.
+tracked:
+	@untracked=$$(git ls-files --others --exclude-standard -- ':(glob)crates/*/src/**') && test -z "$$untracked" \
+	    || { echo "git add first: $$untracked"; exit 1; }
+
+# test_scripts reads each example that lies in its data/.
+test:
+	@release/fits
+	@tests/places
 	rm -f crates/test_scripts/data/*.rc
 	cp examples/*.rc crates/test_scripts/data
+	$(RT) ci
+	cmp $(BUILT) $(RELEASE)
 
 install: rc
 	install -D -m 755 rc $(DESTDIR)$(PREFIX)/bin/rc
 	install -D -m 644 man/rc.1 $(DESTDIR)$(PREFIX)/share/man/man1/rc.1
 
-.PHONY: hello build test lay-examples install
+.PHONY: hello rc prove build release tracked test install

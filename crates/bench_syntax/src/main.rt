@@ -35,7 +35,7 @@ fn piece(kind: &str) -> Option<&'static str> {
     None
 }
 
-/// As many pieces as fit into so many bytes.
+/// As many pieces as fit into this many bytes.
 fn text(alloc: Global, piece: &str, size: usize) -> Result<String, AllocError> {
     let mut text = String::new(alloc);
     for _ in 0..size {

@@ -1,3 +1,4 @@
+pub mod Acts
 pub mod Entries
 pub mod Escapes
 pub mod Fits

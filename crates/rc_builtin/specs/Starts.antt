@@ -1,5 +1,5 @@
 -- What the start of a child gave.
-use Rattle.std.specs.Prelude.{ℕ, List, String, map, string_bytes}
+use Rattle.std.specs.Prelude.{ℕ, List, Option, String, map, option_map, string_bytes}
 use Rattle.std.specs.declared.alloc.Global.{Global}
 use Rattle.rc_model.specs.Run.Acts as acts
 use Rattle.rc_builtin.specs.declared.programs.Started.{Started}
@@ -13,3 +13,7 @@ started_of (NoChild why) = acts.NoChild why.now
 -- where a program of this name may be, by these directories
 abbrev pub paths_in : List ℕ → List (String Global) → List (List ℕ)
 paths_in name dirs = map (λ d. acts.candidate d name) (map string_bytes dirs)
+
+-- the path of a program, where it was found
+abbrev pub path_of : Option (String Global) → Option (List ℕ)
+path_of found = option_map string_bytes found

@@ -69,7 +69,8 @@ fn is_behind_status(name: &str) -> bool
 }
 
 fn status_entry(alloc: Global, state: &State) -> Result<String, AllocError>
-    ensures { IfOk result (λ text. string_bytes text ≡ entry (status_name, value_text ((state_of state.now).status ∷ []))) }
+    ensures { IfOk result (λ text. string_bytes text
+        ≡ entry (status_name, value_text ((state_of state.now).status ∷ []))) }
 {
     let mut value = Vec::new(alloc);
     value.push(String::from_str(alloc, state.status())?)?;

@@ -1,14 +1,14 @@
 //! Programs: they are looked for, started and waited for.
 
-ghost use Rattle.std.specs.Prelude.{◌≡◌, ◌∷◌, ◌++◌, [], codes, IfOk, map, string_bytes, option_map};
-ghost use Rattle.rc_model.specs.Run.Acts.{report, fault, is_path, candidate, is_program, first_program, find_program, ending_status, started, refuse, wait_started, run_found, run_program};
+ghost use Rattle.std.specs.Prelude.{◌≡◌, ◌∷◌, ◌++◌, [], codes, IfOk, map, string_bytes};
+ghost use Rattle.rc_model.specs.Run.Acts.{report, fault, is_path, candidate, is_program, first_program, find_program};
+ghost use Rattle.rc_model.specs.Run.Acts.{ending_status, started, refuse, wait_started, run_found, run_program};
 ghost use Rattle.rc_model.specs.Run.State as model;
 ghost use Rattle.rc_model.specs.Handed.Image.{is_short, is_fit, program_launch};
-ghost use Rattle.rc_model.specs.Run.Shell.{Next};
-ghost use Rattle.rc_world.specs.Comes.{Comes};
+ghost use Rattle.rc_world.specs.Comes.{Reads, Does};
 ghost use Rattle.rc_world.specs.Views.{launch_of};
 ghost use Rattle.std.specs.List.{list_all};
-ghost use Rattle.rc_builtin.specs.Starts.{paths_in, started_of};
+ghost use Rattle.rc_builtin.specs.Starts.{path_of, paths_in, started_of};
 ghost use Rattle.rc_scope.specs.States.{state_of};
 
 use crate::environment::entries;
@@ -23,7 +23,7 @@ fn report_line(alloc: Global, text: &str) -> Result<String, AllocError>
 }
 
 /// Writes `rc: TEXT` to descriptor 2.
-#[tactic(auto, using(rc_world::proofs::Joins::passed_up, law_plans::proofs::Runs::ran_none, rc_world::proofs::Joins::left_here))]
+#[tactic(auto, using(crate::proofs::Acts::acting))]
 pub fn report<W: World>(
     alloc: Global,
     world: &mut W,
@@ -31,7 +31,7 @@ pub fn report<W: World>(
     slots: Slots,
     text: &str,
 ) -> Result<(), Stop>
-    ensures { Comes (W.events world.old) (W.events world.new) (report slots text.now (state_of state.now)) (λ x. Next x (state_of state.now)) result }
+    ensures { Reads W.events world.old world.new (state_of state.now) (report slots text.now) (λ x. x) result }
 {
     let line = report_line(alloc, text)?;
     calls::write(world, slots.errors, line.as_bytes())?;
@@ -62,7 +62,7 @@ fn is_program(found: Option<Kind>) -> bool
 }
 
 /// The path in the first of these directories that has the program.
-#[tactic(auto, using(rc_world::proofs::Joins::passed_up, law_plans::proofs::Runs::ran_none, rc_world::proofs::Joins::left_here))]
+#[tactic(auto, using(crate::proofs::Acts::acting))]
 fn first_program<W: World>(
     alloc: Global,
     world: &mut W,
@@ -70,7 +70,8 @@ fn first_program<W: World>(
     name: &str,
     dirs: &[String],
 ) -> Result<Option<String>, Stop>
-    ensures { Comes (W.events world.old) (W.events world.new) (first_program (paths_in name.now dirs.now) (state_of state.now)) (λ found. Next (option_map string_bytes found) (state_of state.now)) result }
+    ensures { Reads W.events world.old world.new (state_of state.now)
+        (first_program (paths_in name.now dirs.now)) path_of result }
 {
     for dir in dirs {
         let path = candidate(alloc, dir, name)?;
@@ -82,14 +83,14 @@ fn first_program<W: World>(
 }
 
 /// The path of a program: its name where that is a path, else the first of `$path` that has it.
-#[tactic(auto, using(rc_world::proofs::Joins::passed_up, law_plans::proofs::Runs::ran_none, rc_world::proofs::Joins::left_here))]
+#[tactic(auto, using(crate::proofs::Acts::acting))]
 pub fn find_program<W: World>(
     alloc: Global,
     world: &mut W,
     state: &State,
     name: &str,
 ) -> Result<Option<String>, Stop>
-    ensures { Comes (W.events world.old) (W.events world.new) (find_program name.now (state_of state.now)) (λ found. Next (option_map string_bytes found) (state_of state.now)) result }
+    ensures { Reads W.events world.old world.new (state_of state.now) (find_program name.now) path_of result }
 {
     if is_path(name) {
         return Ok(Some(String::from_str(alloc, name)?));
@@ -120,7 +121,7 @@ fn refusal_text(alloc: Global, name: &str, why: &str) -> Result<String, AllocErr
 }
 
 /// A program that cannot be run, and why.
-#[tactic(auto, using(rc_world::proofs::Joins::passed_up, law_plans::proofs::Runs::ran_none, rc_world::proofs::Joins::left_here))]
+#[tactic(auto, using(crate::proofs::Acts::acting))]
 fn refuse<W: World>(
     alloc: Global,
     world: &mut W,
@@ -129,7 +130,8 @@ fn refuse<W: World>(
     name: &str,
     why: &str,
 ) -> Result<(), Stop>
-    ensures { Comes (W.events world.old) (W.events world.new) (refuse slots name.now why.now (state_of state.old)) (λ x. Next x (state_of state.new)) result }
+    ensures { Does W.events world.old world.new state_of state.old state.new
+        (refuse slots name.now why.now) (λ x. x) result }
 {
     let text = refusal_text(alloc, name, why)?;
     report(alloc, world, state, slots, &text)?;
@@ -166,9 +168,10 @@ fn is_fit(launch: &Launch) -> bool
 }
 
 /// Starts a child, where its arguments and entries are short enough.
-#[tactic(auto, using(rc_world::proofs::Joins::passed_up, law_plans::proofs::Runs::ran_none, rc_world::proofs::Joins::left_here))]
+#[tactic(auto, using(crate::proofs::Acts::acting))]
 pub fn make_started<W: World>(world: &mut W, launch: &Launch) -> Result<Started, Stop>
-    ensures { (s : model.State) → Comes (W.events world.old) (W.events world.new) (started (launch_of launch.now) s) (λ st. Next (started_of st) s) result }
+    ensures { (s : model.State) →
+        Reads W.events world.old world.new s (started (launch_of launch.now)) started_of result }
 {
     if !is_fit(launch) {
         return Ok(Started::NoChild("too large"));
@@ -180,7 +183,7 @@ pub fn make_started<W: World>(world: &mut W, launch: &Launch) -> Result<Started,
 }
 
 /// A program that was started is waited for.
-#[tactic(auto, using(rc_world::proofs::Joins::passed_up, law_plans::proofs::Runs::ran_none, rc_world::proofs::Joins::left_here))]
+#[tactic(auto, using(crate::proofs::Acts::acting))]
 fn wait_started<W: World>(
     alloc: Global,
     world: &mut W,
@@ -189,7 +192,8 @@ fn wait_started<W: World>(
     name: &str,
     started: Started,
 ) -> Result<(), Stop>
-    ensures { Comes (W.events world.old) (W.events world.new) (wait_started slots name.now (started_of started) (state_of state.old)) (λ x. Next x (state_of state.new)) result }
+    ensures { Does W.events world.old world.new state_of state.old state.new
+        (wait_started slots name.now (started_of started)) (λ x. x) result }
 {
     let child = match started {
         Started::Child(child) => child,
@@ -209,7 +213,8 @@ fn launch(
     path: String,
     args: &[String],
 ) -> Result<Launch, AllocError>
-    ensures { IfOk result (λ l. launch_of l ≡ program_launch slots (string_bytes path) (map string_bytes args.now) (state_of state.now)) }
+    ensures { IfOk result (λ launch. launch_of launch
+        ≡ program_launch slots (string_bytes path) (map string_bytes args.now) (state_of state.now)) }
 {
     let mut copy = Vec::new(alloc);
     for arg in args {
@@ -225,7 +230,7 @@ fn launch(
 }
 
 /// A program that was looked for is started.
-#[tactic(auto, using(rc_world::proofs::Joins::passed_up, law_plans::proofs::Runs::ran_none, rc_world::proofs::Joins::left_here))]
+#[tactic(auto, using(crate::proofs::Acts::acting))]
 fn run_found<W: World>(
     alloc: Global,
     world: &mut W,
@@ -235,7 +240,8 @@ fn run_found<W: World>(
     args: &[String],
     path: Option<String>,
 ) -> Result<(), Stop>
-    ensures { Comes (W.events world.old) (W.events world.new) (run_found slots name.now (map string_bytes args.now) (option_map string_bytes path) (state_of state.old)) (λ x. Next x (state_of state.new)) result }
+    ensures { Does W.events world.old world.new state_of state.old state.new
+        (run_found slots name.now (map string_bytes args.now) (path_of path)) (λ x. x) result }
 {
     let Some(path) = path else {
         return refuse(alloc, world, state, slots, name, "not found");
@@ -246,7 +252,7 @@ fn run_found<W: World>(
 }
 
 /// Runs a program by its name.
-#[tactic(auto, using(rc_world::proofs::Joins::passed_up, law_plans::proofs::Runs::ran_none, rc_world::proofs::Joins::left_here))]
+#[tactic(auto, using(crate::proofs::Acts::acting))]
 pub fn run_program<W: World>(
     alloc: Global,
     world: &mut W,
@@ -255,14 +261,15 @@ pub fn run_program<W: World>(
     name: &str,
     args: &[String],
 ) -> Result<(), Stop>
-    ensures { Comes (W.events world.old) (W.events world.new) (run_program slots name.now (map string_bytes args.now) (state_of state.old)) (λ x. Next x (state_of state.new)) result }
+    ensures { Does W.events world.old world.new state_of state.old state.new
+        (run_program slots name.now (map string_bytes args.now)) (λ x. x) result }
 {
     let path = find_program(alloc, world, state, name)?;
     run_found(alloc, world, state, slots, name, args, path)
 }
 
 /// A runtime error: a report, and the status `error`. The shell ends then.
-#[tactic(auto, using(rc_world::proofs::Joins::passed_up, law_plans::proofs::Runs::ran_none, rc_world::proofs::Joins::left_here))]
+#[tactic(auto, using(crate::proofs::Acts::acting))]
 pub fn fault<W: World>(
     alloc: Global,
     world: &mut W,
@@ -270,7 +277,7 @@ pub fn fault<W: World>(
     slots: Slots,
     text: &str,
 ) -> Result<(), Stop>
-    ensures { Comes (W.events world.old) (W.events world.new) (fault slots text.now (state_of state.old)) (λ x. Next x (state_of state.new)) result }
+    ensures { Does W.events world.old world.new state_of state.old state.new (fault slots text.now) (λ x. x) result }
 {
     report(alloc, world, state, slots, text)?;
     state.set_status("error")?;

@@ -16,7 +16,7 @@ use Rattle.rc_cli.specs.declared.fault.RunFault.TheVariants.{Usage, CannotRead, 
 abbrev pub IsScriptOf : Option (List ℕ) → List ℕ → Type 0
 IsScriptOf known script = IfSome known (λ bytes. script ≡ take 1048577 bytes)
 
--- the script has a tree, and of that this was told
+-- the script has a tree, and this was recorded of its run
 abbrev pub ToldOf : Option (List Event) → Option (List Event) → List ℕ → (Node cmd → List Event → Type 0) → Type 0
 ToldOf before after script P = (t : Node cmd) × IsAccepted script t × Told before after (P t)
 
@@ -28,7 +28,7 @@ most_instructions = 2 ^ 62
 abbrev pub EndsWith : Node cmd → List Event → ℕ → Type 0
 EndsWith t trace status = (end : State) × EndsWithin most_instructions t first_state trace end × IsProcessStatus end.status status
 
--- a run by its result: what was told between two tellings of its world, with the script that was read
+-- a run by its result: what its world recorded of it, with the script that was read
 abbrev pub RunsAsMeant : Option (List Event) → Option (List Event) → List ℕ → Result ℕ RunFault → Type 0
 RunsAsMeant before after script (Ok status) = ToldOf before after script (λ t trace. EndsWith t trace status)
 RunsAsMeant before after script (Err Usage) = after ≡ before

@@ -13,7 +13,7 @@ use std::{fmt, io};
 /// newline.
 #[derive(Clone, Copy, Debug, PartialEq)]
 pub enum RunFault {
-    /// The program was given words.
+    /// The program was given arguments.
     Usage,
     CannotRead,
     Syntax(SyntaxFault),

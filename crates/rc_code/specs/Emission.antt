@@ -1,4 +1,4 @@
--- How the compiler writes a part: behind what stands there, with the jumps put in when their targets are known.
+-- How the compiler writes a part: at the end of the code, with each jump put in when its target is known.
 use Rattle.std.specs.Prelude.{◌≡◌, ℕ, List, [], ◌∷◌, ◌++◌, length, slice_set, Bool, true, false, codes}
 use Rattle.rc_model.specs.Syntax.Tree.{Node, Many, cmd, arg, pair, redir, branch, Pair, Branch, none, more, has_no_items}
 use Rattle.rc_model.specs.Syntax.Tree as tree
@@ -9,7 +9,7 @@ use Rattle.rc_model.specs.Code.Layout.{ops_of, kept_of, assign_by, condition_cod
 use Rattle.rc_code.specs.Views.{code_of}
 use Rattle.rc_code.specs.declared.code.Code as program
 
--- the code with a part behind it
+-- the code with a part at its end
 unfoldable pub with_part : Code → Part → Code
 with_part c part = record { ops = c.ops ++ ops_of part (length c.ops) (length c.kept); kept = c.kept ++ kept_of part }
 
@@ -58,7 +58,7 @@ repeat_code start body = Past IfFalse (body ⨾ Do (Jump start))
 abbrev pub body_code : (body : Part) → Part
 body_code body = Past If (body ⨾ Do WasTrue)
 
--- the last stage of a pipeline, behind the start of the others
+-- the last stage of a pipeline, after the start of the others
 abbrev pub last_stage_code : (stages : ℕ) → (last : Part) → Part
 last_stage_code stages last = Past (Stages stages) (last ⨾ Do EndPipe)
 
@@ -78,7 +78,7 @@ undefine_code names = cmd_code (tree.Undefine names) false
 abbrev pub subshell_code : Node cmd → Part
 subshell_code body = cmd_code (tree.Subshell body) false
 
--- assignments, without what stands behind them
+-- assignments, without what stands after them
 abbrev pub pair_code : Node pair → (bare : Bool) → Part
 pair_code (Pair name value) bare = arg_code name ⨾ arg_code value ⨾ Do Glob ⨾ Do (assign_by bare)
 
@@ -86,7 +86,7 @@ abbrev pub pairs_alone : Many pair → (bare : Bool) → Part
 pairs_alone none bare = Nothing
 pairs_alone (more x rest) bare = pair_code x bare ⨾ pairs_alone rest bare
 
--- redirections, without what stands behind them
+-- redirections, without what stands after them
 abbrev pub redir_code : Node redir → Part
 redir_code (tree.Open mode slot path) = arg_code path ⨾ Do Glob ⨾ Do (Open mode slot)
 redir_code (tree.Copy to from) = Do (Copy to from)

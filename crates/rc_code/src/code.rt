@@ -49,7 +49,7 @@ pub enum Op {
     Next(usize),
     Assign,
     Local,
-    /// Ends so many locals.
+    /// Ends this many locals.
     Unlocal(usize),
     /// Defines functions with the tree of this number.
     Define(usize),
@@ -58,7 +58,7 @@ pub enum Op {
     Copy { to: u8, from: u8 },
     /// Hands over the here document of this number.
     Here(usize),
-    /// Ends so many redirections.
+    /// Ends this many redirections.
     Unredir(usize),
     /// Starts the stages of this number, or goes to the place where one is refused.
     Stages { stages: usize, end: usize },

@@ -1,4 +1,4 @@
-//! The descent: a script is read with one token in sight. Each function answers what it read and the tokens behind it.
+//! The descent: a script is read with one token in sight. Each function answers what it read and the tokens after it.
 
 ghost use Rattle.std.specs.Prelude.{◌≡◌, true, false, IfOk, string_bytes};
 ghost use Rattle.rc_model.specs.Syntax.Tree.{Lit};
@@ -28,11 +28,11 @@ use std::alloc::Global;
 pub enum Opening {
     /// A stage of a pipeline.
     Staged(Box<Cmd>),
-    /// The name of an assignment. The `=` is behind it.
+    /// The name of an assignment. The `=` follows it.
     Named(Box<Arg>),
 }
 
-/// A name behind a `$`.
+/// A name after a `$`.
 #[cycle(name)]
 #[tactic(auto, using(crate::proofs::Steps::levels, std::proofs::lemmas::Grind::common_steps), unfolding(rc_model::specs::Mirrors::Descent::name_by))]
 fn name(alloc: Global, left: usize, lexemes: &[Lexeme]) -> Result<(Box<Arg>, &[Lexeme]), TokenError>
@@ -126,7 +126,7 @@ fn arg(
     Ok((concat(alloc, first, others)?, rest))
 }
 
-/// The parts behind carets.
+/// The parts after carets.
 #[cycle(read)]
 #[tactic(auto, using(crate::proofs::Turns::parts))]
 fn parts(
@@ -632,7 +632,7 @@ fn control(
     }
 }
 
-/// Redirections with the operand behind them.
+/// Redirections with the operand after them.
 #[cycle(read)]
 #[tactic(auto, using(std::proofs::lemmas::Grind::common_steps), unfolding(rc_model::specs::Mirrors::Descent::redirected_by))]
 fn redirected(
@@ -732,7 +732,7 @@ fn piped(
     }
 }
 
-/// The value behind a `=`, further assignments and the command behind them.
+/// The value after a `=`, further assignments and the command after them.
 #[cycle(read)]
 #[tactic(auto, using(rc_tree_types::specs::View::tree_lists), unfolding(rc_model::specs::Mirrors::Descent::assigned_by))]
 fn assigned(
@@ -749,7 +749,7 @@ fn assigned(
     values(alloc, below, pairs, rest)
 }
 
-/// Further assignments and the command behind them.
+/// Further assignments and the command after them.
 #[cycle(read)]
 #[tactic(auto, using(crate::proofs::Turns::values))]
 fn values(
@@ -823,7 +823,7 @@ fn inner_operand(
     operand(alloc, left - 1, false, lexemes)
 }
 
-/// The operands behind the first one.
+/// The operands after the first one.
 #[cycle(read)]
 #[tactic(auto, using(crate::proofs::Turns::links))]
 fn links(

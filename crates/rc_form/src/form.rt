@@ -18,7 +18,7 @@ pub fn is_empty(cmd: &Cmd) -> bool
     matches!(cmd, Cmd::Empty)
 }
 
-/// Whether redirections stand behind the command.
+/// Whether redirections stand after the command.
 #[tactic(auto, using(rc_tree_types::specs::View::tree_walks))]
 pub fn stands_first(cmd: &Cmd, begins: bool) -> bool
     ensures { result ≡ stands_first (cmd_tree cmd.now) begins }
@@ -60,7 +60,7 @@ pub fn parting(background: bool) -> &'static str
     if background { " " } else { "; " }
 }
 
-/// The bar behind a stage.
+/// The bar after a stage.
 pub fn bar(slot: u8) -> &'static str
     ensures { result.now ≡ bar slot }
 {

@@ -24,7 +24,7 @@ use std::process::{Child, Command, Stdio};
 use std::rt::HostRuntime;
 use std::{env, fs, io};
 
-/// Linux as a world. It tells no events.
+/// Linux as a world. It records no events.
 ///
 /// Open files, here documents and ends of pipes have numbers of their own, which are not those of
 /// Linux. A child has its three descriptors and no other, and starts in the directory of the last

@@ -284,7 +284,7 @@ pub fn concat(alloc: Global, first: Box<Arg>, mut others: Vec<Arg>) -> Result<Bo
     Ok(Box::new(alloc, Arg::Concat(others))?)
 }
 
-/// A command with the redirections behind it.
+/// A command with the redirections after it.
 #[tactic(auto, using(crate::proofs::Parts::redirect_none, crate::proofs::Parts::redirect_some, rc_tree_types::specs::View::tree_Redirect, std::proofs::lemmas::Grind::common_steps))]
 pub fn redirect(alloc: Global, redirs: Vec<Redir>, body: Box<Cmd>) -> Result<Box<Cmd>, AllocError>
     ensures { IfOk result (λ b. cmd_tree b.value ≡ redirect (redirs_tree redirs.items) (cmd_tree body.value)) }

@@ -11,7 +11,7 @@ use rc_text::{first_char, is_name_char};
 use rc_tree::Piece;
 use std::alloc::{AllocError, Global};
 
-/// What has begun: a text, a text with a `$` behind it, or a name.
+/// What has begun: a text, a text with a `$` after it, or a name.
 #[derive(Drop)]
 pub enum Begun {
     Plain(String),
@@ -49,7 +49,7 @@ fn with_char(mut text: String, c: char) -> Result<String, AllocError>
     Ok(text)
 }
 
-/// What has begun behind one more character. A piece that it ends is pushed.
+/// What has begun after one more character. A piece that it ends is pushed.
 #[tactic(auto, using(rc_tree_types::specs::View::tree_lists))]
 fn next(alloc: Global, pieces: &mut Vec<Piece>, begun: Begun, c: char) -> Result<Begun, AllocError>
     ensures begun { IfOk result (λ b. begun_of b ≡ behind (begun_of begun) c) }

@@ -46,7 +46,7 @@ dollars_in script l = tokens_of script l.dollars.items
 abbrev pub bodies_in : List ℕ → Lexer → List (List ℕ)
 bodies_in script l = map (slice_at script) l.bodies.items
 
--- the state of a lexer that has read so many bytes of the script
+-- the state of a lexer that has read this many bytes of the script
 abbrev pub body_of : List Due → List ℕ → List ℕ → reading.State
 body_of [] body line = reading.Between model.Apart
 body_of (d ∷ due) body line = reading.Body (due_of d) body line
@@ -64,7 +64,7 @@ state_of script end dollars due (Closed b) = reading.Closed (before_of b.before)
 state_of script end dollars due (Operator b) = reading.Operator (before_of b.before) dollars (place_of b.start) (slice_range script b.start.byte end)
 state_of script end dollars due (Body b l) = body_of due (slice_range script b l) (slice_range script l end)
 
--- the here documents that are due behind the one whose body is read
+-- the here documents that are due after the one whose body is read
 abbrev pub behind_first : List Due → List model.Due
 behind_first [] = []
 behind_first (d ∷ due) = map due_of due
@@ -111,7 +111,7 @@ Does script end old new (Ok s) x =
 Does script end old new (Err (Fault f)) x = x ≡ Err f
 Does script end old new (Err NoMemory) x = Unit {0}
 
--- the lexer has read a lexeme between two places, and this stands behind it
+-- the lexer has read a lexeme between two places, and this stands after it
 pub record Spelled (script : List ℕ) (before after : Before) (l : model.Lexeme) (p q : Place) (old new : Lexer) : Type 0 where
   pub tokens : tokens_in script new ≡ tokens_in script old ++ model.tokens_of (before_of before) l (place_of p) (place_of q)
   pub due : due_in new ≡ model.due_after (before_of before) l (due_in old)

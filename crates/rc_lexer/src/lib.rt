@@ -109,7 +109,7 @@ fn zero_line(script: &str) -> Option<usize>
     None
 }
 
-/// The place behind a character.
+/// The place after a character.
 fn behind_char(place: Place, c: char) -> Place
     requires byte { place.byte < 2 ^ 63 }
     requires line { place.line < 2 ^ 63 + 1 }

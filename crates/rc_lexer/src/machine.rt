@@ -51,12 +51,12 @@ pub enum State {
     Comment,
     /// A backslash, which makes a newline a blank.
     Backslash(Begun),
-    /// A word with a backslash behind it, at this place.
+    /// A word with a backslash after it, at this place.
     WordBackslash(Begun, Place),
     Word(Begun),
     Name(Place),
     Quoted(Begun),
-    /// A quoted word behind a quote that ends it if no other follows.
+    /// A quoted word after a quote that ends it if no other follows.
     Closed(Begun),
     Operator(Begun),
     /// The body of the here document that is due first: where it begins, and where the line begins.
@@ -206,7 +206,7 @@ pub fn fault(kind: FaultKind, line: usize) -> LexError
     InputError::Fault(SyntaxFault { kind, line })
 }
 
-/// The token with the next body, if it is a here document, and the bodies behind that.
+/// The token with the next body, if it is a here document, and the bodies after that.
 fn with_body(token: Token, bodies: &[Span]) -> (Token, &[Span])
     ensures { (script : List ℕ) (ts : List model.Token) → model.filled (token_of script token ∷ ts) (map (slice_at script) bodies.now)
         ≡ token_of script result.0 ∷ model.filled ts (map (slice_at script) result.1.now) }
@@ -416,7 +416,7 @@ impl Lexer {
         Ok(behind(begun.before, TokenKind::Quoted))
     }
 
-    /// The character behind a word that is read so far.
+    /// The character after a word that is read so far.
     fn in_word(&mut self, script: &[u8], begun: Begun, head: Head) -> Result<State, LexError>
         requires head { IsHead script.now head }
         requires order { begun.start.byte ≤ head.place.byte }
@@ -435,7 +435,7 @@ impl Lexer {
         }
     }
 
-    /// The character behind a name that is read so far.
+    /// The character after a name that is read so far.
     fn in_name(&mut self, script: &[u8], start: Place, head: Head) -> Result<State, LexError>
         requires head { IsHead script.now head }
         requires order { start.byte ≤ head.place.byte }
@@ -451,7 +451,7 @@ impl Lexer {
         self.begin(script, Before::Name, head)
     }
 
-    /// The character behind a quoted word that it ends.
+    /// The character after a quoted word that it ends.
     fn behind_quoted(&mut self, script: &[u8], begun: Begun, head: Head) -> Result<State, LexError>
         requires head { IsHead script.now head }
         requires order { begun.start.byte ≤ head.place.byte }
@@ -494,7 +494,7 @@ impl Lexer {
         Ok(())
     }
 
-    /// The character behind `$`s whose name is still to come.
+    /// The character after `$`s whose name is still to come.
     fn behind_dollars(&mut self, script: &[u8], head: Head) -> Result<State, LexError>
         requires { IsHead script.now head }
         ensures does { Does script.now head.next.byte self.old self.new result
@@ -515,7 +515,7 @@ impl Lexer {
         self.begin(script, Before::Apart, head)
     }
 
-    /// The character behind an operator that it ends.
+    /// The character after an operator that it ends.
     fn operated(&mut self, script: &[u8], begun: Begun, head: Head) -> Result<State, LexError>
         requires head { IsHead script.now head }
         requires order { begun.start.byte ≤ head.place.byte }
@@ -549,7 +549,7 @@ impl Lexer {
         }
     }
 
-    /// The character behind an operator that is read so far.
+    /// The character after an operator that is read so far.
     fn in_operator(&mut self, script: &[u8], begun: Begun, head: Head) -> Result<State, LexError>
         requires head { IsHead script.now head }
         requires order { begun.start.byte ≤ head.place.byte }

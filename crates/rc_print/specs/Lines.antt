@@ -1,4 +1,4 @@
--- Texts and lines as a walk along a list writes them, behind what stands there already.
+-- Texts and lines as a walk along a list writes them, after what stands there already.
 use Rattle.std.specs.Prelude.{ℕ, List, [], ◌∷◌, ◌++◌, codes}
 use Rattle.rc_model.specs.Syntax.Printing.{Line, ended, parting}
 
@@ -7,7 +7,7 @@ abbrev pub led : (between mark : List ℕ) → List (List ℕ) → List ℕ
 led between mark [] = []
 led between mark (t ∷ ts) = between ++ (t ++ led mark mark ts)
 
--- each text with a space behind it
+-- each text with a space after it
 abbrev pub trailed : List (List ℕ) → List ℕ
 trailed [] = []
 trailed (t ∷ ts) = t ++ (codes " " ++ trailed ts)

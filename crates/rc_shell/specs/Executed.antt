@@ -12,17 +12,17 @@ use Rattle.rc_shell.specs.declared.script.Ran.TheVariants.{Ended, Limit, Halted,
 use Rattle.rc_shell.specs.declared.script.ShellFault.{ShellFault}
 use Rattle.rc_shell.specs.declared.script.ShellFault.TheVariants.{Syntax, NoMemory}
 
--- at most so many instructions end in this state, and so does the meaning
+-- at most `limit` instructions end in this state, and so does the meaning
 pub record EndsWithin (limit : ℕ) (t : Node cmd) (s : model.State) (trace : List Event) (end : model.State) : Type 0 where
   pub ran : run limit t s (answers trace) ≡ Ends (calls trace) end []
   pub meant : EndsAsMeant t s trace end
 
--- at most so many instructions wait at the call that was not answered, and so does the meaning
+-- at most `limit` instructions wait at the call that was not answered, and so does the meaning
 pub record HaltsWithin (limit : ℕ) (t : Node cmd) (s : model.State) (trace : List Event) : Type 0 where
   pub ran : run limit t s (answers trace) ≡ Waits (calls trace)
   pub meant : HaltsAsMeant t s trace
 
--- the calls are the first ones of at most so many instructions, and of the meaning
+-- the calls are the first ones of at most `limit` instructions, and of the meaning
 pub record IsBegunWithin (limit : ℕ) (t : Node cmd) (s : model.State) (trace : List Event) : Type 0 where
   pub ran : IsPrefix (calls trace) (calls_made (run limit t s (answers trace)))
   pub meant : IsBegunAsMeant t s trace

@@ -81,7 +81,7 @@ pub fn execute<W: World>(
     ensures syntax { IfErr result (λ f. IfSyntax f (λ fault. IsRefused script.now fault)) }
     ensures silent { (fault : SyntaxFault) → IsRefused script.now fault → W.events world.new ≡ W.events world.old }
 
-    // The calls are those of the meaning, and of at most so many instructions, over the answers that were given.
+    // The calls are those of the meaning, and of at most `limit` instructions, over the answers that were given.
     ensures meant { (t : Node cmd) → IsAccepted script.now t → Told (W.events world.old) (W.events world.new) (λ trace. RunsAsMeant limit t (state_of state) trace result) }
 
     // Where the meaning ends or waits, so does the code, from some number of instructions on.

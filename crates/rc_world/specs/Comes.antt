@@ -13,20 +13,20 @@ use Rattle.rc_world.specs.declared.types.Stop.TheVariants.{NoMemory, Halt}
 use Rattle.rc_world.specs.declared.types.Flow.{Flow}
 use Rattle.rc_world.specs.declared.types.Flow.TheVariants.{Next, Exit}
 
--- the events of a world so far: None where it does not tell them
+-- the events of a world so far: None where it does not record them
 abbrev pub Telling : Type 0 → Type 0
 Telling W = W → Option (List Event)
 
--- a world tells one call more, with its answer, and none that was not made
+-- a world records one call more, with its answer, and none that was not made
 abbrev pub Tells : {W : Type 0} → Telling W → W → W → Call → Answer → Type 0
 Tells events before after call answer = events after ≡ extend (events before) (told_by call answer)
 
--- between two tellings of a world, a plan was left: out of memory somewhere, or at a halt with its last call unanswered
+-- between two records of a world, a plan was left: out of memory somewhere, or at a halt with its last call unanswered
 pub data Left {X : Type 0} (before after : Option (List Event)) (plan : Plan X) : Stop → Type 0 where
   for_memory : (rest : Plan X) → Ran before after plan rest → Left before after plan NoMemory
   by_halt : Halted before after plan → Left before after plan Halt
 
--- between two tellings of a world, code came to the value of a plan, as its result is viewed, or the plan was left
+-- between two records of a world, code came to the value of a plan, as its result is viewed, or the plan was left
 abbrev pub Comes : {X T : Type 0} → (before after : Option (List Event)) → Plan X →
     (T → X) → Result T Stop → Type 0
 Comes before after plan view result =

@@ -1,4 +1,4 @@
--- What a tape tells: its calls, each with the answer that it plays.
+-- What a tape records: its calls, each with the answer that it plays.
 use Rattle.std.specs.Prelude.{◌≡◌, List, [], ◌∷◌, ◌++◌, map}
 use Rattle.rc_model.specs.Run.Calls.{Call, Answer, Event, event, told_by, fitting, refused}
 use Rattle.rc_model.specs.declared.call.Fault.TheVariants.{Halt, NoMemory, Other}
@@ -15,11 +15,11 @@ played (c ∷ rest) (a ∷ answers) = event c (fitting c a) ∷ played rest answ
 abbrev pub tape_answers : Tape → List Answer
 tape_answers tape = map answer_of tape.answers.items
 
--- what a tape tells
+-- what a tape records
 abbrev pub tape_events : Tape → List Event
 tape_events tape = played (map call_of tape.calls.items) (tape_answers tape)
 
--- a tape plays an answer to one call more, and tells it
+-- a tape plays an answer to one call more, and records it
 abbrev pub Plays : Tape → Tape → Call → Answer → Type 0
 Plays before after call answer =
     (tape_events after ≡ tape_events before ++ told_by call answer) × (tape_answers after ≡ tape_answers before)

@@ -10,10 +10,10 @@ ghost use Rattle.rc_world.specs.Views.{child_answer, ending_answer, names_answer
 
 use crate::{ChildNo, Ending, Fault, Handle, Kind, Launch, Mode, Slot};
 
-/// A world of calls. Each call adds its own event to what the world tells, and none where it was
+/// A world of calls. Each call adds its own event to what the world records, and none where it was
 /// not made since memory was refused.
 pub trait World {
-    /// The events so far, where the world tells them.
+    /// The events so far, where the world records them.
     ghost events: { Self → Option (List Event) };
 
     /// Opens a file.

@@ -7,7 +7,7 @@ use std::io::Write;
 use std::process::{Command, Output, Processes, Stdio};
 use std::rt::Files;
 
-/// What is to be seen of each run, and its script: a text so many times.
+/// Each run: what it shows, the text that its script repeats, and how often.
 const RUNS: [(&str, &[u8], usize); 14] = [
     ("a command", b"echo hello\n", 1),
     (

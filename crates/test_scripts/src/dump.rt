@@ -1,4 +1,4 @@
-//! A tree as a text. A list of commands stands in brackets, any other form in parentheses behind its name.
+//! A tree as a text. A list of commands stands in brackets, any other form in parentheses after its name.
 
 use rc_tree::{Arg, Branch, Cmd, Item, Logic, Mode, Piece, Redir, Stage};
 use std::alloc::{AllocError, Global};

@@ -5,7 +5,7 @@ use rc_tree::{Cmd, Piece, Redir};
 use std::alloc::{AllocError, Global};
 use std::test::Fail;
 
-/// The pieces of a body, each in brackets: a text as it is, a name behind `$`.
+/// The pieces of a body, each in brackets: a text as it is, a name after `$`.
 fn pieces(alloc: Global, quoted: bool, body: &str) -> Result<String, Fail> {
     let lexemes = vec![in alloc;
         Lexeme::Word(String::from_str(alloc, "c")?),
@@ -45,7 +45,7 @@ fn write_pieces(out: &mut String, redir: &Redir) -> Result<(), AllocError> {
 }
 
 #[test]
-fn pieces_behind_a_plain_mark(rt: HostRuntime) -> Result<(), Fail> {
+fn pieces_after_a_plain_mark(rt: HostRuntime) -> Result<(), Fail> {
     for (body, want) in [
         ("$x^y $$ $z\n", "[$x][y $ ][$z][\n]"),
         ("", ""),
@@ -74,7 +74,7 @@ fn pieces_behind_a_plain_mark(rt: HostRuntime) -> Result<(), Fail> {
 }
 
 #[test]
-fn pieces_behind_a_quoted_mark(rt: HostRuntime) -> Result<(), Fail> {
+fn pieces_after_a_quoted_mark(rt: HostRuntime) -> Result<(), Fail> {
     for (body, want) in [("", ""), ("$x^y $$ $z\n", "[$x^y $$ $z\n]")] {
         assert_eq!(&rt; pieces(rt.alloc(), true, body)?.as_str(), want);
     }

@@ -48,7 +48,7 @@ const FLAT_VALUES: Frame = Frame {
     levels: 4,
 };
 
-/// What begins and ends so many levels.
+/// What begins and ends this many levels.
 type Levels = (&'static str, &'static str, usize);
 
 /// What comes of a script of this depth.
@@ -201,7 +201,7 @@ fn depth_without_bound(rt: HostRuntime) -> Result<(), Fail> {
     Ok(())
 }
 
-/// A pipeline of so many stages, with this around it, and what is left where it is refused.
+/// A pipeline of this many stages, with this around it, and what is left where it is refused.
 fn staged(
     alloc: Global,
     begin: &str,

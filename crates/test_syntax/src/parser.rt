@@ -1,5 +1,5 @@
-//! Scripts that are long, deep or wide, and faults of the whole text. The crate `rc_rows` has other scripts, each with its
-//! tree or its fault.
+//! Scripts that are long, deep or wide, and faults of the whole text. The crate `test_scripts` has other scripts, each
+//! with its tree or its fault.
 
 use rc_parser::{ParseError, parse};
 use std::alloc::{AllocError, Global};
@@ -16,7 +16,7 @@ fn fault(alloc: Global, script: &[u8]) -> Result<String, AllocError> {
     }
 }
 
-/// So many times the first text, and then the last.
+/// The first text this many times, and then the last.
 fn repeated(alloc: Global, text: &str, times: usize, last: &str) -> Result<String, AllocError> {
     let mut script = String::new(alloc);
     for _ in 0..times {

@@ -6,7 +6,7 @@ use rc_model::InputError;
 use std::test::Fail;
 
 #[test]
-fn if_not_behind_an_if(rt: HostRuntime) -> Result<(), Fail> {
+fn if_not_after_an_if(rt: HostRuntime) -> Result<(), Fail> {
     for script in [
         "if ( a ) b ; if not c",
         "if ( a ) b \\ if not c",

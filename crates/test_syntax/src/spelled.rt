@@ -30,7 +30,7 @@ fn lexeme(alloc: Global, spelling: &str) -> Result<Lexeme, AllocError> {
     })
 }
 
-/// Adds the lexemes of these spellings, so many times. Blanks part them.
+/// Adds the lexemes of these spellings, this many times. Blanks part them.
 pub fn add(
     alloc: Global,
     lexemes: &mut Vec<Lexeme>,

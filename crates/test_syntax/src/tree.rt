@@ -1,4 +1,4 @@
-//! The bounds of a well formed tree. The crate `rc_rows` has each form at its text.
+//! The bounds of a well formed tree. The crate `test_scripts` has each form at its text.
 
 use rc_tree::{Arg, Cmd, Mode, Piece, PrintFault, Redir, Stage, clone_tree, print, well_formed};
 use std::alloc::{AllocError, Global};
@@ -35,7 +35,7 @@ fn open(alloc: Global, mode: Mode, slot: u8) -> Result<Redir, AllocError> {
     Ok(Redir::Open { mode, slot, file })
 }
 
-/// So many stages before the last one.
+/// This many stages before the last one.
 fn pipeline(alloc: Global, count: usize) -> Result<Cmd, AllocError> {
     let mut stages = Vec::new(alloc);
     for _ in 0..count {
