@@ -12,7 +12,7 @@ use Rattle.rc_model.specs.Mirrors.Spelling.{IsText, IsWord, IsName, AreSpelled}
 use Rattle.rc_model.specs.Handed.TreeSpelling.{has_characters}
 use Rattle.rc_model.specs.Handed.HandedLaws.{AcceptedAreScripts}
 use Rattle.law_grammar.proofs.Passed.{past_newlines_spelled, past_blanks_spelled, past_caret_spelled, after_caret_spelled}
-use Rattle.law_acceptance.proofs.Decided.{are_spelled}
+use Rattle.law_acceptance.proofs.Decided.{accepted_formed, are_spelled}
 use Rattle.law_handed.proofs.Bodies.{all_have, name_utf8, pieces_whole}
 
 -- the texts of a tree are of whole characters, and those of each of several
@@ -209,4 +209,4 @@ pub accepted_are_scripts : AcceptedAreScripts
 accepted_are_scripts text c a =
     let items = (whole_of a.tree_is.script.1 (are_spelled a.has)).0 in
     let whole : IsWhole (t.Seq a.tree_is.script.0) = items in
-    record { sound = a.tree_is.formed; characters = subst IsWhole (sym a.tree_is.script.2) whole }
+    record { sound = accepted_formed text c a; characters = subst IsWhole (sym a.tree_is.script.2) whole }
