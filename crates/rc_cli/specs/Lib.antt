@@ -1,4 +1,6 @@
 pub mod FaultLines
+pub mod Asked
+pub mod Requests
 pub mod Runs
 pub mod Start
 pub mod Statuses

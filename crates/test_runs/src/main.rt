@@ -5,15 +5,19 @@
 mod runs;
 
 use anyhow::Result;
-use rc_cli::{RunFault, report, run_rc};
+use rc_cli::{RunFault, file_of, report, run_rc};
 use rc_host::{HostWorld, arguments, own_path};
 use runs::show_all;
+use std::fs;
 use std::process::ExitCode;
 
-fn shell(rt: HostRuntime, words: &[String]) -> Result<u8, RunFault> {
+fn shell<'a>(rt: HostRuntime, words: &'a [String]) -> Result<u8, RunFault<'a>> {
     let shell = own_path(&rt)?;
     let mut world = HostWorld::new(rt, shell);
-    run_rc(rt.alloc(), &mut world, words, rt.reader())
+    match file_of(words) {
+        Some(name) => run_rc(rt.alloc(), &mut world, words, fs::open(&rt, name).ok()),
+        None => run_rc(rt.alloc(), &mut world, words, Some(rt.reader())),
+    }
 }
 
 fn main(rt: HostRuntime) -> Result<ExitCode> {
