@@ -1,14 +1,13 @@
-//! Nothing is lost by the code of a script, and a shell of a family has one outcome.
+//! Nothing is lost by the code of a script.
 #![tactic(auto)]
 
 ghost use Rattle.rc_model.specs.Family.Accounts.{IsFresh, NothingLost, NothingLeft};
-ghost use Rattle.rc_model.specs.Run.Calls.{Call, Event};
-ghost use Rattle.rc_model.specs.Family.Family.{Process, IsPending, HasEnded};
+ghost use Rattle.rc_model.specs.Run.Calls.{Event};
 ghost use Rattle.rc_model.specs.Code.Machine.{exec, begin};
 ghost use Rattle.rc_model.specs.Run.Plans.{Plan, Goes, done_with};
 ghost use Rattle.rc_model.specs.Run.State.{State};
 ghost use Rattle.rc_model.specs.Syntax.Tree.{Node, cmd};
-ghost use Rattle.std.specs.Prelude.{List, ℕ, ◌≡◌};
+ghost use Rattle.std.specs.Prelude.{List, ℕ};
 
 /// Wherever the code of a script is left, over fresh answers, each of its calls named what was held or owed.
 pub fn code_loses_nothing()
@@ -18,9 +17,4 @@ pub fn code_loses_nothing()
 /// Where the code ends nothing is held, and what is owed stands in the background list.
 pub fn code_leaves_nothing()
     ensures { (m : ℕ) (c : Node cmd) (s t : State) (trace : List Event) → Goes (exec m (begin c s)) trace (done_with t) → IsFresh s trace → NothingLeft s trace t }
-{}
-
-/// A shell waits for one call at most, and for none where it has ended.
-pub fn one_outcome()
-    ensures { (p : Process) (c : Call) → IsPending p c → (HasEnded p → ⊥) × ((d : Call) → IsPending p d → c ≡ d) }
 {}

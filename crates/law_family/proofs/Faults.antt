@@ -6,7 +6,7 @@ use Rattle.rc_model.specs.Syntax.Tree.{Node, cmd}
 use Rattle.rc_model.specs.Run.State.{State}
 use Rattle.rc_model.specs.Family.Family.{Process, Family, IsPending, HasEnded}
 use Rattle.rc_model.specs.Family.StepFaults.{StepFault, NoProcess, AtEnd, WrongKind, AtLimit, IsRefused, IsMade}
-use Rattle.law_traces.proofs.Outcome.{one_outcome, one_pending}
+use Rattle.law_family.proofs.Outcome.{one_outcome, one_pending}
 use Rattle.law_machine.proofs.Turns.{turns_go_on}
 
 not_both : (p : Process) (c : Call) → IsPending p c → HasEnded p → ⊥

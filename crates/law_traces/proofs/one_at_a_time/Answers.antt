@@ -1,5 +1,0 @@
-use Rattle.law_traces.proofs.Members.{one_at_a_time as the_law}
-use Rattle.law_traces.proofs.one_at_a_time.Goals as goal
-
-pub returns : goal.returns
-returns c = the_law
