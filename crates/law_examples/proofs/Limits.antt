@@ -1,11 +1,11 @@
 -- The limits of a tree, of an image and of a launch.
 use Rattle.std.proofs.Common.{List, refl, ◌∷◌, ◌++◌, ◌≡◌, []}
 use Rattle.std.specs.Prelude.{ℕ, zero, suc, codes, Some, None, true, false, is_some}
-use Rattle.rc_model.specs.Run.Calls.{plain, write, wait, probe, done, child, ended, found}
+use Rattle.rc_model.specs.Run.Calls.{plain, make_pipe, close, read, write, wait, probe, pair, done, bytes, child, ended, found}
 use Rattle.rc_model.specs.declared.call.Slot.TheVariants.{Own}
 use Rattle.rc_model.specs.declared.call.Kind.TheVariants.{Program}
 use Rattle.rc_model.specs.declared.call.Ending.TheVariants.{Code}
-use Rattle.law_examples.specs.Shown.{fresh, with_value, usual, subshell, Does, meant, ran, tree, ◌▸◌}
+use Rattle.law_examples.specs.Shown.{fresh, with_value, usual, writing_to, subshell, Does, meant, ran, tree, ◌▸◌}
 use Rattle.rc_model.specs.Syntax.Tree.{Node, cmd, Simple, Lit, more, none}
 use Rattle.rc_model.specs.Handed.Image.{image_words, node_image, many_image}
 use Rattle.rc_model.specs.Handed.Pieces.{pieces, last_cut}
@@ -48,8 +48,8 @@ letters (suc n) = 97 ∷ letters n
 
 -- an entry of 100,000 bytes is handed over
 largest_entry : Does (codes "@ c") (with_value fresh (codes "x") (letters 99998 ∷ []))
-    (subshell (codes "rc1;c1,w1:c") (usual ++ (codes "x=" ++ letters 99998) ∷ []) plain ▸ child 1 ∷ wait 1 ▸ ended (Code 0) ∷ [])
-    []
+      (subshell (codes "rc1;c1,w1:c") (usual ++ (codes "x=" ++ letters 99998) ∷ []) plain ▸ child 1 ∷ wait 1 ▸ ended (Code 0) ∷ [])
+      []
 unfolding meant ran letters
 largest_entry = (refl, refl)
 
@@ -61,8 +61,8 @@ too_large_an_entry = (refl, refl)
 -- an argument of 100,001 bytes is not handed to a program, which is reported
 too_large_an_argument :
     Does (codes "c $1") (with_value fresh (codes "*") (letters 100001 ∷ []))
-    (probe (codes "/bin/c") ▸ found Program ∷ write (Own 2) (codes "rc: c: too large\n") ▸ done ∷ [])
-    (codes "too large")
+      (probe (codes "/bin/c") ▸ found Program ∷ write (Own 2) (codes "rc: c: too large\n") ▸ done ∷ [])
+      (codes "too large")
 unfolding meant ran letters
 too_large_an_argument = (refl, refl)
 
@@ -84,3 +84,16 @@ the_shortest_piece = refl
 two_pieces : image_words (word 99991) ≡ Some (codes "rc2;2" ∷ (codes "c1,w99991:" ++ letters 99990) ∷ codes "a" ∷ [])
 unfolding word letters node_image many_image digits pieces last_cut
 two_pieces = refl
+
+-- an answer of more than 4096 bytes is a refusal
+too_long_a_read :
+    Does (codes "x=`{c}") fresh
+      (make_pipe ▸ pair 3 4
+      ∷ subshell (codes "rc1;s1,;c1,w1:c") usual (writing_to 4) ▸ child 1
+      ∷ close 4 ▸ done
+      ∷ read 3 ▸ bytes (letters 4097)
+      ∷ close 3 ▸ done
+      ∷ wait 1 ▸ ended (Code 0) ∷ [])
+      (codes "cannot read")
+unfolding meant ran letters
+too_long_a_read = (refl, refl)
