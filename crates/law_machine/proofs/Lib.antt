@@ -1,4 +1,5 @@
 pub mod Less
+pub mod Limits
 pub mod Place
 pub mod Run
 pub mod Legs

@@ -5,9 +5,15 @@ ghost use Rattle.rc_model.specs.Run.Calls.{Answer};
 ghost use Rattle.rc_model.specs.Run.Script.{Agrees};
 ghost use Rattle.rc_model.specs.Run.State.{State};
 ghost use Rattle.rc_model.specs.Syntax.Tree.{Node, cmd};
+ghost use Rattle.law_machine.specs.Limits.{LimitsEnd};
 ghost use Rattle.std.specs.Prelude.{List};
 
 /// The code of a script does what the script means, for all answers.
 pub fn machine_agrees()
     ensures { (c : Node cmd) (s : State) (given : List Answer) → Agrees c s given }
+{}
+
+/// Where the meaning ends or waits, limits that are high enough are not met.
+pub fn limits_end()
+    ensures { LimitsEnd }
 {}
