@@ -11,8 +11,8 @@ use Rattle.law_examples.specs.Shown.{fresh, with_value, usual, runs, Does, meant
 -- the status says so, and the script goes on
 eval_of_a_wrong_text :
     Does (codes "eval '('; echo z") fresh
-      (runs (codes "echo") (codes "z" ∷ []) (codes "path=/bin" ∷ codes "status=syntax error" ∷ []) 7 0)
-      []
+    (runs (codes "echo") (codes "z" ∷ []) (codes "path=/bin" ∷ codes "status=syntax error" ∷ []) 7 0)
+    []
 unfolding meant ran
 eval_of_a_wrong_text = (refl, refl)
 
@@ -29,53 +29,53 @@ eval_of_nothing = (refl, refl)
 -- it is looked for in the path and read to its end
 a_file_is_run_with_its_arguments :
     Does (codes ". lib q") fresh
-      (open_file (codes "/bin/lib") Read ▸ file 3
-      ∷ read 3 ▸ bytes (codes "echo $1")
-      ∷ read 3 ▸ bytes []
-      ∷ close 3 ▸ done
-      ∷ runs (codes "echo") (codes "q" ∷ []) usual 7 0)
-      []
+    (open_file (codes "/bin/lib") Read ▸ file 3
+    ∷ read 3 ▸ bytes (codes "echo $1")
+    ∷ read 3 ▸ bytes []
+    ∷ close 3 ▸ done
+    ∷ runs (codes "echo") (codes "q" ∷ []) usual 7 0)
+    []
 unfolding meant ran
 a_file_is_run_with_its_arguments = (refl, refl)
 
 -- no other is in the path
 a_file_that_does_not_open :
     Does (codes ". lib") fresh
-      (open_file (codes "/bin/lib") Read ▸ refused Other ∷ [])
-      (codes "cannot open")
+    (open_file (codes "/bin/lib") Read ▸ refused Other ∷ [])
+    (codes "cannot open")
 unfolding meant ran
 a_file_that_does_not_open = (refl, refl)
 
 -- it is closed, and nothing is run
 a_file_that_cannot_be_read :
     Does (codes ". ./lib") fresh
-      (open_file (codes "./lib") Read ▸ file 3
-      ∷ read 3 ▸ bytes (codes "exit 1")
-      ∷ read 3 ▸ refused Other
-      ∷ close 3 ▸ done ∷ [])
-      (codes "cannot read")
+    (open_file (codes "./lib") Read ▸ file 3
+    ∷ read 3 ▸ bytes (codes "exit 1")
+    ∷ read 3 ▸ refused Other
+    ∷ close 3 ▸ done ∷ [])
+    (codes "cannot read")
 unfolding meant ran
 a_file_that_cannot_be_read = (refl, refl)
 
 -- it is closed
 a_file_with_a_wrong_text :
     Does (codes ". ./lib") fresh
-      (open_file (codes "./lib") Read ▸ file 3
-      ∷ read 3 ▸ bytes (codes "(")
-      ∷ read 3 ▸ bytes []
-      ∷ close 3 ▸ done ∷ [])
-      (codes "syntax error")
+    (open_file (codes "./lib") Read ▸ file 3
+    ∷ read 3 ▸ bytes (codes "(")
+    ∷ read 3 ▸ bytes []
+    ∷ close 3 ▸ done ∷ [])
+    (codes "syntax error")
 unfolding meant ran
 a_file_with_a_wrong_text = (refl, refl)
 
 -- it is closed before it is run
 exit_in_a_file_ends_the_shell :
     Does (codes ". ./lib; c") fresh
-      (open_file (codes "./lib") Read ▸ file 3
-      ∷ read 3 ▸ bytes (codes "exit 1")
-      ∷ read 3 ▸ bytes []
-      ∷ close 3 ▸ done ∷ [])
-      (codes "1")
+    (open_file (codes "./lib") Read ▸ file 3
+    ∷ read 3 ▸ bytes (codes "exit 1")
+    ∷ read 3 ▸ bytes []
+    ∷ close 3 ▸ done ∷ [])
+    (codes "1")
 unfolding meant ran
 exit_in_a_file_ends_the_shell = (refl, refl)
 
@@ -92,16 +92,16 @@ builtin_ignores_functions = (refl, refl)
 -- a program by its name
 builtin_runs_programs_too :
     Does (codes "fn c {d}; builtin c") fresh
-      (runs (codes "c") [] (codes "fn#c=rc1;s1,;c1,w1:d" ∷ usual) 1 0)
-      []
+    (runs (codes "c") [] (codes "fn#c=rc1;s1,;c1,w1:d" ∷ usual) 1 0)
+    []
 unfolding meant ran
 builtin_runs_programs_too = (refl, refl)
 
 -- in the order of `$cdpath`
 cd_tries_each_directory :
     Does (codes "cd src") (with_value fresh (codes "cdpath") (codes "/a" ∷ codes "/b" ∷ []))
-      (change_dir (codes "/a/src") ▸ refused Other ∷ change_dir (codes "/b/src") ▸ done ∷ [])
-      []
+    (change_dir (codes "/a/src") ▸ refused Other ∷ change_dir (codes "/b/src") ▸ done ∷ [])
+    []
 unfolding meant ran
 cd_tries_each_directory = (refl, refl)
 
@@ -113,16 +113,16 @@ cd_without_a_path = (refl, refl)
 -- `./x`, `.` and `..` are tried as they are
 cd_of_an_own_path :
     Does (codes "cd ..") (with_value fresh (codes "cdpath") (codes "/a" ∷ []))
-      (change_dir (codes "..") ▸ done ∷ [])
-      []
+    (change_dir (codes "..") ▸ done ∷ [])
+    []
 unfolding meant ran
 cd_of_an_own_path = (refl, refl)
 
 -- the first member of `$home`
 cd_without_words_goes_home :
     Does (codes "cd") (with_value fresh (codes "home") (codes "/h" ∷ codes "/i" ∷ []))
-      (change_dir (codes "/h") ▸ done ∷ [])
-      []
+    (change_dir (codes "/h") ▸ done ∷ [])
+    []
 unfolding meant ran
 cd_without_words_goes_home = (refl, refl)
 
@@ -134,10 +134,10 @@ cd_without_a_home = (refl, refl)
 -- an empty member and `.` give the directory itself
 cd_with_this_directory_in_its_path :
     Does (codes "cd d") (with_value fresh (codes "cdpath") ([] ∷ codes "/a" ∷ codes "." ∷ []))
-      (change_dir (codes "d") ▸ refused Other
-      ∷ change_dir (codes "/a/d") ▸ refused Other
-      ∷ change_dir (codes "d") ▸ refused Other ∷ [])
-      (codes "cannot cd")
+    (change_dir (codes "d") ▸ refused Other
+    ∷ change_dir (codes "/a/d") ▸ refused Other
+    ∷ change_dir (codes "d") ▸ refused Other ∷ [])
+    (codes "cannot cd")
 unfolding meant ran
 cd_with_this_directory_in_its_path = (refl, refl)
 
@@ -154,17 +154,17 @@ exec_ends_the_shell = (refl, refl)
 -- also where the program is missing
 exec_ends_the_shell_where_it_failed :
     Does (codes "exec nope; d") fresh
-      (probe (codes "/bin/nope") ▸ refused Other
-      ∷ write (Own 2) (codes "rc: nope: not found\n") ▸ done ∷ [])
-      (codes "not found")
+    (probe (codes "/bin/nope") ▸ refused Other
+    ∷ write (Own 2) (codes "rc: nope: not found\n") ▸ done ∷ [])
+    (codes "not found")
 unfolding meant ran
 exec_ends_the_shell_where_it_failed = (refl, refl)
 
 -- and functions
 exec_ignores_built_ins :
     Does (codes "fn cd {d}; exec cd") fresh
-      (probe (codes "/bin/cd") ▸ refused Other ∷ write (Own 2) (codes "rc: cd: not found\n") ▸ done ∷ [])
-      (codes "not found")
+    (probe (codes "/bin/cd") ▸ refused Other ∷ write (Own 2) (codes "rc: cd: not found\n") ▸ done ∷ [])
+    (codes "not found")
 unfolding meant ran
 exec_ignores_built_ins = (refl, refl)
 
@@ -181,8 +181,8 @@ exit_keeps_the_status = (refl, refl)
 -- past the end it empties `$*`
 shift_takes_from_the_front :
     Does (codes "*=(a b); shift; echo $*; shift 5; exit $#*") fresh
-      (runs (codes "echo") (codes "b" ∷ []) usual 7 0)
-      (codes "0")
+    (runs (codes "echo") (codes "b" ∷ []) usual 7 0)
+    (codes "0")
 unfolding meant ran
 shift_takes_from_the_front = (refl, refl)
 
@@ -214,26 +214,26 @@ wait_without_children = (refl, refl)
 -- in one write
 whatis_shows_values_and_functions :
     Does (codes "x=(a 'b c'); fn f {echo hi}; whatis x f cd") fresh
-      (write (Own 1) (codes "x=(a 'b c')\nfn f {echo hi}\nbuiltin cd\n") ▸ done ∷ [])
-      []
+    (write (Own 1) (codes "x=(a 'b c')\nfn f {echo hi}\nbuiltin cd\n") ▸ done ∷ [])
+    []
 unfolding meant ran
 whatis_shows_values_and_functions = (refl, refl)
 
 -- a missing one is the status; names are in order
 whatis_shows_programs :
     Does (codes "fn f g {}; fn f; whatis f g h; exit $status") fresh
-      (probe (codes "/bin/f") ▸ refused Other
-      ∷ probe (codes "/bin/h") ▸ found Program
-      ∷ write (Own 1) (codes "fn g {}\n/bin/h\n") ▸ done ∷ [])
-      (codes "not found")
+    (probe (codes "/bin/f") ▸ refused Other
+    ∷ probe (codes "/bin/h") ▸ found Program
+    ∷ write (Own 1) (codes "fn g {}\n/bin/h\n") ▸ done ∷ [])
+    (codes "not found")
 unfolding meant ran
 whatis_shows_programs = (refl, refl)
 
 -- the status says so
 whatis_of_a_refused_write :
     Does (codes "fn f {echo hi}; whatis f") fresh
-      (write (Own 1) (codes "fn f {echo hi}\n") ▸ refused Other ∷ [])
-      (codes "cannot write")
+    (write (Own 1) (codes "fn f {echo hi}\n") ▸ refused Other ∷ [])
+    (codes "cannot write")
 unfolding meant ran
 whatis_of_a_refused_write = (refl, refl)
 
@@ -245,16 +245,16 @@ whatis_of_a_here_document = (refl, refl)
 -- a name may be both
 whatis_shows_a_variable_and_its_function :
     Does (codes "x=''; fn x {}; whatis x") fresh
-      (write (Own 1) (codes "x=''\nfn x {}\n") ▸ done ∷ [])
-      []
+    (write (Own 1) (codes "x=''\nfn x {}\n") ▸ done ∷ [])
+    []
 unfolding meant ran
 whatis_shows_a_variable_and_its_function = (refl, refl)
 
 -- keywords and other characters
 whatis_quotes_what_needs_it :
     Does (codes "x=(for 'it''s' a/b.c); whatis x") fresh
-      (write (Own 1) (codes "x=('for' 'it''s' a/b.c)\n") ▸ done ∷ [])
-      []
+    (write (Own 1) (codes "x=('for' 'it''s' a/b.c)\n") ▸ done ∷ [])
+    []
 unfolding meant ran
 whatis_quotes_what_needs_it = (refl, refl)
 
@@ -276,18 +276,18 @@ whatis_of_a_path = (refl, refl)
 -- a home that is no own path is looked for, too
 home_goes_by_the_same_rule :
     Does (codes "cd") (with_value (with_value fresh (codes "cdpath") (codes "/a" ∷ [])) (codes "home") (codes "d" ∷ []))
-      (change_dir (codes "/a/d") ▸ done ∷ [])
-      []
+    (change_dir (codes "/a/d") ▸ done ∷ [])
+    []
 unfolding meant ran
 home_goes_by_the_same_rule = (refl, refl)
 
 -- `$*` is empty while it is run
 a_file_without_arguments_has_none :
     Does (codes "*=a; . ./lib") fresh
-      (open_file (codes "./lib") Read ▸ file 3
-      ∷ read 3 ▸ bytes (codes "exit $#*")
-      ∷ read 3 ▸ bytes []
-      ∷ close 3 ▸ done ∷ [])
-      (codes "0")
+    (open_file (codes "./lib") Read ▸ file 3
+    ∷ read 3 ▸ bytes (codes "exit $#*")
+    ∷ read 3 ▸ bytes []
+    ∷ close 3 ▸ done ∷ [])
+    (codes "0")
 unfolding meant ran
 a_file_without_arguments_has_none = (refl, refl)

@@ -6,8 +6,8 @@ use Rattle.law_examples.specs.Shown.{fresh, usual, runs, Does, meant, ran}
 -- each looks at the flag that the last condition left
 if_not_runs_where_the_condition_failed :
     Does (codes "if(~ a b) p\nif not if(~ a a) q\nif not r") fresh
-      (runs (codes "q") [] usual 7 0)
-      []
+    (runs (codes "q") [] usual 7 0)
+    []
 unfolding meant ran
 if_not_runs_where_the_condition_failed = (refl, refl)
 
@@ -39,26 +39,26 @@ and_runs_where_the_left_is_true = (refl, refl)
 -- the right side of `||` is run where the left failed
 or_runs_where_the_left_is_false :
     Does (codes "a || b") fresh
-      (runs (codes "a") [] usual 1 1
-      ++ runs (codes "b") [] (codes "path=/bin" ∷ codes "status=1" ∷ []) 2 0)
-      []
+    (runs (codes "a") [] usual 1 1
+    ++ runs (codes "b") [] (codes "path=/bin" ∷ codes "status=1" ∷ []) 2 0)
+    []
 unfolding meant ran
 or_runs_where_the_left_is_false = (refl, refl)
 
 -- `&&` and `||` are of one rank
 and_or_go_from_the_left :
     Does (codes "a || b && c") fresh
-      (runs (codes "a") [] usual 1 0 ++ runs (codes "c") [] usual 2 0)
-      []
+    (runs (codes "a") [] usual 1 0 ++ runs (codes "c") [] usual 2 0)
+    []
 unfolding meant ran
 and_or_go_from_the_left = (refl, refl)
 
 -- a skipped operand does not stop the next one
 skipped_operands_leave_the_status :
     Does (codes "a && b || c") fresh
-      (runs (codes "a") [] usual 1 1
-      ++ runs (codes "c") [] (codes "path=/bin" ∷ codes "status=1" ∷ []) 2 3)
-      (codes "3")
+    (runs (codes "a") [] usual 1 1
+    ++ runs (codes "c") [] (codes "path=/bin" ∷ codes "status=1" ∷ []) 2 3)
+    (codes "3")
 unfolding meant ran
 skipped_operands_leave_the_status = (refl, refl)
 
@@ -80,8 +80,8 @@ a_status_of_zeros_and_bars_is_true = (refl, refl)
 -- the commands from the first match to the next case line
 switch_runs_the_first_match :
     Does (codes "switch b {case a; p; case b c; q; r; case *; s}") fresh
-      (runs (codes "q") [] usual 1 0 ++ runs (codes "r") [] usual 2 0)
-      []
+    (runs (codes "q") [] usual 1 0 ++ runs (codes "r") [] usual 2 0)
+    []
 unfolding meant ran
 switch_runs_the_first_match = (refl, refl)
 

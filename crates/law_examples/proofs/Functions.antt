@@ -9,9 +9,9 @@ use Rattle.law_examples.specs.Shown.{fresh, usual, runs, Does, meant, ran, Stops
 -- `$*` is that of the call, and scope is dynamic
 a_function_sees_its_arguments_and_the_locals_around_it :
     Does (codes "fn f {echo $1 $x}; x=l f q; f r") fresh
-      (runs (codes "echo") (codes "q" ∷ codes "l" ∷ []) (codes "fn#f=rc1;s1,;c3,w4:echo$w1:1$w1:x" ∷ usual ++ codes "x=l" ∷ []) 7 0
-      ++ runs (codes "echo") (codes "r" ∷ []) (codes "fn#f=rc1;s1,;c3,w4:echo$w1:1$w1:x" ∷ usual) 7 0)
-      []
+    (runs (codes "echo") (codes "q" ∷ codes "l" ∷ []) (codes "fn#f=rc1;s1,;c3,w4:echo$w1:1$w1:x" ∷ usual ++ codes "x=l" ∷ []) 7 0
+    ++ runs (codes "echo") (codes "r" ∷ []) (codes "fn#f=rc1;s1,;c3,w4:echo$w1:1$w1:x" ∷ usual) 7 0)
+    []
 unfolding meant ran
 a_function_sees_its_arguments_and_the_locals_around_it = (refl, refl)
 
@@ -38,8 +38,8 @@ a_function_changes_the_global = (refl, refl)
 -- files are closed and locals undone on the way
 exit_in_a_function_ends_the_shell :
     Does (codes "fn f {for(i in 1 2) {exit $i$x}}; x=y f >g") fresh
-      (open_file (codes "g") Write ▸ file 3 ∷ close 3 ▸ done ∷ [])
-      (codes "1y")
+    (open_file (codes "g") Write ▸ file 3 ∷ close 3 ▸ done ∷ [])
+    (codes "1y")
 unfolding meant ran
 exit_in_a_function_ends_the_shell = (refl, refl)
 
@@ -56,8 +56,8 @@ an_inner_function_is_global = (refl, refl)
 -- a bad name is a runtime error
 a_function_needs_a_name :
     Does (codes "fn a 'b=c' {p}") fresh
-      (write (Own 2) (codes "rc: bad name\n") ▸ done ∷ [])
-      (codes "error")
+    (write (Own 2) (codes "rc: bad name\n") ▸ done ∷ [])
+    (codes "error")
 unfolding meant ran
 a_function_needs_a_name = (refl, refl)
 

@@ -48,8 +48,8 @@ letters (suc n) = 97 ∷ letters n
 
 -- an entry of 100,000 bytes is handed over
 largest_entry : Does (codes "@ c") (with_value fresh (codes "x") (letters 99998 ∷ []))
-      (subshell (codes "rc1;c1,w1:c") (usual ++ (codes "x=" ++ letters 99998) ∷ []) plain ▸ child 1 ∷ wait 1 ▸ ended (Code 0) ∷ [])
-      []
+    (subshell (codes "rc1;c1,w1:c") (usual ++ (codes "x=" ++ letters 99998) ∷ []) plain ▸ child 1 ∷ wait 1 ▸ ended (Code 0) ∷ [])
+    []
 unfolding meant ran letters
 largest_entry = (refl, refl)
 
@@ -61,8 +61,8 @@ too_large_an_entry = (refl, refl)
 -- an argument of 100,001 bytes is not handed to a program, which is reported
 too_large_an_argument :
     Does (codes "c $1") (with_value fresh (codes "*") (letters 100001 ∷ []))
-      (probe (codes "/bin/c") ▸ found Program ∷ write (Own 2) (codes "rc: c: too large\n") ▸ done ∷ [])
-      (codes "too large")
+    (probe (codes "/bin/c") ▸ found Program ∷ write (Own 2) (codes "rc: c: too large\n") ▸ done ∷ [])
+    (codes "too large")
 unfolding meant ran letters
 too_large_an_argument = (refl, refl)
 
@@ -88,12 +88,12 @@ two_pieces = refl
 -- an answer of more than 4096 bytes is a refusal
 too_long_a_read :
     Does (codes "x=`{c}") fresh
-      (make_pipe ▸ pair 3 4
-      ∷ subshell (codes "rc1;s1,;c1,w1:c") usual (writing_to 4) ▸ child 1
-      ∷ close 4 ▸ done
-      ∷ read 3 ▸ bytes (letters 4097)
-      ∷ close 3 ▸ done
-      ∷ wait 1 ▸ ended (Code 0) ∷ [])
-      (codes "cannot read")
+    (make_pipe ▸ pair 3 4
+    ∷ subshell (codes "rc1;s1,;c1,w1:c") usual (writing_to 4) ▸ child 1
+    ∷ close 4 ▸ done
+    ∷ read 3 ▸ bytes (letters 4097)
+    ∷ close 3 ▸ done
+    ∷ wait 1 ▸ ended (Code 0) ∷ [])
+    (codes "cannot read")
 unfolding meant ran letters
 too_long_a_read = (refl, refl)

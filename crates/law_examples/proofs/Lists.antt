@@ -8,8 +8,8 @@ use Rattle.law_examples.specs.Shown.{fresh, with_value, usual, runs, Does, meant
 -- lists of one length are joined member by member
 equal_counts_join_pairwise :
     Does (codes "exit $x^$x") (with_value fresh (codes "x") (codes "a" ∷ codes "b" ∷ []))
-      []
-      (codes "aa bb")
+    []
+    (codes "aa bb")
 unfolding meant ran
 equal_counts_join_pairwise = (refl, refl)
 
@@ -21,16 +21,16 @@ empty_lists_join = (refl, refl)
 -- one empty side is a runtime error, which ends the script
 an_empty_list_joins_with_nothing_else :
     Does (codes "echo $x^y; echo z") fresh
-      (write (Own 2) (codes "rc: empty list in concatenation\n") ▸ done ∷ [])
-      (codes "error")
+    (write (Own 2) (codes "rc: empty list in concatenation\n") ▸ done ∷ [])
+    (codes "error")
 unfolding meant ran
 an_empty_list_joins_with_nothing_else = (refl, refl)
 
 -- other counts are a runtime error
 other_counts_do_not_join :
     Does (codes "exit $x^(1 2 3)") (with_value fresh (codes "x") (codes "a" ∷ codes "b" ∷ []))
-      (write (Own 2) (codes "rc: list lengths differ in concatenation\n") ▸ done ∷ [])
-      (codes "error")
+    (write (Own 2) (codes "rc: list lengths differ in concatenation\n") ▸ done ∷ [])
+    (codes "error")
 unfolding meant ran
 other_counts_do_not_join = (refl, refl)
 
@@ -42,64 +42,64 @@ joining_goes_from_the_left = (refl, refl)
 -- the fault of the first two parts comes before the third is looked at
 joining_reports_before_later_parts :
     Does (codes "exit ()^a^$'b c'") fresh
-      (write (Own 2) (codes "rc: empty list in concatenation\n") ▸ done ∷ [])
-      (codes "error")
+    (write (Own 2) (codes "rc: empty list in concatenation\n") ▸ done ∷ [])
+    (codes "error")
 unfolding meant ran
 joining_reports_before_later_parts = (refl, refl)
 
 -- subscripts, counts and flattening
 subscripts_select_from_one :
     Does (codes "echo $x(2 1) $#x $\"x $x(2-) $x(3) $x(1-9)") (with_value fresh (codes "x") (codes "a" ∷ codes "b" ∷ []))
-      (runs (codes "echo") (codes "b" ∷ codes "a" ∷ codes "2" ∷ codes "a b" ∷ codes "b" ∷ codes "a" ∷ codes "b" ∷ []) (usual ++ codes "x=a\x01b" ∷ []) 7 0)
-      []
+    (runs (codes "echo") (codes "b" ∷ codes "a" ∷ codes "2" ∷ codes "a b" ∷ codes "b" ∷ codes "a" ∷ codes "b" ∷ []) (usual ++ codes "x=a\u{1}b" ∷ []) 7 0)
+    []
 unfolding meant ran
 subscripts_select_from_one = (refl, refl)
 
 -- 0, a falling range and any other text select nothing; a range is clipped
 subscripts_out_of_range_select_nothing :
     Does (codes "exit $x(0 1-0 2-9 2- x 1-x 01)") (with_value fresh (codes "x") (codes "a" ∷ codes "b" ∷ codes "c" ∷ []))
-      []
-      (codes "b c b c a")
+    []
+    (codes "b c b c a")
 unfolding meant ran
 subscripts_out_of_range_select_nothing = (refl, refl)
 
 -- `0-2` and `0-` select nothing
 a_range_from_zero_selects_nothing :
     Does (codes "exit n $x(0-2 0-)") (with_value fresh (codes "x") (codes "a" ∷ codes "b" ∷ []))
-      []
-      (codes "n")
+    []
+    (codes "n")
 unfolding meant ran
 a_range_from_zero_selects_nothing = (refl, refl)
 
 -- the greatest number is 4294967295
 subscripts_too_large_select_nothing :
     Does (codes "y=$x(4294967296 1-4294967296 1-4294967295) exit $#y") (with_value fresh (codes "x") (codes "a" ∷ codes "b" ∷ []))
-      []
-      (codes "2")
+    []
+    (codes "2")
 unfolding meant ran
 subscripts_too_large_select_nothing = (refl, refl)
 
 -- subscripts are computed
 subscripts_are_words :
     Does (codes "i=2 exit $x($i $#x)") (with_value fresh (codes "x") (codes "a" ∷ codes "b" ∷ []))
-      []
-      (codes "b b")
+    []
+    (codes "b b")
 unfolding meant ran
 subscripts_are_words = (refl, refl)
 
 -- `$$y(1)` selects from the variable that y names
 subscripts_of_a_named_name :
     Does (codes "y=x exit $$y(1)") (with_value fresh (codes "x") (codes "a" ∷ codes "b" ∷ []))
-      []
-      (codes "a")
+    []
+    (codes "a")
 unfolding meant ran
 subscripts_of_a_named_name = (refl, refl)
 
 -- `$"x` is one word, also of an empty list
 flattening_joins_by_spaces :
     Does (codes "y=($\"x $\"z) exit $#y") (with_value fresh (codes "x") (codes "a" ∷ codes "b" ∷ []))
-      []
-      (codes "2")
+    []
+    (codes "2")
 unfolding meant ran
 flattening_joins_by_spaces = (refl, refl)
 

@@ -8,10 +8,10 @@ use Rattle.law_examples.specs.Shown.{fresh, with_value, usual, runs, Does, meant
 -- the name is bound to each member, and unbound at the end
 for_binds_each_member :
     Does (codes "for(x in a b){c $x}; echo $x") fresh
-      (runs (codes "c") (codes "a" ∷ []) (usual ++ codes "x=a" ∷ []) 1 0
-      ++ runs (codes "c") (codes "b" ∷ []) (usual ++ codes "x=b" ∷ []) 2 0
-      ++ runs (codes "echo") [] usual 3 0)
-      []
+    (runs (codes "c") (codes "a" ∷ []) (usual ++ codes "x=a" ∷ []) 1 0
+    ++ runs (codes "c") (codes "b" ∷ []) (usual ++ codes "x=b" ∷ []) 2 0
+    ++ runs (codes "echo") [] usual 3 0)
+    []
 unfolding meant ran
 for_binds_each_member = (refl, refl)
 
@@ -23,16 +23,16 @@ for_goes_over_the_arguments_of_its_start = (refl, refl)
 -- a fault of the list comes before that of the name
 for_evaluates_its_list_before_its_name :
     Does (codes "for('a b' in ()^c) p") fresh
-      (write (Own 2) (codes "rc: empty list in concatenation\n") ▸ done ∷ [])
-      (codes "error")
+    (write (Own 2) (codes "rc: empty list in concatenation\n") ▸ done ∷ [])
+    (codes "error")
 unfolding meant ran
 for_evaluates_its_list_before_its_name = (refl, refl)
 
 -- the name is checked where the list is empty, too
 for_needs_one_name :
     Does (codes "for((a b) in ) p") fresh
-      (write (Own 2) (codes "rc: bad name\n") ▸ done ∷ [])
-      (codes "error")
+    (write (Own 2) (codes "rc: bad name\n") ▸ done ∷ [])
+    (codes "error")
 unfolding meant ran
 for_needs_one_name = (refl, refl)
 
@@ -44,8 +44,8 @@ for_over_an_empty_list_does_nothing = (refl, refl)
 -- an assignment in the body changes the loop variable alone
 the_loop_variable_covers :
     Does (codes "for(x in a b) {x=$x^c}; exit $x") (with_value fresh (codes "x") (codes "g" ∷ []))
-      []
-      (codes "g")
+    []
+    (codes "g")
 unfolding meant ran
 the_loop_variable_covers = (refl, refl)
 
@@ -57,8 +57,8 @@ exit_leaves_a_loop = (refl, refl)
 -- the condition is tested before each turn
 while_tests_before_each_turn :
     Does (codes "while(~ $#x 0 1){c; x=($x i)}") fresh
-      (runs (codes "c") [] usual 1 0 ++ runs (codes "c") [] (usual ++ codes "x=i" ∷ []) 1 0)
-      (codes "no match")
+    (runs (codes "c") [] usual 1 0 ++ runs (codes "c") [] (usual ++ codes "x=i" ∷ []) 1 0)
+    (codes "no match")
 unfolding meant ran
 while_tests_before_each_turn = (refl, refl)
 
@@ -75,8 +75,8 @@ while_of_a_false_condition_runs_nothing = (refl, refl)
 -- `exit` in the body
 exit_leaves_a_while :
     Does (codes "while(a) if(b) exit q") fresh
-      (runs (codes "a") [] usual 1 0 ++ runs (codes "b") [] usual 1 0)
-      (codes "q")
+    (runs (codes "a") [] usual 1 0 ++ runs (codes "b") [] usual 1 0)
+    (codes "q")
 unfolding meant ran
 exit_leaves_a_while = (refl, refl)
 

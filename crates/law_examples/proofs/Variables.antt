@@ -11,8 +11,8 @@ use Rattle.law_examples.specs.Shown.{fresh, with_value, usual, subshell, runs, D
 -- a command of no words is a runtime error
 an_unassigned_variable_is_empty :
     Does (codes "$y") fresh
-      (write (Own 2) (codes "rc: empty argument list\n") ▸ done ∷ [])
-      (codes "error")
+    (write (Own 2) (codes "rc: empty argument list\n") ▸ done ∷ [])
+    (codes "error")
 unfolding meant ran
 an_unassigned_variable_is_empty = (refl, refl)
 
@@ -34,19 +34,19 @@ the_status_is_never_local = (refl, refl)
 -- a `for` that binds the status sets it, and its end uncovers nothing
 for_over_the_status_leaves_it :
     Does (codes "for(status in a b) x; exit $status") fresh
-      (probe (codes "/bin/x") ▸ refused Other
-      ∷ write (Own 2) (codes "rc: x: not found\n") ▸ done
-      ∷ probe (codes "/bin/x") ▸ refused Other
-      ∷ write (Own 2) (codes "rc: x: not found\n") ▸ done ∷ [])
-      (codes "not found")
+    (probe (codes "/bin/x") ▸ refused Other
+    ∷ write (Own 2) (codes "rc: x: not found\n") ▸ done
+    ∷ probe (codes "/bin/x") ▸ refused Other
+    ∷ write (Own 2) (codes "rc: x: not found\n") ▸ done ∷ [])
+    (codes "not found")
 unfolding meant ran
 for_over_the_status_leaves_it = (refl, refl)
 
 -- the later of two locals covers the first, and both are undone
 assignments_before_a_command_are_local :
     Does (codes "x=a x=b c $x; exit $x") (with_value fresh (codes "x") (codes "g" ∷ []))
-      (runs (codes "c") (codes "b" ∷ []) (usual ++ codes "x=b" ∷ []) 1 0)
-      (codes "g")
+    (runs (codes "c") (codes "b" ∷ []) (usual ++ codes "x=b" ∷ []) 1 0)
+    (codes "g")
 unfolding meant ran
 assignments_before_a_command_are_local = (refl, refl)
 
@@ -68,8 +68,8 @@ locals_cover_one_another = (refl, refl)
 -- an assignment with a redirection and no command behind it is local
 assignments_around_a_redirection_are_local :
     Does (codes "x=a >f; exit n$x") (with_value fresh (codes "x") (codes "g" ∷ []))
-      (open_file (codes "f") Write ▸ file 3 ∷ close 3 ▸ done ∷ [])
-      (codes "ng")
+    (open_file (codes "f") Write ▸ file 3 ∷ close 3 ▸ done ∷ [])
+    (codes "ng")
 unfolding meant ran
 assignments_around_a_redirection_are_local = (refl, refl)
 
@@ -81,24 +81,24 @@ locals_are_undone_at_exit = (refl, refl)
 -- also that of a loop inside of another local
 nested_locals_are_undone_at_exit :
     Leaves (codes "x=2 {for(x in a b) {x=q exit}}") (with_value fresh (codes "x") (codes "g" ∷ []))
-      []
-      (codes "x") (codes "g" ∷ [])
+    []
+    (codes "x") (codes "g" ∷ [])
 unfolding meant_value ran_value
 nested_locals_are_undone_at_exit = (refl, refl)
 
 -- an assignment changes the visible value
 a_local_assignment_changes_the_local :
     Leaves (codes "x=a {x=b}") (with_value fresh (codes "x") (codes "g" ∷ []))
-      []
-      (codes "x") (codes "g" ∷ [])
+    []
+    (codes "x") (codes "g" ∷ [])
 unfolding meant_value ran_value
 a_local_assignment_changes_the_local = (refl, refl)
 
 -- a local without members covers, and is not in the environment
 an_empty_local_covers :
     Does (codes "ifs=() @{c}") (with_value fresh (codes "ifs") (codes "x" ∷ []))
-      (subshell (codes "rc1;bs1,;c1,w1:c") usual plain ▸ child 1 ∷ wait 1 ▸ ended (Code 0) ∷ [])
-      []
+    (subshell (codes "rc1;bs1,;c1,w1:c") usual plain ▸ child 1 ∷ wait 1 ▸ ended (Code 0) ∷ [])
+    []
 unfolding meant ran
 an_empty_local_covers = (refl, refl)
 
@@ -110,31 +110,31 @@ a_bad_name_is_a_fault = (refl, refl)
 -- assignments before one with a bad name are done
 earlier_assignments_stay :
     Does (codes "x=1 y=2 '!'=3") fresh
-      (write (Own 2) (codes "rc: bad name\n") ▸ done ∷ [])
-      (codes "error")
+    (write (Own 2) (codes "rc: bad name\n") ▸ done ∷ [])
+    (codes "error")
 unfolding meant ran
 earlier_assignments_stay = (refl, refl)
 
 -- and leave their values
 earlier_assignments_have_their_value :
     Leaves (codes "x=1 '!'=3") fresh
-      (write (Own 2) (codes "rc: bad name\n") ▸ done ∷ [])
-      (codes "x") (codes "1" ∷ [])
+    (write (Own 2) (codes "rc: bad name\n") ▸ done ∷ [])
+    (codes "x") (codes "1" ∷ [])
 unfolding meant_value ran_value
 earlier_assignments_have_their_value = (refl, refl)
 
 -- `$1` is the first member of `$*`, `$0` and what is past the end are empty
 arguments_by_number :
     Does (codes "exit $2 $1 $0 $3 $02") (with_value fresh (codes "*") (codes "a" ∷ codes "b" ∷ []))
-      []
-      (codes "b a b")
+    []
+    (codes "b a b")
 unfolding meant ran
 arguments_by_number = (refl, refl)
 
 -- each of nine locals of one name is undone
 nine_nested_locals_are_undone :
     Does (codes "x=1 x=2 x=3 x=4 x=5 x=6 x=7 x=8 x=9 {y=$x}; exit $y$x") (with_value fresh (codes "x") (codes "0" ∷ []))
-      []
-      (codes "90")
+    []
+    (codes "90")
 unfolding meant ran
 nine_nested_locals_are_undone = (refl, refl)

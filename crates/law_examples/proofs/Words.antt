@@ -8,16 +8,16 @@ use Rattle.law_examples.specs.Shown.{fresh, with_value, usual, runs, Does, meant
 -- a quote is doubled inside of quotes, and a list goes to each side of a free caret
 quotes_are_taken_off_and_a_list_distributes :
     Does (codes "echo 'it''s'$x.c") (with_value fresh (codes "x") (codes "a" ∷ codes "b" ∷ []))
-      (runs (codes "echo") (codes "it'sa.c" ∷ codes "it'sb.c" ∷ []) (usual ++ codes "x=a\x01b" ∷ []) 7 0)
-      []
+    (runs (codes "echo") (codes "it'sa.c" ∷ codes "it'sb.c" ∷ []) (usual ++ codes "x=a\u{1}b" ∷ []) 7 0)
+    []
 unfolding meant ran
 quotes_are_taken_off_and_a_list_distributes = (refl, refl)
 
 -- a quoted text with a blank is no name
 quotes_make_no_name :
     Does (codes "echo $'a b'") fresh
-      (write (Own 2) (codes "rc: bad name\n") ▸ done ∷ [])
-      (codes "error")
+    (write (Own 2) (codes "rc: bad name\n") ▸ done ∷ [])
+    (codes "error")
 unfolding meant ran
 quotes_make_no_name = (refl, refl)
 
@@ -57,6 +57,6 @@ unfolding meant ran
 an_empty_word_is_a_word = (refl, refl)
 
 -- words are texts of UTF-8
-accented_letters_are_bytes : Does (codes "exit \u{c3}\u{a9}") fresh [] (codes "\u{c3}\u{a9}")
+accented_letters_are_bytes : Does (codes "exit Ã©") fresh [] (codes "Ã©")
 unfolding meant ran
 accented_letters_are_bytes = (refl, refl)

@@ -44,19 +44,23 @@ usual = codes "path=/bin" ∷ codes "status=" ∷ []
 
 -- ** launches and calls
 
+-- what the three descriptors stand for
 abbrev pub slots : Slot → Slot → Slot → Slots
 slots input output errors = record { input = input; output = output; errors = errors }
 
--- a program, and the shell itself
+-- the launch of a program
 abbrev pub program : List ℕ → List (List ℕ) → List (List ℕ) → Slots → Launch
 program path args entries slots = record { program = Some path; args = args; entries = entries; slots = slots }
 
+-- the launch of the shell itself
 abbrev pub shell : List (List ℕ) → List (List ℕ) → Slots → Launch
 shell args entries slots = record { program = None; args = args; entries = entries; slots = slots }
 
+-- the own descriptors, with a file for the output
 abbrev pub writing_to : ℕ → Slots
 writing_to file = record plain { output = to_file file }
 
+-- with a file for the input
 abbrev pub reading_from : ℕ → Slots
 reading_from file = record plain { input = to_file file }
 
@@ -64,6 +68,7 @@ reading_from file = record plain { input = to_file file }
 abbrev pub subshell : (image : List ℕ) → (entries : List (List ℕ)) → Slots → Call
 subshell image entries slots = start (shell (codes "-S" ∷ image ∷ []) entries slots)
 
+-- the same by a strict shell
 abbrev pub strict_subshell : (image : List ℕ) → (entries : List (List ℕ)) → Slots → Call
 strict_subshell image entries slots = start (shell (codes "-e" ∷ codes "-S" ∷ image ∷ []) entries slots)
 
@@ -94,32 +99,39 @@ abbrev ended_so : Played State → Option (List Call × State × List Answer)
 ended_so (Ends made s left) = Some (made, s, left)
 ended_so _ = None
 
+-- the calls, where a script was cut
 abbrev cut_so : Played State → Option (List Call)
 cut_so (Cut made) = Some made
 cut_so _ = None
 
+-- the calls, where a script waits for an answer
 abbrev waits_so : Played State → Option (List Call)
 waits_so (Waits made) = Some made
 waits_so _ = None
 
+-- what follows a value, where there is one
 abbrev then : {A B : Type 0} → (A → Option B) → Option A → Option B
 then f None = None
 then f (Some x) = f x
 
--- at most nine turns of each loop and nine bodies within one another, and at most 900 instructions
+-- a script by its meaning, with at most nine turns of each loop and nine bodies within one another
 abbrev by_meaning : List ℕ → State → List Answer → Option (Played State)
 by_meaning text s given = option_map (λ c. script 9 c s given) (tree text)
 
+-- a script by at most 900 instructions of its code
 abbrev by_code : List ℕ → State → List Answer → Option (Played State)
 by_code text s given = option_map (λ c. run 900 c s given) (tree text)
 
+-- of the final state the status alone
 abbrev seen : Option (List Call × State × List Answer) → Option (List Call × List ℕ × List Answer)
 seen x = option_map (λ y. (y.0, y.1.status, y.2)) x
 
+-- how a script ends by its meaning
 unfoldable pub meant : List ℕ → State → List Answer → Option (List Call × List ℕ × List Answer)
 unfolding tree
 meant text s given = seen (then ended_so (by_meaning text s given))
 
+-- how it ends by its code
 unfoldable pub ran : List ℕ → State → List Answer → Option (List Call × List ℕ × List Answer)
 unfolding tree
 ran text s given = seen (then ended_so (by_code text s given))
@@ -129,13 +141,16 @@ abbrev pub Does : (text : List ℕ) → State → List Event → (status : List 
 Does text s trace status =
     (meant text s (answers trace) ≡ Some (calls trace, status, [])) × (ran text s (answers trace) ≡ Some (calls trace, status, []))
 
+-- of the final state one value alone
 abbrev value_in : List ℕ → Option (List Call × State × List Answer) → Option (List Call × List (List ℕ))
 value_in name x = option_map (λ y. (y.0, value_of y.1 name)) x
 
+-- the same by the meaning
 unfoldable pub meant_value : List ℕ → List ℕ → State → List Answer → Option (List Call × List (List ℕ))
 unfolding tree
 meant_value name text s given = value_in name (then ended_so (by_meaning text s given))
 
+-- the same by the code
 unfoldable pub ran_value : List ℕ → List ℕ → State → List Answer → Option (List Call × List (List ℕ))
 unfolding tree
 ran_value name text s given = value_in name (then ended_so (by_code text s given))
@@ -145,10 +160,12 @@ abbrev pub Leaves : (text : List ℕ) → State → List Event → (name : List 
 Leaves text s trace name value =
     (meant_value name text s (answers trace) ≡ Some (calls trace, value)) × (ran_value name text s (answers trace) ≡ Some (calls trace, value))
 
+-- where a script waits by its meaning
 unfoldable pub meant_wait : List ℕ → State → List Answer → Option (List Call)
 unfolding tree
 meant_wait text s given = then waits_so (by_meaning text s given)
 
+-- where it waits by its code
 unfoldable pub ran_wait : List ℕ → State → List Answer → Option (List Call)
 unfolding tree
 ran_wait text s given = then waits_so (by_code text s given)
@@ -157,6 +174,7 @@ ran_wait text s given = then waits_so (by_code text s given)
 abbrev pub Awaits : (text : List ℕ) → State → List Event → Type 0
 Awaits text s trace = (meant_wait text s (answers trace) ≡ Some (calls trace)) × (ran_wait text s (answers trace) ≡ Some (calls trace))
 
+-- the calls of so many instructions, where they were cut
 unfoldable pub cut_at : ℕ → List ℕ → State → List Answer → Option (List Call)
 unfolding tree
 cut_at limit text s given = then cut_so (option_map (λ c. run limit c s given) (tree text))
@@ -165,6 +183,7 @@ cut_at limit text s given = then cut_so (option_map (λ c. run limit c s given) 
 abbrev pub StopsAt : (limit : ℕ) → (text : List ℕ) → State → List Event → Type 0
 StopsAt limit text s trace = cut_at limit text s (answers trace) ≡ Some (calls trace)
 
+-- the calls of at most so many instructions, where they came to the end
 unfoldable pub ends_by : ℕ → List ℕ → State → List Answer → Option (List Call)
 unfolding tree
 ends_by limit text s given = option_map (λ y. y.0) (then ended_so (option_map (λ c. run limit c s given) (tree text)))
