@@ -6,7 +6,7 @@ ghost use Rattle.rc_model.specs.Syntax.Accepted.{IsAccepted, IsRefused};
 ghost use Rattle.rc_model.specs.Run.Script.{Agrees, Told};
 ghost use Rattle.rc_model.specs.Syntax.Tree.{Node, cmd};
 ghost use Rattle.rc_scope.specs.States.{state_of};
-ghost use Rattle.rc_shell.specs.Executed.{IfSyntax, RunsAsMeant};
+ghost use Rattle.rc_shell.specs.Executed.{EndsProper, HandsOver, IfAccepted, IfSyntax, LeavesNothing, LosesNothing, RunsAsMeant};
 ghost use Rattle.rc_tree_types.specs.View.{cmd_tree};
 
 use rc_code::compile;
@@ -83,6 +83,14 @@ pub fn execute<W: World>(
 
     // The calls are those of the meaning, and of at most `limit` instructions, over the answers that were given.
     ensures meant { (t : Node cmd) → IsAccepted script.now t → Told (W.events world.old) (W.events world.new) (λ trace. RunsAsMeant limit t (state_of state) trace result) }
+
+    // Over fresh answers nothing is lost at any moment, and where the script ended nothing is left.
+    ensures lost { IfAccepted script.now (W.events world.old) (W.events world.new) (LosesNothing (state_of state)) }
+    ensures left { IfAccepted script.now (W.events world.old) (W.events world.new) (LeavesNothing (state_of state) result) }
+
+    // From a proper state each shell that was started reads back what it was handed, and the state at the end is proper.
+    ensures handed { IfAccepted script.now (W.events world.old) (W.events world.new) (HandsOver (state_of state)) }
+    ensures proper { EndsProper (state_of state) result }
 
     // Where the meaning ends or waits, so does the code, from some number of instructions on.
     ensures converse { (t : Node cmd) → IsAccepted script.now t → (given : List Answer) → Agrees t (state_of state) given }
