@@ -1,0 +1,4 @@
+pub mod Members
+pub mod Moves
+pub mod Subjects
+pub mod Texts
