@@ -1,5 +1,5 @@
 -- The characters of a word as text.
-use Rattle.std.proofs.Common.{◌≡◌, ℕ, ◌+◌, ◌<◌, Bool, true, ◌&&◌, List, [], ◌∷◌, ◌++◌, length, map, take, get_or, sym, ap, ◌∙◌}
+use Rattle.std.proofs.Common.{◌≡◌, ℕ, ◌+◌, ◌<◌, Bool, true, ◌&&◌, List, [], ◌∷◌, ◌++◌, length, map, take, get_or, refl, sym, ap, ◌∙◌, append_assoc}
 use Rattle.std.proofs.lemmas.List.{take_more, map-append, append-nil}
 use Rattle.std.proofs.lemmas.Str.{encodes-append, chars-encodes}
 use Rattle.std.specs.Char.{encode_utf8, IsScalar}
@@ -36,3 +36,10 @@ spelled_step word i d old new l h k =
 
 pub spelled_whole : (cs all bs : List ℕ) → cs ≡ all → bs ≡ encode_utf8_all cs → all_scalars cs ≡ true → chars bs ≡ all
 spelled_whole cs all bs e h k = ap chars h ∙ chars-encodes cs k ∙ e
+
+pub pushed_step : (word : List Ch) (i : ℕ) (d : Ch) (start old new : List ℕ) → i < length word → new ≡ old ++ encode_utf8 (get_or word i d).c → old ≡ start ++ encode_utf8_all (codes_of (take i word)) →
+    new ≡ start ++ encode_utf8_all (codes_of (take (i + 1) word))
+pushed_step word i d start old new l h k =
+    h ∙ ap (λ t. t ++ encode_utf8 (get_or word i d).c) k
+    ∙ append_assoc start (encode_utf8_all (codes_of (take i word))) (encode_utf8 (get_or word i d).c)
+    ∙ ap (λ t. start ++ t) (spelled_step word i d (encode_utf8_all (codes_of (take i word))) (encode_utf8_all (codes_of (take i word)) ++ encode_utf8 (get_or word i d).c) l refl refl)

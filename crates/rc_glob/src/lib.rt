@@ -2,6 +2,10 @@
 #![tactic(auto)]
 
 mod classes;
+mod components;
+mod expansion;
 mod matching;
+mod names;
 
+pub use expansion::{expand, expand_all};
 pub use matching::{matched, matches};

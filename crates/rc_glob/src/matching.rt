@@ -5,7 +5,8 @@ ghost use Rattle.std.specs.Char.{encode_utf8, IsScalar};
 ghost use Rattle.std.specs.Str.{chars};
 ghost use Rattle.rc_model.specs.Run.Patterns.{is_dots, matched, matches, Outside, parts_from, parts_match, stands_for};
 ghost use Rattle.rc_model.specs.Mirrors.Greedy.{after_one, after_star, move};
-ghost use Rattle.rc_text.specs.Views.{marks};
+ghost use Rattle.rc_model.specs.Syntax.Words.{has_pattern, is_pattern};
+ghost use Rattle.rc_text.specs.Views.{mark_of, marks};
 ghost use Rattle.rc_glob.specs.Moves.{move_of, LeavesLess};
 
 use crate::classes::{class_end, class_holds};
@@ -145,17 +146,43 @@ fn is_dots(text: &str) -> bool
     a == '.' && b == '.'
 }
 
+fn is_pattern(ch: Ch) -> bool
+    ensures { result ≡ is_pattern (mark_of ch) }
+{
+    ch.pat && matches!(ch.c, '*' | '?' | '[')
+}
+
+fn any_pattern(word: &[Ch]) -> bool
+    ensures { result ≡ list_any (λ ch. is_pattern (mark_of ch)) word.now }
+{
+    word.iter().any(|ch| is_pattern(*ch))
+}
+
+/// Whether a marked `*`, `?` or `[` is among the characters.
+pub(crate) fn has_pattern(word: &[Ch]) -> bool
+    ensures { result ≡ has_pattern (marks word.now) }
+{
+    any_pattern(word)
+}
+
+/// Whether the characters of a word match the whole text.
+#[tactic(auto, unfolding(rc_model::specs::Run::Patterns::matches))]
+pub(crate) fn is_match(word: &[Ch], text: &str, explicit: bool) -> bool
+    ensures { result ≡ matches (marks word.now) (chars text.now) explicit }
+{
+    if explicit && has_pattern(word) && is_dots(text) {
+        return false;
+    }
+    fits(word, text, explicit)
+}
+
 /// Whether the word matches the whole text. In explicit form no pattern character stands for `/`,
 /// and a word that holds one matches neither `.` nor `..`. It takes no memory, and at most as many
 /// steps as the word is long times the text.
-#[tactic(auto, unfolding(rc_model::specs::Run::Patterns::matches))]
 pub fn matches(word: &Word, text: &str, explicit: bool) -> bool
     ensures { result ≡ matches word.now (chars text.now) explicit }
 {
-    if explicit && word.has_pattern() && is_dots(text) {
-        return false;
-    }
-    fits(word.chars(), text, explicit)
+    is_match(word.chars(), text, explicit)
 }
 
 fn push_char(text: &mut String, c: char) -> Result<(), AllocError>
