@@ -106,9 +106,13 @@ guard_by : (g : Bool) (o : Option Bool) (b : Bool) → o ≡ Some b → cond g (
 guard_by true o b h = refl
 guard_by false o b h = h
 
+-- without regard to `.` and `..`
+pub greedy_from-is : (e : Bool) (w : Word) (t : List ℕ) → greedy_from (suc (length w) * suc (length t)) e w t false w t ≡ Some (parts_match e (parts_from Outside w) t)
+greedy_from-is e w t =
+    same_answer e w t (greedy_from (suc (length w) * suc (length t)) e w t false w t) (parts_match e (parts_from Outside w) t) refl
+    (decided e w t (suc (length w) * suc (length t)) w t false w t (claim_start e w t w t) (in_time w t))
+
 pub greedy-is : (e : Bool) (w : Word) (t : List ℕ) → greedy e w t ≡ Some (matches w t e)
 unfolding matches
 greedy-is e w t =
-    guard_by (e && (has_pattern w && is_dots t)) (greedy_from (suc (length w) * suc (length t)) e w t false w t) (parts_match e (parts_from Outside w) t)
-    (same_answer e w t (greedy_from (suc (length w) * suc (length t)) e w t false w t) (parts_match e (parts_from Outside w) t) refl
-    (decided e w t (suc (length w) * suc (length t)) w t false w t (claim_start e w t w t) (in_time w t)))
+    guard_by (e && (has_pattern w && is_dots t)) (greedy_from (suc (length w) * suc (length t)) e w t false w t) (parts_match e (parts_from Outside w) t) (greedy_from-is e w t)

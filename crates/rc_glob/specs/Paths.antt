@@ -1,0 +1,24 @@
+-- The paths that components stand for.
+use Rattle.std.specs.Prelude.{ℕ, List, [], ◌∷◌, Option, Some, None}
+use Rattle.std.specs.Borrow.{Bor}
+use Rattle.rc_model.specs.Syntax.Words.{Word, word_texts}
+use Rattle.rc_model.specs.Run.FileNames.{components, step, walk, expanded_word}
+use Rattle.rc_model.specs.Run.Shell.{Shell, ◌>>=◌, pure}
+use Rattle.rc_text.specs.declared.words.Ch.{Ch}
+use Rattle.rc_text.specs.Views.{marks}
+
+-- the components that follow a slash, none where there is no slash
+abbrev pub components_of : Option (Bor (List Ch)) → List Word
+components_of None = []
+components_of (Some rest) = components (marks rest.now)
+
+-- the paths that begin with this one, which ends in a slash unless it is empty, and go on with these components
+abbrev pub paths_from : List Word → List ℕ → Shell (List (List ℕ))
+paths_from [] path = pure (path ∷ [])
+paths_from (c ∷ cs) path = step c (walk cs) path
+
+-- the texts of what a word stands for
+abbrev pub expanded_texts : Word → Shell (List (List ℕ))
+expanded_texts w = do
+  ws ← expanded_word w
+  pure (word_texts ws)

@@ -1,0 +1,85 @@
+//! The components of a word, and the paths that they make.
+ghost use Rattle.std.specs.Prelude.{◌≡◌, ◌<◌, ◌++◌, ◌∷◌, [], true, length, map, string_bytes, IfOk, IfSome, OnOk};
+ghost use Rattle.rc_model.specs.Syntax.Words.{has_pattern, word_text};
+ghost use Rattle.rc_model.specs.Run.FileNames.{components, folder, listed, walk};
+ghost use Rattle.rc_text.specs.Views.{marks};
+ghost use Rattle.rc_glob.specs.Paths.{components_of, paths_from};
+
+use crate::matching::has_pattern;
+use rc_text::Ch;
+use std::alloc::{AllocError, Global};
+
+/// The characters up to a slash, and what follows it.
+fn first_component(word: &[Ch]) -> (&[Ch], Option<&[Ch]>)
+    ensures cut { components (marks word.now) ≡ marks result.0.now ∷ components_of result.1 }
+    ensures shorter { IfSome result.1 (λ rest. length rest.now < length word.now) }
+{
+    let mut i = 0;
+    while i < word.len() {
+        if word[i].c == '/' {
+            return (&word[..i], Some(&word[i + 1..]));
+        }
+        i += 1;
+    }
+    (word, None)
+}
+
+/// Adds the characters at the end of a path.
+pub(crate) fn push_text(path: &mut String, word: &[Ch]) -> Result<(), AllocError>
+    ensures { OnOk result (string_bytes path.new ≡ string_bytes path.old ++ word_text (marks word.now)) }
+{
+    for ch in word {
+        path.push(ch.c)?;
+    }
+    Ok(())
+}
+
+/// Goes past the components that hold no pattern character, to the first that holds one, and says
+/// what follows it.
+pub(crate) fn advance<'a>(
+    path: &mut String,
+    word: &'a [Ch],
+) -> Result<(&'a [Ch], Option<&'a [Ch]>), AllocError>
+    requires { has_pattern (marks word.now) ≡ true }
+    ensures goes_on { IfOk result (λ at. paths_from (components (marks word.now)) (string_bytes path.old)
+        ≡ listed (marks at.0.now) (walk (components_of at.1)) (string_bytes path.new)) }
+    ensures shorter { IfOk result (λ at. IfSome at.1 (λ rest. length rest.now < length word.now)) }
+{
+    let mut rest = word;
+    loop {
+        let (component, after) = first_component(rest);
+        if has_pattern(component) {
+            return Ok((component, after));
+        }
+        let Some(more) = after else {
+            return Ok((component, None));
+        };
+        push_text(path, component)?;
+        path.push('/')?;
+        rest = more;
+    }
+}
+
+/// The directory with this path.
+pub(crate) fn directory(path: &str) -> &str
+    ensures { result.now ≡ folder path.now }
+{
+    if path.is_empty() { "." } else { path }
+}
+
+pub(crate) fn joined(alloc: Global, path: &str, name: &str) -> Result<String, AllocError>
+    ensures { IfOk result (λ whole. string_bytes whole ≡ path.now ++ name.now) }
+{
+    let mut whole = String::from_str(alloc, path)?;
+    whole.push_str(name)?;
+    Ok(whole)
+}
+
+/// This path alone.
+pub(crate) fn only(alloc: Global, path: String) -> Result<Vec<String>, AllocError>
+    ensures { IfOk result (λ paths. map string_bytes paths.items ≡ string_bytes path ∷ []) }
+{
+    let mut paths = Vec::new(alloc);
+    paths.push(path)?;
+    Ok(paths)
+}

@@ -1,0 +1,140 @@
+//! The file names that words stand for.
+ghost use Rattle.std.specs.Prelude.{◌≡◌, ◌∷◌, [], true, map, string_bytes, MatchResult};
+ghost use Rattle.rc_world.specs.declared.types.Stop.TheVariants.{NoMemory};
+ghost use Rattle.rc_model.specs.Syntax.Words.{has_pattern};
+ghost use Rattle.rc_model.specs.Run.Calls.{list_names, as_names};
+ghost use Rattle.rc_model.specs.Run.State.{State};
+ghost use Rattle.rc_model.specs.Run.Shell.{Next};
+ghost use Rattle.rc_model.specs.Run.FileNames.{components, expanded, expanded_word, fitting_names, folder, if_there, walk};
+ghost use Rattle.rc_text.specs.Views.{marks};
+ghost use Rattle.rc_world.specs.Comes.{Asks, Comes};
+ghost use Rattle.rc_glob.specs.Paths.{components_of, expanded_texts, paths_from};
+
+use crate::components::{advance, directory, joined, only, push_text};
+use crate::matching::has_pattern;
+use crate::names::{fitting_names, ordered};
+use rc_text::{Ch, List, Word};
+use rc_world::{Stop, World, calls};
+use std::alloc::Global;
+
+/// The names in a directory that the component stands for, none where they are refused.
+fn listed<W: World>(
+    alloc: Global,
+    world: &mut W,
+    path: &str,
+    component: &[Ch],
+) -> Result<Vec<String>, Stop>
+    ensures { Asks W.events world.old world.new (list_names (folder path.now))
+        (λ a. fitting_names (marks component.now) (as_names a)) (λ names. map string_bytes names.items) result }
+{
+    let given = calls::list(world, directory(path))?;
+    match given {
+        Some(names) => Ok(fitting_names(alloc, component, names)?),
+        None => Ok(Vec::new(alloc)),
+    }
+}
+
+/// The path, where something is there.
+fn if_there<W: World>(alloc: Global, world: &mut W, path: String) -> Result<Vec<String>, Stop>
+    ensures { (s : State) → Comes (W.events world.old) (W.events world.new) (if_there (string_bytes path) s)
+        (λ paths. Next (map string_bytes paths.items) s) result }
+{
+    let found = calls::probe(world, &path)?;
+    match found {
+        Some(_) => Ok(only(alloc, path)?),
+        None => Ok(Vec::new(alloc)),
+    }
+}
+
+/// The paths that begin with this one and go on with the components of the word.
+#[cycle(walk)]
+fn walk<W: World>(
+    alloc: Global,
+    world: &mut W,
+    mut path: String,
+    word: &[Ch],
+) -> Result<Vec<String>, Stop>
+    requires { has_pattern (marks word.now) ≡ true }
+    ensures { (s : State) → Comes (W.events world.old) (W.events world.new)
+        (paths_from (components (marks word.now)) (string_bytes path) s)
+        (λ paths. Next (map string_bytes paths.items) s) result }
+{
+    let (component, rest) = advance(&mut path, word)?;
+    let names = listed(alloc, world, &path, component)?;
+    let mut found = Vec::new(alloc);
+    for name in &names {
+        let whole = joined(alloc, &path, name)?;
+        let mut below = walk_on(alloc, world, whole, rest)?;
+        found.append(&mut below)?;
+    }
+    Ok(found)
+}
+
+/// The paths that begin with this one and go on with a slash and what follows it, if anything does.
+#[cycle(walk)]
+fn walk_on<W: World>(
+    alloc: Global,
+    world: &mut W,
+    mut path: String,
+    rest: Option<&[Ch]>,
+) -> Result<Vec<String>, Stop>
+    ensures { (s : State) → Comes (W.events world.old) (W.events world.new)
+        (walk (components_of rest.entry) (string_bytes path) s)
+        (λ paths. Next (map string_bytes paths.items) s) result }
+{
+    let Some(rest) = rest else {
+        return Ok(only(alloc, path)?);
+    };
+    path.push('/')?;
+    if has_pattern(rest) {
+        return walk(alloc, world, path, rest);
+    }
+    push_text(&mut path, rest)?;
+    if_there(alloc, world, path)
+}
+
+/// The word alone.
+fn itself(alloc: Global, word: &Word) -> Result<List, Stop>
+    ensures { MatchResult result (λ list. list ≡ word.now ∷ []) (λ stop. stop ≡ NoMemory) }
+{
+    let mut list = List::new(alloc);
+    list.push(word.copy()?)?;
+    Ok(list)
+}
+
+fn expand_word<W: World>(alloc: Global, world: &mut W, word: &Word) -> Result<List, Stop>
+    ensures { (s : State) → Comes (W.events world.old) (W.events world.new) (expanded_word word.now s)
+        (λ list. Next list s) result }
+{
+    if !word.has_pattern() {
+        return itself(alloc, word);
+    }
+    let paths = walk(alloc, world, String::new(alloc), word.chars())?;
+    if paths.as_slice().is_empty() {
+        return itself(alloc, word);
+    }
+    let paths = ordered(alloc, paths)?;
+    Ok(List::plain(alloc, &paths)?)
+}
+
+/// The names of the files that the word stands for, in byte order; its own text, where it holds no
+/// pattern character or there are none.
+pub fn expand<W: World>(alloc: Global, world: &mut W, word: &Word) -> Result<Vec<String>, Stop>
+    ensures { (s : State) → Comes (W.events world.old) (W.events world.new) (expanded_texts word.now s)
+        (λ texts. Next (map string_bytes texts.items) s) result }
+{
+    let list = expand_word(alloc, world, word)?;
+    Ok(list.texts()?)
+}
+
+/// What each of the words stands for, one after the other.
+pub fn expand_all<W: World>(alloc: Global, world: &mut W, words: &[Word]) -> Result<List, Stop>
+    ensures { (s : State) → Comes (W.events world.old) (W.events world.new) (expanded words.now s)
+        (λ list. Next list s) result }
+{
+    let mut all = List::new(alloc);
+    for word in words {
+        all.append(expand_word(alloc, world, word)?)?;
+    }
+    Ok(all)
+}

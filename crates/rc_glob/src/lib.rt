@@ -1,0 +1,11 @@
+//! Patterns: which texts a word matches, and which file names it stands for.
+#![tactic(auto)]
+
+mod classes;
+mod components;
+mod expansion;
+mod matching;
+mod names;
+
+pub use expansion::{expand, expand_all};
+pub use matching::{matched, matches};

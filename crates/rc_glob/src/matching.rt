@@ -1,0 +1,223 @@
+//! Which texts a word matches: from left to right, with one star to go back to.
+ghost use Rattle.std.specs.Prelude.{◌≡◌, ◌++◌, false, IfOk, OnOk, map, option_map, string_bytes};
+ghost use Rattle.std.specs.List.{list_any};
+ghost use Rattle.std.specs.Char.{encode_utf8, IsScalar};
+ghost use Rattle.std.specs.Str.{chars};
+ghost use Rattle.rc_model.specs.Run.Patterns.{is_dots, matched, matches, Outside, parts_from, parts_match, stands_for};
+ghost use Rattle.rc_model.specs.Mirrors.Greedy.{after_one, after_star, move};
+ghost use Rattle.rc_model.specs.Syntax.Words.{has_pattern, is_pattern};
+ghost use Rattle.rc_text.specs.Views.{mark_of, marks};
+ghost use Rattle.rc_glob.specs.Moves.{move_of, LeavesLess};
+
+use crate::classes::{class_end, class_holds};
+use rc_text::{Ch, Word, first_char};
+use std::alloc::{AllocError, Global};
+
+/// What comes next in a match.
+enum Move<'a> {
+    /// A star, and what follows it in the word.
+    PastStar(&'a [Ch]),
+    /// A character, and what follows it in the word and in the text.
+    PastOne(char, &'a [Ch], &'a str),
+    AtEnd,
+    Miss,
+}
+
+/// Whether a pattern character may stand for the character.
+fn stands_for(explicit: bool, c: char) -> bool
+    ensures { result ≡ stands_for explicit c }
+{
+    !(explicit && c == '/')
+}
+
+/// What follows the first character or class of the word, if that is no star and stands for the character.
+fn after_one(explicit: bool, word: &[Ch], c: char) -> Option<&[Ch]>
+    ensures { option_map (λ rest. marks rest.now) result ≡ after_one explicit (marks word.now) c }
+{
+    let (first, rest) = word.split_first()?;
+    if first.pat && first.c == '*' {
+        return None;
+    }
+    if first.pat && first.c == '?' {
+        return if stands_for(explicit, c) {
+            Some(rest)
+        } else {
+            None
+        };
+    }
+    if first.pat && first.c == '[' {
+        let (members, after) = class_end(rest)?;
+        return if class_holds(members, c) && stands_for(explicit, c) {
+            Some(after)
+        } else {
+            None
+        };
+    }
+    if first.c == c { Some(rest) } else { None }
+}
+
+/// What follows a star that the word begins with.
+fn after_star(word: &[Ch]) -> Option<&[Ch]>
+    ensures { option_map (λ rest. marks rest.now) result ≡ after_star (marks word.now) }
+{
+    let (first, rest) = word.split_first()?;
+    if first.pat && first.c == '*' {
+        Some(rest)
+    } else {
+        None
+    }
+}
+
+fn next_move<'a>(explicit: bool, word: &'a [Ch], text: &'a str) -> Move<'a>
+    ensures next { move_of result ≡ move explicit (marks word.now) (chars text.now) }
+    ensures less { LeavesLess result word.now text.now }
+{
+    if let Some(rest) = after_star(word) {
+        return Move::PastStar(rest);
+    }
+    match first_char(text) {
+        Some((c, more)) => match after_one(explicit, word, c) {
+            Some(rest) => Move::PastOne(c, rest, more),
+            None => Move::Miss,
+        },
+        None => {
+            if word.is_empty() {
+                Move::AtEnd
+            } else {
+                Move::Miss
+            }
+        }
+    }
+}
+
+/// Whether the whole word stands for the whole text.
+fn fits(whole: &[Ch], text: &str, explicit: bool) -> bool
+    ensures { result ≡ parts_match explicit (parts_from Outside (marks whole.now)) (chars text.now) }
+{
+    let mut word = whole;
+    let mut rest = text;
+    let mut has_star = false;
+    let mut star_word = whole;
+    let mut star_text = text;
+    'moves: loop {
+        match next_move(explicit, word, rest) {
+            Move::PastStar(after) => {
+                has_star = true;
+                star_word = after;
+                star_text = rest;
+                word = after;
+            }
+            Move::PastOne(c, after, more) => {
+                has_star = has_star && stands_for(explicit, c);
+                word = after;
+                rest = more;
+            }
+            Move::AtEnd => return true,
+            Move::Miss => {
+                if !has_star {
+                    return false;
+                }
+                let Some((c, more)) = first_char(star_text) else {
+                    return false;
+                };
+                if !stands_for(explicit, c) {
+                    return false;
+                }
+                star_text = more;
+                rest = more;
+                word = star_word;
+            }
+        }
+    }
+}
+
+fn is_dots(text: &str) -> bool
+    ensures { result ≡ is_dots (chars text.now) }
+{
+    let Some((a, one)) = first_char(text) else {
+        return false;
+    };
+    let Some((b, two)) = first_char(one) else {
+        return a == '.';
+    };
+    if first_char(two).is_some() {
+        return false;
+    }
+    a == '.' && b == '.'
+}
+
+fn is_pattern(ch: Ch) -> bool
+    ensures { result ≡ is_pattern (mark_of ch) }
+{
+    ch.pat && matches!(ch.c, '*' | '?' | '[')
+}
+
+fn any_pattern(word: &[Ch]) -> bool
+    ensures { result ≡ list_any (λ ch. is_pattern (mark_of ch)) word.now }
+{
+    word.iter().any(|ch| is_pattern(*ch))
+}
+
+/// Whether a marked `*`, `?` or `[` is among the characters.
+pub(crate) fn has_pattern(word: &[Ch]) -> bool
+    ensures { result ≡ has_pattern (marks word.now) }
+{
+    any_pattern(word)
+}
+
+/// Whether the characters of a word match the whole text.
+#[tactic(auto, unfolding(rc_model::specs::Run::Patterns::matches))]
+pub(crate) fn is_match(word: &[Ch], text: &str, explicit: bool) -> bool
+    ensures { result ≡ matches (marks word.now) (chars text.now) explicit }
+{
+    if explicit && has_pattern(word) && is_dots(text) {
+        return false;
+    }
+    fits(word, text, explicit)
+}
+
+/// Whether the word matches the whole text. In explicit form no pattern character stands for `/`,
+/// and a word that holds one matches neither `.` nor `..`. It takes no memory, and at most as many
+/// steps as the word is long times the text.
+pub fn matches(word: &Word, text: &str, explicit: bool) -> bool
+    ensures { result ≡ matches word.now (chars text.now) explicit }
+{
+    is_match(word.chars(), text, explicit)
+}
+
+fn push_char(text: &mut String, c: char) -> Result<(), AllocError>
+    ensures spelled { OnOk result (string_bytes text.new ≡ string_bytes text.old ++ encode_utf8 c) }
+    ensures scalar { IsScalar c }
+{
+    text.push(c)
+}
+
+/// The characters as text.
+fn text_of(alloc: Global, word: &[Ch]) -> Result<String, AllocError>
+    ensures { IfOk result (λ text. chars (string_bytes text) ≡ map (λ m. m.0) (marks word.now)) }
+{
+    let mut text = String::new(alloc);
+    for ch in word {
+        push_char(&mut text, ch.c)?;
+    }
+    Ok(text)
+}
+
+fn is_any(patterns: &[Word], text: &str) -> bool
+    ensures { result ≡ list_any (λ pattern. matches pattern (chars text.now) false) patterns.now }
+{
+    patterns.iter().any(|pattern| matches(pattern, text, false))
+}
+
+/// Whether one of the patterns matches the subject.
+pub fn matched(alloc: Global, subject: &[Word], patterns: &[Word]) -> Result<bool, AllocError>
+    ensures { IfOk result (λ is_match. is_match ≡ matched subject.now patterns.now) }
+{
+    for word in subject {
+        let text = text_of(alloc, word.chars())?;
+        if is_any(patterns, &text) {
+            return Ok(true);
+        }
+    }
+    Ok(false)
+}
