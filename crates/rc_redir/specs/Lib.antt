@@ -1,0 +1,2 @@
+pub mod Redirections
+pub mod Opening

@@ -1,0 +1,38 @@
+-- How a redirection that opens a file ends.
+use Rattle.std.specs.Prelude.{◌≡◌, ℕ, List, ◌++◌, Option, Some, Result, Ok, Err, codes, string_bytes}
+use Rattle.rc_model.specs.Run.Calls.{Call, Event, here, as_file, to_file, with_slot}
+use Rattle.rc_model.specs.declared.call.Slots.{Slots}
+use Rattle.rc_model.specs.Run.Plans.{done_with, Ran}
+use Rattle.rc_model.specs.Run.State.{State}
+use Rattle.rc_model.specs.Run.Shell.{Shell, Next, ◌>>=◌, call}
+use Rattle.rc_model.specs.Run.Acts.{fails, opened}
+use Rattle.rc_world.specs.Comes.{Left}
+use Rattle.rc_redir.specs.Redirections.{Redirections, redirected}
+use Rattle.rc_redir.specs.declared.RedirError.{RedirError}
+use Rattle.rc_redir.specs.declared.RedirError.TheVariants.{NotOneWord, CannotOpen, Stopped}
+
+-- a call that opens what has this name
+abbrev pub open_by : Call → Slots → (name : List ℕ) → Shell ℕ
+open_by c slots name = do
+  a ← call c
+  opened slots name (as_file a)
+
+-- the file of a here document whose text is this
+abbrev pub open_text : Slots → (text : List ℕ) → Shell ℕ
+open_text slots text = open_by (here text) slots (codes "here document")
+
+-- the file that was opened stands in the place of a descriptor
+abbrev pub with_file : Redirections → (slot file : ℕ) → Redirections
+with_file r slot file = redirected r (Some file) (with_slot r.slots slot (to_file file))
+
+-- in each state, an act that opens a file came to that file, which stands in the place of the descriptor now;
+-- or it came to a runtime error, of which nothing was reported yet; or it was left
+abbrev pub Opens : (before after : Option (List Event)) → (old new : Redirections) → (slot : ℕ) → Shell ℕ →
+    Result (Unit {0}) RedirError → Type 0
+Opens before after old new slot act (Ok x) =
+    (file : ℕ) × (new ≡ with_file old slot file) × ((s : State) → Ran before after (act s) (done_with (Next file s)))
+Opens before after old new slot act (Err NotOneWord) =
+    (s : State) → Ran before after (act s) (fails old.slots (codes "redirection needs one word") s)
+Opens before after old new slot act (Err (CannotOpen name)) =
+    (s : State) → Ran before after (act s) (fails old.slots (codes "cannot open " ++ string_bytes name) s)
+Opens before after old new slot act (Err (Stopped stop)) = (s : State) → Left before after (act s) stop
