@@ -1,0 +1,340 @@
+//! Writes the spelling of a tree.
+#![tactic(auto)]
+
+ghost use Rattle.std.specs.Prelude.{◌≡◌, ◌++◌, [], OnOk, string_bytes};
+ghost use Rattle.std.specs.Fmt.{decimal};
+ghost use Rattle.rc_model.specs.Syntax.Tree.{count};
+ghost use Rattle.rc_model.specs.Handed.Image.{node_image, many_image, list_image, text_image, literal_mark, item_mark, logic_mark, opening_mark};
+ghost use Rattle.rc_tree_types.specs.View.{cmd_tree, arg_tree, redir_tree, piece_tree, pieces_tree};
+ghost use Rattle.rc_tree_types.specs.View.{args_tree, items_tree, pairs_tree, redirs_tree, stages_tree, links_tree, branches_tree};
+
+use rc_tree::{Arg, Branch, Cmd, Item, Logic, Mode, Piece, Redir, Stage};
+use std::alloc::AllocError;
+
+/// Writes a number.
+fn push_number(out: &mut String, number: usize) -> Result<(), AllocError>
+    ensures { OnOk result (string_bytes out.new ≡ string_bytes out.old ++ decimal number) }
+{
+    let digits = number.to_string(*out.allocator())?;
+    out.push_str(&digits)
+}
+
+/// Writes a text with its length in bytes.
+fn push_text(out: &mut String, text: &str) -> Result<(), AllocError>
+    ensures { OnOk result (string_bytes out.new ≡ string_bytes out.old ++ text_image text.now) }
+{
+    push_number(out, text.len())?;
+    out.push_str(":")?;
+    out.push_str(text)
+}
+
+/// Writes how many things a list has.
+fn push_count(out: &mut String, count: usize) -> Result<(), AllocError>
+    ensures { OnOk result (string_bytes out.new ≡ string_bytes out.old ++ list_image count []) }
+{
+    push_number(out, count)?;
+    out.push_str(",")
+}
+
+/// How a word is written.
+fn literal_mark(quoted: bool) -> &'static str
+    ensures { result.now ≡ literal_mark quoted }
+{
+    if quoted { "q" } else { "w" }
+}
+
+/// Whether an item runs in the background.
+fn item_mark(background: bool) -> &'static str
+    ensures { result.now ≡ item_mark background }
+{
+    if background { "&" } else { ";" }
+}
+
+fn logic_mark(logic: Logic) -> &'static str
+    ensures { result.now ≡ logic_mark logic }
+{
+    match logic {
+        Logic::And => "&",
+        Logic::Or => "|",
+    }
+}
+
+/// Writes how a file is opened, and as which descriptor.
+fn push_opening(out: &mut String, mode: Mode, slot: u8) -> Result<(), AllocError>
+    ensures { OnOk result (string_bytes out.new ≡ string_bytes out.old ++ opening_mark mode slot) }
+{
+    match mode {
+        Mode::Read => out.push_str("<"),
+        Mode::Write => {
+            out.push_str(">")?;
+            push_number(out, slot as usize)
+        }
+        Mode::Append => {
+            out.push_str("+")?;
+            push_number(out, slot as usize)
+        }
+    }
+}
+
+/// Writes a piece of a here document.
+#[tactic(auto, using(crate::proofs::Spelling::spelling))]
+fn push_piece(out: &mut String, piece: &Piece) -> Result<(), AllocError>
+    ensures { OnOk result (string_bytes out.new ≡ string_bytes out.old ++ node_image (piece_tree piece.now)) }
+{
+    match piece {
+        Piece::Text(text) => {
+            out.push_str("t")?;
+            push_text(out, text)
+        }
+        Piece::Name(name) => {
+            out.push_str("v")?;
+            push_text(out, name)
+        }
+    }
+}
+
+#[tactic(auto, using(crate::proofs::Spelling::spelling))]
+fn push_pieces(out: &mut String, pieces: &[Piece]) -> Result<(), AllocError>
+    ensures { OnOk result (string_bytes out.new ≡ string_bytes out.old ++ list_image (count (pieces_tree pieces.now)) (many_image (pieces_tree pieces.now))) }
+{
+    push_count(out, pieces.len())?;
+    for x in pieces {
+        push_piece(out, x)?;
+    }
+    Ok(())
+}
+
+/// Writes the spelling of a command behind what stands there.
+#[cycle(spell)]
+#[tactic(auto, using(crate::proofs::Spelling::spelling))]
+pub fn push_spelling(out: &mut String, cmd: &Cmd) -> Result<(), AllocError>
+    ensures { OnOk result (string_bytes out.new ≡ string_bytes out.old ++ node_image (cmd_tree cmd.now)) }
+{
+    match cmd {
+        Cmd::Empty => out.push_str("e"),
+        Cmd::Seq(items) => {
+            out.push_str("s")?;
+            push_items(out, items)
+        }
+        Cmd::Simple(words) => {
+            out.push_str("c")?;
+            push_args(out, words)
+        }
+        Cmd::Assign(pairs, body) => {
+            out.push_str("=")?;
+            push_pairs(out, pairs)?;
+            push_spelling(out, body)
+        }
+        Cmd::Redirect(redirs, body) => {
+            out.push_str("r")?;
+            push_redirs(out, redirs)?;
+            push_spelling(out, body)
+        }
+        Cmd::Pipeline(stages, last) => {
+            out.push_str("p")?;
+            push_stages(out, stages)?;
+            push_spelling(out, last)
+        }
+        Cmd::AndOr(first, links) => {
+            out.push_str("a")?;
+            push_spelling(out, first)?;
+            push_links(out, links)
+        }
+        Cmd::Not(body) => push_marked(out, "!", body),
+        Cmd::Subshell(body) => push_marked(out, "@", body),
+        Cmd::If(condition, body) => {
+            push_marked(out, "i", condition)?;
+            push_spelling(out, body)
+        }
+        Cmd::IfNot(body) => push_marked(out, "n", body),
+        Cmd::While(condition, body) => {
+            push_marked(out, "w", condition)?;
+            push_spelling(out, body)
+        }
+        Cmd::ForAll(name, body) => {
+            push_marked_arg(out, "f", name)?;
+            push_spelling(out, body)
+        }
+        Cmd::For(name, words, body) => {
+            push_marked_arg(out, "F", name)?;
+            push_args(out, words)?;
+            push_spelling(out, body)
+        }
+        Cmd::Switch(subject, branches) => {
+            push_marked_arg(out, "S", subject)?;
+            push_branches(out, branches)
+        }
+        Cmd::Match(subject, patterns) => {
+            push_marked_arg(out, "~", subject)?;
+            push_args(out, patterns)
+        }
+        Cmd::Define(names, body) => {
+            out.push_str("d")?;
+            push_args(out, names)?;
+            push_spelling(out, body)
+        }
+        Cmd::Undefine(names) => {
+            out.push_str("u")?;
+            push_args(out, names)
+        }
+        Cmd::Brace(body) => push_marked(out, "b", body),
+    }
+}
+
+/// Writes a tag and a command.
+#[cycle(spell)]
+fn push_marked(out: &mut String, tag: &str, cmd: &Cmd) -> Result<(), AllocError>
+    ensures { OnOk result (string_bytes out.new ≡ string_bytes out.old ++ (tag.now ++ node_image (cmd_tree cmd.now))) }
+{
+    out.push_str(tag)?;
+    push_spelling(out, cmd)
+}
+
+/// Writes a tag and an argument.
+#[cycle(spell)]
+fn push_marked_arg(out: &mut String, tag: &str, arg: &Arg) -> Result<(), AllocError>
+    ensures { OnOk result (string_bytes out.new ≡ string_bytes out.old ++ (tag.now ++ node_image (arg_tree arg.now))) }
+{
+    out.push_str(tag)?;
+    push_arg(out, arg)
+}
+
+#[cycle(spell)]
+#[tactic(auto, using(crate::proofs::Spelling::spelling))]
+fn push_arg(out: &mut String, arg: &Arg) -> Result<(), AllocError>
+    ensures { OnOk result (string_bytes out.new ≡ string_bytes out.old ++ node_image (arg_tree arg.now)) }
+{
+    match arg {
+        Arg::Lit { text, quoted } => {
+            out.push_str(literal_mark(*quoted))?;
+            push_text(out, text)
+        }
+        Arg::Concat(parts) => {
+            out.push_str("^")?;
+            push_args(out, parts)
+        }
+        Arg::Paren(words) => {
+            out.push_str("(")?;
+            push_args(out, words)
+        }
+        Arg::Var(name) => push_marked_arg(out, "$", name),
+        Arg::Count(name) => push_marked_arg(out, "#", name),
+        Arg::Flat(name) => push_marked_arg(out, "\"", name),
+        Arg::Sub(name, subscripts) => {
+            push_marked_arg(out, "[", name)?;
+            push_args(out, subscripts)
+        }
+        Arg::Back(body) => push_marked(out, "`", body),
+    }
+}
+
+#[cycle(spell)]
+#[tactic(auto, using(crate::proofs::Spelling::spelling))]
+fn push_redir(out: &mut String, redir: &Redir) -> Result<(), AllocError>
+    ensures { OnOk result (string_bytes out.new ≡ string_bytes out.old ++ node_image (redir_tree redir.now)) }
+{
+    match redir {
+        Redir::Open { mode, slot, file } => {
+            push_opening(out, *mode, *slot)?;
+            push_arg(out, file)
+        }
+        Redir::Copy { to, from } => {
+            out.push_str("=")?;
+            push_number(out, *to as usize)?;
+            push_number(out, *from as usize)
+        }
+        Redir::Here(pieces) => {
+            out.push_str("h")?;
+            push_pieces(out, pieces)
+        }
+    }
+}
+
+#[cycle(spell)]
+#[tactic(auto, using(crate::proofs::Spelling::spelling))]
+fn push_args(out: &mut String, args: &[Arg]) -> Result<(), AllocError>
+    ensures { OnOk result (string_bytes out.new ≡ string_bytes out.old ++ list_image (count (args_tree args.now)) (many_image (args_tree args.now))) }
+{
+    push_count(out, args.len())?;
+    for x in args {
+        push_arg(out, x)?;
+    }
+    Ok(())
+}
+
+#[cycle(spell)]
+#[tactic(auto, using(crate::proofs::Spelling::spelling))]
+fn push_items(out: &mut String, items: &[Item]) -> Result<(), AllocError>
+    ensures { OnOk result (string_bytes out.new ≡ string_bytes out.old ++ list_image (count (items_tree items.now)) (many_image (items_tree items.now))) }
+{
+    push_count(out, items.len())?;
+    for x in items {
+        out.push_str(item_mark(x.background))?;
+        push_spelling(out, &x.cmd)?;
+    }
+    Ok(())
+}
+
+#[cycle(spell)]
+#[tactic(auto, using(crate::proofs::Spelling::spelling))]
+fn push_pairs(out: &mut String, pairs: &[(Arg, Arg)]) -> Result<(), AllocError>
+    ensures { OnOk result (string_bytes out.new ≡ string_bytes out.old ++ list_image (count (pairs_tree pairs.now)) (many_image (pairs_tree pairs.now))) }
+{
+    push_count(out, pairs.len())?;
+    for x in pairs {
+        push_arg(out, &x.0)?;
+        push_arg(out, &x.1)?;
+    }
+    Ok(())
+}
+
+#[cycle(spell)]
+#[tactic(auto, using(crate::proofs::Spelling::spelling))]
+fn push_redirs(out: &mut String, redirs: &[Redir]) -> Result<(), AllocError>
+    ensures { OnOk result (string_bytes out.new ≡ string_bytes out.old ++ list_image (count (redirs_tree redirs.now)) (many_image (redirs_tree redirs.now))) }
+{
+    push_count(out, redirs.len())?;
+    for x in redirs {
+        push_redir(out, x)?;
+    }
+    Ok(())
+}
+
+#[cycle(spell)]
+#[tactic(auto, using(crate::proofs::Spelling::spelling))]
+fn push_stages(out: &mut String, stages: &[Stage]) -> Result<(), AllocError>
+    ensures { OnOk result (string_bytes out.new ≡ string_bytes out.old ++ list_image (count (stages_tree stages.now)) (many_image (stages_tree stages.now))) }
+{
+    push_count(out, stages.len())?;
+    for x in stages {
+        push_number(out, x.slot as usize)?;
+        push_spelling(out, &x.cmd)?;
+    }
+    Ok(())
+}
+
+#[cycle(spell)]
+#[tactic(auto, using(crate::proofs::Spelling::spelling))]
+fn push_links(out: &mut String, links: &[(Logic, Cmd)]) -> Result<(), AllocError>
+    ensures { OnOk result (string_bytes out.new ≡ string_bytes out.old ++ list_image (count (links_tree links.now)) (many_image (links_tree links.now))) }
+{
+    push_count(out, links.len())?;
+    for x in links {
+        out.push_str(logic_mark(x.0))?;
+        push_spelling(out, &x.1)?;
+    }
+    Ok(())
+}
+
+#[cycle(spell)]
+#[tactic(auto, using(crate::proofs::Spelling::spelling))]
+fn push_branches(out: &mut String, branches: &[Branch]) -> Result<(), AllocError>
+    ensures { OnOk result (string_bytes out.new ≡ string_bytes out.old ++ list_image (count (branches_tree branches.now)) (many_image (branches_tree branches.now))) }
+{
+    push_count(out, branches.len())?;
+    for x in branches {
+        push_args(out, &x.patterns)?;
+        push_spelling(out, &x.body)?;
+    }
+    Ok(())
+}
