@@ -11,10 +11,10 @@ if_not_runs_where_the_condition_failed :
 unfolding meant ran
 if_not_runs_where_the_condition_failed = (refl, refl)
 
--- a failed condition inside of a true body leaves no flag
-a_true_body_clears_the_flag : Does (codes "fn f {if(~ a b) c}; if(f) x; if not exit n") fresh [] (codes "n")
+-- the flag is set where the function leaves a false status
+a_function_may_be_a_condition : Does (codes "fn f {if(~ a b) c}; if(f) x; if not exit n") fresh [] (codes "n")
 unfolding meant ran
-a_true_body_clears_the_flag = (refl, refl)
+a_function_may_be_a_condition = (refl, refl)
 
 -- the flag is cleared after the body
 a_flag_set_in_a_true_body_is_cleared : Does (codes "if(~ a a) {if(~ a b) p}; if not q") fresh [] (codes "no match")

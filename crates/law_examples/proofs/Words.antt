@@ -41,10 +41,10 @@ a_backslash_at_the_end_of_a_line_is_a_blank : Does (codes "exit a\\\nb") fresh [
 unfolding meant ran
 a_backslash_at_the_end_of_a_line_is_a_blank = (refl, refl)
 
--- a word may hold any character in quotes
-an_unquoted_equals_sign_stands_in_quotes : Does (codes "exit 'a=b#c'") fresh [] (codes "a=b#c")
+-- an equals sign and a hash, too
+quotes_hold_any_character : Does (codes "exit 'a=b#c'") fresh [] (codes "a=b#c")
 unfolding meant ran
-an_unquoted_equals_sign_stands_in_quotes = (refl, refl)
+quotes_hold_any_character = (refl, refl)
 
 -- newlines inside of parentheses are blanks
 newlines_are_blanks_in_parentheses : Does (codes "x=(a\nb)\nexit $#x") fresh [] (codes "2")
