@@ -1,7 +1,7 @@
 -- Words that are cut at slashes.
 use Rattle.std.proofs.Common.{◌≡◌, ℕ, ◌+◌, ◌<◌, ◌==◌, Bool, true, false, cond, ◌||◌, List, [], ◌∷◌, ◌++◌, length, map, take, drop, get_or, refl, sym, ap, ◌∙◌, append_assoc, drop-cons, add-one, eq-eqb, lit<, Option, Some, subst}
 use Rattle.std.proofs.lemmas.Bool.{ne_eqb, eqb-true}
-use Rattle.std.proofs.lemmas.List.{take_more, map-append, append-nil, take_all}
+use Rattle.std.proofs.lemmas.List.{take_more, map-append, append-nil}
 use Rattle.std.specs.Prelude.{codes, IfSome}
 use Rattle.std.specs.Borrow.{Bor}
 use Rattle.std.specs.List.{list_any, onto_first, join_with_byte}

@@ -1,5 +1,5 @@
 -- Texts that are put into a set one by one, the last one first.
-use Rattle.std.proofs.Common.{◌≡◌, ℕ, Bool, true, false, cond, ◌-◌, List, [], ◌∷◌, ◌++◌, length, map, take, refl, sym, ap, ◌∙◌, string_bytes}
+use Rattle.std.proofs.Common.{◌≡◌, ℕ, Bool, true, false, cond, ◌-◌, List, [], ◌∷◌, ◌++◌, map, take, refl, sym, ap, ◌∙◌, string_bytes}
 use Rattle.std.proofs.lemmas.List.{append-nil, map-append}
 use Rattle.std.specs.Prelude.{filter}
 use Rattle.std.specs.declared.alloc.Global.{Global}

@@ -1,5 +1,5 @@
 -- How the calls of an expansion join.
-use Rattle.std.proofs.Common.{◌≡◌, ℕ, ◌+◌, ◌*◌, ◌<◌, ◌≤◌, arith, List, [], ◌∷◌, ◌++◌, length, map, drop, get_or, Option, Some, None, is_some, refl, sym, ap, subst, ◌∙◌, append_assoc, drop-cons, add-one, string_bytes}
+use Rattle.std.proofs.Common.{◌≡◌, ℕ, ◌+◌, ◌*◌, ◌<◌, ◌≤◌, arith, List, [], ◌∷◌, ◌++◌, length, map, drop, get_or, Option, Some, None, is_some, sym, ap, subst, ◌∙◌, append_assoc, drop-cons, add-one, string_bytes}
 use Rattle.std.specs.Prelude.{if◌then◌else◌, Bool, true, false, cond, ◌==◌, Ok, Err, MatchResult, Result as Outcome}
 use Rattle.std.specs.Borrow.{Bor}
 use Rattle.std.proofs.lemmas.Bool.{eqb-true}

@@ -59,13 +59,21 @@ fn shows(rt: &impl Abort, text: Result<String, Fail>, wanted: &str) -> Result<()
 fn names_come_in_byte_order_with_the_hidden_ones(rt: HostRuntime) -> Result<(), Fail> {
     let alloc = rt.alloc();
     let names = given(alloc, &["b", "a", ".h", "x/y", "", ".", "..", "a"])?;
-    shows(&rt, expanded(alloc, "*", vec![in alloc; names]?), "[.h][a][b]\nlist .\n")
+    shows(
+        &rt,
+        expanded(alloc, "*", vec![in alloc; names]?),
+        "[.h][a][b]\nlist .\n",
+    )
 }
 
 #[test]
 fn a_refused_list_gives_no_names(rt: HostRuntime) -> Result<(), Fail> {
     let alloc = rt.alloc();
-    shows(&rt, expanded(alloc, "*", vec![in alloc; REFUSED]?), "[*]\nlist .\n")
+    shows(
+        &rt,
+        expanded(alloc, "*", vec![in alloc; REFUSED]?),
+        "[*]\nlist .\n",
+    )
 }
 
 #[test]
@@ -102,20 +110,32 @@ fn slashes_at_each_end(rt: HostRuntime) -> Result<(), Fail> {
         "[d/]\nlist .\nprobe d/\nprobe f/\n",
     )?;
     let names = given(alloc, &["bin", "etc"])?;
-    shows(&rt, expanded(alloc, "/*", vec![in alloc; names]?), "[/bin][/etc]\nlist /\n")
+    shows(
+        &rt,
+        expanded(alloc, "/*", vec![in alloc; names]?),
+        "[/bin][/etc]\nlist /\n",
+    )
 }
 
 #[test]
 fn names_have_newlines_and_blanks(rt: HostRuntime) -> Result<(), Fail> {
     let alloc = rt.alloc();
     let names = given(alloc, &["a\nb", "a b"])?;
-    shows(&rt, expanded(alloc, "a*", vec![in alloc; names]?), "[a\nb][a b]\nlist .\n")
+    shows(
+        &rt,
+        expanded(alloc, "a*", vec![in alloc; names]?),
+        "[a\nb][a b]\nlist .\n",
+    )
 }
 
 #[test]
 fn a_halt_leaves_the_last_call_unanswered(rt: HostRuntime) -> Result<(), Fail> {
     let alloc = rt.alloc();
-    shows(&rt, expanded(alloc, "*", Vec::new(alloc)), "halted\nlist .\n")
+    shows(
+        &rt,
+        expanded(alloc, "*", Vec::new(alloc)),
+        "halted\nlist .\n",
+    )
 }
 
 #[test]
@@ -123,7 +143,10 @@ fn words_are_expanded_in_turn(rt: HostRuntime) -> Result<(), Fail> {
     let alloc = rt.alloc();
     let names = given(alloc, &["b", "a", ".h", "x/y"])?;
     let mut tape = Tape::new(vec![in alloc; names]?);
-    let words = [Word::written(alloc, "*", true)?, Word::written(alloc, "*", false)?];
+    let words = [
+        Word::written(alloc, "*", true)?,
+        Word::written(alloc, "*", false)?,
+    ];
     let Ok(list) = expand_all(alloc, &mut tape, &words) else {
         return Err(Fail::from(AllocError));
     };
