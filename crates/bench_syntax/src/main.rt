@@ -1,4 +1,5 @@
-//! How long reading takes: `bench_syntax lex|parse KIND BYTES` reads one text, and prints the microseconds of the processor.
+//! How long reading takes: `bench_syntax lex|parse KIND BYTES` reads one text, and prints the microseconds of the
+//! processor.
 #![tactic(auto)]
 
 use anyhow::{Context, bail};

@@ -1,7 +1,8 @@
 //! The laws of the grammar: the descent finds the trees of the grammar and no others, and a script has one at most.
 #![tactic(auto)]
 
-ghost use Rattle.rc_model.specs.Mirrors.ParsingLaws.{FindsOnlyTrees, FindsEachTree, HasOneTree, HasNoTree, HasTooManyStages, IsTooDeep, HasSoundTrees};
+ghost use Rattle.rc_model.specs.Mirrors.ParsingLaws.{FindsOnlyTrees, FindsEachTree, HasOneTree, HasNoTree};
+ghost use Rattle.rc_model.specs.Mirrors.ParsingLaws.{HasTooManyStages, IsTooDeep, HasSoundTrees};
 
 /// What the descent finds is the tree of an accepted script.
 pub fn finds_only_trees()

@@ -3,7 +3,8 @@
 
 ghost use Rattle.rc_model.specs.Handed.HandedLaws.{HandedReadsBack, ReadsProper, ReadsScripts};
 ghost use Rattle.rc_model.specs.Handed.TreeLaws.{HasSpelling, OneSpelling, OneTree, ReadsSpellings, TreesReadBack};
-ghost use Rattle.rc_model.specs.Handed.WordsLaws.{HasWords, OneListOfWords, OneTreeOfWords, PiecesByRule, ReadsWords, WordsByRule, WordsReadBack};
+ghost use Rattle.rc_model.specs.Handed.WordsLaws.{HasWords, OneListOfWords, OneTreeOfWords, PiecesByRule, ReadsWords};
+ghost use Rattle.rc_model.specs.Handed.WordsLaws.{WordsByRule, WordsReadBack};
 
 /// A tree has one spelling, and a text spells one tree.
 pub fn trees_have_one_spelling()

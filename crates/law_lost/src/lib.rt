@@ -11,10 +11,12 @@ ghost use Rattle.std.specs.Prelude.{List, ℕ};
 
 /// Wherever the code of a script is left, over fresh answers, each of its calls named what was held or owed.
 pub fn code_loses_nothing()
-    ensures { (m : ℕ) (c : Node cmd) (s : State) (trace : List Event) (p : Plan State) → Goes (exec m (begin c s)) trace p → IsFresh s trace → NothingLost s trace }
+    ensures { (m : ℕ) (c : Node cmd) (s : State) (trace : List Event) (p : Plan State) →
+        Goes (exec m (begin c s)) trace p → IsFresh s trace → NothingLost s trace }
 {}
 
 /// Where the code ends nothing is held, and what is owed stands in the background list.
 pub fn code_leaves_nothing()
-    ensures { (m : ℕ) (c : Node cmd) (s t : State) (trace : List Event) → Goes (exec m (begin c s)) trace (done_with t) → IsFresh s trace → NothingLeft s trace t }
+    ensures { (m : ℕ) (c : Node cmd) (s t : State) (trace : List Event) →
+        Goes (exec m (begin c s)) trace (done_with t) → IsFresh s trace → NothingLeft s trace t }
 {}

@@ -1,7 +1,8 @@
 //! What the text of a command depends on besides the texts of its parts.
 
 ghost use Rattle.std.specs.Prelude.{◌≡◌, ◌++◌, OnOk, string_bytes, codes, if◌then◌else◌};
-ghost use Rattle.rc_model.specs.Syntax.Printing.{stands_first, begins_with_case, begin_with_case, literal, bar, sign, opening, copying};
+ghost use Rattle.rc_model.specs.Syntax.Printing.{stands_first, begins_with_case, begin_with_case, literal, bar, sign};
+ghost use Rattle.rc_model.specs.Syntax.Printing.{opening, copying};
 ghost use Rattle.rc_model.specs.Syntax.Tree.{is_empty};
 ghost use Rattle.rc_tree_types.specs.View.{cmd_tree, arg_tree, args_tree};
 

@@ -3,7 +3,8 @@
 ghost use Rattle.std.specs.Prelude.{◌≡◌};
 ghost use Rattle.rc_model.specs.Syntax.Printing.{has_here, have_here};
 ghost use Rattle.rc_tree_types.specs.View.{cmd_tree, arg_tree, redir_tree};
-ghost use Rattle.rc_tree_types.specs.View.{args_tree, items_tree, pairs_tree, redirs_tree, stages_tree, links_tree, branches_tree};
+ghost use Rattle.rc_tree_types.specs.View.{args_tree, items_tree, pairs_tree, redirs_tree, stages_tree, links_tree};
+ghost use Rattle.rc_tree_types.specs.View.{branches_tree};
 
 use rc_model::Logic;
 use rc_tree_types::{Arg, Branch, Cmd, Item, Redir, Stage};

@@ -6,7 +6,8 @@ ghost use Rattle.rc_model.specs.Syntax.Tree.{more, snoc};
 ghost use Rattle.rc_model.specs.Syntax.HereDocs.{pieces_of};
 ghost use Rattle.rc_model.specs.Syntax.Grammar.{concat_of, redirect, and_or, is_if};
 ghost use Rattle.rc_model.specs.Mirrors.Descent.{pipeline_of, item_end};
-ghost use Rattle.rc_tree_types.specs.View.{cmd_tree, arg_tree, redir_tree, args_tree, items_tree, pairs_tree, redirs_tree, stages_tree, links_tree, branches_tree};
+ghost use Rattle.rc_tree_types.specs.View.{cmd_tree, arg_tree, redir_tree, args_tree, items_tree, pairs_tree, redirs_tree};
+ghost use Rattle.rc_tree_types.specs.View.{stages_tree, links_tree, branches_tree};
 ghost use Rattle.rc_lexemes.specs.Lexemes.{lexemes_of};
 ghost use Rattle.rc_lexemes.specs.Reading.{Gives};
 
@@ -129,7 +130,8 @@ pub fn for_each(
     words: Vec<Arg>,
     body: Box<Cmd>,
 ) -> Result<Box<Cmd>, AllocError>
-    ensures { IfOk result (λ b. cmd_tree b.value ≡ t.For (arg_tree name.value) (args_tree words.items) (cmd_tree body.value)) }
+    ensures { IfOk result (λ b. cmd_tree b.value
+        ≡ t.For (arg_tree name.value) (args_tree words.items) (cmd_tree body.value)) }
 {
     Ok(Box::new(alloc, Cmd::For(Box::into_inner(name), words, body))?)
 }
@@ -340,7 +342,8 @@ pub fn insert_arg(args: &mut Vec<Arg>, arg: Box<Arg>) -> Result<(), AllocError>
 /// One more redirection.
 #[tactic(auto, using(rc_tree_types::specs::View::tree_lists))]
 pub fn push_redir(redirs: &mut Vec<Redir>, redir: Box<Redir>) -> Result<(), AllocError>
-    ensures { OnOk result (redirs_tree redirs.new.items ≡ snoc (redirs_tree redirs.old.items) (redir_tree redir.value)) }
+    ensures { OnOk result (redirs_tree redirs.new.items
+        ≡ snoc (redirs_tree redirs.old.items) (redir_tree redir.value)) }
 {
     Ok(redirs.push(Box::into_inner(redir))?)
 }
@@ -348,7 +351,8 @@ pub fn push_redir(redirs: &mut Vec<Redir>, redir: Box<Redir>) -> Result<(), Allo
 /// One redirection before the others.
 #[tactic(auto, using(rc_tree_types::specs::View::tree_lists))]
 pub fn insert_redir(redirs: &mut Vec<Redir>, redir: Box<Redir>) -> Result<(), AllocError>
-    ensures { OnOk result (redirs_tree redirs.new.items ≡ more (redir_tree redir.value) (redirs_tree redirs.old.items)) }
+    ensures { OnOk result (redirs_tree redirs.new.items
+        ≡ more (redir_tree redir.value) (redirs_tree redirs.old.items)) }
 {
     Ok(redirs.insert(0, Box::into_inner(redir))?)
 }
@@ -356,7 +360,8 @@ pub fn insert_redir(redirs: &mut Vec<Redir>, redir: Box<Redir>) -> Result<(), Al
 /// One more item.
 #[tactic(auto, using(rc_tree_types::specs::View::tree_lists))]
 pub fn push_item(items: &mut Vec<Item>, cmd: Box<Cmd>, background: bool) -> Result<(), AllocError>
-    ensures { OnOk result (items_tree items.new.items ≡ snoc (items_tree items.old.items) (t.Item (cmd_tree cmd.value) background)) }
+    ensures { OnOk result (items_tree items.new.items
+        ≡ snoc (items_tree items.old.items) (t.Item (cmd_tree cmd.value) background)) }
 {
     Ok(items.push(Item {
         cmd: Box::into_inner(cmd),
@@ -367,7 +372,8 @@ pub fn push_item(items: &mut Vec<Item>, cmd: Box<Cmd>, background: bool) -> Resu
 /// One more stage.
 #[tactic(auto, using(rc_tree_types::specs::View::tree_lists))]
 pub fn push_stage(stages: &mut Vec<Stage>, cmd: Box<Cmd>, slot: u8) -> Result<(), AllocError>
-    ensures { OnOk result (stages_tree stages.new.items ≡ snoc (stages_tree stages.old.items) (t.Stage (cmd_tree cmd.value) slot)) }
+    ensures { OnOk result (stages_tree stages.new.items
+        ≡ snoc (stages_tree stages.old.items) (t.Stage (cmd_tree cmd.value) slot)) }
 {
     Ok(stages.push(Stage {
         cmd: Box::into_inner(cmd),
@@ -382,7 +388,8 @@ pub fn push_link(
     logic: Logic,
     cmd: Box<Cmd>,
 ) -> Result<(), AllocError>
-    ensures { OnOk result (links_tree links.new.items ≡ snoc (links_tree links.old.items) (t.Link logic (cmd_tree cmd.value))) }
+    ensures { OnOk result (links_tree links.new.items
+        ≡ snoc (links_tree links.old.items) (t.Link logic (cmd_tree cmd.value))) }
 {
     Ok(links.push((logic, Box::into_inner(cmd)))?)
 }
@@ -394,7 +401,8 @@ pub fn push_pair(
     name: Box<Arg>,
     value: Box<Arg>,
 ) -> Result<(), AllocError>
-    ensures { OnOk result (pairs_tree pairs.new.items ≡ snoc (pairs_tree pairs.old.items) (t.Pair (arg_tree name.value) (arg_tree value.value))) }
+    ensures { OnOk result (pairs_tree pairs.new.items
+        ≡ snoc (pairs_tree pairs.old.items) (t.Pair (arg_tree name.value) (arg_tree value.value))) }
 {
     Ok(pairs.push((Box::into_inner(name), Box::into_inner(value)))?)
 }

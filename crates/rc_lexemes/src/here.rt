@@ -53,7 +53,8 @@ fn with_char(mut text: String, c: char) -> Result<String, AllocError>
 #[tactic(auto, using(rc_tree_types::specs::View::tree_lists))]
 fn next(alloc: Global, pieces: &mut Vec<Piece>, begun: Begun, c: char) -> Result<Begun, AllocError>
     ensures begun { IfOk result (λ b. begun_of b ≡ behind (begun_of begun) c) }
-    ensures pieces { OnOk result (pieces_tree pieces.new.items ≡ ended_by (begun_of begun) c (pieces_tree pieces.old.items)) }
+    ensures pieces { OnOk result (pieces_tree pieces.new.items
+        ≡ ended_by (begun_of begun) c (pieces_tree pieces.old.items)) }
 {
     match begun {
         Begun::Plain(text) => {
@@ -93,7 +94,8 @@ fn next(alloc: Global, pieces: &mut Vec<Piece>, begun: Begun, c: char) -> Result
 /// A text is a piece unless it is empty.
 #[tactic(auto, using(crate::proofs::Pieces::with_text_empty, crate::proofs::Pieces::with_text_some, rc_tree_types::specs::View::tree_lists))]
 fn push_text(pieces: &mut Vec<Piece>, text: String) -> Result<(), AllocError>
-    ensures { OnOk result (pieces_tree pieces.new.items ≡ with_text (pieces_tree pieces.old.items) (string_bytes text)) }
+    ensures { OnOk result (pieces_tree pieces.new.items
+        ≡ with_text (pieces_tree pieces.old.items) (string_bytes text)) }
 {
     if text.len() != 0 {
         pieces.push(Piece::Text(text))?;

@@ -1,7 +1,9 @@
 //! What the grammar sees of the tokens, and the tests of the next one.
 
 ghost use Rattle.std.specs.Prelude.{◌≡◌, Option, option_map};
-ghost use Rattle.rc_model.specs.Syntax.Grammar.{keyword, is_case, begins_arg, begins_redir, begins_brace, begins_command, begins_link, closes, ends, ends_case, past_newlines, past_blanks, past_caret, after_caret};
+ghost use Rattle.rc_model.specs.Syntax.Grammar.{keyword, is_case, begins_arg, begins_redir, begins_brace};
+ghost use Rattle.rc_model.specs.Syntax.Grammar.{begins_command, begins_link, closes, ends, ends_case, past_newlines};
+ghost use Rattle.rc_model.specs.Syntax.Grammar.{past_blanks, past_caret, after_caret};
 ghost use Rattle.rc_model.specs.Mirrors.Descent.{begins_leading};
 ghost use Rattle.rc_lexemes.specs.Lexemes.{lexemes_of};
 

@@ -95,7 +95,8 @@ pub fn lex(alloc: Global, script: &str) -> Result<Vec<Token>, LexError>
 /// The line of the first byte 0.
 fn zero_line(script: &str) -> Option<usize>
     requires { length script.now < 2 ^ 63 }
-    ensures { MatchOption result (reading.zero_line 1 (chars script.now) ≡ None) (λ line. reading.zero_line 1 (chars script.now) ≡ Some line) }
+    ensures { MatchOption result (reading.zero_line 1 (chars script.now) ≡ None)
+        (λ line. reading.zero_line 1 (chars script.now) ≡ Some line) }
 {
     let mut place = Place { byte: 0, line: 1 };
     let mut rest = script;
@@ -128,7 +129,8 @@ fn behind_char(place: Place, c: char) -> Place
 /// Reads the whole script.
 fn read(alloc: Global, script: &str) -> Result<Lexer, LexError>
     requires { length script.now < 2 ^ 63 }
-    ensures { ReadTo script.now result (reading.run (reading.Between model.Apart) [] model.first_place (chars script.now)) }
+    ensures { ReadTo script.now result (reading.run (reading.Between model.Apart) [] model.first_place
+        (chars script.now)) }
 {
     let mut lexer = Lexer::new(alloc);
     let mut state = State::Between(Before::Apart);

@@ -1,13 +1,16 @@
 //! The machine that reads a script character by character.
 #![tactic(auto)]
 
-ghost use Rattle.std.specs.Prelude.{false, ◌||◌, ◌==◌, ◌≡◌, ◌≢◌, ℕ, ◌≤◌, ◌↔◌, List, [], ◌∷◌, ◌++◌, map, length, slice_range, IfOk, OnOk, IsTrue};
+ghost use Rattle.std.specs.Prelude.{false, ◌||◌, ◌==◌, ◌≡◌, ◌≢◌, ℕ, ◌≤◌, ◌↔◌, List, [], ◌∷◌, ◌++◌, map, length};
+ghost use Rattle.std.specs.Prelude.{slice_range, IfOk, OnOk, IsTrue};
 ghost use Rattle.rc_model.specs.Syntax.Tokens as model;
 ghost use Rattle.rc_model.specs.Mirrors.Reading as reading;
 ghost use Rattle.rc_lexer.specs.Views.{lexeme_of, slice_at, token_of, tokens_of};
 ghost use Rattle.rc_lexer.specs.Classes.{class_is};
-ghost use Rattle.rc_lexer.specs.Machine.{Does, Ends, IfSpelled, IsClosed, IsHead, Keeps, Marked, Resolved, Spelled, Stands};
-ghost use Rattle.rc_lexer.specs.Machine.{before_of, bodies_in, dollars_in, due_in, due_left, lexeme_tokens, line_of, place_of, state_in, tokens_in};
+ghost use Rattle.rc_lexer.specs.Machine.{Does, Ends, IfSpelled, IsClosed, IsHead, Keeps, Marked, Resolved, Spelled};
+ghost use Rattle.rc_lexer.specs.Machine.{Stands};
+ghost use Rattle.rc_lexer.specs.Machine.{before_of, bodies_in, dollars_in, due_in, due_left, lexeme_tokens, line_of};
+ghost use Rattle.rc_lexer.specs.Machine.{place_of, state_in, tokens_in};
 
 use crate::operators::{Class, begins_operator, operator};
 use crate::{LexError, Span, Token, TokenKind};
@@ -91,7 +94,8 @@ pub struct Lexer {
 }
 
 fn token(kind: TokenKind, start: Place, stop: Place) -> Token
-    ensures { result ≡ record { kind = kind; span = record { start = start.byte; stop = stop.byte }; line = start.line } }
+    ensures { result
+        ≡ record { kind = kind; span = record { start = start.byte; stop = stop.byte }; line = start.line } }
 {
     Token {
         kind,
@@ -153,7 +157,8 @@ fn begins_name(before: Before, c: char) -> bool
 
 /// What the token is for what follows.
 fn behind(before: Before, kind: TokenKind) -> Before
-    ensures { (script text : List ℕ) → before_of result ≡ model.as_before (before_of before) (lexeme_of script kind text) }
+    ensures { (script text : List ℕ) → before_of result
+        ≡ model.as_before (before_of before) (lexeme_of script kind text) }
 {
     match (before, kind) {
         (Before::Here(_, _), _) => Before::Apart,
@@ -168,7 +173,8 @@ fn behind(before: Before, kind: TokenKind) -> Before
 
 /// What the operator means here, where no name follows.
 fn meant(before: Before, kind: TokenKind) -> TokenKind
-    ensures { (script text : List ℕ) → lexeme_of script result text ≡ model.meant (before_of before) [] (lexeme_of script kind text) }
+    ensures { (script text : List ℕ) → lexeme_of script result text
+        ≡ model.meant (before_of before) [] (lexeme_of script kind text) }
 {
     match (before, kind) {
         (Before::Name, TokenKind::LeftParen) => TokenKind::Subscript,
@@ -208,7 +214,8 @@ pub fn fault(kind: FaultKind, line: usize) -> LexError
 
 /// The token with the next body, if it is a here document, and the bodies after that.
 fn with_body(token: Token, bodies: &[Span]) -> (Token, &[Span])
-    ensures { (script : List ℕ) (ts : List model.Token) → model.filled (token_of script token ∷ ts) (map (slice_at script) bodies.now)
+    ensures { (script : List ℕ) (ts : List model.Token) →
+        model.filled (token_of script token ∷ ts) (map (slice_at script) bodies.now)
         ≡ token_of script result.0 ∷ model.filled ts (map (slice_at script) result.1.now) }
 {
     let TokenKind::HereDoc(quoted, _) = token.kind else {
@@ -389,7 +396,8 @@ impl Lexer {
     fn word(&mut self, script: &[u8], begun: Begun, stop: Place) -> Result<Before, LexError>
         requires order { begun.start.byte ≤ stop.byte }
         requires within { stop.byte ≤ length script.now }
-        ensures { IfSpelled script.now begun.before (model.Word (slice_range script.now begun.start.byte stop.byte)) begun.start stop self.old self.new result }
+        ensures { IfSpelled script.now begun.before
+            (model.Word (slice_range script.now begun.start.byte stop.byte)) begun.start stop self.old self.new result }
     {
         if let Before::Here(begin, _) = begun.before {
             let mark = script[begun.start.byte..stop.byte].to_vec(self.alloc)?;
@@ -404,7 +412,8 @@ impl Lexer {
     fn quoted(&mut self, script: &[u8], begun: Begun, stop: Place) -> Result<Before, LexError>
         requires order { begun.start.byte ≤ stop.byte }
         requires within { stop.byte ≤ length script.now }
-        ensures { IfSpelled script.now begun.before (model.Quoted (model.unquoted_text (slice_range script.now begun.start.byte stop.byte))) begun.start stop
+        ensures { IfSpelled script.now begun.before
+            (model.Quoted (model.unquoted_text (slice_range script.now begun.start.byte stop.byte))) begun.start stop
             self.old self.new result }
     {
         if let Before::Here(begin, _) = begun.before {
@@ -421,7 +430,8 @@ impl Lexer {
         requires head { IsHead script.now head }
         requires order { begun.start.byte ≤ head.place.byte }
         ensures does { Does script.now head.next.byte self.old self.new result
-            (reading.in_word (before_of begun.before) (place_of begun.start) (slice_range script.now begun.start.byte head.place.byte) (due_in self.old)
+            (reading.in_word (before_of begun.before) (place_of begun.start)
+            (slice_range script.now begun.start.byte head.place.byte) (due_in self.old)
             (place_of head.place) head.c (class_is head.class)) }
         ensures stands { IfOk result (λ s. Stands script.now head.next.byte s) }
     {
@@ -440,7 +450,8 @@ impl Lexer {
         requires head { IsHead script.now head }
         requires order { start.byte ≤ head.place.byte }
         ensures does { Does script.now head.next.byte self.old self.new result
-            (reading.step (reading.Name (place_of start) (slice_range script.now start.byte head.place.byte)) (due_in self.old)
+            (reading.step (reading.Name (place_of start) (slice_range script.now start.byte head.place.byte))
+            (due_in self.old)
             (place_of head.place) head.c (class_is head.class)) }
         ensures stands { IfOk result (λ s. Stands script.now head.next.byte s) }
     {
@@ -456,7 +467,8 @@ impl Lexer {
         requires head { IsHead script.now head }
         requires order { begun.start.byte ≤ head.place.byte }
         ensures does { Does script.now head.next.byte self.old self.new result
-            (reading.ends (before_of begun.before) (model.Quoted (model.unquoted_text (slice_range script.now begun.start.byte head.place.byte)))
+            (reading.ends (before_of begun.before)
+            (model.Quoted (model.unquoted_text (slice_range script.now begun.start.byte head.place.byte)))
             (place_of begun.start) (due_in self.old) (place_of head.place) head.c (class_is head.class)) }
         ensures stands { IfOk result (λ s. Stands script.now head.next.byte s) }
     {
@@ -498,7 +510,8 @@ impl Lexer {
     fn behind_dollars(&mut self, script: &[u8], head: Head) -> Result<State, LexError>
         requires { IsHead script.now head }
         ensures does { Does script.now head.next.byte self.old self.new result
-            (reading.behind_dollars (dollars_in script.now self.old) (due_in self.old) (place_of head.place) head.c (class_is head.class)) }
+            (reading.behind_dollars (dollars_in script.now self.old) (due_in self.old) (place_of head.place) head.c
+            (class_is head.class)) }
         ensures stands { IfOk result (λ s. Stands script.now head.next.byte s) }
     {
         if names(head.c) {
@@ -521,8 +534,9 @@ impl Lexer {
         requires order { begun.start.byte ≤ head.place.byte }
         requires apart { model.awaits_mark (before_of begun.before) ≡ false }
         ensures does { Does script.now head.next.byte self.old self.new result
-            (reading.operated (before_of begun.before) (dollars_in script.now self.old) (place_of begun.start) (model.operator
-            (slice_range script.now begun.start.byte head.place.byte)) (due_in self.old) (place_of head.place) head.c (class_is head.class)) }
+            (reading.operated (before_of begun.before) (dollars_in script.now self.old) (place_of begun.start)
+            (model.operator (slice_range script.now begun.start.byte head.place.byte)) (due_in self.old)
+            (place_of head.place) head.c (class_is head.class)) }
         ensures stands { IfOk result (λ s. Stands script.now head.next.byte s) }
     {
         let Some(kind) = operator(&script[begun.start.byte..head.place.byte]) else {
@@ -555,8 +569,9 @@ impl Lexer {
         requires order { begun.start.byte ≤ head.place.byte }
         requires apart { model.awaits_mark (before_of begun.before) ≡ false }
         ensures does { Does script.now head.next.byte self.old self.new result
-            (reading.step (reading.Operator (before_of begun.before) (dollars_in script.now self.old) (place_of begun.start)
-            (slice_range script.now begun.start.byte head.place.byte)) (due_in self.old) (place_of head.place) head.c (class_is head.class)) }
+            (reading.step (reading.Operator (before_of begun.before) (dollars_in script.now self.old)
+            (place_of begun.start) (slice_range script.now begun.start.byte head.place.byte)) (due_in self.old)
+            (place_of head.place) head.c (class_is head.class)) }
         ensures stands { IfOk result (λ s. Stands script.now head.next.byte s) }
     {
         if begins_operator(&script[begun.start.byte..head.next.byte]) {
@@ -577,7 +592,8 @@ impl Lexer {
         requires order { body ≤ line }
         requires within { line ≤ head.place.byte }
         ensures does { Does script.now head.next.byte self.old self.new result
-            (reading.step (state_in script.now head.place.byte self.old (State.Body body line)) (due_left self.old (State.Body body line))
+            (reading.step (state_in script.now head.place.byte self.old (State.Body body line))
+            (due_left self.old (State.Body body line))
             (place_of head.place) head.c (class_is head.class)) }
         ensures stands { IfOk result (λ s. Stands script.now head.next.byte s) }
     {
@@ -616,7 +632,8 @@ impl Lexer {
         requires stands { Stands script.now place.byte state }
         requires within { place.byte ≤ length script.now }
         ensures { Ends script.now self.old self.new result
-            (reading.finish (state_in script.now place.byte self.old state) (due_left self.old state) (place_of place)) }
+            (reading.finish (state_in script.now place.byte self.old state) (due_left self.old state)
+            (place_of place)) }
     {
         match state {
             State::Between(before) => {
@@ -654,7 +671,8 @@ impl Lexer {
         requires order { begun.start.byte ≤ place.byte }
         requires within { place.byte ≤ length script.now }
         ensures { Ends script.now self.old self.new result
-            (reading.ended (before_of begun.before) (model.Word (slice_range script.now begun.start.byte place.byte)) (place_of begun.start) (due_in self.old)
+            (reading.ended (before_of begun.before) (model.Word (slice_range script.now begun.start.byte place.byte))
+            (place_of begun.start) (due_in self.old)
             (place_of place)) }
     {
         let _ = self.word(script, begun, place)?;
@@ -666,8 +684,8 @@ impl Lexer {
         requires within { place.byte ≤ length script.now }
         requires apart { model.awaits_mark (before_of begun.before) ≡ false }
         ensures { Ends script.now self.old self.new result
-            (reading.operated_last (before_of begun.before) (dollars_in script.now self.old) (place_of begun.start) (model.operator
-            (slice_range script.now begun.start.byte place.byte)) (due_in self.old) (place_of place)) }
+            (reading.operated_last (before_of begun.before) (dollars_in script.now self.old) (place_of begun.start)
+            (model.operator (slice_range script.now begun.start.byte place.byte)) (due_in self.old) (place_of place)) }
     {
         let Some(kind) = operator(&script[begun.start.byte..place.byte]) else {
             return Err(fault(FaultKind::BadDescriptor, begun.start.line));
@@ -689,7 +707,8 @@ impl Lexer {
         requires until { line ≤ end }
         requires within { end ≤ length script.now }
         ensures { (p : model.Place) → Ends script.now self.old self.new result
-            (reading.finish (state_in script.now end self.old (State.Body body line)) (due_left self.old (State.Body body line)) p) }
+            (reading.finish (state_in script.now end self.old (State.Body body line))
+            (due_left self.old (State.Body body line)) p) }
     {
         let Some(due) = self.due.front() else {
             return Ok(());

@@ -83,7 +83,8 @@ pub fn begins_operator(text: &[u8]) -> bool
 
 /// The operator that is written so.
 pub fn operator(text: &[u8]) -> Option<TokenKind>
-    ensures { MatchOption result (operator text.now ≡ None) (λ kind. (script slice : List ℕ) → operator text.now ≡ Some (lexeme_of script kind slice)) }
+    ensures { MatchOption result (operator text.now ≡ None)
+        (λ kind. (script slice : List ℕ) → operator text.now ≡ Some (lexeme_of script kind slice)) }
 {
     for (operator, kind) in &OPERATORS {
         if operator.as_bytes() == text {

@@ -1,11 +1,14 @@
 //! A tree as text.
 
 ghost use Rattle.std.specs.Prelude.{◌≡◌, ◌++◌, [], OnOk, IfOk, IsErrOf, true, false, string_bytes, codes};
-ghost use Rattle.rc_model.specs.Syntax.Printing.{printed, has_here, cmd_text, arg_text, redir_text, arg_texts, pair_texts, redir_texts};
-ghost use Rattle.rc_model.specs.Syntax.Printing.{stages_text, links_text, item_lines, branch_lines, branch_items, body_lines};
+ghost use Rattle.rc_model.specs.Syntax.Printing.{printed, has_here, cmd_text, arg_text, redir_text, arg_texts};
+ghost use Rattle.rc_model.specs.Syntax.Printing.{pair_texts, redir_texts};
+ghost use Rattle.rc_model.specs.Syntax.Printing.{stages_text, links_text, item_lines, branch_lines, branch_items};
+ghost use Rattle.rc_model.specs.Syntax.Printing.{body_lines};
 ghost use Rattle.rc_print.specs.Lines.{led, trailed, behind, parting_after};
 ghost use Rattle.rc_tree_types.specs.View.{cmd_tree, arg_tree, redir_tree};
-ghost use Rattle.rc_tree_types.specs.View.{args_tree, items_tree, pairs_tree, redirs_tree, stages_tree, links_tree, branches_tree};
+ghost use Rattle.rc_tree_types.specs.View.{args_tree, items_tree, pairs_tree, redirs_tree, stages_tree, links_tree};
+ghost use Rattle.rc_tree_types.specs.View.{branches_tree};
 
 use rc_form::{
     bar, copying, has_here, is_empty, opening, parting, print_literal, sign, stands_first,
@@ -20,7 +23,7 @@ use thiserror::Error;
 pub enum PrintFault {
     #[error("a here document is inside")]
     HereInside,
-    #[error("no memory")]
+    #[error("out of memory")]
     NoMemory,
 }
 
@@ -125,7 +128,8 @@ fn print_cmd(out: &mut String, cmd: &Cmd, begins: bool) -> Result<(), AllocError
 
 #[cycle(print)]
 fn print_behind(out: &mut String, text: &str, cmd: &Cmd) -> Result<(), AllocError>
-    ensures { OnOk result (string_bytes out.new ≡ string_bytes out.old ++ (text.now ++ cmd_text (cmd_tree cmd.now) false)) }
+    ensures { OnOk result (string_bytes out.new
+        ≡ string_bytes out.old ++ (text.now ++ cmd_text (cmd_tree cmd.now) false)) }
 {
     out.push_str(text)?;
     print_cmd(out, cmd, false)
@@ -134,7 +138,8 @@ fn print_behind(out: &mut String, text: &str, cmd: &Cmd) -> Result<(), AllocErro
 #[cycle(print)]
 fn print_braced(out: &mut String, text: &str, cmd: &Cmd) -> Result<(), AllocError>
     ensures { OnOk result
-        (string_bytes out.new ≡ string_bytes out.old ++ (text.now ++ (cmd_text (cmd_tree cmd.now) false ++ codes "}"))) }
+        (string_bytes out.new
+        ≡ string_bytes out.old ++ (text.now ++ (cmd_text (cmd_tree cmd.now) false ++ codes "}"))) }
 {
     out.push_str(text)?;
     print_cmd(out, cmd, false)?;
@@ -223,7 +228,8 @@ fn print_pairs(out: &mut String, pairs: &[(Arg, Arg)]) -> Result<(), AllocError>
 #[tactic(auto, using(crate::proofs::Texts::writing))]
 fn print_redirs(out: &mut String, redirs: &[Redir], between: &str) -> Result<(), AllocError>
     ensures { OnOk result
-        (string_bytes out.new ≡ string_bytes out.old ++ led between.now (codes " ") (redir_texts (redirs_tree redirs.now))) }
+        (string_bytes out.new
+        ≡ string_bytes out.old ++ led between.now (codes " ") (redir_texts (redirs_tree redirs.now))) }
 {
     let mut between = between;
     for x in redirs {
@@ -237,7 +243,8 @@ fn print_redirs(out: &mut String, redirs: &[Redir], between: &str) -> Result<(),
 #[cycle(print)]
 #[tactic(auto, using(crate::proofs::Texts::writing))]
 fn print_redirs_before(out: &mut String, redirs: &[Redir]) -> Result<(), AllocError>
-    ensures { OnOk result (string_bytes out.new ≡ string_bytes out.old ++ trailed (redir_texts (redirs_tree redirs.now))) }
+    ensures { OnOk result (string_bytes out.new
+        ≡ string_bytes out.old ++ trailed (redir_texts (redirs_tree redirs.now))) }
 {
     for x in redirs {
         print_redir(out, x)?;
@@ -271,8 +278,8 @@ fn print_links(out: &mut String, links: &[(Logic, Cmd)]) -> Result<(), AllocErro
     Ok(())
 }
 
-/// Writes items with `between` before the first one, and gives what stands before a further one. `begins` says that an item of a branch
-/// begins with the first item, and `others` says so of each other one.
+/// Writes items with `between` before the first one, and gives what stands before a further one. `begins` says that an
+/// item of a branch begins with the first item, and `others` says so of each other one.
 #[cycle(print)]
 #[tactic(auto, using(crate::proofs::Texts::writing))]
 fn print_items<'a>(
@@ -283,8 +290,10 @@ fn print_items<'a>(
     others: bool,
 ) -> Result<&'a str, AllocError>
     ensures written { OnOk result
-        (string_bytes out.new ≡ string_bytes out.old ++ behind between.now (item_lines (items_tree items.now) begins others)) }
-    ensures after { IfOk result (λ text. text.now ≡ parting_after between.now (item_lines (items_tree items.now) begins others)) }
+        (string_bytes out.new ≡ string_bytes out.old ++ behind between.now
+        (item_lines (items_tree items.now) begins others)) }
+    ensures after { IfOk result (λ text. text.now
+        ≡ parting_after between.now (item_lines (items_tree items.now) begins others)) }
 {
     let mut between = between;
     let mut begins = begins;
@@ -323,10 +332,12 @@ fn print_body(out: &mut String, body: &Cmd) -> Result<&'static str, AllocError>
     ensures written { OnOk result
         (string_bytes out.new
         ≡ string_bytes out.old
-        ++ behind (codes "; ") (body_lines (cmd_tree body.now) (branch_items (cmd_tree body.now)) (cmd_text (cmd_tree body.now) true))) }
+        ++ behind (codes "; ")
+        (body_lines (cmd_tree body.now) (branch_items (cmd_tree body.now)) (cmd_text (cmd_tree body.now) true))) }
     ensures after { IfOk result
         (λ text. text.now
-        ≡ parting_after (codes "; ") (body_lines (cmd_tree body.now) (branch_items (cmd_tree body.now)) (cmd_text (cmd_tree body.now) true))) }
+        ≡ parting_after (codes "; ")
+        (body_lines (cmd_tree body.now) (branch_items (cmd_tree body.now)) (cmd_text (cmd_tree body.now) true))) }
 {
     match body {
         Cmd::Seq(items) => print_items(out, items, "; ", true, true),
