@@ -1,15 +1,15 @@
 -- Each shell of a family begins with what it was handed.
-use Rattle.std.proofs.Common.{◌≡◌, ℕ, zero, suc, ◌<◌, inl, inr, List, [], ◌∷◌, ◌++◌, append-nil, None, Option, Some, refl, sym, ap, ◌∙◌, subst, arith}
+use Rattle.std.proofs.Common.{◌≡◌, ℕ, zero, suc, ◌<◌, inl, inr, List, [], ◌∷◌, ◌++◌, append-nil, sym, ap, ◌∙◌, subst, arith}
 use Rattle.std.specs.Prelude.{unwrap_or}
 use Rattle.rc_model.specs.Syntax.Tree.{Node, cmd, Empty}
-use Rattle.rc_model.specs.Run.Calls.{Launch, Call, start, child, Event, event, calls}
+use Rattle.rc_model.specs.Run.Calls.{start, child, Event, event, calls}
 use Rattle.rc_model.specs.Run.Plans.{calls_made}
 use Rattle.rc_model.specs.Run.State.{State, new_state}
 use Rattle.rc_model.specs.Run.Script.{IsBegunAsMeant}
-use Rattle.rc_model.specs.Handed.Arguments.{entry_state, reads}
+use Rattle.rc_model.specs.Handed.Arguments.{entry_state}
 use Rattle.rc_model.specs.Handed.Proper.{IsScript, IsProper}
 use Rattle.rc_model.specs.Handed.HandedLaws.{ReadsBack, ReadBackBy, AllReadBack, IsReadBack}
-use Rattle.rc_model.specs.Family.Family.{Process, Family, Step, GoesAsMeant, EachOf, family, first, WasStarted, HandedSo, IsFamily, read_launch, BeganAsHanded, BeganSo, AllRead, FamiliesRead}
+use Rattle.rc_model.specs.Family.Family.{Process, Family, GoesAsMeant, EachOf, family, first, WasStarted, HandedSo, read_launch, BeganAsHanded, BeganSo, FamiliesRead}
 use Rattle.law_image.proofs.Proper.{proper_entry}
 use Rattle.law_handed.proofs.Played.{traces_read_back}
 use Rattle.law_family.proofs.Members.{handed_so}
@@ -30,8 +30,7 @@ began : (f : Family) (j k : ℕ) (w : WasStarted read_launch f j k) → IsReadBa
 began f j k w r =
     let e : read_launch w.launch ≡ (r.handed.tree, entry_state r.handed.state) = ap (λ o. unwrap_or o (Empty, new_state)) r.back in
     let tree : (f.at j).tree ≡ r.handed.tree = w.tree ∙ ap (λ x. x.0) e in
-    let state : (f.at j).state ≡ entry_state r.handed.state = w.state ∙ ap (λ x. x.1) e in
-    (
+    let state : (f.at j).state ≡ entry_state r.handed.state = w.state ∙ ap (λ x. x.1) e in (
       subst IsScript (sym tree) r.tree,
       subst IsProper (sym state) (proper_entry r.handed.state r.state),
       record { started = w; handed = r.handed; tree = tree; state = state },

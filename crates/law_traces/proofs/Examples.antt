@@ -1,12 +1,15 @@
 -- Accounts of small traces, computed.
 use Rattle.std.proofs.Common.{◌≡◌, List, [], ◌∷◌, Some, None, refl, arith}
-use Rattle.rc_model.specs.Run.Calls.{Event, event, to_file, Launch, make_pipe, pair, start, child, close, read, wait, done}
+use Rattle.std.specs.Prelude.{codes}
+use Rattle.rc_model.specs.Run.Calls.{Event, event, to_file, plain, Launch, open_file, file, make_pipe, pair, start, child, close, read, wait, done, refused}
+use Rattle.rc_model.specs.declared.call.Fault.TheVariants.{Other}
+use Rattle.rc_model.specs.declared.call.Mode.TheVariants.{Read}
 use Rattle.rc_model.specs.declared.call.Slot.TheVariants.{Own}
 use Rattle.rc_model.specs.declared.call.Slots.{Slots}
 use Rattle.rc_model.specs.Family.Family.{Step, family, first, writes_to}
 use Rattle.rc_model.specs.Syntax.Tree.{Node, cmd}
-use Rattle.rc_model.specs.Run.State.{State, new_state}
-use Rattle.rc_model.specs.Family.Accounts.{Account, one, put, account, at_start, NoneHeld, Allowed}
+use Rattle.rc_model.specs.Run.State.{State, new_state, add_child}
+use Rattle.rc_model.specs.Family.Accounts.{Account, one, put, account, at_start, NoneHeld, Allowed, NothingLeft}
 
 abbrev shell : Slots → Launch
 shell slots = record { program = None; args = []; entries = []; slots = slots }
@@ -59,6 +62,24 @@ wait_first k = let less = k.apart 3 (omega arith) in omega arith
 close_twice : Allowed (of (and_then one_stage (event (close 4) done ∷ event (close 3) done ∷ []))) (close 3) → ⊥
 unfolding one put
 close_twice k = omega (arith, k.names)
+
+-- after a refused pipe the read end before it stays open
+left_open : Allowed (of (and_then one_stage (event (close 4) done ∷ event make_pipe (refused Other) ∷ []))) (wait 1) → ⊥
+unfolding one put
+left_open k = let less = k.apart 3 (omega arith) in omega arith
+
+-- the shell ends while a file that it opened is held
+abbrev null_opened : List Event
+null_opened = event (open_file (codes "/dev/null") Read) (file 3) ∷ []
+
+unclosed : NothingLeft new_state null_opened new_state → ⊥
+unfolding one
+unclosed k = omega (arith, k.files 3)
+
+-- a child that was not started stands in the background list
+not_started : NothingLeft new_state (and_then null_opened (event (start (shell plain)) (refused Other) ∷ event (close 3) done ∷ [])) (add_child new_state 1) → ⊥
+unfolding one
+not_started k = omega (arith, k.owed 1)
 
 -- `a | b` of a family: the child's descriptor 1 stands for the write end of the pipe that process 0 made at place 0
 module _ (reads : Launch → Node cmd × State) (c : Node cmd) where
