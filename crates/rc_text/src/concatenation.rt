@@ -36,15 +36,7 @@ pub fn concat(alloc: Global, left: &List, right: &List) -> Result<List, ConcatEr
     ensures { MatchResult result (λ list. concatenated left.now right.now ≡ Ok list)
         (λ error. Refuses error (concatenated left.now right.now)) }
 {
-    concat_words(alloc, left.words(), right.words())
-}
-
-/// The same for words that stand in a row.
-pub fn concat_words(alloc: Global, left: &[Word], right: &[Word]) -> Result<List, ConcatError>
-    ensures { MatchResult result (λ list. concatenated left.now right.now ≡ Ok list)
-        (λ error. Refuses error (concatenated left.now right.now)) }
-{
-    let joined = match (left, right) {
+    let joined = match (left.words(), right.words()) {
         (lefts, rights) if lefts.len() == rights.len() => pairwise(alloc, lefts, rights)?,
         ([], _) | (_, []) => return Err(ConcatError::EmptyConcat),
         ([first], rights) => before_each(alloc, first, rights)?,

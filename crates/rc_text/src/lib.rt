@@ -12,7 +12,7 @@ mod values;
 mod words;
 
 pub use characters::{first_char, is_name_char};
-pub use concatenation::{ConcatError, concat, concat_words};
+pub use concatenation::{ConcatError, concat};
 pub use lists::{List, count};
 pub use numbers::number_of;
 pub use output::{lossy, split};

@@ -62,13 +62,6 @@ impl List {
         self.0.append(&mut other.0)
     }
 
-    /// The words, which are moved out of the list.
-    pub fn into_words(self) -> SmallVec<Word, 8>
-        ensures { result.items ≡ self }
-    {
-        self.0
-    }
-
     /// The texts of the words.
     pub fn texts(&self) -> Result<Vec<String>, AllocError>
         ensures { IfOk result (λ texts. map string_bytes texts.items ≡ word_texts self.now) }

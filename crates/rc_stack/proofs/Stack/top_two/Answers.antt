@@ -15,8 +15,8 @@ returns g c =
     let last : length starts - 1 ≡ length starts - 1 - 0 = omega arith in
     let other : length starts - 2 ≡ length starts - 1 - 1 = omega arith in
     let upper : get_or starts (length starts - 1) 0 ≡ get_or (reverse starts) 0 0 =
-        ap (λ n. get_or starts n 0) last ∙ sym (get_or-reverse starts 0 0 (omega arith)) in
+    ap (λ n. get_or starts n 0) last ∙ sym (get_or-reverse starts 0 0 (omega arith)) in
     let lower : get_or starts (length starts - 2) 0 ≡ get_or (reverse starts) 1 0 =
-        ap (λ n. get_or starts n 0) other ∙ sym (get_or-reverse starts 1 0 (omega arith)) in
+    ap (λ n. get_or starts n 0) other ∙ sym (get_or-reverse starts 1 0 (omega arith)) in
     rw (c.as_slice.ensures.value, c.deref.ensures.value, c.deref-2.ensures.value, ← c.self.view_is)
     (two_by s.items.items (reverse starts) _ _ c.self.invariant (omega (arith, length-reverse starts)) upper lower)
