@@ -1,3 +1,6 @@
 pub mod Acts
-pub mod Runs
 pub mod Left
+pub mod Names
+pub mod Places
+pub mod Runs
+pub mod Stacks

@@ -1,7 +1,14 @@
 //! The machine, which runs compiled code over a world.
 #![tactic(auto)]
 
+mod commands;
+mod endings;
+mod jumps;
 mod machine;
+mod nest;
+mod parts;
+mod values;
+mod variables;
 mod words;
 
 pub use machine::{Machine, Progress};

@@ -4,7 +4,7 @@ ghost use Rattle.std.specs.Prelude.{◌≡◌, ◌↔◌, IfOk, OnOk, OnErr, IsT
 ghost use Rattle.std.specs.Result.{IsErrOf};
 ghost use Rattle.std.specs.Str.{bytes_eq};
 ghost use Rattle.rc_model.specs.Syntax.Text.{spaced};
-ghost use Rattle.rc_model.specs.Run.State.{new_state, value_of, set_value, with_status, is_name, status_name};
+ghost use Rattle.rc_model.specs.Run.State.{new_state, value_of, set_value, with_status, with_flag, is_name, status_name};
 
 use crate::names::is_name;
 use rc_model::ChildNo;
@@ -157,6 +157,21 @@ impl State {
     {
         self.status = String::from_str(*self.status.allocator(), status)?;
         Ok(())
+    }
+
+    /// What `if not` looks at.
+    #[tactic(auto, unfolding(crate::specs::States::state_of))]
+    pub fn if_not(&self) -> bool
+        ensures { result ≡ (state_of self.now).flag }
+    {
+        self.if_not
+    }
+
+    #[tactic(auto, unfolding(crate::specs::States::state_of))]
+    pub fn set_if_not(&mut self, flag: bool)
+        ensures { state_of self.new ≡ with_flag (state_of self.old) flag }
+    {
+        self.if_not = flag;
     }
 
     /// Whether a simple command that fails ends the shell.

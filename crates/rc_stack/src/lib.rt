@@ -3,7 +3,7 @@
 
 ghost use Rattle.std.specs.Prelude.{◌≡◌, [], ◌∷◌, ◌++◌, length, option_map, OnOk, OnErr, IfOk};
 ghost use Rattle.std.specs.Option.{option_copied};
-ghost use Rattle.rc_stack.specs.Lists.{Joins, Extends, IsPopped, IsDropped, top_of};
+ghost use Rattle.rc_stack.specs.Lists.{Joins, Extends, IsDropped, top_of, two_of, below_two};
 
 use smallvec::SmallVec;
 use std::alloc::{AllocError, Global};
@@ -74,6 +74,16 @@ impl<T: Drop> Stack<T> {
         Some(&self.items[start..])
     }
 
+    /// The two lists on top, the lower one first.
+    pub fn top_two(&self) -> Option<(&[T], &[T])>
+        ensures { option_map (λ two. (two.0.now, two.1.now)) result ≡ two_of self.now }
+    {
+        let [.., lower, upper] = self.starts.as_slice() else {
+            return None;
+        };
+        Some((&self.items[*lower..*upper], &self.items[*upper..]))
+    }
+
     /// Takes the list on top off.
     pub fn drop_top(&mut self) -> bool
         ensures { IsDropped self.old self.new result }
@@ -85,5 +95,13 @@ impl<T: Drop> Stack<T> {
             }
             None => false,
         }
+    }
+
+    /// Takes the two lists on top off.
+    pub fn drop_two(&mut self)
+        ensures { self.new ≡ below_two self.old }
+    {
+        self.drop_top();
+        self.drop_top();
     }
 }

@@ -1,8 +1,8 @@
-use Rattle.std.proofs.Common.{rules, ◌≡◌, [], Some, List, map, string_bytes, refl}
+use Rattle.std.proofs.Common.{rules, ◌≡◌, [], Ok, Some, List, map, string_bytes, refl}
 use Rattle.std.specs.Prelude.{true}
-use Rattle.rc_model.specs.Code.Machine.{Step, enter, next, unwind}
+use Rattle.rc_model.specs.Code.Layout as op
+use Rattle.rc_model.specs.Code.Machine.{Step, act, enter, next, unwind}
 use Rattle.rc_model.specs.Run.Builtins.{Finished, run_words}
-use Rattle.rc_model.specs.Run.Calls.{plain}
 use Rattle.rc_model.specs.Syntax.Words.{Word, word_texts}
 use Rattle.law_plans.proofs.Runs.{ran_next, ran_exit, ran_none, ran_join, ran_under}
 use Rattle.rc_stack.specs.Lists.{top_of}
@@ -12,7 +12,7 @@ use Rattle.rc_world.proofs.Shells.{left_under}
 use Rattle.rc_machine.specs.Configs.{config_of}
 use Rattle.rc_machine.proofs.Acts.{runs_top}
 use Rattle.rc_machine.proofs.Left.{step_left}
-use Rattle.rc_machine.proofs.Runs.{begun_as, begun_under}
+use Rattle.rc_machine.proofs.Runs.{begun_as, begun_under, stepped, steps_after}
 use Rattle.rc_scope.specs.States.{state_of}
 use Rattle.rc_machine.proofs.machine.Machine.run_command.Goals as goal
 
@@ -28,7 +28,7 @@ returns-in_err-run_words g c =
     let texts : map string_bytes c.deref.result.now ≡ word_texts v = search rules in
     step_left _ _ _ _ c.from_residual-in_err-run_words.result c.in_err-run_words.field-0.0 c.from_residual-in_err-run_words.ensures.1
     (left_as _ _ _ _ _ (runs_top (config_of m) m.words v refl top rest _ c.drop_top.ensures)
-    (left_under _ _ _ (run_words plain (word_texts v) (state_of m.state)) (λ d s. enter (config_of m) rest d s) (unwind [])
+    (left_under _ _ _ (run_words m.slots (word_texts v) (state_of m.state)) (λ d s. enter (config_of m) rest d s) (unwind (config_of m).scopes)
     (rw texts at c.in_err-run_words.ensures)))
 
 pub returns-in-Finished : goal.returns-in-Finished
@@ -39,7 +39,7 @@ returns-in-Finished g c =
     let top : top_of m.words ≡ Some v = search rules in
     let texts : map string_bytes c.deref.result.now ≡ word_texts v = search rules in
     ran_as _ _ _ _ _ (runs_top (config_of m) m.words v refl top rest _ c.drop_top.ensures)
-    (ran_next _ _ _ (run_words plain (word_texts v) (state_of m.state)) Finished (state_of c.run_words.new.state) (λ d s. enter (config_of m) rest d s) (unwind []) _
+    (ran_next _ _ _ (run_words m.slots (word_texts v) (state_of m.state)) Finished (state_of c.run_words.new.state) (λ d s. enter (config_of m) rest d s) (unwind (config_of m).scopes) _
     (rw (c.in-Finished.is, texts) at c.in_ok-run_words.ensures) (ran_none _ _))
 
 pub returns-in-Exit : goal.returns-in-Exit
@@ -49,9 +49,15 @@ returns-in-Exit g c =
     let rest = c.drop_top.new.self in
     let top : top_of m.words ≡ Some v = search rules in
     let texts : map string_bytes c.deref.result.now ≡ word_texts v = search rules in
-    ran_as _ _ _ _ _ (runs_top (config_of m) m.words v refl top rest _ c.drop_top.ensures)
-    (ran_exit _ _ _ (run_words plain (word_texts v) (state_of m.state)) (state_of c.run_words.new.state) [] (λ d s. enter (config_of m) rest d s) (unwind []) _
-    (rw (c.in-Exit.is, texts) at c.in_ok-run_words.ensures) (ran_none _ _))
+    let t = state_of c.run_words.new.state in
+    let before = g.W.World.events c.args.world.now in
+    let after = g.W.World.events c.run_words.new.world in
+    let left = unwind (config_of m).scopes t [] in
+    steps_after before after after (act (Some op.Run) (config_of m)) left (config_of c.unwind.new.self) (Ok c.unwind.result)
+    (ran_as before after _ _ _ (runs_top (config_of m) m.words v refl top rest _ c.drop_top.ensures)
+    (ran_exit before after after (run_words m.slots (word_texts v) (state_of m.state)) t [] (λ d s. enter (config_of m) rest d s) (unwind (config_of m).scopes) (unwind (config_of m).scopes t [])
+    (rw (c.in-Exit.is, texts) at c.in_ok-run_words.ensures) (ran_none after left)))
+    (stepped after left (config_of c.unwind.new.self) c.unwind.result c.unwind.ensures)
 
 pub returns : goal.returns
 returns g c =
@@ -62,4 +68,4 @@ returns g c =
     let texts : map string_bytes c.deref.result.now ≡ word_texts v = search rules in
     let f = rw (c.in-NotYet.is, texts) at c.in_ok-run_words.ensures in
     begun_as (runs_top (config_of m) m.words v refl top rest _ c.drop_top.ensures)
-    (begun_under (run_words plain (word_texts v) (state_of m.state)) (λ d s. enter (config_of m) rest d s) (unwind []) f)
+    (begun_under (run_words m.slots (word_texts v) (state_of m.state)) (λ d s. enter (config_of m) rest d s) (unwind (config_of m).scopes) f)

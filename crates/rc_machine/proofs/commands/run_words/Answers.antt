@@ -8,7 +8,7 @@ use Rattle.rc_world.proofs.Joins.{left_as, ran_as}
 use Rattle.rc_world.proofs.Shells.{left_under}
 use Rattle.rc_scope.specs.States.{state_of}
 use Rattle.rc_machine.proofs.Left.{no_texts, run_words_program, words_left}
-use Rattle.rc_machine.proofs.words.run_words.Goals as goal
+use Rattle.rc_machine.proofs.commands.run_words.Goals as goal
 
 pub returns-in_err-fault : goal.returns-in_err-fault
 returns-in_err-fault g c =
