@@ -2,11 +2,13 @@
 #![tactic(auto)]
 
 use rc_cli::{RunFault, file_of, report, run_rc};
-use rc_host::{ArgumentsFault, HostWorld, arguments, own_path};
+use rc_host::{ArgumentsFault, HostWorld, arguments, open_standard, own_path};
 use std::fs;
 use std::process::ExitCode;
 
+/// No file of a script gets the number 0, 1 or 2: these are open before anything else is.
 fn run<'a>(rt: HostRuntime, words: &'a [String]) -> Result<u8, RunFault<'a>> {
+    open_standard(&rt).map_err(|_| RunFault::CannotRead("/dev/null"))?;
     let shell = own_path(&rt)?;
     let mut world = HostWorld::new(rt, shell);
     match file_of(words) {
