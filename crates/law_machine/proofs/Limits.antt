@@ -37,8 +37,10 @@ never_cut (Cut calls) q r made over h k e = over
 pub limits_end : LimitsEnd
 limits_end c s given n over =
     let a = agrees c s given in
-    let found = a.meaning_runs n in
-    (found.0, λ limit trace rest le first stop.
-      let ran : run limit c s given ≡ Cut (calls trace) =
-        subst (λ z. run limit c s z ≡ Cut (calls trace)) (sym first) (cut_on (exec limit (begin c s)) (answers trace) rest (calls trace) stop.ran) in
-      never_cut (script n c s given) (run found.0 c s given) (run limit c s given) (calls trace) over found.1 (a.code_goes_on found.0 limit le) ran)
+    let found = a.meaning_runs n in (
+      found.0,
+      λ limit trace rest le first stop.
+          let ran : run limit c s given ≡ Cut (calls trace) =
+          subst (λ z. run limit c s z ≡ Cut (calls trace)) (sym first) (cut_on (exec limit (begin c s)) (answers trace) rest (calls trace) stop.ran) in
+          never_cut (script n c s given) (run found.0 c s given) (run limit c s given) (calls trace) over found.1 (a.code_goes_on found.0 limit le) ran,
+    )

@@ -17,4 +17,4 @@ IsOver (Cut calls) = ⊥
 abbrev pub LimitsEnd : Type 0
 LimitsEnd = (c : Node cmd) (s : State) (given : List Answer) (n : ℕ) → IsOver (script n c s given) →
     (m : ℕ) × ((limit : ℕ) (trace : List Event) (rest : List Answer) → m ≤ limit → given ≡ answers trace ++ rest →
-        StopsAtLimit limit c s trace → ⊥)
+    StopsAtLimit limit c s trace → ⊥)

@@ -30,7 +30,7 @@ const RUNS: [(&str, &[u8], usize); 14] = [
     ("a script over that size", b" ", 1_048_577),
     ("a byte that is no text", b"true\ntrue \xff\n", 1),
     ("a token that fits no script", b"a | ;", 1),
-    ("a form that doesn't run yet", b"echo first; echo $x", 1),
+    ("a form that doesn't run yet", b"echo first; ~ a a", 1),
 ];
 
 /// What is to be seen of each further run, and the arguments.

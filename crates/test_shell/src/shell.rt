@@ -177,15 +177,12 @@ wait 7
 }
 
 /// Scripts of forms that do not run yet.
-const OTHER_FORMS: [&str; 18] = [
+const OTHER_FORMS: [&str; 15] = [
     "a *",
-    "a $x",
-    "a b^c",
     "a `{b}",
     "a &",
     "a | b",
     "@ a",
-    "x=1",
     "a >f",
     "for(i) a",
     "switch a {}",
@@ -206,11 +203,80 @@ fn other_forms_are_not_yet(rt: HostRuntime) -> Result<(), Fail> {
     }
     check(
         &rt,
-        b"{'echo' hello}; echo $x",
+        b"{'echo' hello}; ~ a a",
         [FOUND, CHILD, ENDED],
         100,
         ECHO_HELLO,
         "not yet",
+    )
+}
+
+/// The value of each member in a list of arguments.
+#[test]
+fn values_are_words(rt: HostRuntime) -> Result<(), Fail> {
+    check(
+        &rt,
+        b"x=(a b); path=/; /e $x(2 1) $#x $\"x $x(2-) $x(3) $x(1-9)",
+        [CHILD, ENDED],
+        100,
+        r#"start /e ["b", "a", "2", "a b", "b", "a", "b"] ["path=/", "status=", "x=a\u{1}b"] 0 1 2
+wait 7
+"#,
+        "ended, ",
+    )
+}
+
+/// A runtime error is reported, and ends the shell.
+#[test]
+fn runtime_errors_end_the_shell(rt: HostRuntime) -> Result<(), Fail> {
+    let errors = [
+        (
+            "x=(a b); echo $x^$y; echo z",
+            "write 2 \"rc: empty list in concatenation\\n\"\n",
+        ),
+        (
+            "x=(a b); echo $x^(1 2 3)",
+            "write 2 \"rc: list lengths differ in concatenation\\n\"\n",
+        ),
+        ("echo $'a b'", "write 2 \"rc: bad name\\n\"\n"),
+        ("1=a", "write 2 \"rc: bad name\\n\"\n"),
+        ("$y", "write 2 \"rc: empty argument list\\n\"\n"),
+    ];
+    for (script, calls) in errors {
+        check(
+            &rt,
+            script.as_bytes(),
+            [Answer::Done],
+            100,
+            calls,
+            "ended, error",
+        )?;
+    }
+    Ok(())
+}
+
+/// The status is set by an assignment, by `!`, and by the empty condition of a `while`.
+#[test]
+fn the_status_is_set(rt: HostRuntime) -> Result<(), Fail> {
+    check(&rt, b"status=(a b)", [], 100, "", "ended, a b")?;
+    check(&rt, b"! status=1", [], 100, "", "ended, ")?;
+    check(&rt, b"! status=0", [], 100, "", "ended, false")?;
+    check(
+        &rt,
+        b"status=1; status=2 && status=3",
+        [],
+        100,
+        "",
+        "ended, 2",
+    )?;
+    check(&rt, b"while(){ }", [], 1000, "", "limit")?;
+    check(
+        &rt,
+        b"if(status=1) x=a\nif not status=b\n",
+        [],
+        100,
+        "",
+        "ended, b",
     )
 }
 
