@@ -2,7 +2,7 @@
 #                and else what `make prove` builds
 # make prove     proves and builds ./rc
 # make release   proves and builds the program, and puts it and the hash of its sources into release/
-# make test      proves, builds and tests everything from nothing, and compares the program with the release
+# make test      proves, builds and tests everything from nothing, and compares the program with the release, where there is one
 # make install   copies the shell and its manual page to PREFIX
 
 RT = rt
@@ -36,12 +36,12 @@ tracked:
 
 # test_scripts reads each example that lies in its data/.
 test:
-	@release/fits
+	@if [ -e $(RELEASE) ]; then release/fits; else echo there is no release; fi
 	@tests/places
 	rm -f crates/test_scripts/data/*.rc
 	cp examples/*.rc crates/test_scripts/data
 	$(RT) ci
-	cmp $(BUILT) $(RELEASE)
+	if [ -e $(RELEASE) ]; then cmp $(BUILT) $(RELEASE); fi
 
 install: rc
 	install -D -m 755 rc $(DESTDIR)$(PREFIX)/bin/rc

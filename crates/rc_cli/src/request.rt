@@ -35,7 +35,7 @@ fn request_of_script(strict: bool, words: &[String]) -> Option<Request<'_>>
 {
     let (source, arguments) = match words {
         [] => (Source::Input, words),
-        [first, others @ ..] if first == "-c" => {
+        [first, others @ ..] if first.as_str() == "-c" => {
             let (text, arguments) = others.split_first()?;
             (Source::Text(text), arguments)
         }
@@ -54,7 +54,7 @@ pub fn request_of(words: &[String]) -> Option<Request<'_>>
     ensures { option_map asked result ≡ request_of (map string_bytes words.now) }
 {
     match words {
-        [first, others @ ..] if first == "-e" => request_of_script(true, others),
+        [first, others @ ..] if first.as_str() == "-e" => request_of_script(true, others),
         _ => request_of_script(false, words),
     }
 }
