@@ -1,6 +1,4 @@
 pub mod FaultLines
-pub mod Asked
-pub mod Requests
 pub mod Runs
 pub mod Start
 pub mod Statuses

@@ -12,11 +12,10 @@ use std::{fmt, io};
 /// Why a run of the program failed. It is shown as the line that the program prints, without a
 /// newline.
 #[derive(Clone, Copy, Debug, PartialEq)]
-pub enum RunFault<'a> {
-    /// The arguments ask for nothing that the program does.
+pub enum RunFault {
+    /// The program was given arguments.
     Usage,
-    /// The script couldn't be read: the name of its file, or `standard input`.
-    CannotRead(&'a str),
+    CannotRead,
     Syntax(SyntaxFault),
     NoMemory,
     /// The script took too many instructions.
@@ -27,19 +26,19 @@ pub enum RunFault<'a> {
     NotYet,
 }
 
-impl<'a> From<AllocError> for RunFault<'a> {
+impl From<AllocError> for RunFault {
     ghost use Rattle.rc_cli.specs.declared.fault.RunFault.TheVariants.{NoMemory};
 
     ghost from_gives = { λ _ fault. fault ≡ NoMemory };
 
-    fn from(_: AllocError) -> RunFault<'a> {
+    fn from(_: AllocError) -> RunFault {
         RunFault::NoMemory
     }
 }
 
-impl<'a> RunFault<'a> {
+impl RunFault {
     /// The fault at an error of the system: out of memory is distinguished from any other.
-    pub(crate) fn at(error: &io::Error, other: RunFault<'a>) -> RunFault<'a>
+    pub(crate) fn at(error: &io::Error, other: RunFault) -> RunFault
         ensures either { (result ≡ other) ⊎ (result ≡ RunFault.NoMemory) }
         ensures other { error_kind error.now ≢ ErrorKind.OutOfMemory → result ≡ other }
         ensures memory { error_kind error.now ≡ ErrorKind.OutOfMemory → raw_os_error error.now ≡ None → result ≡ RunFault.NoMemory }
@@ -51,13 +50,13 @@ impl<'a> RunFault<'a> {
     }
 }
 
-impl fmt::Display for RunFault<'_> {
+impl fmt::Display for RunFault {
     ghost output = { λ fault. Some (fault_line fault) };
 
     fn fmt<W: fmt::Write>(&self, f: &mut fmt::Formatter<W>) -> fmt::Result {
         match self {
-            RunFault::Usage => f.write_str("rc: usage: rc [-e] [-c text | file] [arg ...]"),
-            RunFault::CannotRead(name) => write!(f, "rc: cannot read {name}"),
+            RunFault::Usage => f.write_str("rc: usage: rc [-c text | file] [arg ...]"),
+            RunFault::CannotRead => f.write_str("rc: cannot read standard input"),
             RunFault::Syntax(fault) => write!(f, "rc: {fault}"),
             RunFault::NoMemory => f.write_str("rc: no memory"),
             RunFault::Limit => f.write_str("rc: limit"),
@@ -67,4 +66,4 @@ impl fmt::Display for RunFault<'_> {
     }
 }
 
-impl Error for RunFault<'_> {}
+impl Error for RunFault {}

@@ -4,12 +4,10 @@
 mod fault;
 mod process;
 mod reading;
-mod request;
 mod running;
 mod status;
 
 pub use fault::RunFault;
 pub use process::report;
-pub use request::{Request, Source, file_of, request_of};
 pub use running::run_rc;
 pub use status::process_status;

@@ -1,7 +1,7 @@
 //! The reading of a script.
-ghost use Rattle.std.specs.Prelude.{◌≡◌, ◌⊎◌, None, Err, IfOk, IfErr, IfSome};
-ghost use Rattle.rc_cli.specs.Runs.{IsScriptOf, SaysUnread};
-ghost use Rattle.rc_cli.specs.declared.fault.RunFault.TheVariants.{NoMemory};
+ghost use Rattle.std.specs.Prelude.{◌≡◌, ◌⊎◌, IfOk, IfErr};
+ghost use Rattle.rc_cli.specs.Runs.{IsScriptOf};
+ghost use Rattle.rc_cli.specs.declared.fault.RunFault.TheVariants.{CannotRead, NoMemory};
 
 use crate::fault::RunFault;
 use std::alloc::Global;
@@ -10,23 +10,14 @@ use std::io::Read;
 /// One byte more than a script may have.
 const MOST: u64 = 1_048_577;
 
-/// The bytes of the script that is read from an input of this name, if it could be opened. No more
-/// are read than it takes to see that it is too long.
-pub fn read_script<R: Read + Drop>(
-    alloc: Global,
-    input: Option<R>,
-    name: &str,
-) -> Result<Vec<u8>, RunFault<'_>>
-    ensures script { IfOk result (λ script. IfSome input (λ r. IsScriptOf (R.remaining r) script.items)) }
-    ensures unopened { input ≡ None → result ≡ Err (RunFault.CannotRead name) }
-    ensures err { IfErr result (λ fault. SaysUnread fault name.now ⊎ (fault ≡ NoMemory)) }
+/// The bytes of a script. No more are read than it takes to see that it is too long.
+pub fn read_script<R: Read + Drop>(alloc: Global, input: R) -> Result<Vec<u8>, RunFault>
+    ensures script { IfOk result (λ script. IsScriptOf (R.remaining input) script.items) }
+    ensures err { IfErr result (λ fault. (fault ≡ CannotRead) ⊎ (fault ≡ NoMemory)) }
 {
-    let Some(input) = input else {
-        return Err(RunFault::CannotRead(name));
-    };
     let mut script = Vec::new(alloc);
     match input.take(MOST).read_to_end(&mut script) {
         Ok(_) => Ok(script),
-        Err(error) => Err(RunFault::at(&error, RunFault::CannotRead(name))),
+        Err(error) => Err(RunFault::at(&error, RunFault::CannotRead)),
     }
 }

@@ -1,26 +1,27 @@
 //! The shell.
 #![tactic(auto)]
 
-use rc_cli::{RunFault, file_of, report, run_rc};
+use rc_cli::{RunFault, report, run_rc};
 use rc_host::{ArgumentsFault, HostWorld, arguments, open_standard, own_path};
-use std::fs;
 use std::process::ExitCode;
 
-/// No file of a script gets the number 0, 1 or 2: these are open before anything else is.
-fn run<'a>(rt: HostRuntime, words: &'a [String]) -> Result<u8, RunFault<'a>> {
-    open_standard(&rt).map_err(|_| RunFault::CannotRead("/dev/null"))?;
-    let shell = own_path(&rt)?;
-    let mut world = HostWorld::new(rt, shell);
-    match file_of(words) {
-        Some(name) => run_rc(rt.alloc(), &mut world, words, fs::open(&rt, name).ok()),
-        None => run_rc(rt.alloc(), &mut world, words, Some(rt.reader())),
+fn words(rt: &HostRuntime) -> Result<Vec<String>, RunFault> {
+    match arguments(rt) {
+        Ok(words) => Ok(words),
+        Err(ArgumentsFault::NotText) => Err(RunFault::Usage),
+        Err(ArgumentsFault::NoMemory) => Err(RunFault::NoMemory),
     }
 }
 
+/// No file of a script gets the number 0, 1 or 2: these are open before anything else is.
+fn run(rt: HostRuntime) -> Result<u8, RunFault> {
+    open_standard(&rt).map_err(|_| RunFault::CannotRead)?;
+    let words = words(&rt)?;
+    let shell = own_path(&rt)?;
+    let mut world = HostWorld::new(rt, shell);
+    run_rc(rt.alloc(), &mut world, &words, rt.reader())
+}
+
 fn main(rt: HostRuntime) -> ExitCode {
-    match arguments(&rt) {
-        Ok(words) => report(&rt, run(rt, &words)),
-        Err(ArgumentsFault::NotText) => report(&rt, Err(RunFault::Usage)),
-        Err(ArgumentsFault::NoMemory) => report(&rt, Err(RunFault::NoMemory)),
-    }
+    report(&rt, run(rt))
 }

@@ -33,25 +33,12 @@ const RUNS: [(&str, &[u8], usize); 14] = [
     ("a form that doesn't run yet", b"echo first; ~ a a", 1),
 ];
 
-/// What is to be seen of each further run, and the arguments.
-const ARGUMENTS: [(&str, &[&str]); 7] = [
-    ("a text", &["-c", "echo a; echo b"]),
-    ("a file", &["say.rc", "-x", "y"]),
-    ("a file that isn't there", &["absent.rc"]),
-    ("a directory as the file", &["/"]),
-    ("a wrong option", &["-x"]),
-    ("a strict shell", &["-e", "-c", "false; echo on"]),
-    ("a strict shell with a file", &["-e", "fails.rc"]),
-];
-
 /// Shows each run: its status, what it wrote to descriptor 1, and what to descriptor 2.
 pub fn show_all<R: Print + Files<File = File> + Processes + AllocGlobal>(rt: &R) -> Result<()> {
     for (what, text, times) in RUNS {
         show(rt, what, &with_text(rt, text, times)?)?;
     }
-    for (what, arguments) in ARGUMENTS {
-        show(rt, what, &with_arguments(rt, arguments)?)?;
-    }
+    show(rt, "a word", &with_word(rt)?)?;
     show(rt, "an input that can't be read", &with_directory(rt)?)
 }
 
@@ -78,12 +65,8 @@ fn with_text<R: Processes + AllocGlobal>(rt: &R, text: &[u8], times: usize) -> R
     Ok(child.wait_with_output(rt.alloc())?)
 }
 
-fn with_arguments<R: Processes + AllocGlobal>(rt: &R, arguments: &[&str]) -> Result<Output> {
-    let mut command = shell(rt.alloc())?;
-    for argument in arguments {
-        command.arg(argument)?;
-    }
-    Ok(command.output(rt)?)
+fn with_word<R: Processes + AllocGlobal>(rt: &R) -> Result<Output> {
+    Ok(shell(rt.alloc())?.arg("word")?.output(rt)?)
 }
 
 fn with_directory<R: Files<File = File> + Processes + AllocGlobal>(rt: &R) -> Result<Output> {
