@@ -1,2 +1,4 @@
-pub mod Texts
-pub mod Variables
+pub mod Stacks
+pub mod Bodies
+pub mod Ends
+pub mod Spaces
