@@ -1,4 +1,5 @@
 pub mod Entries
 pub mod Escapes
 pub mod Fits
+pub mod Runs
 pub mod Search

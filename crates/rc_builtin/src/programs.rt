@@ -1,6 +1,6 @@
 //! Programs: they are looked for, started and waited for.
 
-ghost use Rattle.std.specs.Prelude.{◌≡◌, ◌∷◌, ◌++◌, [], codes, IfOk, map, string_bytes, option_map};
+ghost use Rattle.std.specs.Prelude.{◌≡◌, ◌∷◌, ◌++◌, [], Some, codes, IfOk, map, string_bytes, option_map};
 ghost use Rattle.rc_model.specs.Run.Acts.{report, fault, is_path, candidate, is_program, first_program, find_program, ending_status, started, refuse, wait_started, run_found, run_program};
 ghost use Rattle.rc_model.specs.Run.State as model;
 ghost use Rattle.rc_model.specs.Handed.Image.{is_short, is_fit, program_launch};
@@ -8,6 +8,7 @@ ghost use Rattle.rc_model.specs.Run.Shell.{Next};
 ghost use Rattle.rc_world.specs.Comes.{Comes};
 ghost use Rattle.rc_world.specs.Views.{launch_of};
 ghost use Rattle.std.specs.List.{list_all};
+ghost use Rattle.rc_builtin.specs.Outcomes.{Runs};
 ghost use Rattle.rc_builtin.specs.Starts.{paths_in, started_of};
 ghost use Rattle.rc_scope.specs.States.{state_of};
 
@@ -201,7 +202,7 @@ fn wait_started<W: World>(
     Ok(())
 }
 
-/// What is asked for a program.
+/// What is asked for a program, where there are no functions.
 fn launch(
     alloc: Global,
     state: &State,
@@ -209,6 +210,7 @@ fn launch(
     path: String,
     args: &[String],
 ) -> Result<Launch, AllocError>
+    requires { (state_of state.now).functions ≡ [] }
     ensures { IfOk result (λ l. launch_of l ≡ program_launch slots (string_bytes path) (map string_bytes args.now) (state_of state.now)) }
 {
     let mut copy = Vec::new(alloc);
@@ -224,8 +226,34 @@ fn launch(
     })
 }
 
-/// A program that was looked for is started.
+/// The program at this path is started, where there are no functions.
 #[tactic(auto, using(rc_world::proofs::Joins::passed_up, law_plans::proofs::Runs::ran_none, rc_world::proofs::Joins::left_here))]
+fn run_at<W: World>(
+    alloc: Global,
+    world: &mut W,
+    state: &mut State,
+    slots: Slots,
+    name: &str,
+    args: &[String],
+    path: String,
+) -> Result<(), Stop>
+    requires { (state_of state.old).functions ≡ [] }
+    ensures { Comes (W.events world.old) (W.events world.new) (run_found slots name.now (map string_bytes args.now) (Some (string_bytes path)) (state_of state.old)) (λ x. Next x (state_of state.new)) result }
+{
+    let launch = launch(alloc, state, slots, path, args)?;
+    let child = make_started(world, &launch)?;
+    wait_started(alloc, world, state, slots, name, child)
+}
+
+/// What became of a program.
+#[derive(Clone, Copy)]
+pub enum Outcome {
+    Finished,
+    /// It can't be started yet, since there are functions, which can't be handed over yet.
+    NotYet,
+}
+
+/// A program that was looked for is started.
 fn run_found<W: World>(
     alloc: Global,
     world: &mut W,
@@ -234,19 +262,21 @@ fn run_found<W: World>(
     name: &str,
     args: &[String],
     path: Option<String>,
-) -> Result<(), Stop>
-    ensures { Comes (W.events world.old) (W.events world.new) (run_found slots name.now (map string_bytes args.now) (option_map string_bytes path) (state_of state.old)) (λ x. Next x (state_of state.new)) result }
+) -> Result<Outcome, Stop>
+    ensures { Runs (W.events world.old) (W.events world.new) (run_found slots name.now (map string_bytes args.now) (option_map string_bytes path) (state_of state.old)) (state_of state.new) result }
 {
     let Some(path) = path else {
-        return refuse(alloc, world, state, slots, name, "not found");
+        refuse(alloc, world, state, slots, name, "not found")?;
+        return Ok(Outcome::Finished);
     };
-    let launch = launch(alloc, state, slots, path, args)?;
-    let child = make_started(world, &launch)?;
-    wait_started(alloc, world, state, slots, name, child)
+    if state.has_functions() {
+        return Ok(Outcome::NotYet);
+    }
+    run_at(alloc, world, state, slots, name, args, path)?;
+    Ok(Outcome::Finished)
 }
 
 /// Runs a program by its name.
-#[tactic(auto, using(rc_world::proofs::Joins::passed_up, law_plans::proofs::Runs::ran_none, rc_world::proofs::Joins::left_here))]
 pub fn run_program<W: World>(
     alloc: Global,
     world: &mut W,
@@ -254,8 +284,8 @@ pub fn run_program<W: World>(
     slots: Slots,
     name: &str,
     args: &[String],
-) -> Result<(), Stop>
-    ensures { Comes (W.events world.old) (W.events world.new) (run_program slots name.now (map string_bytes args.now) (state_of state.old)) (λ x. Next x (state_of state.new)) result }
+) -> Result<Outcome, Stop>
+    ensures { Runs (W.events world.old) (W.events world.new) (run_program slots name.now (map string_bytes args.now) (state_of state.old)) (state_of state.new) result }
 {
     let path = find_program(alloc, world, state, name)?;
     run_found(alloc, world, state, slots, name, args, path)

@@ -5,7 +5,7 @@ ghost use Rattle.rc_model.specs.Run.Builtins.{builtin_named, run_words};
 ghost use Rattle.rc_machine.specs.Outcomes.{RunsWords};
 ghost use Rattle.rc_scope.specs.States.{state_of};
 
-use rc_builtin::{fault, run_program};
+use rc_builtin::{Outcome as Program, fault, run_program};
 use rc_scope::State;
 use rc_text::flat;
 use rc_world::{Slots, Stop, World};
@@ -49,6 +49,8 @@ pub fn run_words<W: World>(
     if is_not_yet(name) {
         return Ok(Outcome::NotYet);
     }
-    run_program(alloc, world, state, slots, name, args)?;
-    Ok(Outcome::Finished)
+    match run_program(alloc, world, state, slots, name, args)? {
+        Program::Finished => Ok(Outcome::Finished),
+        Program::NotYet => Ok(Outcome::NotYet),
+    }
 }
