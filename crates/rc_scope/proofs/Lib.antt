@@ -1,4 +1,5 @@
 pub mod Stacks
 pub mod Bodies
+pub mod Firsts
 pub mod Ends
 pub mod Spaces

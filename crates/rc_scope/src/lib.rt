@@ -1,6 +1,7 @@
 //! The state of a shell.
 #![tactic(auto)]
 
+mod children;
 mod functions;
 mod names;
 mod state;

@@ -5,12 +5,13 @@ ghost use Rattle.std.specs.Option.{option_copied};
 ghost use Rattle.std.specs.Result.{IsErrOf};
 ghost use Rattle.rc_model.specs.Run.State.{new_state, value_of, got, set_value, with_status, with_flag, is_name};
 ghost use Rattle.rc_model.specs.Run.State.{push_local, pop_local, is_function_name, define, undefine, function_of};
-ghost use Rattle.rc_model.specs.Run.State.{add_child};
+ghost use Rattle.rc_model.specs.Run.State.{add_child, drop_child};
 ghost use Rattle.rc_tree.specs.View.{cmd_tree};
 ghost use Rattle.rc_scope.specs.Bindings.{bindings_of, visible_values};
 ghost use Rattle.rc_scope.specs.Stacks.{flat_names};
 ghost use Rattle.rc_scope.specs.States.{numbers};
 
+use crate::children::place_of;
 use crate::functions::{Function, names};
 use crate::names::{is_function_name, is_name, is_status};
 use crate::texts::{copy, join};
@@ -278,5 +279,16 @@ impl State {
     {
         self.background.push(child)?;
         Ok(())
+    }
+
+    /// Takes out the first child of this number, where there is one.
+    #[tactic(auto, unfolding(crate::specs::States::state_of))]
+    pub fn drop_child(&mut self, child: ChildNo)
+        ensures { state_of self.new ≡ drop_child (state_of self.old) child.0 }
+    {
+        let Some(place) = place_of(&self.background, child) else {
+            return;
+        };
+        let _ = self.background.remove(place);
     }
 }

@@ -117,10 +117,13 @@ fn children_are_kept_in_order(rt: HostRuntime) -> Result<(), Fail> {
     for number in [7, 3, 7, 5] {
         state.add_child(ChildNo(number))?;
     }
+    state.drop_child(ChildNo(7));
+    state.drop_child(ChildNo(9));
     let children = state.children();
-    assert_eq!(rt; children.len(), 4);
-    assert_eq!(rt; children[0].0, 7);
-    assert_eq!(rt; children[1].0, 3);
+    assert_eq!(rt; children.len(), 3);
+    assert_eq!(rt; children[0].0, 3);
+    assert_eq!(rt; children[1].0, 7);
+    assert_eq!(rt; children[2].0, 5);
     Ok(())
 }
 
