@@ -8,6 +8,7 @@ use Rattle.rc_world.proofs.Joins.{left_as, ran_as}
 use Rattle.rc_world.proofs.Shells.{left_under}
 use Rattle.rc_scope.specs.States.{state_of}
 use Rattle.rc_machine.proofs.Left.{no_texts, run_words_program, words_left}
+use Rattle.rc_machine.proofs.Left.{begun_as, begun_under}
 use Rattle.rc_machine.proofs.commands.run_words.Goals as goal
 
 pub returns-in_err-fault : goal.returns-in_err-fault
@@ -39,6 +40,16 @@ returns-in_err-run_program g c =
     (left_as _ _ _ _ _ (ap (λ ws. run_words c.args.slots (map string_bytes ws) s) c.in-Some.ensures.cases.0 ∙ run_words_program c.args.slots name args c.args.state.now program)
     (left_under _ _ _ (run_program c.args.slots name args s) (λ x. pure Finished) leaves (rw named at c.in_err-run_program.ensures)))
 
+pub returns-in-Finished : goal.returns-in-Finished
+returns-in-Finished g c =
+    let s = state_of c.args.state.now in
+    let name = string_bytes c.in-Some.name.now in
+    let args = map string_bytes c.in-Some.args.now in
+    let program : builtin_named name ≡ None = search rules in
+    let named : c.deref-2.result.now ≡ name = search rules in
+    ran_as _ _ _ _ _ (ap (λ ws. run_words c.args.slots (map string_bytes ws) s) c.in-Some.ensures.cases.0 ∙ run_words_program c.args.slots name args c.args.state.now program)
+    (ran_next _ _ _ (run_program c.args.slots name args s) tt (state_of c.run_program.new.state) (λ x. pure Finished) leaves _ (rw (c.in-Finished.is, named) at c.in_ok-run_program.ensures) (ran_none _ _))
+
 pub returns : goal.returns
 returns g c =
     let s = state_of c.args.state.now in
@@ -46,5 +57,6 @@ returns g c =
     let args = map string_bytes c.in-Some.args.now in
     let program : builtin_named name ≡ None = search rules in
     let named : c.deref-2.result.now ≡ name = search rules in
-    ran_as _ _ _ _ _ (ap (λ ws. run_words c.args.slots (map string_bytes ws) s) c.in-Some.ensures.cases.0 ∙ run_words_program c.args.slots name args c.args.state.now program)
-    (ran_next _ _ _ (run_program c.args.slots name args s) tt (state_of c.run_program.new.state) (λ x. pure Finished) leaves _ (rw named at c.in_ok-run_program.ensures) (ran_none _ _))
+    let f = rw (c.in-NotYet.is, named) at c.in_ok-run_program.ensures in
+    begun_as (ap (λ ws. run_words c.args.slots (map string_bytes ws) s) c.in-Some.ensures.cases.0 ∙ run_words_program c.args.slots name args c.args.state.now program)
+    (begun_under (run_program c.args.slots name args s) (λ x. pure Finished) leaves f)

@@ -1,6 +1,6 @@
 use Rattle.std.proofs.Common.{◌≡◌, ◌∷◌, ◌++◌, string_bytes, take}
 use Rattle.std.specs.List.{flat_map}
-use Rattle.rc_scope.proofs.state.join.Given as goal
+use Rattle.rc_scope.proofs.texts.join.Given as goal
 
 -- the first text, and each so far behind a space
 abbrev pub invariant-loop-text : goal.invariant-loop-text

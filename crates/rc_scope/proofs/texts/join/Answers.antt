@@ -2,8 +2,8 @@ use Rattle.std.proofs.Common.{rules, ◌≡◌, ◌∷◌, ◌++◌, map, string
 use Rattle.std.proofs.lemmas.List.{take_all}
 use Rattle.std.specs.List.{flat_map}
 use Rattle.rc_model.specs.Syntax.Text.{spaced}
-use Rattle.rc_scope.proofs.Texts.{spaced_strings}
-use Rattle.rc_scope.proofs.state.join.Goals as goal
+use Rattle.rc_scope.proofs.Spaces.{spaced_strings}
+use Rattle.rc_scope.proofs.texts.join.Goals as goal
 
 pub returns : goal.returns
 returns c =
