@@ -1,5 +1,5 @@
 -- The first child of a number.
-use Rattle.std.proofs.Common.{◌≡◌, ◌<◌, ◌≤◌, ℕ, suc, zero, Bool, true, false, if◌then◌else◌, List, [], ◌∷◌, ◌++◌, map, length, take, drop, remove, refl, sym, ap, ◌∙◌, ◌==◌, get_or, arith}
+use Rattle.std.proofs.Common.{◌≡◌, ◌<◌, ◌≤◌, ℕ, suc, zero, true, false, List, [], ◌∷◌, length, remove, refl, ap, ◌==◌, get_or, arith}
 use Rattle.rc_model.specs.Run.State.{without_child}
 use Rattle.rc_model.specs.declared.call.ChildNo.{ChildNo}
 use Rattle.rc_scope.specs.States.{numbers}
