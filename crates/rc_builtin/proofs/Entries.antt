@@ -13,7 +13,7 @@ use Rattle.rc_model.specs.Syntax.Text.{text_cmp}
 use Rattle.rc_model.specs.Run.State.{State, status_name}
 use Rattle.rc_model.specs.Handed.Image.{entry, entries, with_functions, value_text, with_binding, is_kept, handed_values}
 use Rattle.rc_model.specs.Run.State.{visible}
-use Rattle.rc_scope.specs.Bindings.{binding_of, bindings_of, visible_values}
+use Rattle.rc_scope.specs.Bindings.{bindings_of, visible_values}
 use Rattle.rc_scope.specs.declared.variables.Binding.{Binding}
 
 -- the variables that are handed over

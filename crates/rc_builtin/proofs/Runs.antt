@@ -6,7 +6,7 @@ use Rattle.rc_model.specs.Run.Plans.{Plan, done_with, Ran}
 use Rattle.rc_model.specs.Run.Shell as shell
 use Rattle.rc_model.specs.Run.Shell.{Next, under}
 use Rattle.rc_model.specs.Run.State.{State}
-use Rattle.law_plans.proofs.Runs.{ran_under, ran_next}
+use Rattle.law_plans.proofs.Runs.{ran_next}
 use Rattle.rc_world.specs.Comes.{Left}
 use Rattle.rc_world.specs.declared.types.Stop.{Stop}
 use Rattle.rc_world.proofs.Shells.{left_next}

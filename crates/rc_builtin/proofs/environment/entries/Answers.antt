@@ -1,4 +1,4 @@
-use Rattle.std.proofs.Common.{rules, ◌≡◌, ◌<◌, true, false, [], ◌∷◌, ◌++◌, map, string_bytes, sym, ap, ◌∙◌, ℕ, List, drop, get_or}
+use Rattle.std.proofs.Common.{rules, ◌≡◌, true, false, [], ◌∷◌, ◌++◌, map, string_bytes, sym, ap, ◌∙◌, ℕ, List, drop}
 use Rattle.std.proofs.Common.{arith, length, ◌+◌}
 use Rattle.std.proofs.lemmas.Grind.{common_steps}
 use Rattle.std.specs.Ordering.{is_lt}

@@ -1,9 +1,8 @@
 use Rattle.std.proofs.Common.{rules, ◌≡◌, None, Some, map, string_bytes, ap}
-use Rattle.std.specs.Prelude.{codes}
 use Rattle.rc_model.specs.Run.Acts.{run_found}
 use Rattle.rc_builtin.specs.Starts.{path_of}
 use Rattle.rc_scope.specs.States.{state_of}
-use Rattle.rc_world.proofs.Joins.{left_as, ran_as}
+use Rattle.rc_world.proofs.Joins.{left_as}
 use Rattle.rc_builtin.proofs.Runs.{runs_left}
 use Rattle.law_plans.proofs.Runs.{ran_none}
 use Rattle.rc_builtin.proofs.programs.run_found.Goals as goal

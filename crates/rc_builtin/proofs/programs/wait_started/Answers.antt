@@ -1,4 +1,4 @@
-use Rattle.std.proofs.Common.{rules, ◌≡◌, option_map}
+use Rattle.std.proofs.Common.{rules, ◌≡◌}
 use Rattle.rc_model.specs.Run.Acts.{ending_status}
 use Rattle.rc_model.specs.Run.Calls.{wait, as_ending}
 use Rattle.rc_model.specs.Run.Plans.{done_with}
