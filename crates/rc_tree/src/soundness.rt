@@ -8,16 +8,14 @@ ghost use Rattle.rc_tree.specs.View.{branches_tree};
 ghost use Rattle.rc_tree.specs.Fits.{fits, all_fit};
 
 use crate::{Arg, Branch, Cmd, Item, Logic, Mode, Piece, Redir, Stage};
-
-/// The greatest depth of a tree.
-const DEPTH_LIMIT: usize = 200;
+use rc_model::limits::{MOST_LEVELS, MOST_STAGES};
 
 /// Whether the tree is well formed. It takes no memory.
 #[tactic(auto, unfolding(crate::specs::Fits::fits))]
 pub fn well_formed(cmd: &Cmd) -> bool
     ensures { result ≡ well_formed (cmd_tree cmd.now) }
 {
-    fit_cmd(cmd, DEPTH_LIMIT)
+    fit_cmd(cmd, MOST_LEVELS)
 }
 
 /// Whether the command is well formed with at most `left` levels.
@@ -37,7 +35,7 @@ fn fit_cmd(cmd: &Cmd, left: usize) -> bool
         Cmd::Assign(xs, c) => !xs.is_empty() && fit_pairs(xs, left) && fit_cmd(c, left),
         Cmd::Redirect(xs, c) => !xs.is_empty() && fit_redirs(xs, left) && fit_cmd(c, left),
         Cmd::Pipeline(xs, c) => {
-            !xs.is_empty() && xs.len() < 64 && fit_stages(xs, left) && fit_cmd(c, left)
+            !xs.is_empty() && xs.len() < MOST_STAGES && fit_stages(xs, left) && fit_cmd(c, left)
         }
         Cmd::AndOr(c, xs) => !xs.is_empty() && fit_cmd(c, left) && fit_links(xs, left),
         Cmd::Not(c) => fit_cmd(c, left),
