@@ -1,0 +1,77 @@
+//! Backquotes: what a command writes becomes words.
+
+ghost use Rattle.std.specs.Prelude.{◌≡◌, IfOk, map, string_bytes};
+ghost use Rattle.rc_model.specs.Run.Acts.{backquote, back_child, members_of};
+ghost use Rattle.rc_model.specs.Syntax.Tree.{Node, cmd};
+ghost use Rattle.rc_world.specs.Comes.{Does};
+ghost use Rattle.rc_scope.specs.States.{state_of};
+ghost use Rattle.rc_pipes.specs.Starts.{Hands, started_of};
+
+use crate::children::wait_child;
+use crate::launches::{Started, start_shell};
+use crate::reading::{longest_output, read_all};
+use rc_scope::State;
+use rc_text::{lossy, split};
+use rc_world::{Handle, Launch, Slot, Slots, Stop, World, calls};
+use std::alloc::{AllocError, Global};
+
+/// The members of what was read, by `$ifs`.
+fn members_of(alloc: Global, state: &State, bytes: &[u8]) -> Result<Vec<String>, AllocError>
+    ensures { IfOk result (λ members. map string_bytes members.items ≡ members_of (state_of state.now) bytes.now) }
+{
+    let separators = state.get("ifs")?.concat(alloc)?;
+    let text = lossy(alloc, bytes)?;
+    split(alloc, &text, &separators)
+}
+
+/// What a backquote gives once its shell is started, and the status that it leaves.
+fn back_child<W: World>(
+    alloc: Global,
+    world: &mut W,
+    state: &mut State,
+    read_end: Handle,
+    write_end: Handle,
+    started: Started,
+) -> Result<Vec<String>, Stop>
+    ensures { let act = back_child read_end.0 write_end.0 (started_of started) in
+        Does W.events world.old world.new state_of state.old state.new act (λ members. map string_bytes members.items) result }
+{
+    calls::close(world, write_end)?;
+    let child = match started {
+        Started::Child(child) => child,
+        Started::NoChild(why) => {
+            calls::close(world, read_end)?;
+            state.set_status(why)?;
+            return Ok(Vec::new(alloc));
+        }
+    };
+    let output = read_all(alloc, world, read_end, longest_output())?;
+    calls::close(world, read_end)?;
+    let status = wait_child(alloc, world, child)?;
+    state.set_status(output.why.unwrap_or(&status))?;
+    let members = members_of(alloc, state, &output.bytes)?;
+    Ok(members)
+}
+
+/// What a command writes, as words, by what its shell is handed.
+pub fn backquote<W: World>(
+    alloc: Global,
+    world: &mut W,
+    state: &mut State,
+    slots: Slots,
+    handed: Option<Launch>,
+) -> Result<Vec<String>, Stop>
+    ensures { (body : Node cmd) → Hands handed body (state_of state.old) →
+        Does W.events world.old world.new state_of state.old state.new (backquote slots body) (λ members. map string_bytes members.items) result }
+{
+    let Some((read_end, write_end)) = calls::pipe(world)? else {
+        state.set_status("cannot pipe")?;
+        return Ok(Vec::new(alloc));
+    };
+    let inner = Slots {
+        output: Slot::To(write_end),
+        ..slots
+    };
+    let started = start_shell(world, inner, handed)?;
+    back_child(alloc, world, state, read_end, write_end, started)
+}

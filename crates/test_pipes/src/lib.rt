@@ -1,0 +1,5 @@
+//! Tests of redirections, and of the children and pipes of a shell.
+#![tactic(auto)]
+
+#[cfg(test)]
+mod redirections;
