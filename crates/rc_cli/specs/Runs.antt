@@ -49,11 +49,13 @@ IsUnread _ _ = ⊥
 
 -- the number that the process ends with is that of the status with which the meaning ends
 abbrev pub EndsWith : Node cmd → State → List Event → ℕ → Type 0
-EndsWith t start trace status = (end : State) × EndsWithin most_instructions t start trace end × IsProcessStatus end.status status
+EndsWith t start trace status =
+    (end : State) × EndsWithin most_instructions t start trace end × IsProcessStatus end.status status
 
 -- a run by its result: what its world recorded of it, by the script that was read
 abbrev pub RunsAsMeant : Option (List Event) → Option (List Event) → Request → List ℕ → Result ℕ RunFault → Type 0
-RunsAsMeant before after r script (Ok status) = ToldOf before after script (λ t trace. EndsWith t (first_state r) trace status)
+RunsAsMeant before after r script (Ok status) =
+    ToldOf before after script (λ t trace. EndsWith t (first_state r) trace status)
 RunsAsMeant before after r script (Err Usage) = after ≡ before
 RunsAsMeant before after r script (Err (CannotRead name)) = IsNameOf r.source name.now × (after ≡ before)
 RunsAsMeant before after r script (Err (Syntax fault)) = IsRefused script fault × (after ≡ before)
@@ -64,9 +66,12 @@ RunsAsMeant before after r script (Err Limit) =
 RunsAsMeant before after r script (Err NotYet) =
     ToldOf before after script (λ t trace. IsBegunWithin most_instructions t (first_state r) trace)
 RunsAsMeant before after r script (Err NoMemory) =
-    ((t : Node cmd) → IsAccepted script t → Told before after (λ trace. IsBegunWithin most_instructions t (first_state r) trace))
+    ((t : Node cmd) → IsAccepted script t →
+    Told before after (λ trace. IsBegunWithin most_instructions t (first_state r) trace))
     × ((fault : SyntaxFault) → IsRefused script fault → after ≡ before)
 
 -- a run of what was asked for, with the script of its input
-abbrev pub RunsRequest : Option (Option (List ℕ)) → Option (List Event) → Option (List Event) → Result ℕ RunFault → Request → Type 0
-RunsRequest input before after result r = (script : List ℕ) × IsScriptFrom r.source input script × RunsAsMeant before after r script result
+abbrev pub RunsRequest : Option (Option (List ℕ)) → Option (List Event) → Option (List Event) → Result ℕ RunFault →
+    Request → Type 0
+RunsRequest input before after result r =
+    (script : List ℕ) × IsScriptFrom r.source input script × RunsAsMeant before after r script result
