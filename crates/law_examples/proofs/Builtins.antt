@@ -146,7 +146,7 @@ cd_of_two_words : Does (codes "cd a b") fresh [] (codes "usage")
 unfolding meant ran
 cd_of_two_words = (refl, refl)
 
--- nothing behind it is run
+-- nothing after it is run
 exec_ends_the_shell : Does (codes "exec c; d") fresh (runs (codes "c") [] usual 7 0) []
 unfolding meant ran
 exec_ends_the_shell = (refl, refl)

@@ -100,7 +100,7 @@ switch_joins_its_subject : Does (codes "switch (a b) {case a; x; case 'a b'; exi
 unfolding meant ran
 switch_joins_its_subject = (refl, refl)
 
--- patterns behind the match are not evaluated
+-- patterns after the match are not evaluated
 case_patterns_are_evaluated_when_reached : Does (codes "switch a {case a; exit q; case $'b c'; p}") fresh [] (codes "q")
 unfolding meant ran
 case_patterns_are_evaluated_when_reached = (refl, refl)

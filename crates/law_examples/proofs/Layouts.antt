@@ -5,7 +5,7 @@ use Rattle.rc_model.specs.declared.call.Mode.TheVariants.{Write}
 use Rattle.law_examples.specs.Shown.{ops}
 use Rattle.rc_model.specs.Code.Layout.{Nil, Word, Join, Concat, Value, Count, Select, Glob, Back, Run, Check, Subject, Drop, Case, Match, Jump, IfFalse, SetNull, Invert, If, WasTrue, IfNot, For, Next, Local, Unlocal, Define, Undefine, Open, Copy, Unredir, Stages, EndPipe, Subshell, Background, Return}
 
--- the right side stands behind a jump; the left is guarded, and is not checked
+-- the right side stands after a jump; the left is guarded, and is not checked
 a_conditional_jumps_past_its_right_side :
     ops (codes "a && b") ≡
     Some

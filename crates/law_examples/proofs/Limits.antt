@@ -11,7 +11,7 @@ use Rattle.rc_model.specs.Handed.Image.{image_words, node_image, many_image}
 use Rattle.rc_model.specs.Handed.Pieces.{pieces, last_cut}
 use Rattle.std.specs.Fmt.{digits}
 
--- a text behind n bangs
+-- a text after n bangs
 bangs : ℕ → List ℕ → List ℕ
 bangs zero text = text
 bangs (suc n) text = codes "! " ++ bangs n text

@@ -123,7 +123,7 @@ file_names_of_a_redirection :
 unfolding meant ran
 file_names_of_a_redirection = (refl, refl)
 
--- a caret behind a name is deleted, and `$$` is a dollar
+-- a caret after a name is deleted, and `$$` is a dollar
 here_documents_replace_names :
     Does (codes "c <<E\n$x^y $$ $z\nE\n") (with_value fresh (codes "x") (codes "1" ∷ codes "2" ∷ []))
     (here (codes "1 2y $ \n") ▸ file 4

@@ -57,7 +57,7 @@ a_skipped_operand_ends_nothing :
 unfolding meant ran
 a_skipped_operand_ends_nothing = (refl, refl)
 
--- also behind a skipped one
+-- also after a skipped one
 the_last_operand_ends_the_shell :
     Does (codes "a && b || c; d") strict
     (runs (codes "a") [] usual 1 1

@@ -65,7 +65,7 @@ locals_cover_one_another : Does (codes "a=1 {b=2 {exit $a$b}}") fresh [] (codes 
 unfolding meant ran
 locals_cover_one_another = (refl, refl)
 
--- an assignment with a redirection and no command behind it is local
+-- an assignment with a redirection and no command after it is local
 assignments_around_a_redirection_are_local :
     Does (codes "x=a >f; exit n$x") (with_value fresh (codes "x") (codes "g" ∷ []))
     (open_file (codes "f") Write ▸ file 3 ∷ close 3 ▸ done ∷ [])

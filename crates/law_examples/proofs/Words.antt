@@ -36,7 +36,7 @@ the_empty_script_does_nothing : Does [] fresh [] []
 unfolding meant ran
 the_empty_script_does_nothing = (refl, refl)
 
--- a command goes on behind a backslash and a newline
+-- a command goes on after a backslash and a newline
 a_backslash_at_the_end_of_a_line_is_a_blank : Does (codes "exit a\\\nb") fresh [] (codes "a b")
 unfolding meant ran
 a_backslash_at_the_end_of_a_line_is_a_blank = (refl, refl)

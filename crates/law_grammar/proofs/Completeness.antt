@@ -287,7 +287,7 @@ branch_meets a T W r gr {ts = ts} {mid = mid} {next = next} {as' = xs} {is = is}
 same_tail : (x y : Lexeme) (ts us : List Lexeme) → x ∷ ts ≡ y ∷ us → ts ≡ us
 same_tail x y ts us h = cc
 
--- the rest behind the brace is a variable of its own, so that the phrase can be taken apart
+-- the rest after the brace is a variable of its own, so that the phrase can be taken apart
 branches_from_meets : (a T W : ℕ) (r : Readers) → Good a r → (k : ℕ) (front : Many t.branch) (rest : List Lexeme) {ts : List Lexeme} {bs : Many t.branch} {all : List Lexeme} →
     Phrase g.branches ts bs all → all ≡ RightBrace ∷ rest → length ts ≤ k → suc (depths bs) ≤ T → most_stages_in bs ≤ W → Meets (suc a) T W (d.branches_from r k front ts) (append front bs, rest)
 unfolding d.branches_from

@@ -1,4 +1,4 @@
--- A phrase takes tokens: what is behind it is no longer than the whole, and mostly shorter.
+-- A phrase takes tokens: what is after it is no longer than the whole, and mostly shorter.
 use Rattle.std.proofs.Common.{◌≡◌, ℕ, ◌+◌, ◌<◌, ◌≤◌, Bool, true, false, List, ◌∷◌, length, Some, ap, arith, unwrap_or}
 use Rattle.rc_model.specs.Syntax.Tokens.{Lexeme, Newline, FreeCaret, Caret}
 use Rattle.rc_model.specs.Syntax.Grammar.{Phrase, Level, Out, past_newlines, past_blanks, past_caret, after_caret}

@@ -69,7 +69,7 @@ stages_sound : (ss : Many t.stage) → AreStages ss → AllSound ss
 stages_sound none x = no_more
 stages_sound (more (t.Stage c slot) ss) x = record { sound = both (given x.0 x.1.0.sound) (stages_sound ss x.1.1).sound }
 
--- the bars move from before a stage to behind one
+-- the bars move from before a stage to after one
 moved : (c : Node t.cmd) (ss : Many t.stage) → Sound c → AreStages ss → AreStages (stages_of c ss) × Sound (last_of c ss)
 moved c none x y = (tt, x)
 moved c (more (t.Stage d slot) ss) x y = let rest = moved d ss y.1.0 y.1.1 in ((y.0, (x, rest.0)), rest.1)

@@ -350,7 +350,7 @@ block_sound r s ts x h =
     let v = bind_ok (d.redirs_by (r (d.a_part false)) w.0.1) _ x w.2 in
     found g.stage ts (redirect v.0.0 (t.Brace w.0.0), v.0.1) x (g.brace_stage (brace_sound r s ts w.0 w.1) (redirs_sound (r (d.a_part false)) (s.part false) w.0.1 v.0 v.1)) v.2
 
--- a stage, or the name of an assignment with the `=` behind it
+-- a stage, or the name of an assignment with the `=` after it
 abbrev pub IsOpening : List Lexeme → Opening → List Lexeme → Type 0
 IsOpening ts (Staged c) rest = Phrase g.stage ts c rest
 IsOpening ts (Named a) rest = (begins_first ts ≡ true) × Phrase (g.arg false) ts a (Equals ∷ rest)

@@ -100,7 +100,7 @@ piece_is limit text piece rest u cut l =
 rest_utf8 : (limit : ℕ) (text : List ℕ) → IsUtf8 text → IsUtf8 (past_piece limit text)
 rest_utf8 limit text u = IsUtf8-drop text (last_cut limit text) u (last_is limit text u).between
 
--- what was found behind a piece
+-- what was found after a piece
 pub mapped_back : {A B : Type 0} (f : A → B) (o : Option A) (y : B) → option_map f o ≡ Some y → (x : A) × (o ≡ Some x) × (f x ≡ y)
 mapped_back f None y h = absurd (cc)
 mapped_back f (Some x) y h = (x, refl, cc)

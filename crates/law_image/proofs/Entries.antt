@@ -140,7 +140,7 @@ same_top : (name : List ℕ) (value : List (List ℕ)) (es fs : List (List ℕ �
 same_top name [] es fs k h = h
 same_top name (m ∷ ms) es fs k h = ap (λ t. if t then es else (name, (m ∷ ms) ∷ []) ∷ es) k ∙ ap (λ z. (name, (m ∷ ms) ∷ []) ∷ z) h
 
--- where all names stand behind `*`
+-- where all names stand after `*`
 none_of : (bs : List (List ℕ × List (List (List ℕ)))) → IsTrue (list_all (λ b. is_own_name b.0) bs) → Above star bs → plain_flat bs ≡ flat bs
 none_of [] n a = refl
 none_of (b ∷ bs) n a =

@@ -51,7 +51,7 @@ is_other xs ys h = by (bytes_eq xs ys) refl
     by true e = absurd (h ((bytes_eq-Decides xs ys).0 e))
     by false e = e
 
--- a newline behind a line that is the mark, and behind another
+-- a newline after a line that is the mark, and after another
 at_mark : (d : Due) (body line : List ℕ) (due : List Due) (p : Place) (rest : List ℕ) → line ≡ d.mark →
     run (Body d body line) due p (10 ∷ rest) ≡ t.join [] (body ∷ []) (line_run due (t.behind_char p 10) rest)
 at_mark d body line due p rest e =
@@ -64,7 +64,7 @@ at_other d body line due p rest h =
     ap (λ b. follow (cond b (begin_line [] (body ∷ []) due) (goes [] (Body d (body ++ line ++ encode_utf8 10) []) due)) (λ s' due'. run s' due' (t.behind_char p 10) rest)) (is_other line d.mark h)
     ∙ join_nil (run (Body d (body ++ line ++ encode_utf8 10) []) due (t.behind_char p 10) rest)
 
--- the end behind a line
+-- the end after a line
 some_bytes : (cs : List ℕ) → cs ≢ [] → encode_utf8_all cs ≢ []
 some_bytes [] h e = h refl
 some_bytes (c ∷ cs) h e = absurd (omega (arith, ap length e, length-append (encode_utf8 c) (encode_utf8_all cs), length-encode c, (len_utf8_bounds c).0))

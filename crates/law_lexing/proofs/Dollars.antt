@@ -10,7 +10,7 @@ use Rattle.rc_model.specs.Mirrors.Reading.{State, Between, Operator, goes, emit,
 use Rattle.law_lexing.proofs.Steps.{join_nil, join_tokens, follow_emit, join_closed}
 use Rattle.law_lexing.proofs.Operators.{operated_run, operator_ends, LexemeEnds, same_due}
 
--- the run behind `$`s whose name is still to come
+-- the run after `$`s whose name is still to come
 abbrev dollars_run : List Token → List Due → Place → List ℕ → Outcome
 dollars_run ds due p [] = closed (bare ds) [] due
 dollars_run ds due p (c ∷ cs) = follow (behind_dollars ds due p c (t.class_of c)) (λ s' due'. run s' due' (t.behind_char p c) cs)
@@ -22,7 +22,7 @@ resolved b ds due p rest = cond b (t.join ds [] (run (Between t.DollarBefore) du
 bare-append : (xs ys : List Token) → bare (xs ++ ys) ≡ bare xs ++ bare ys
 bare-append xs ys = map-append (λ (d : Token). record { lexeme = t.BareDollar; start = d.start; stop = d.stop; line = d.line }) xs ys
 
--- behind `$#` and `$"` no operator goes on, and those before them are bare
+-- after `$#` and `$"` no operator goes on, and those before them are bare
 sigil_count : (ds : List Token) (q : Place) (due : List Due) (p : Place) (rest : List ℕ) →
     run (Operator t.DollarBefore ds q (36 ∷ 35 ∷ [])) due p rest ≡ t.join (bare ds) [] (run (Operator t.Apart [] q (36 ∷ 35 ∷ [])) due p rest)
 sigil_count ds q due p [] = sym (join_closed (bare ds) (t.token t.BareDollar q p ∷ []) [] due)
@@ -39,7 +39,7 @@ sigil_flat ds q due p (c ∷ cs) =
     ∙ ap (t.join (bare ds) []) (sym (follow_emit [] (behind_dollars (t.token t.DollarFlat q p ∷ []) due p c (t.class_of c)) (λ s' due'. run s' due' (t.behind_char p c) cs)
     ∙ join_nil (follow (behind_dollars (t.token t.DollarFlat q p ∷ []) due p c (t.class_of c)) (λ s' due'. run s' due' (t.behind_char p c) cs))))
 
--- one more `$`, behind others, and as the first
+-- one more `$`, after others, and as the first
 dollar_more : (ds : List Token) (q : Place) (due : List Due) (p : Place) (rest : List ℕ) → t.goes_on (36 ∷ []) rest ≡ false →
     run (Operator t.DollarBefore ds q (36 ∷ [])) due p rest ≡ dollars_run (ds ++ t.token t.Dollar q p ∷ []) due p rest
 dollar_more ds q due p [] g = ap (λ ts. closed ts [] due) (sym (bare-append ds (t.token t.Dollar q p ∷ [])))
@@ -83,7 +83,7 @@ flat_first prev q due p (c ∷ cs) a =
     follow_emit (t.caret prev t.Dollar q ++ []) (behind_dollars (t.token t.DollarFlat q p ∷ []) due p c (t.class_of c)) (λ s' due'. run s' due' (t.behind_char p c) cs)
     ∙ ap (λ ts. t.join ts [] (dollars_run (t.token t.DollarFlat q p ∷ []) due p (c ∷ cs))) (append-nil (t.caret prev t.Dollar q))
 
--- what a further `$` begins is known once the text behind it is
+-- what a further `$` begins is known once the text after it is
 abbrev Resolves : List ℕ → Type 0
 Resolves rest = (ds : List Token) (due : List Due) (p : Place) → dollars_run ds due p rest ≡ resolved (t.names rest) ds due p rest
 
@@ -106,7 +106,7 @@ further ds due p rest ih g =
         ap (λ ts. t.join ts [] (run (Between t.Apart) due q' rest)) (bare-append ds (tok' ∷ []))
         ∙ join_tokens (bare ds) (bare (tok' ∷ [])) (run (Between t.Apart) due q' rest) ∙ ap (t.join (bare ds) []) (sym f)
 
--- behind a `$`: `#`, `"` or anything else
+-- after a `$`: `#`, `"` or anything else
 sigil_at : (ds : List Token) (due : List Due) (p : Place) (c : ℕ) (cs : List ℕ) → Resolves (c ∷ cs) → (a b : Bool) → (c == 35) ≡ a → (c == 34) ≡ b →
     run (Operator t.DollarBefore ds p (36 ∷ [])) due (t.behind_char p 36) (c ∷ cs) ≡ resolved (t.names (c ∷ cs)) ds due p (36 ∷ c ∷ cs)
 sigil_at ds due p c cs ih true b e f = subst (λ z. run (Operator t.DollarBefore ds p (36 ∷ [])) due (t.behind_char p 36) (z ∷ cs) ≡ resolved (t.names (z ∷ cs)) ds due p (36 ∷ z ∷ cs)) (sym (eqb-true c 35 e)) known

@@ -198,7 +198,7 @@ same_front : (text a b c d : List ℕ) → text ≡ a ++ 45 ∷ b → lacks a �
 same_front text a b c d q h r k =
     (sym (before_dash a b h) ∙ ap (before_first dash) (sym q ∙ r) ∙ before_dash c d k, sym (after_dash a b h) ∙ ap (after_first dash) (sym q ∙ r) ∙ after_dash c d k)
 
--- no names where the front is no number, or what is behind the dash is there and is none
+-- no names where the front is no number, or what is after the dash is there and is none
 no_first : (value : Texts) (text a b : List ℕ) → text ≡ a ++ 45 ∷ b → lacks a → number_of a ≡ None → (first last : ℕ) → Names (length value) text first last → ⊥
 no_first value text a b q h k first last (one m r) = no_way (sym (number_no_dash text m r) ∙ ap (list_any dash) q ∙ found_dash a b)
 no_first value text a b q h k first last (range c d m n r s t) =

@@ -18,7 +18,7 @@ Words = List (List Word)
 abbrev pub spot : Config → ℕ → Words → State → Config
 spot c place words s = record c { place = place; words = words; state = s }
 
--- points for each place, before a part with these words and behind one
+-- points for each place, before a part with these words and after one
 abbrev pub before : Config → Words → ℕ → State → Point
 before c words p s = at (spot c p words s)
 
@@ -29,7 +29,7 @@ behind c words p a s = at (spot c p (words a) s)
 pub record Leg {A : Type 0} (n : ℕ) (code : Code) (part : Part) (from : ℕ → State → Point) (to : ℕ → A → State → Point) (scopes : List Scope) (m : Shell A) : Type 0 where
   pub by : (p k : ℕ) → Stands code p k part → (s : State) → Runs n (from p s) (to (past part p k)) scopes (m s)
 
--- the usual one: with some words before, and with some behind, by the value
+-- the usual one: with some words before, and with some after, by the value
 abbrev pub Does : {A : Type 0} → ℕ → Config → Part → Words → (A → Words) → Shell A → Type 0
 Does n c part words words' m = Leg n c.code part (before c words) (behind c words') c.scopes m
 
@@ -87,7 +87,7 @@ leg_first {to = to} {m = m} c words words' op b e l =
           l.by (past (Do op) p k) (kept_past (Do op) k) (stands_second c.code p k (Do op) b h) s));
     }
 
--- and behind one
+-- and after one
 pub leg_last : {A : Type 0} {n : ℕ} {code : Code} {a b : Part} {from : ℕ → State → Point} {half to : ℕ → A → State → Point} {scopes : List Scope} {m : Shell A}
     → Leg n code a from half scopes m → ((p k : ℕ) → Stands code p k b → (x : A) (s : State) → Comes (half p x s) (to (past b p k) x s)) → Leg n code (a ⨾ b) from to scopes m
 leg_last {code = code} {a = a} {b = b} {to = to} {m = m} l e =

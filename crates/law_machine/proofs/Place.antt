@@ -35,11 +35,11 @@ has_all (i ∷ is) pre =
 abbrev pub Stands : Code → ℕ → ℕ → Part → Type 0
 Stands code p k part = HasAt code.ops p (ops_of part p k) × HasAt code.kept k (kept_of part)
 
--- the place behind a part
+-- the place after a part
 abbrev pub past : Part → ℕ → ℕ → ℕ
 past part p k = p + length (ops_of part p k)
 
--- the number behind those of a part
+-- the number after those of a part
 abbrev pub kept_past : Part → ℕ → ℕ
 kept_past part k = k + length (kept_of part)
 

@@ -1,4 +1,4 @@
--- What is told of a run of the machine, in words of the meaning.
+-- What is recorded of a run of the machine, in words of the meaning.
 use Rattle.std.proofs.Common.{◌≡◌, ℕ, List, [], ◌∷◌, ◌++◌, refl, sym, ap, ◌∙◌, subst}
 use Rattle.std.proofs.lemmas.List.{append-nil}
 use Rattle.rc_model.specs.Run.Calls.{Call, Answer, refused, Event, event, answers, calls}

@@ -49,7 +49,7 @@ more_bind f f' g g' mf mg s = less_under (f s) (f' s) g g' leaves (mf s) mg
 more_after : {A B : Type 0} (f : Shell A) (g g' : A → Shell B) → ((a : A) → More (g a) (g' a)) → More (λ s. under (f s) g leaves) (λ s. under (f s) g' leaves)
 more_after f g g' mg s = less_under (f s) (f s) g g' leaves (less_same (f s)) mg
 
--- the same act behind
+-- the same act after
 more_before : {A B : Type 0} (f f' : Shell A) (g : A → Shell B) → More f f' → More (λ s. under (f s) g leaves) (λ s. under (f' s) g leaves)
 more_before f f' g mf s = less_under (f s) (f' s) g g leaves (mf s) (λ a s1. less_same (g a s1))
 

@@ -15,7 +15,7 @@ use Rattle.law_patterns.proofs.Computed.{matches-is}
 use Rattle.law_patterns.proofs.Sorted.{ordered_sorted, from_ordered, to_ordered, from_filter, to_filter, from_flat, to_flat}
 use Rattle.law_patterns.proofs.Walking.{Gives, names_found, found_step, found_there, found_from, found_of, gives_names}
 
--- texts behind a slash each
+-- texts after a slash each
 abbrev tail : List (List ℕ) → List ℕ
 tail [] = []
 tail (t ∷ ts) = 47 ∷ (t ++ tail ts)
@@ -39,7 +39,7 @@ none_of true b h = false_true (sym h)
 none_of false b h = (refl, h)
 
 module _ (tells : Call → Answer) where
-  -- behind a path with no final slash
+  -- after a path with no final slash
   record From (cs : List Word) (path p : List ℕ) : Type 0 where
     pub texts : List (List ℕ)
     pub chosen : Chosen tells (path ++ codes "/") cs texts

@@ -180,7 +180,7 @@ fitting_clean c a m x =
     not_so true h = no_way h
     not_so false h = refl
 
--- the folder is no path below one of its names
+-- the directory is no path below one of its names
 folder_by : (q : List ℕ) (b : Bool) → length (cond b (codes ".") q) ≤ length q + 1
 folder_by q true = omega arith
 folder_by q false = omega arith

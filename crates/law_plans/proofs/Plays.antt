@@ -36,7 +36,7 @@ goes_plays (ask c go) (e ∷ es) q more g =
 goes_plays (done_with x) (e ∷ es) q more g = absurd g
 goes_plays cut (e ∷ es) q more g = absurd g
 
--- all answers of a run are given, whatever is told after it
+-- all answers of a run are given, whatever is recorded after it
 pub goes_answers : {X : Type 0} (p : Plan X) (trace : List Event) (q : Plan X) (more : List Event) → Goes p trace q
     → answers (trace ++ more) ≡ answers trace ++ answers more
 goes_answers p [] q more g = refl
@@ -77,7 +77,7 @@ waits_over p trace c go g = goes_plays_alone p trace (ask c go) g ∙ preceded_w
 pub cut_over : {X : Type 0} (p : Plan X) (trace : List Event) → Goes p trace cut → play p (answers trace) ≡ Cut (calls trace)
 cut_over p trace g = goes_plays_alone p trace cut g ∙ preceded_cut (calls trace)
 
--- a run to a call that halts is told with it, and plays up to it
+-- a run to a call that halts is recorded with it, and plays up to it
 pub halts_over : {X : Type 0} (p : Plan X) (before : List Event) (c : Call) (go : Answer → Plan X) → Goes p before (ask c go)
     → play p (answers (before ++ event c (refused Halt) ∷ [])) ≡ Waits (calls (before ++ event c (refused Halt) ∷ []))
 halts_over p before c go g =

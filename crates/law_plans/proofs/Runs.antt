@@ -1,4 +1,4 @@
--- Runs of plans between two tellings of a world: how they join.
+-- Runs of plans between two records of a world: how they join.
 use Rattle.std.proofs.Common.{◌≡◌, refl, ◌∙◌, ap, List, [], ◌∷◌, ◌++◌, ℕ, Option}
 use Rattle.std.specs.Prelude.{true, if◌then◌else◌}
 use Rattle.rc_model.specs.Run.Calls.{Call, Answer, Event, event, extend, told_by, was_made, refused}

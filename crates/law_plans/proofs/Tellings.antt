@@ -1,4 +1,4 @@
--- What a world tells, extended by one trace and then by another.
+-- What a world records, extended by one trace and then by another.
 use Rattle.std.proofs.Common.{◌≡◌, refl, sym, ◌∙◌, ap, List, [], ◌∷◌, ◌++◌, Option, Some, None}
 use Rattle.std.proofs.lemmas.List.{append_assoc, append-nil}
 use Rattle.rc_model.specs.Run.Calls.{Event, extend}

@@ -19,7 +19,7 @@ blank_step calm_word g = blank refl g
 blank_step calm_quoted g = blank refl g
 blank_step calm_name g = blank refl g
 
--- an operator behind nothing that matters
+-- an operator after nothing that matters
 operator_step : (cs rest : List ℕ) (l : Lexeme) {ls : List Lexeme} → operator cs ≡ Some l → l ≢ k.BareHere → goes_on cs rest ≡ false → meant Apart rest l ≡ l →
     as_before Apart l ≡ Apart → Gives Apart rest ls → Gives Apart (cs ++ rest) (l ∷ ls)
 operator_step cs rest l {ls} found no_mark stops same next g =
@@ -61,7 +61,7 @@ word_step (c ∷ cs) rest {ls} p e s g =
     subst (λ w. Gives Apart (c ∷ cs ++ rest) (k.Word w ∷ ls)) e
     (lexeme {cs = c ∷ cs} {rest = rest} refl refl (k.word Apart c cs rest refl (plain_run (c ∷ cs) rest p s)) g)
 
--- no operator goes on behind these
+-- no operator goes on after these
 left_brace_alone : (rest : List ℕ) → goes_on (123 ∷ []) rest ≡ false
 left_brace_alone [] = refl
 left_brace_alone (c ∷ cs) = refl
@@ -98,7 +98,7 @@ right_brace_alone : (rest : List ℕ) → goes_on (125 ∷ []) rest ≡ false
 right_brace_alone [] = refl
 right_brace_alone (c ∷ cs) = refl
 
--- operators directly behind a word, a quoted word or a name
+-- operators directly after a word, a quoted word or a name
 semicolon_step : {prev : Before} → IsCalm prev → (rest : List ℕ) {ls : List Lexeme} → Gives Apart rest ls → Gives prev (59 ∷ rest) (k.Semicolon ∷ ls)
 semicolon_step calm_apart rest g =
     lexeme {cs = 59 ∷ []} {rest = rest} refl refl (k.operated Apart (59 ∷ []) rest k.Semicolon refl refl (λ e. cc) (semicolon_alone rest)) g
@@ -149,7 +149,7 @@ right_brace_step calm_quoted rest g =
 right_brace_step calm_name rest g =
     lexeme {cs = 125 ∷ []} {rest = rest} refl refl (k.operated NameBefore (125 ∷ []) rest k.RightBrace refl refl (λ e. cc) (right_brace_alone rest)) g
 
--- a parenthesis directly behind a keyword
+-- a parenthesis directly after a keyword
 paren_step : (rest : List ℕ) {ls : List Lexeme} → Gives Apart rest ls → Gives WordBefore (40 ∷ rest) (k.LeftParen ∷ ls)
 paren_step rest g = lexeme {cs = 40 ∷ []} {rest = rest} refl refl (k.operated WordBefore (40 ∷ []) rest k.LeftParen refl refl (λ e. cc)
     (left_paren_alone rest)) g
@@ -565,7 +565,7 @@ copy_to_one = record {
       at_start b (operator_step (codes ">[1=2]") rest (k.CopyTo 1 2) refl (λ e. cc) (copy_one_alone rest) refl refl (g Apart apart));
 }
 
--- `&` behind a command
+-- `&` after a command
 ampersand_alone : {rest : List ℕ} → Ends rest → goes_on (38 ∷ []) rest ≡ false
 ampersand_alone at_end = refl
 ampersand_alone at_space = refl

@@ -1,4 +1,4 @@
--- Names behind a `$`.
+-- Names after a `$`.
 use Rattle.std.proofs.Common.{◌≡◌, ◌≢◌, refl, ap, sym, ◌∙◌, subst, ℕ, ◌<◌, true, false, not, ◌==◌, List, [], ◌∷◌, ◌++◌, IsUtf8, arith, codes}
 use Rattle.std.proofs.Common.{append_assoc}
 use Rattle.std.proofs.lemmas.Bool.{and_parts}
@@ -17,7 +17,7 @@ use Rattle.law_print_lexing.proofs.Pieces.{Piece, IsApart, apart, IsCalm, calm_n
 use Rattle.law_print_lexing.proofs.Pieces.{at_space, at_semicolon, at_caret, at_equals, at_paren, at_brace}
 use Rattle.law_print_lexing.proofs.Quotes.{quoted_chars, quoted_spelled, quoted_scalar, quoted_clean, quoted_spells}
 
--- behind a name stands the end of a word, or a subscript
+-- after a name stands the end of a word, or a subscript
 pub data NameEnds : List ℕ → Type 0 where
   ends : {rest : List ℕ} → Ends rest → NameEnds rest
   subscript : {rest : List ℕ} → NameEnds (40 ∷ rest)
@@ -42,7 +42,7 @@ quote_stops (ends at_paren) = refl
 quote_stops (ends at_brace) = refl
 quote_stops subscript = refl
 
--- a name behind a `$`, with its lexemes
+-- a name after a `$`, with its lexemes
 pub record NamePiece (text : List ℕ) (ls : List Lexeme) : Type 0 where
   pub chars : List ℕ
   pub spelled : encodes chars ≡ text
@@ -108,7 +108,7 @@ quoted_name text u z = record {
   cuts = λ rest more s g. lexeme {cs = quoted_chars text} {rest = rest} refl refl (quoted_spells DollarBefore text rest u (quote_stops s)) g;
 }
 
--- a `$` where a name stands behind it
+-- a `$` where a name stands after it
 dollar : (rest : List ℕ) → names rest ≡ true → goes_on (36 ∷ []) rest ≡ false → k.Spells Apart (36 ∷ []) rest k.Dollar
 dollar rest n e = subst (λ l. k.Spells Apart (36 ∷ []) rest l) (rw n refl) (k.operated Apart (36 ∷ []) rest k.Dollar refl refl (λ e. cc) e)
 
@@ -177,7 +177,7 @@ flat_piece {text} {ls} n =
         lexeme {cs = 36 ∷ 34 ∷ []} {rest = n.chars ++ rest} refl refl (dollar_flat (n.chars ++ rest) (n.stands rest)) (n.cuts rest more (ends e)
         (g NameBefore calm_name))
 
--- a subscript begins directly behind a name
+-- a subscript begins directly after a name
 subscript_alone : (rest : List ℕ) → goes_on (40 ∷ []) rest ≡ false
 subscript_alone [] = refl
 subscript_alone (c ∷ cs) = refl

@@ -46,7 +46,7 @@ pub clean-append : (xs ys : List ℕ) → has_no_zero xs ≡ true → has_no_zer
 clean-append [] ys e f = f
 clean-append (x ∷ xs) ys e f = let p = and_parts (not (x == 0)) (has_no_zero xs) e in rw p.0 (clean-append xs ys p.1 f)
 
--- one piece behind another
+-- one piece after another
 unfoldable pub behind : {A B C : Before → Type 0} {F G : List ℕ → Type 0} {x y : List ℕ} {ls ms : List Lexeme} (p : Piece A B F x ls) (q : Piece B C G y ms) →
     ((rest : List ℕ) → G rest → F (q.chars ++ rest)) → Piece A C G (x ++ y) (ls ++ ms)
 behind {x = x} {y = y} {ls = ls} {ms = ms} p q fits = record {
@@ -60,7 +60,7 @@ behind {x = x} {y = y} {ls = ls} {ms = ms} p q fits = record {
       (p.cuts a (q.chars ++ rest) (ms ++ more) (fits rest g) (λ next b. q.cuts b rest more g then')));
 }
 
--- a piece behind which anything may follow, where less is wanted
+-- a piece after which anything may follow, where less is wanted
 pub settled : {A : Before → Type 0} {x : List ℕ} {ls : List Lexeme} → Piece A IsApart Anything x ls → Piece A IsCalm Ends x ls
 settled p = record {
   chars = p.chars;
@@ -92,7 +92,7 @@ no_tail = record {
   fits = λ rest e. e;
 }
 
--- a mark and a piece behind it
+-- a mark and a piece after it
 pub marked : {x y : List ℕ} {ls ms : List Lexeme} (p : Piece IsCalm IsApart Anything x ls) → ((rest : List ℕ) → Ends (p.chars ++ rest)) →
     Piece IsApart IsCalm Ends y ms → Tail (x ++ y) (ls ++ ms)
 unfolding behind
@@ -112,12 +112,12 @@ both p q = record {
 pub tailed : {A : Before → Type 0} {x y : List ℕ} {ls ms : List Lexeme} → Piece A IsCalm Ends x ls → Tail y ms → Piece A IsCalm Ends (x ++ y) (ls ++ ms)
 tailed p q = behind p q.piece q.fits
 
--- a piece behind one that anything may follow
+-- a piece after one that anything may follow
 pub led : {A B C : Before → Type 0} {G : List ℕ → Type 0} {x y : List ℕ} {ls ms : List Lexeme} → Piece A B Anything x ls → Piece B C G y ms →
     Piece A C G (x ++ y) (ls ++ ms)
 led p q = behind p q (λ rest g. tt)
 
--- a piece, a mark and what is behind it
+-- a piece, a mark and what is after it
 pub between : {A B C : Before → Type 0} {F G : List ℕ → Type 0} {x y z : List ℕ} {ls ms ns : List Lexeme} → Piece A IsCalm Ends x ls →
     (p : Piece IsCalm B F y ms) → ((rest : List ℕ) → Ends (p.chars ++ rest)) → (q : Piece B C G z ns) → ((rest : List ℕ) → G rest → F (q.chars ++ rest)) →
     Piece A C G (x ++ (y ++ z)) (ls ++ (ms ++ ns))

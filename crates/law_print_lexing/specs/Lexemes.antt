@@ -81,7 +81,7 @@ unfoldable mutual
   arg_lexemes (t.Sub name subscripts) = (Dollar ∷ (name_lexemes name ++ Subscript ∷ [])) ++ (args_lexemes subscripts ++ RightParen ∷ [])
   arg_lexemes (t.Back body) = Backquote ∷ LeftBrace ∷ (cmd_lexemes body false ++ RightBrace ∷ [])
 
-  -- a name behind a `$`
+  -- a name after a `$`
   pub name_lexemes : Node t.arg → List Lexeme
   name_lexemes (t.Lit text quoted) = name_word text quoted ∷ []
   name_lexemes (t.Var name) = Dollar ∷ name_lexemes name

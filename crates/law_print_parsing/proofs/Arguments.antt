@@ -76,7 +76,7 @@ concat_prints a (more b bs) p q = record {
   opens = arg_open_on (further_parts (more b bs)) p.opens;
 }
 
--- what is behind arguments and redirections ends those before it
+-- what is after arguments and redirections ends those before it
 pub args_apart : (as' : Many t.arg) → PrintsArgs as' → {us : List Lexeme} → EndsArg us → EndsArg (args_lexemes as' ++ us)
 unfolding args_lexemes
 args_apart none p e = e

@@ -25,7 +25,7 @@ PrintsParen c = (rest : List Lexeme) → Phrase g.paren (LeftParen ∷ (cmd_lexe
 abbrev pub PrintsBranches : Many t.branch → Type 0
 PrintsBranches bs = (rest : List Lexeme) → Phrase g.branches (listed (branch_lines bs) ++ (RightBrace ∷ rest)) bs (RightBrace ∷ rest)
 
--- a stage that takes redirections behind it
+-- a stage that takes redirections after it
 abbrev pub Extends : Node t.cmd → Type 0
 Extends c = (rs : Many t.redir) → PrintsRedirs rs → (rest : List Lexeme) → EndsStage rest →
     Phrase g.stage (cmd_lexemes c false ++ (redirs_lexemes rs ++ rest)) (redirect rs c) rest
@@ -49,7 +49,7 @@ pub record Prints (P : List Lexeme → Node t.cmd → List Lexeme → Type 0) (b
   pub redir : begins_redir ts ≡ false → begins_redir (cmd_lexemes c begins) ≡ false
   pub firm : stands_first c false ≡ true → Firm c
 
--- redirections read before a stage are printed behind it
+-- redirections read before a stage are printed after it
 abbrev pub AsLeading : (after_if : Bool) → List Lexeme → Node t.cmd → List Lexeme → Type 0
 AsLeading after_if ts c rest = Phrase (g.leading after_if) ts c rest ⊎ Phrase g.stage ts c rest
 
@@ -75,7 +75,7 @@ redir_on by_redirection us = refl
 redir_on by_copy us = refl
 redir_on by_brace us = refl
 
--- redirections are printed behind a command, or before it
+-- redirections are printed after a command, or before it
 behind_lexemes : (c : Node t.cmd) (begins : Bool) (rs : Many t.redir) → stands_first c begins ≡ true →
     cmd_lexemes (t.Redirect rs c) begins ≡ cmd_lexemes c false ++ redirs_lexemes rs
 unfolding cmd_lexemes
@@ -130,7 +130,7 @@ extended_firm : (c : Node t.cmd) (rs : Many t.redir) → Firm c → stands_first
 extended_firm c none f h = f
 extended_firm c (more r rs) f h = absurd cc
 
--- a stage with the redirections behind it
+-- a stage with the redirections after it
 pub stage_prints : (begins : Bool) (ts : List Lexeme) (c : Node t.cmd) (rs : Many t.redir) → stands_first c begins ≡ true → Firm c → PrintsRedirs rs →
     PrintsStage begins ts (redirect rs c)
 stage_prints begins ts c rs h f p = record {

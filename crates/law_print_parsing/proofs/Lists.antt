@@ -11,7 +11,7 @@ use Rattle.law_print_parsing.proofs.Arguments.{at, PrintsArgs, words_print}
 use Rattle.law_print_parsing.proofs.Commands.{PrintsBrace, PrintsParen, PrintsBranches}
 use Rattle.law_print_parsing.proofs.Forms.{PrintsCommand, free_args}
 
--- The items of a list, with lines behind them: none, or those of further branches.
+-- The items of a list, with lines after them: none, or those of further branches.
 abbrev pub PrintsItems : (in_switch after_if : Bool) → Many t.item → Type 0
 PrintsItems in_switch after_if is = (lines : List LexemeLine) (end : List Lexeme) → Closing end → ends in_switch (listed lines ++ end) ≡ true →
     Phrase (g.items in_switch after_if) (listed (item_lines is in_switch in_switch ++ lines) ++ end) is (listed lines ++ end)
@@ -20,7 +20,7 @@ pub no_items : (in_switch after_if : Bool) → PrintsItems in_switch after_if no
 unfolding item_lines
 no_items in_switch after_if lines end e h = g.no_item h
 
--- what is behind a background line, and behind another one
+-- what is after a background line, and after another one
 background_line : (text : List Lexeme) (lines : List LexemeLine) (end : List Lexeme) →
     listed ((text, true) ∷ lines) ++ end ≡ text ++ (Ampersand ∷ (listed lines ++ end))
 background_line text [] end = append_assoc text (Ampersand ∷ []) end
@@ -31,11 +31,11 @@ line_before : (text : List Lexeme) (l : LexemeLine) (ls : List LexemeLine) (end 
     listed ((text, false) ∷ l ∷ ls) ++ end ≡ text ++ (Semicolon ∷ (listed (l ∷ ls) ++ end))
 line_before text l ls end = append_assoc text (Semicolon ∷ listed (l ∷ ls)) end
 
--- the flag behind an item
+-- the flag after an item
 abbrev pub flag : (background after_if : Bool) → Bool
 flag background after_if = if background then false else after_if
 
--- what is printed behind an item
+-- what is printed after an item
 record After (in_switch after_if background : Bool) (text : List Lexeme) (is : Many t.item) (lines : List LexemeLine) (end : List Lexeme) : Type 0 where
   behind : List Lexeme
   stops : Ends behind

@@ -23,7 +23,7 @@ pub keyword_calm : (begins : Bool) (text : List ℕ) → is_case text ≡ false 
 keyword_calm true text h = h
 keyword_calm false text h = refl
 
--- braces and a switch take redirections behind them
+-- braces and a switch take redirections after them
 pub brace_firm : (c : Node t.cmd) → PrintsBrace c → Firm (t.Brace c)
 unfolding cmd_lexemes
 brace_firm c p = record {
@@ -60,7 +60,7 @@ switch_firm a bs p q = record {
   redir = refl;
 }
 
--- the bars of a pipeline and the stages behind them
+-- the bars of a pipeline and the stages after them
 abbrev pub bars_lexemes : Many t.stage → List Lexeme
 bars_lexemes none = []
 bars_lexemes (more (t.Stage c slot) ss) = (Bar slot ∷ cmd_lexemes c false) ++ bars_lexemes ss
@@ -101,7 +101,7 @@ more_bars slot c ss p q = record {
       (p.phrase then' (bars_end ss us (fits_operand f)))) (q.phrase us f));
 }
 
--- what stands alone behind the last bar
+-- what stands alone after the last bar
 alone : (slot : ℕ) (c : Node t.cmd) (us : List Lexeme) → bars_lexemes (more (t.Stage c slot) none) ++ us ≡ Bar slot ∷ (cmd_lexemes c false ++ us)
 alone slot c us = ap (λ z. (Bar slot ∷ z) ++ us) (append-nil (cmd_lexemes c false))
 
@@ -179,7 +179,7 @@ operand_prints p = record {
   firm = p.firm;
 }
 
--- redirections that were read before a command are printed before it, or behind it
+-- redirections that were read before a command are printed before it, or after it
 record Moved (after_if begins : Bool) (rest : List Lexeme) (c : Node t.cmd) : Type 0 where
   phrase : (us : List Lexeme) → Fits rest us → AsLeading after_if (cmd_lexemes c begins ++ us) c us
   opens : Opens begins (cmd_lexemes c begins)

@@ -37,7 +37,7 @@ paren_part as' p = record {
   opens = f.paren;
 }
 
--- a brace stands directly behind its backquote
+-- a brace stands directly after its backquote
 past_brace : (inside : Bool) (ts : List Lexeme) → g.past_blanks inside (LeftBrace ∷ ts) ≡ LeftBrace ∷ ts
 past_brace true ts = refl
 past_brace false ts = refl

@@ -48,7 +48,7 @@ clean_then m o km ko = clean_bind m (λ a. o) km (λ a. ko)
 pub clean_from : {B : Type 0} {slots : Slots} (f : State → Shell B) → ((t : State) → Clean slots (f t)) → Clean slots (λ s. under (get s) f leaves)
 clean_from f k = clean_bind get f clean_get k
 
--- a scope that changes the state behind its body, however that ends
+-- a scope that changes the state after its body, however that ends
 pub clean_scope : {slots : Slots} (f : State → State) → ((s : State) → (f s).background ≡ s.background) → (m : Runner) → Clean slots m → Clean slots (λ s. under (m s) (λ a. change f) (λ t owed. done_with (Exit (f t) owed)))
 clean_scope f e m k = record { by = λ F O a s c n. keeps_under a (m s) _ _ (Ends F O (λ x. Rest F O)) (Ends F O (λ x. Rest F O)) (k.by F O a s c n) (λ b x t q. neat_state (f t) (e t) q) (λ b t owed q. neat_state (f t) (e t) q) }
 

@@ -58,7 +58,7 @@ pub status_before : (status : List ℕ) (b : List ℕ × List ℕ) (bs : List (L
     to_come false status (b ∷ bs) ≡ entry (status_name, value_text (status ∷ [])) ∷ to_come true status (b ∷ bs)
 status_before status b bs h = ap (map entry) (before_by (text_cmp status_name b.0) status b bs (insert_entry text_cmp bs status_name (value_text (status ∷ []))) h)
 
--- or behind it
+-- or after it
 behind_by : (o : Ordering) (status : List ℕ) (b : List ℕ × List ℕ) (bs more : List (List ℕ × List ℕ)) → is_lt o ≡ false → is_eq o ≡ false →
     match_ordering o ((status_name, value_text (status ∷ [])) ∷ b ∷ bs) ((b.0, value_text (status ∷ [])) ∷ bs) (b ∷ more) ≡ b ∷ more
 behind_by Less status b bs more h k = cc

@@ -37,7 +37,7 @@ escaped_other c h k = escaped_plain (encode_utf8 c) (λ i lt. (
   λ e. k (inside_one c [] (encode_utf8 c) i (sym (append-nil (encode_utf8 c))) lt (omega (arith, e)) ∙ e),
 ))
 
--- the text of members behind a first one
+-- the text of members after a first one
 pub value_strings : (s : String Global) (ss : List (String Global)) → escaped (string_bytes s) ++ flat_map (λ t. 1 ∷ escaped (string_bytes t)) ss ≡ value_text (map string_bytes (s ∷ ss))
 value_strings s [] = append-nil (escaped (string_bytes s))
 value_strings s (t ∷ ts) = ap (λ u. escaped (string_bytes s) ++ (1 ∷ u)) (value_strings t ts)

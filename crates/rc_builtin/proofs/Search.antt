@@ -14,7 +14,7 @@ use Rattle.rc_builtin.specs.Starts.{paths_in}
 use Rattle.rc_world.proofs.Joins.{left_asked, ran_answered}
 use Rattle.law_plans.proofs.Runs.{ran_none}
 
--- the directories that are left: this one and those behind it
+-- the directories that are left: this one and those after it
 pub dirs_left : (name : List ℕ) (dirs : List (String Global)) (i : ℕ) (dir : String Global) → i < length dirs → dir ≡ get_or dirs i dir → paths_in name (drop i dirs) ≡ candidate (string_bytes dir) name ∷ paths_in name (drop (i + 1) dirs)
 dirs_left name dirs i dir lt is =
     ap (paths_in name) (drop-cons dirs i dir lt)

@@ -1,4 +1,4 @@
--- What was told of a run, from what the shell says of it.
+-- What was recorded of a run, from what the shell says of it.
 use Rattle.std.proofs.Common.{◌≡◌, ℕ, List, Option, Ok, Err, subst}
 use Rattle.rc_model.specs.Syntax.Accepted.{IsAccepted, IsRefused}
 use Rattle.rc_model.specs.Run.Calls.{Event}
@@ -16,7 +16,7 @@ use Rattle.rc_cli.specs.declared.fault.RunFault.TheVariants.{NoMemory, Limit, Ha
 abbrev pub HasTree : List ℕ → Type 0
 HasTree script = (t : Node cmd) × IsAccepted script t
 
--- of each tree of the script this was told
+-- of each tree of the script this was recorded
 abbrev pub OfEach : Option (List Event) → Option (List Event) → List ℕ → (Node cmd → List Event → Type 0) → Type 0
 OfEach before after script P = (t : Node cmd) → IsAccepted script t → Told before after (λ trace. P t trace)
 

@@ -11,7 +11,7 @@ use Rattle.rc_model.specs.Code.Layout.{Op, Nil, Case, Jump, Code, Part, Nothing,
 use Rattle.rc_code.specs.Emission.{with_part, patched, redirected, branch_to, branches_to}
 use Rattle.rc_code.proofs.Parts.{same_code, with_part-Nothing, with_part-then, length_part}
 
--- jumps that are put in where a part stands behind
+-- jumps that are put in where a part stands after
 
 pub redirected-none : (c : Code) (e : ℕ) → redirected c [] e ≡ c
 unfolding redirected

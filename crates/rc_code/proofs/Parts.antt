@@ -95,12 +95,12 @@ pub with_part-alone : (x : Part) → with_part (record { ops = []; kept = [] }) 
 unfolding with_part
 with_part-alone x = refl
 
--- assignments, and then what stands behind them
+-- assignments, and then what stands after them
 pub pairs_then : (ps : Many pair) (bare : Bool) (c : Code) (inner : Part) → with_part c (pairs_code ps bare inner) ≡ with_part (with_part c (pairs_alone ps bare)) inner
 pairs_then none bare c inner = ap (λ d. with_part d inner) (sym (with_part-Nothing c))
 pairs_then (more (Pair name value) rest) bare c inner = simp (with_part-then, pairs_then rest)
 
--- redirections, and then what stands behind them
+-- redirections, and then what stands after them
 pub redirs_then : (rs : Many redir) (c : Code) (inner : Part) → with_part c (redirs_code rs inner) ≡ with_part (with_part c (redirs_alone rs)) inner
 redirs_then none c inner = ap (λ d. with_part d inner) (sym (with_part-Nothing c))
 redirs_then (more (tree.Open mode slot path) rest) c inner = simp (with_part-then, redirs_then rest)

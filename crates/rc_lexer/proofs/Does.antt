@@ -23,7 +23,7 @@ behind_emit : (ts us : List model.Token) (bodies : List (List ℕ)) (x : Step) �
 behind_emit ts us bodies (Ok x) = ap (λ z. Ok (z, bodies ++ x.1, x.2, x.3)) (sym (append_assoc ts us x.0))
 behind_emit ts us bodies (Err f) = refl
 
--- the tokens of a step come behind those so far
+-- the tokens of a step come after those so far
 pub emits : (script : List ℕ) (end : ℕ) (us : List model.Token) (x : Step) (old mid new : Lexer) (r : Result State LexError) →
     tokens_in script mid ≡ tokens_in script old ++ us →
     mid.bodies.items ≡ old.bodies.items → Does script end mid new r x → Does script end old new r (reading.emit us x)
@@ -88,7 +88,7 @@ name_does script end text start place c k old mid new r h e t kept d =
     (ends_does script end before.Dollar before.Name (model.Name text') start place c k old mid new r
     (record { tokens = t script; due = ap (map due_of) kept.due; behind = refl; dollars = kept.dollars; bodies = kept.bodies }) d)
 
--- behind `$`s
+-- after `$`s
 abbrev behind : Bool → Bool → List model.Token → List model.Due → model.Place → ℕ → model.Class → Step
 behind a b dollars due p c k =
     cond a (reading.emit dollars (reading.begin model.DollarBefore due p c k))

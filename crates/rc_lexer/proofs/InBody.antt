@@ -26,7 +26,7 @@ pub first : (d d' : Due) (due : List Due) → 0 < length due → d ≡ slice_ind
 first d d' [] h e = absurd (omega arith)
 first d d' (x ∷ xs) h e = record { rest = xs; is = ap (λ z. z ∷ xs) (sym e) }
 
--- a newline behind a line that is not the mark
+-- a newline after a line that is not the mark
 abbrev ended : Bool → model.Due → List ℕ → List ℕ → List model.Due → ℕ → Step
 ended b d body line due c = cond b (reading.begin_line [] (body ∷ []) due) (reading.goes [] (reading.Body d (body ++ line ++ encode_utf8 c) []) due)
 

@@ -12,7 +12,7 @@ starts_as [] word = refl
 starts_as (b ∷ bs) [] = refl
 starts_as (b ∷ bs) (c ∷ cs) = ap (λ v. (b == c) && v) (starts_as bs cs)
 
--- what is behind a row of a table
+-- what is after a row of a table
 any_at : {A : Type 0} (p : A → Bool) (xs : List A) (i : ℕ) (d : A) → i < length xs →
     list_any p (drop i xs) ≡ (p (get_or xs i d) || list_any p (drop (i + 1) xs))
 any_at p xs i d h = ap (list_any p) (drop-cons xs i d h) ∙ ap (λ n. p (get_or xs i d) || list_any p (drop n xs)) (sym (add-one i))

@@ -13,7 +13,7 @@ use Rattle.rc_model.specs.Syntax.Printing.{item_lines, branch_lines, branch_item
 use Rattle.rc_print.specs.Lines.{led, trailed, behind, parting_after}
 use Rattle.rc_tree_types.specs.View.{tree_nodes}
 
--- joined texts, and those behind a first one
+-- joined texts, and those after a first one
 pub led-each : (mark : List ℕ) (ts : List (List ℕ)) → led mark mark ts ≡ flat_map (λ t. mark ++ t) ts
 led-each mark [] = refl
 led-each mark (t ∷ ts) = ap (λ l. mark ++ (t ++ l)) (led-each mark ts) ∙ sym (append_assoc mark t (flat_map (λ u. mark ++ u) ts))
@@ -248,7 +248,7 @@ pub assign_before : (pairs : Many t.pair) (body : Node t.cmd) (begins : Bool) �
 unfolding cmd_text
 assign_before pairs body begins e = rw (e, led-joined) refl
 
--- redirections alone, behind a command and before one
+-- redirections alone, after a command and before one
 pub redirect_alone : (redirs : Many t.redir) (body : Node t.cmd) (begins : Bool) → is_empty body ≡ true →
     cmd_text (t.Redirect redirs body) begins ≡ led [] (codes " ") (redir_texts redirs)
 unfolding cmd_text

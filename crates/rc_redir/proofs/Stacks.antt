@@ -14,7 +14,7 @@ pub newest_first : (rs : List Redirection) (r : Redirection) →
     reverse (map scope_of (rs ++ r ∷ [])) ≡ scope_of r ∷ reverse (map scope_of rs)
 newest_first rs r = ap reverse (map-append scope_of rs (r ∷ [])) ∙ reverse-append (map scope_of rs) (scope_of r ∷ [])
 
--- the last of a row, behind the others
+-- the last of a row, after the others
 pub last_of : {T : Type 0} (rs : List T) (r : T) → slice_get rs (length rs - 1) ≡ Some r → rs ≡ take (length rs - 1) rs ++ r ∷ []
 last_of rs r h =
     let within : length rs - 1 < length rs = slice_get_within rs (length rs - 1) r h in

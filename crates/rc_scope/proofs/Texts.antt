@@ -6,7 +6,7 @@ use Rattle.std.specs.declared.alloc.Global.{Global}
 use Rattle.std.specs.declared.string.String.{String}
 use Rattle.rc_model.specs.Syntax.Text.{spaced}
 
--- the first text, and each other behind a space
+-- the first text, and each other after a space
 pub spaced_strings : (s : String Global) (ss : List (String Global)) → string_bytes s ++ flat_map (λ t. 32 ∷ string_bytes t) ss ≡ spaced (map string_bytes (s ∷ ss))
 spaced_strings s [] = append-nil (string_bytes s)
 spaced_strings s (t ∷ ts) = ap (λ u. string_bytes s ++ (32 ∷ u)) (spaced_strings t ts)

@@ -15,7 +15,7 @@ use Rattle.rc_shell.specs.declared.script.ShellFault.{ShellFault}
 pub not_refused : {P : Type 0} (script : List ℕ) (tree : Node cmd) → IsAccepted script tree → (fault : SyntaxFault) → IsRefused script fault → P
 not_refused script tree a fault r = absurd (never_both script fault tree r a)
 
--- a script has one tree, so what was told of that is told of each
+-- a script has one tree, so what was recorded of that is recorded of each
 pub meant_by : (before after : Option (List Event)) (limit : ℕ) (script : List ℕ) (tree : Node cmd) (s : model.State) (result : Result Ran ShellFault) →
     ((other : Node cmd) → IsAccepted script other → other ≡ tree) → Told before after (λ trace. RunsAsMeant limit tree s trace result) →
     (t : Node cmd) → IsAccepted script t → Told before after (λ trace. RunsAsMeant limit t s trace result)

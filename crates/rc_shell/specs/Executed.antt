@@ -58,7 +58,7 @@ abbrev pub EndsProper : model.State → Result Ran ShellFault → Type 0
 EndsProper s (Ok (Ended end)) = IsProper s → IsProper (state_of end)
 EndsProper s _ = Unit {0}
 
--- where the script is accepted, this was told between two tellings of a world
+-- where the script is accepted, this was told between two records of a world
 abbrev pub IfAccepted : List ℕ → Option (List Event) → Option (List Event) → (List Event → Type 0) → Type 0
 IfAccepted script before after P = (t : Node cmd) → IsAccepted script t → Told before after P
 

@@ -1,4 +1,4 @@
--- What a tape tells when it plays one more call.
+-- What a tape records when it plays one more call.
 use Rattle.std.proofs.Common.{arith, ℕ, ◌≡◌, refl, sym, ◌∙◌, ap, List, [], ◌∷◌, ◌++◌, length, map, ◌<◌, ◌≤◌, ◌+◌, get_or, take}
 use Rattle.std.specs.Prelude.{Bool, true, cond, not}
 use Rattle.std.specs.List.{position_or_len, before_first}
@@ -45,7 +45,7 @@ played_push [] c (b ∷ answers) a h = ap (λ a. event (call_of c) (fitting (cal
 played_push (d ∷ made) c [] a h = ap (λ es. event (call_of d) (refused Halt) ∷ es) (played_push made c [] a h)
 played_push (d ∷ made) c (b ∷ answers) a h = ap (λ es. event (call_of d) (fitting (call_of d) b) ∷ es) (played_push made c answers a h)
 
--- all calls are told
+-- all calls are recorded
 pub played_calls : (made : List Call) (answers : List Answer) → made ≡ calls (played made answers)
 played_calls [] answers = refl
 played_calls (c ∷ made) [] = ap (λ cs. c ∷ cs) (played_calls made [])
@@ -70,7 +70,7 @@ next_past (b ∷ answers) (c ∷ made) n e h =
     let past : length answers ≤ length made = omega (arith, e, h) in
     next_past answers made (length made) refl past
 
--- a refusal of a tape is no want of memory
+-- a refusal of a tape is never out of memory
 pub refusal_made : (a : Answer) (f : Fault) → refused f ≡ refusal a → was_made (refused f) ≡ true
 refusal_made (refused NotFound) f h = ap was_made h
 refusal_made (refused Denied) f h = ap was_made h

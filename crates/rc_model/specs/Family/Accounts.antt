@@ -177,7 +177,7 @@ IsTo h (To k) = k.0 ≡ h
 abbrev pub InSlots : ℕ → Slots → Type 0
 InSlots h slots = (IsTo h slots.input ⊎ IsTo h slots.output) ⊎ IsTo h slots.errors
 
--- a new write end comes first: a start that has it in a slot, or its close; behind that start, its close
+-- a new write end comes first: a start that has it in a slot, or its close; after that start, its close
 abbrev pub InTurn : Due → Call → Type 0
 InTurn (made p w) (close h) = h ≡ w
 InTurn (made p w) (start l) = InSlots w l.slots

@@ -103,7 +103,7 @@ module _ (reads : Launch → Node cmd × State) where
   with_child f k p None = f
   with_child f k p (Some (l, n)) = record { count = suc f.count; at = put f.at f.count (child_process k p l n) }
 
-  -- an event is told to its process alone; a shell that it starts comes behind the others
+  -- an event goes to its process alone; a shell that it starts comes after the others
   abbrev pub stepped : Family → Step → Family
   stepped f e = with_child (with_trace f e) e.at (f.at e.at) (shell_started e.call e.answer)
 

@@ -24,7 +24,7 @@ abbrev pub literal_mark : Bool → List ℕ
 literal_mark true = codes "q"
 literal_mark false = codes "w"
 
--- `&` and `;` behind an item
+-- `&` and `;` after an item
 abbrev pub item_mark : Bool → List ℕ
 item_mark true = codes "&"
 item_mark false = codes ";"
@@ -103,7 +103,7 @@ value_text value = join_with_byte 1 (map escaped value)
 abbrev pub entry : List ℕ × List ℕ → List ℕ
 entry binding = binding.0 ++ 61 ∷ binding.1
 
--- what stays behind: `*`, and the status, which is no variable
+-- what is not handed over: `*`, and the status, which is no variable
 abbrev pub is_kept : List ℕ → Bool
 is_kept name = bytes_eq name (codes "*") || bytes_eq name status_name
 

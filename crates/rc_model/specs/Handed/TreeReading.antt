@@ -16,7 +16,7 @@ pub data ImageFault : Type 0 where
   TooDeep : ImageFault
   Version : ImageFault
 
--- what stands at the front of a text, and what stands behind it
+-- what stands at the front of a text, and what stands after it
 abbrev pub Reader : Type 0 → Type 0
 Reader X = List ℕ → Result (X × List ℕ) ImageFault
 
@@ -29,7 +29,7 @@ abbrev pub ◌>>=◌ : {A B : Type 0} → Result A ImageFault → (A → Result 
 abbrev pub made : {X Y : Type 0} → (X → Y) → Reader X → Reader Y
 made f r bytes = r bytes >>= λ x. Ok (f x.0, x.1)
 
--- two things, one behind the other
+-- two things, one after the other
 abbrev pub both : {X Y : Type 0} → Reader X → Reader Y → Reader (X × Y)
 both r q bytes = r bytes >>= λ x. q x.1 >>= λ y. Ok ((x.0, y.0), y.1)
 
@@ -51,7 +51,7 @@ tagged rows (b ∷ rest) = chosen rows b rest
 abbrev pub given : {X : Type 0} → X → Reader X
 given x bytes = Ok (x, bytes)
 
--- the digits at the front, and what stands behind them
+-- the digits at the front, and what stands after them
 abbrev pub digit_run : List ℕ → List ℕ
 digit_run [] = []
 digit_run (b ∷ bs) = if is_digit b then b ∷ digit_run bs else []
@@ -209,7 +209,7 @@ unfoldable mutual
   arg_at k zero bytes = Err TooDeep
   arg_at k (suc d) bytes = tagged (arg_rows k (cmd_at k d) (arg_at k d)) bytes
 
--- nothing stands behind it
+-- nothing stands after it
 abbrev pub whole : {X : Type 0} → Result (X × List ℕ) ImageFault → Result X ImageFault
 whole (Ok x) = if length x.1 == 0 then Ok x.0 else Err Trailing
 whole (Err e) = Err e

@@ -9,7 +9,7 @@ use Rattle.rc_model.specs.Syntax.Tree as t
 use Rattle.rc_model.specs.Syntax.WellFormed.{is_output, copies, without_zero}
 use Rattle.rc_model.specs.Handed.Image.{literal_mark, item_mark, logic_mark}
 
--- a text of the first kind with one of the second behind it
+-- a text of the first kind with one of the second after it
 pub record Joined (P Q : List ℕ → Type 0) (text : List ℕ) : Type 0 where
   pub front : List ℕ
   pub back : List ℕ

@@ -14,13 +14,13 @@ use Rattle.rc_model.specs.Syntax.Grammar.{past_newlines, past_blanks, past_caret
 -- why tokens aren't read to their end
 pub data Fault : Type 0 where
   Unexpected : Fault
-  -- an `if not` that isn't behind an `if`
+  -- an `if not` that isn't after an `if`
   IfNot : Fault
   -- the tree has too many levels, or a pipeline in it too many stages
   TooDeep : Fault
   TooManyStages : Fault
 
--- what is read, with the tokens behind it
+-- what is read, with the tokens after it
 abbrev pub Read : Type 0 → Type 0
 Read A = Result (A × List Lexeme) Fault
 
@@ -52,14 +52,14 @@ Inner (a_list in_switch) = Many t.item
 abbrev pub Readers : Type 0
 Readers = (n : Nested) → Reader (Inner n)
 
--- a name behind a `$`
+-- a name after a `$`
 unfoldable pub name_by : Readers → Reader (Node t.arg)
 name_by deeper (Name text ∷ ts) = Ok (t.Lit text false, ts)
 name_by deeper (Quoted text ∷ ts) = Ok (t.Lit text true, ts)
 name_by deeper (Dollar ∷ ts) = deeper a_name ts >>= λ n. Ok (t.Var n.0, n.1)
 name_by deeper _ = Err Unexpected
 
--- the parts behind carets, behind those that were read before
+-- the parts after carets, after those that were read before
 abbrev pub parts_turn : Reader (Node t.arg) → (inside : Bool) → (Many t.arg → Reader (Many t.arg)) → Many t.arg → List Lexeme → Option (List Lexeme) → Read (Many t.arg)
 parts_turn part inside go_on front ts None = Ok (front, ts)
 parts_turn part inside go_on front ts (Some next) = part (past_blanks inside next) >>= λ a. go_on (snoc front a.0) a.1
@@ -210,7 +210,7 @@ block_by deeper ts = do
   rs ← redirs_by (deeper (a_part false)) c.1
   Ok (redirect rs.0 (t.Brace c.0), rs.1)
 
--- a stage of a pipeline, or the name of an assignment with the `=` behind it
+-- a stage of a pipeline, or the name of an assignment with the `=` after it
 pub data Opening : Type 0 where
   Staged : Node t.cmd → Opening
   Named : Node t.arg → Opening
@@ -322,7 +322,7 @@ abbrev pub pipeline_of : Many t.stage → Node t.cmd → Node t.cmd
 pipeline_of none last = last
 pipeline_of (more s ss) last = t.Pipeline (more s ss) last
 
--- a bar reads what follows it, and goes on behind a stage
+-- a bar reads what follows it, and goes on after a stage
 abbrev pub pipe_turn : Readers → (Many t.stage → Node t.cmd → Reader (Node t.cmd)) → Many t.stage → Node t.cmd → Reader (Node t.cmd)
 pipe_turn deeper go_on stages last (Bar slot ∷ ts) =
     if nat_lt (count stages) 63 then (deeper a_piped (past_newlines ts) >>= λ p.
@@ -354,7 +354,7 @@ values_by deeper pairs ts = values_from deeper (length ts) pairs ts
 unfoldable pub assigned_by : Readers → Node t.arg → Reader (Node t.cmd)
 assigned_by deeper a ts = arg_by (deeper (a_part false)) false ts >>= λ v. values_by deeper (more (t.Pair a v.0) none) v.1
 
--- an operand; what follows a bar, and whether it is a stage, behind which there may be a further bar
+-- an operand; what follows a bar, and whether it is a stage, after which there may be a further bar
 abbrev pub opened_by : Readers → Opening → Reader (Node t.cmd)
 opened_by deeper (Named a) ts = assigned_by deeper a ts
 opened_by deeper (Staged c) ts = pipe_by deeper c ts

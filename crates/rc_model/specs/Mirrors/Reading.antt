@@ -9,19 +9,19 @@ use Rattle.rc_model.specs.Syntax.Faults.{SyntaxFault}
 
 -- what has begun and has not ended
 pub data State : Type 0 where
-  -- nothing, behind this
+  -- nothing, after this
   Between : Before → State
   Comment : State
-  -- a backslash at this place, alone and behind a word: with a newline it is a blank
+  -- a backslash at this place, alone and after a word: with a newline it is a blank
   Backslash : Before → (begin : Place) → State
   WordBackslash : Before → (begin : Place) → (text : List ℕ) → (end : Place) → State
   -- a word or a name that begins at this place, with its text so far
   Word : Before → (begin : Place) → (text : List ℕ) → State
   Name : (begin : Place) → (text : List ℕ) → State
-  -- a quoted word, and one behind a quote that ends it if no other follows
+  -- a quoted word, and one after a quote that ends it if no other follows
   Quoted : Before → (begin : Place) → (text : List ℕ) → State
   Closed : Before → (begin : Place) → (text : List ℕ) → State
-  -- an operator with its characters so far, behind `$`s whose name is still to come
+  -- an operator with its characters so far, after `$`s whose name is still to come
   Operator : Before → (dollars : List Token) → (begin : Place) → (cs : List ℕ) → State
   -- the body of a here document: its whole lines, and the last line so far
   Body : Due → (body line : List ℕ) → State
@@ -49,7 +49,7 @@ abbrev pub without_here : Before → Before
 without_here (t.HereBefore begin end) = t.Apart
 without_here prev = prev
 
--- behind a newline token, or behind a body
+-- after a newline token, or after a body
 abbrev pub begin_line : List Token → List (List ℕ) → List Due → Step
 begin_line ts bodies [] = Ok (ts, bodies, Between t.Apart, [])
 begin_line ts bodies (d ∷ due) = Ok (ts, bodies, Body d [] [], due)
@@ -68,7 +68,7 @@ begin prev due p c t.Ordinary = goes [] (if t.begins_name prev c then Name p (en
 abbrev pub ends : Before → Lexeme → Place → List Due → Place → ℕ → Class → Step
 ends prev l q due p c k = emit (t.tokens_of prev l q p) (begin (t.as_before prev l) (t.due_after prev l due) p c k)
 
--- one character of a word, or the first behind it
+-- one character of a word, or the first after it
 abbrev pub in_word : Before → Place → List ℕ → List Due → Place → ℕ → Class → Step
 in_word prev q text due p c t.Ordinary = goes [] (Word prev q (text ++ encode_utf8 c)) due
 in_word prev q text due p c t.Backslash = goes [] (WordBackslash prev q text p) due
@@ -78,7 +78,7 @@ in_word prev q text due p c k = ends prev (t.Word text) q due p c k
 abbrev pub bare : List Token → List Token
 bare dollars = map (λ d. record { lexeme = t.BareDollar; start = d.start; stop = d.stop; line = d.line }) dollars
 
--- behind `$`s: a name begins, a further `$`, or they are bare
+-- after `$`s: a name begins, a further `$`, or they are bare
 abbrev pub behind_dollars : List Token → List Due → Place → ℕ → Class → Step
 behind_dollars dollars due p c k =
     if t.is_name_char c || (c == 39) then emit dollars (begin t.DollarBefore due p c k)

@@ -59,7 +59,7 @@ one_name slots fits (x ∷ y ∷ ys) = fails slots (codes "bad name")
 abbrev pub variable : Slots → List Word → Shell (List ℕ)
 variable slots words = one_name slots is_name (word_texts words)
 
--- what stands behind `$`, with what it gives
+-- what stands after `$`, with what it gives
 abbrev pub value : Slots → List Word → Shell (List (List ℕ))
 value slots words = do
   x ← one_name slots is_readable (word_texts words)

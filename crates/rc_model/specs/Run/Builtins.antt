@@ -275,7 +275,7 @@ abbrev pub run_command : Shell Called → Slots → List ℕ → List (List ℕ)
 run_command again slots name args (Some b) = run_builtin again slots b args
 run_command again slots name args None = finished (run_program slots name args)
 
--- the words behind `builtin`, for which functions are ignored
+-- the words after `builtin`, for which functions are ignored
 abbrev pub without_functions : Slots → List (List ℕ) → Shell Called
 without_functions slots [] = usage
 without_functions slots (name ∷ args) = run_command (without_functions slots args) slots name args (builtin_named name)

@@ -104,7 +104,7 @@ abbrev pub as_ending : Answer → Option Ending
 as_ending (ended e) = Some e
 as_ending _ = None
 
--- the names in a folder
+-- the names in a directory
 abbrev pub as_names : Answer → Option (List (List ℕ))
 as_names (names ns) = Some ns
 as_names _ = None
@@ -139,7 +139,7 @@ want (list_names path) = WantsNames
 want (probe path) = WantsKind
 want (change_dir path) = WantsDone
 
--- what a call gives as its answer: one of another kind, a read of over 4096 bytes and a want of memory count as another refusal
+-- what a call gives as its answer: one of another kind, a read of over 4096 bytes and out of memory count as another refusal
 abbrev pub taken_as : Want → Answer → Answer
 taken_as WantsFile (file h) = file h
 taken_as WantsPair (pair r w) = pair r w
@@ -171,12 +171,12 @@ abbrev pub answers : List Event → List Answer
 answers [] = []
 answers (e ∷ es) = if is_halt e.answer then [] else e.answer ∷ answers es
 
--- want of memory means that the call was not made
+-- out of memory means that the call was not made
 abbrev pub was_made : Answer → Bool
 was_made (refused NoMemory) = false
 was_made _ = true
 
--- what one call of a world tells
+-- what a world records of one call
 abbrev pub told_by : Call → Answer → List Event
 told_by call answer = if was_made answer then event call answer ∷ [] else []
 

@@ -13,7 +13,7 @@ use Rattle.rc_model.specs.Run.Shell.{Shell, ◌>>=◌, pure, call}
 abbrev pub components : Word → List Word
 components w = slice_split (λ m. m.0 == 47) w
 
--- a name that can't stand in a folder
+-- a name that can't stand in a directory
 abbrev pub is_no_name : List ℕ → Bool
 is_no_name name = (length name == 0) || (bytes_eq name (codes ".") || (bytes_eq name (codes "..") || list_any (λ c. (c == 47) || (c == 0)) name))
 
@@ -25,11 +25,11 @@ in_order (n ∷ ns) = insert_entry text_cmp (in_order ns) n tt
 abbrev pub ordered : List (List ℕ) → List (List ℕ)
 ordered names = map (λ n. n.0) (in_order names)
 
--- the names of a folder that a component matches, in order
+-- the names of a directory that a component matches, in order
 abbrev pub fitting_names : Word → Option (List (List ℕ)) → List (List ℕ)
 fitting_names c names = ordered (filter (λ n. not (is_no_name n) && matches c (chars n) true) (unwrap_or names []))
 
--- the folder with this path, which ends in a slash unless it is empty
+-- the directory with this path, which ends in a slash unless it is empty
 abbrev pub folder : List ℕ → List ℕ
 folder path = if length path == 0 then codes "." else path
 
@@ -47,7 +47,7 @@ if_there path = do
   a ← call (probe path)
   pure (if is_some (as_kind a) then path ∷ [] else [])
 
--- one component, in the folder with this path
+-- one component, in the directory with this path
 abbrev pub listed : Word → (List ℕ → Shell (List (List ℕ))) → List ℕ → Shell (List (List ℕ))
 listed c next path = do
   a ← call (list_names (folder path))
@@ -56,7 +56,7 @@ listed c next path = do
 abbrev pub step : Word → (List ℕ → Shell (List (List ℕ))) → List ℕ → Shell (List (List ℕ))
 step c next path = if has_pattern c then listed c next path else next (path ++ word_text c)
 
--- The paths that begin with this one and go on with these components, each of them behind a slash.
+-- The paths that begin with this one and go on with these components, each of them after a slash.
 abbrev pub walk : List Word → List ℕ → Shell (List (List ℕ))
 walk [] path = pure (path ∷ [])
 walk (c ∷ cs) path = if list_any has_pattern (c ∷ cs) then step c (walk cs) (path ++ codes "/") else if_there (path ++ 47 ∷ join_with_byte 47 (map word_text (c ∷ cs)))

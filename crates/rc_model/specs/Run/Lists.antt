@@ -16,7 +16,7 @@ pairwise [] bs = []
 pairwise (a ∷ as') [] = []
 pairwise (a ∷ as') (b ∷ bs) = (a ++ b) ∷ pairwise as' bs
 
--- one word before or behind each of several
+-- one word before or after each of several
 abbrev pub distributed : List Word → List Word → Result (List Word) ListFault
 distributed [] bs = Err EmptyConcat
 distributed (a ∷ as') [] = Err EmptyConcat
@@ -45,7 +45,7 @@ from_place value None = []
 from_place value (Some zero) = []
 from_place value (Some (suc i)) = drop i value
 
--- `m-` and `m-n`, by what stands behind the dash
+-- `m-` and `m-n`, by what stands after the dash
 abbrev pub front : List (List ℕ) → List ℕ → List (List ℕ)
 front value [] = value
 front value (d ∷ ds) = up_to value (number_of (d ∷ ds))

@@ -182,7 +182,7 @@ abbrev mutual
     selected_words slots x v
   arg_means (Back body) call n slots = back_words slots body
 
-  -- the words so far, and these behind them
+  -- the words so far, and these after them
   pub args_mean : Many arg → Caller → ℕ → Slots → List Word → Shell (List Word)
   args_mean none call n slots before = pure before
   args_mean (more a rest) call n slots before = do
@@ -213,7 +213,7 @@ abbrev mutual
     cmd_means c g call n slots
     items_mean rest g call n slots
 
-  -- each around those behind it, and the body within
+  -- each around those after it, and the body within
   pub pairs_mean : Many pair → (bare : Bool) → Runner → Caller → ℕ → Slots → Runner
   pairs_mean none bare body call n slots = body
   pairs_mean (more (Pair name value) rest) bare body call n slots = do

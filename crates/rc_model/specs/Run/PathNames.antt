@@ -25,14 +25,14 @@ abbrev pub IsIn : {X : Type 0} → X → List X → Type 0
 IsIn x [] = ⊥
 IsIn x (y ∷ ys) = (y ≡ x) ⊎ IsIn x ys
 
--- the names in a folder, none where they are refused; and whether something stands at a path
+-- the names in a directory, none where they are refused; and whether something stands at a path
 abbrev pub names_in : (Call → Answer) → List ℕ → List (List ℕ)
 names_in tells path = unwrap_or (as_names (tells (list_names (folder path)))) []
 
 abbrev pub is_there : (Call → Answer) → List ℕ → Bool
 is_there tells path = is_some (as_kind (tells (probe path)))
 
--- a component with a pattern character stands for this name in the folder with this path
+-- a component with a pattern character stands for this name in the directory with this path
 pub record StandsFor (tells : Call → Answer) (path : List ℕ) (c : Word) (name : List ℕ) : Type 0 where
   pub listed : IsIn name (names_in tells path)
   pub a_name : is_no_name name ≡ false
@@ -43,7 +43,7 @@ pub record IsChosen (tells : Call → Answer) (path : List ℕ) (c : Word) (t : 
   pub itself : has_pattern c ≡ false → t ≡ word_text c
   pub pattern : has_pattern c ≡ true → StandsFor tells path c t
 
--- the components stand for these texts, one each, behind a path that is empty or ends in a slash
+-- the components stand for these texts, one each, after a path that is empty or ends in a slash
 abbrev pub Chosen : (Call → Answer) → List ℕ → List Word → List (List ℕ) → Type 0
 Chosen tells path [] [] = ⊤
 Chosen tells path [] (t ∷ ts) = ⊥

@@ -25,7 +25,7 @@ pub data Played (X : Type 0) : Type 0 where
   Waits : (calls : List Call) → Played X
   Cut : (calls : List Call) → Played X
 
--- the same, behind one more call
+-- the same, after one more call
 abbrev pub after_call : {X : Type 0} → Call → Played X → Played X
 after_call c (Ends calls x left) = Ends (c ∷ calls) x left
 after_call c (Waits calls) = Waits (c ∷ calls)
@@ -55,13 +55,13 @@ Goes p [] q = p ≡ q
 Goes (ask c go) (e ∷ es) q = (e.call ≡ c) × IsAnswered c e.answer × Goes (go e.answer) es q
 Goes _ (e ∷ es) q = ⊥
 
--- between two tellings of a world, the plan went on to another
+-- between two records of a world, the plan went on to another
 pub record Ran {X : Type 0} (before after : Option (List Event)) (plan rest : Plan X) : Type 0 where
   pub trace : List Event
   pub told : after ≡ extend before trace
   pub goes : Goes plan trace rest
 
--- between two tellings of a world, the plan went on to a call that was not answered
+-- between two records of a world, the plan went on to a call that was not answered
 pub record Halted {X : Type 0} (before after : Option (List Event)) (plan : Plan X) : Type 0 where
   pub trace : List Event
   pub call : Call

@@ -47,9 +47,9 @@ pub record Agrees (c : Node cmd) (s : State) (given : List Answer) : Type 0 wher
   -- with more turns nothing changes but a cut
   pub meaning_goes_on : (n k : ℕ) → n ≤ k → Within (script n c s given) (script k c s given)
 
--- What is told of a run of a script, by its trace.
+-- What is recorded of a run of a script, by its trace.
 
--- between two tellings of a world came a trace of which this holds
+-- between two records of a world came a trace of which this holds
 abbrev pub Told : Option (List Event) → Option (List Event) → (List Event → Type 0) → Type 0
 Told before after P = (trace : List Event) × (after ≡ extend before trace) × P trace
 

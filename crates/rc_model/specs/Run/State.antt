@@ -55,7 +55,7 @@ value_of s name = if bytes_eq name status_name then s.status ∷ [] else visible
 abbrev pub is_name : List ℕ → Bool
 is_name name = list_all is_name_char name && not (list_all is_digit name)
 
--- what stands behind `$` can be all digits, too
+-- what stands after `$` can be all digits, too
 abbrev pub is_readable : List ℕ → Bool
 is_readable name = list_all is_name_char name && not (length name == 0)
 

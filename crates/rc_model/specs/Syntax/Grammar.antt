@@ -106,7 +106,7 @@ abbrev pub past_blanks : (inside : Bool) → List Lexeme → List Lexeme
 past_blanks true ts = past_newlines ts
 past_blanks false ts = ts
 
--- a caret that was inserted behind a keyword is dropped
+-- a caret that was inserted after a keyword is dropped
 abbrev pub past_caret : List Lexeme → List Lexeme
 past_caret (FreeCaret ∷ ts) = ts
 past_caret ts = ts
@@ -122,12 +122,12 @@ abbrev pub concat_of : Node t.arg → Many t.arg → Node t.arg
 concat_of first none = first
 concat_of first (more part parts) = t.Concat (more first (more part parts))
 
--- a command with the redirections behind it
+-- a command with the redirections after it
 abbrev pub redirect : Many t.redir → Node t.cmd → Node t.cmd
 redirect none body = body
 redirect (more r rs) body = t.Redirect (more r rs) body
 
--- The stages that follow a first one, each with the bar before it: those before the last with the bar behind them, and the last.
+-- The stages that follow a first one, each with the bar before it: those before the last with the bar after them, and the last.
 abbrev pub stages_of : Node t.cmd → Many t.stage → Many t.stage
 stages_of first none = none
 stages_of first (more (t.Stage second slot) rest) = more (t.Stage first slot) (stages_of second rest)
@@ -146,14 +146,14 @@ abbrev pub and_or : Node t.cmd → Many t.link → Node t.cmd
 and_or first none = first
 and_or first (more l ls) = t.AndOr first (more l ls)
 
--- behind an `if` or an `if not` there may be an `if not`
+-- after an `if` or an `if not` there may be an `if not`
 abbrev pub is_if : Node t.cmd → Bool
 is_if (t.If condition body) = true
 is_if (t.IfNot body) = true
 is_if _ = false
 
 pub data Level : Type 0 where
-  -- a name behind a `$`; a part of an argument; an argument, also where newlines are blanks; the parts behind carets
+  -- a name after a `$`; a part of an argument; an argument, also where newlines are blanks; the parts after carets
   name : Level
   part : (inside : Bool) → Level
   arg : (inside : Bool) → Level
@@ -161,14 +161,14 @@ pub data Level : Type 0 where
   -- arguments up to a `)`; arguments
   members : Level
   words : Level
-  -- a redirection; several; the words and redirections behind the first word of a command
+  -- a redirection; several; the words and redirections after the first word of a command
   redir : Level
   redirs : Level
   simple : Level
   -- a list in braces; one in parentheses
   brace : Level
   paren : Level
-  -- a stage of a pipeline; the bars and stages behind it; a pipeline
+  -- a stage of a pipeline; the bars and stages after it; a pipeline
   stage : Level
   bars : Level
   pipe : Level
@@ -176,7 +176,7 @@ pub data Level : Type 0 where
   leading : (after_if : Bool) → Level
   assigned : Level
   values : Level
-  -- an operand of `&&` and `||`; one that may be absent; the operands behind the first; a command; the body of a control form
+  -- an operand of `&&` and `||`; one that may be absent; the operands after the first; a command; the body of a control form
   operand : (after_if : Bool) → Level
   optional : Level
   links : Level
@@ -292,7 +292,7 @@ pub data Phrase : (l : Level) → List Lexeme → Out l → List Lexeme → Type
       Phrase (leading after_if) (Word text ∷ ts) (t.If c d) rest
   while_leading : {after_if : Bool} {text : List ℕ} {ts mid rest : List Lexeme} {c d : Node t.cmd} → keyword text ≡ WhileWord → Phrase paren (past_caret ts) c mid →
       Phrase body mid d rest → Phrase (leading after_if) (Word text ∷ ts) (t.While c d) rest
-  -- "if" "not" {NL} [cmd], an item of a list behind an `if` or `if not` item that isn't in the background
+  -- "if" "not" {NL} [cmd], an item of a list after an `if` or `if not` item that isn't in the background
   if_not_leading : {text next_text : List ℕ} {ts next rest : List Lexeme} {d : Node t.cmd} → keyword text ≡ IfWord → past_caret ts ≡ Word next_text ∷ next →
       keyword next_text ≡ NotWord → Phrase body (past_caret next) d rest → Phrase (leading true) (Word text ∷ ts) (t.IfNot d) rest
   -- "for" "(" arg [ "in" {arg} ] ")" {NL} [cmd], where newlines are blanks up to the `)`
@@ -325,7 +325,7 @@ pub data Phrase : (l : Level) → List Lexeme → Out l → List Lexeme → Type
       Phrase links (AndAnd ∷ ts) (more (t.Link t.And c) ls) rest
   or_link : {ts mid rest : List Lexeme} {c : Node t.cmd} {ls : Many t.link} → Phrase (operand false) (past_newlines ts) c mid → Phrase links mid ls rest →
       Phrase links (OrOr ∷ ts) (more (t.Link t.Or c) ls) rest
-  -- {NL} [cmd], with no `&&` or `||` behind it: a control form is always the last operand
+  -- {NL} [cmd], with no `&&` or `||` after it: a control form is always the last operand
   no_body : {ts : List Lexeme} → begins_command (past_newlines ts) ≡ false → begins_link (past_newlines ts) ≡ false → Phrase body ts t.Empty (past_newlines ts)
   one_body : {ts rest : List Lexeme} {c : Node t.cmd} → Phrase (command false) (past_newlines ts) c rest → Phrase body ts c rest
   -- list = [cmd] { (";" | "&" | NL) [cmd] }, where "&" needs a command before it

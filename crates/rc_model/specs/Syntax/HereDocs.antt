@@ -6,13 +6,13 @@ use Rattle.rc_model.specs.Syntax.Tokens.{is_name_char}
 use Rattle.rc_model.specs.Syntax.Tree.{Many, none, snoc}
 use Rattle.rc_model.specs.Syntax.Tree as t
 
--- what has begun: a text, a text with a `$` behind it, or a name
+-- what has begun: a text, a text with a `$` after it, or a name
 pub data Begun : Type 0 where
   Plain : (text : List ℕ) → Begun
   Dollar : (text : List ℕ) → Begun
   Naming : (name : List ℕ) → Begun
 
--- a text is a piece behind the others unless it is empty
+-- a text is a piece after the others unless it is empty
 abbrev pub with_text : Many t.piece → List ℕ → Many t.piece
 with_text pieces [] = pieces
 with_text pieces (b ∷ bs) = snoc pieces (t.Text (b ∷ bs))
@@ -21,7 +21,7 @@ with_text pieces (b ∷ bs) = snoc pieces (t.Text (b ∷ bs))
 abbrev pub begun_by : ℕ → Begun
 begun_by c = if c == 36 then Dollar [] else Plain (encode_utf8 c)
 
--- what has begun behind one more character: `$$` is `$`, a `$` with no name behind it stays, and a `^` behind a name is left out
+-- what has begun after one more character: `$$` is `$`, a `$` with no name after it stays, and a `^` after a name is left out
 abbrev pub behind : Begun → ℕ → Begun
 behind (Plain text) c = if c == 36 then Dollar text else Plain (text ++ encode_utf8 c)
 behind (Dollar text) c = if is_name_char c then Naming (encode_utf8 c) else if c == 36 then Plain (text ++ 36 ∷ []) else Plain (text ++ 36 ∷ encode_utf8 c)
@@ -44,7 +44,7 @@ abbrev pub pieces_from : Begun → Many t.piece → List ℕ → Many t.piece
 pieces_from begun pieces [] = with_last begun pieces
 pieces_from begun pieces (c ∷ cs) = pieces_from (behind begun c) (ended_by begun c pieces) cs
 
--- The pieces of a body: behind a quoted mark its text as it stands, else the longest texts between names.
+-- The pieces of a body: after a quoted mark its text as it stands, else the longest texts between names.
 abbrev pub pieces_of : (quoted : Bool) → List ℕ → Many t.piece
 pieces_of true body = with_text none body
 pieces_of false body = pieces_from (Plain []) none (chars body)

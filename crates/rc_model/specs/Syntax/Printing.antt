@@ -33,7 +33,7 @@ listed (line ∷ next ∷ lines) = ended line ++ (parting line ++ listed (next �
 abbrev pub literal : List ℕ → (quoted : Bool) → List ℕ
 literal text quoted = if quoted then quoted_text text else text
 
--- the bar behind a stage, with the descriptor that goes into the pipe where that isn't 1
+-- the bar after a stage, with the descriptor that goes into the pipe where that isn't 1
 abbrev pub bar : (slot : ℕ) → List ℕ
 bar slot = if slot == 2 then codes " |[2] " else codes " | "
 
@@ -63,7 +63,7 @@ abbrev mutual
   begin_with_case none = false
   begin_with_case (more word words) = begins_with_case word
 
--- Redirections stand behind this command; before every other. A simple command that would make a case line of an item that begins with it
+-- Redirections stand after this command; before every other. A simple command that would make a case line of an item that begins with it
 -- has them before it.
 abbrev pub stands_first : Node t.cmd → (begins : Bool) → Bool
 stands_first (t.Simple words) begins = not (begins && begin_with_case words)
@@ -148,7 +148,7 @@ unfoldable mutual
   links_text none = []
   links_text (more (t.Link logic body) links) = sign logic ++ (cmd_text body false ++ links_text links)
 
-  -- the first item begins as said, and the others as said behind it
+  -- the first item begins as said, and the others as said after it
   pub item_lines : Many t.item → (begins others : Bool) → List Line
   item_lines none begins others = []
   item_lines (more (t.Item body background) items) begins others = (cmd_text body begins, background) ∷ item_lines items others others

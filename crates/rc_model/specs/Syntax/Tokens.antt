@@ -35,13 +35,13 @@ pub data Lexeme : Type 0 where
   Redirection : Mode → (slot : ℕ) → Lexeme
   CopyTo : (to from : ℕ) → Lexeme
   HereDoc : (quoted : Bool) → (body : List ℕ) → Lexeme
-  -- `$` `$#` `$"` with a name behind them, a name that is not quoted, and a `(` directly behind a name
+  -- `$` `$#` `$"` with a name after them, a name that is not quoted, and a `(` directly after a name
   Dollar : Lexeme
   DollarCount : Lexeme
   DollarFlat : Lexeme
   Name : (text : List ℕ) → Lexeme
   Subscript : Lexeme
-  -- `$` `$#` `$"` with no name behind them, and `<<` with no mark behind it: no command takes them
+  -- `$` `$#` `$"` with no name after them, and `<<` with no mark after it: no command takes them
   BareDollar : Lexeme
   BareHere : Lexeme
 
@@ -61,11 +61,11 @@ pub record Place : Type 0 where
 abbrev pub first_place : Place
 first_place = record { byte = 0; line = 1 }
 
--- the place behind a character, and behind several
+-- the place after a character, and after several
 abbrev pub behind_char : Place → ℕ → Place
 behind_char p c = record { byte = p.byte + len_utf8 c; line = if c == 10 then suc p.line else p.line }
 
--- behind several characters
+-- after several characters
 abbrev pub behind_chars : Place → List ℕ → Place
 behind_chars p [] = p
 behind_chars p (c ∷ cs) = behind_chars (behind_char p c) cs
@@ -147,12 +147,12 @@ abbrev pub line_goes_on : List ℕ → Bool
 line_goes_on [] = false
 line_goes_on (c ∷ cs) = not (c == 10)
 
--- a name stands here: a name character, a quote, or a `$` with a name behind it
+-- a name stands here: a name character, a quote, or a `$` with a name after it
 abbrev pub names : List ℕ → Bool
 names [] = false
 names (c ∷ cs) = if is_name_char c || (c == 39) then true else (if c == 36 then names cs else false)
 
--- the longest run of characters with which a text goes on, and what is behind it
+-- the longest run of characters with which a text goes on, and what is after it
 pub data Run (more : List ℕ → Bool) : List ℕ → List ℕ → Type 0 where
   stop : (rest : List ℕ) → more rest ≡ false → Run more [] rest
   next : (c : ℕ) (run rest : List ℕ) → more (c ∷ run ++ rest) ≡ true → Run more run rest → Run more (c ∷ run) rest
@@ -208,7 +208,7 @@ abbrev pub begins_name : Before → ℕ → Bool
 begins_name DollarBefore c = is_name_char c
 begins_name _ c = false
 
--- a `$` without a name is bare, and a `(` directly behind a name is a subscript
+-- a `$` without a name is bare, and a `(` directly after a name is a subscript
 abbrev pub meant : Before → List ℕ → Lexeme → Lexeme
 meant NameBefore rest LeftParen = Subscript
 meant prev rest Dollar = if names rest then Dollar else BareDollar
@@ -280,7 +280,7 @@ abbrev pub due_after : Before → Lexeme → List Due → List Due
 due_after (HereBefore begin end) l due = due ++ record { mark = text_of l; line = begin.line } ∷ []
 due_after prev l due = due
 
--- The characters are this lexeme, where that stands before them and this behind.
+-- The characters are this lexeme, where that stands before them and this after.
 pub data Spells : Before → List ℕ → List ℕ → Lexeme → Type 0 where
   word : (prev : Before) (c : ℕ) (cs rest : List ℕ) → begins_name prev c ≡ false → Run word_goes_on (c ∷ cs) rest →
       Spells prev (c ∷ cs) rest (Word (encode_utf8_all (c ∷ cs)))
@@ -303,7 +303,7 @@ pub data NoBody (mark : List ℕ) : List ℕ → Type 0 where
   other_last : (line : List ℕ) → Run line_goes_on line [] → line ≢ [] → encode_utf8_all line ≢ mark → NoBody mark line
   other : (line rest : List ℕ) → Run line_goes_on line (10 ∷ rest) → encode_utf8_all line ≢ mark → NoBody mark rest → NoBody mark (line ++ 10 ∷ rest)
 
--- The text begins with the bodies of these here documents and their ends, one behind the other.
+-- The text begins with the bodies of these here documents and their ends, one after the other.
 pub data Bodies : List Due → List ℕ → List ℕ → List (List ℕ) → Type 0 where
   all : (rest : List ℕ) → Bodies [] [] rest []
   one : (d : Due) (due : List Due) (body end cs rest : List ℕ) (bodies : List (List ℕ)) → Body d.mark body end (cs ++ rest) → Bodies due cs rest bodies →
@@ -324,7 +324,7 @@ abbrev pub join : List Token → List (List ℕ) → Outcome → Outcome
 join ts bodies (Ok then') = Ok (ts ++ then'.0, bodies ++ then'.1)
 join ts bodies (Err f) = Err f
 
--- a mark stands here, perhaps behind blanks
+-- a mark stands here, perhaps after blanks
 abbrev pub is_mark : Class → Bool
 is_mark Blank = true
 is_mark Quote = true
@@ -337,12 +337,12 @@ abbrev pub mark_goes_on : List ℕ → Bool
 mark_goes_on [] = false
 mark_goes_on (c ∷ cs) = is_mark (class_of c)
 
--- The text at this place, behind that and with these here documents due, is cut into longest pieces with this outcome.
+-- The text at this place, after that and with these here documents due, is cut into longest pieces with this outcome.
 pub data Cuts : Before → List Due → Place → List ℕ → Outcome → Type 0 where
   -- the end, with no body due, and with one
   finish : (prev : Before) (p : Place) → awaits_mark prev ≡ false → Cuts prev [] p [] (Ok ([], []))
   open_here : (prev : Before) (d : Due) (due : List Due) (p : Place) → awaits_mark prev ≡ false → Cuts prev (d ∷ due) p [] (Err (fault OpenHere d.line))
-  -- a blank, a newline behind a backslash, and a comment
+  -- a blank, a newline after a backslash, and a comment
   blank : (prev : Before) (due : List Due) (p : Place) (c : ℕ) (cs : List ℕ) (o : Outcome) → class_of c ≡ Blank →
       Cuts (behind_blank prev) due (behind_char p c) cs o → Cuts prev due p (c ∷ cs) o
   continued : (prev : Before) (due : List Due) (p : Place) (cs : List ℕ) (o : Outcome) →
