@@ -26,7 +26,7 @@ unfolding meant ran
 a_refused_listing_leaves_the_word = (refl, refl)
 
 -- each path with all its calls before the next
-plain_parts_behind_a_pattern_are_probed :
+plain_parts_after_a_pattern_are_probed :
     Does (codes "echo d*/f") fresh
     (list_names (codes ".") ▸ names (codes "d2" ∷ codes "d1" ∷ codes "e" ∷ [])
     ∷ probe (codes "d1/f") ▸ refused Other
@@ -34,7 +34,7 @@ plain_parts_behind_a_pattern_are_probed :
     ∷ runs (codes "echo") (codes "d2/f" ∷ []) usual 7 0)
     []
 unfolding meant ran
-plain_parts_behind_a_pattern_are_probed = (refl, refl)
+plain_parts_after_a_pattern_are_probed = (refl, refl)
 
 -- a directory is listed with a slash at its end
 plain_parts_between_patterns_are_not_probed :

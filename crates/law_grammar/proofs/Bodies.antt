@@ -24,13 +24,13 @@ clean_either false a b v w = w
 begun_by_clean : (c : ℕ) → not (c == 0) ≡ true → IsClean (begun_by c)
 begun_by_clean c z = clean_either (c == 36) (Dollar []) (Plain (encode c)) refl (clean_char c z)
 
-behind_clean : (b : Begun) (c : ℕ) → IsClean b → not (c == 0) ≡ true → IsClean (behind b c)
-behind_clean (Plain text) c w z = clean_either (c == 36) (Dollar text) (Plain (text ++ encode c)) w (clean_append text (encode c) w (clean_char c z))
-behind_clean (Dollar text) c w z =
+after_clean : (b : Begun) (c : ℕ) → IsClean b → not (c == 0) ≡ true → IsClean (behind b c)
+after_clean (Plain text) c w z = clean_either (c == 36) (Dollar text) (Plain (text ++ encode c)) w (clean_append text (encode c) w (clean_char c z))
+after_clean (Dollar text) c w z =
     clean_either (is_name_char c) (Naming (encode c)) (if c == 36 then Plain (text ++ 36 ∷ []) else Plain (text ++ 36 ∷ encode c)) (clean_char c z)
     (clean_either (c == 36) (Plain (text ++ 36 ∷ [])) (Plain (text ++ 36 ∷ encode c)) (clean_append text (36 ∷ []) w refl)
     (clean_append text (36 ∷ encode c) w (clean_char c z)))
-behind_clean (Naming name) c w z =
+after_clean (Naming name) c w z =
     clean_either (is_name_char c) (Naming (name ++ encode c)) (if c == 94 then Plain [] else begun_by c) (clean_append name (encode c) w (clean_char c z))
     (clean_either (c == 94) (Plain []) (begun_by c) refl (begun_by_clean c z))
 
@@ -60,7 +60,7 @@ from_sound : (b : Begun) (ps : Many t.piece) (cs : List ℕ) → IsClean b → a
 from_sound b ps [] w v z = with_last_sound b ps w v
 from_sound b ps (c ∷ cs) w v z =
     let p = and_parts (not (c == 0)) (has_no_zero cs) z in
-    from_sound (behind b c) (ended_by b c ps) cs (behind_clean b c w p.0) (ended_by_sound b c ps w v) p.1
+    from_sound (behind b c) (ended_by b c ps) cs (after_clean b c w p.0) (ended_by_sound b c ps w v) p.1
 
 pub pieces_sound : (quoted : Bool) (body : List ℕ) → IsText body → are_sound (pieces_of quoted body) ≡ true
 pieces_sound true body x = with_text_sound none body refl (clean_text body x)

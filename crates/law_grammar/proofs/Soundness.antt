@@ -361,10 +361,10 @@ found_opening ts y x p h = subst (λ z. IsOpening ts z.0 z.1) (ok_same y x h) p
 staged_sound : (ts : List Lexeme) (o : Read (Node t.cmd)) (x : Opening × List Lexeme) → ((y : Node t.cmd × List Lexeme) → o ≡ Ok y → Phrase g.stage ts y.0 y.1) → d.staged o ≡ Ok x → IsOpening ts x.0 x.1
 staged_sound ts o x f h = let w = bind_ok o _ x h in found_opening ts (Staged w.0.0, w.0.1) x (f w.0 w.1) w.2
 
-behind_first_sound : (r : Readers) → Sound r → (ts : List Lexeme) (a : Node t.arg) (mid : List Lexeme) (x : Opening × List Lexeme) → begins_first ts ≡ true → Phrase (g.arg false) ts a mid →
+after_first_sound : (r : Readers) → Sound r → (ts : List Lexeme) (a : Node t.arg) (mid : List Lexeme) (x : Opening × List Lexeme) → begins_first ts ≡ true → Phrase (g.arg false) ts a mid →
     d.behind_first r a mid ≡ Ok x → IsOpening ts x.0 x.1
-behind_first_sound r s ts a (Equals ∷ mid) x b p h = found_opening ts (Named a, mid) x (b, p) h
-behind_first_sound r s ts a mid x b p h =
+after_first_sound r s ts a (Equals ∷ mid) x b p h = found_opening ts (Named a, mid) x (b, p) h
+after_first_sound r s ts a mid x b p h =
     let w = bind_ok (d.simple_by (r (d.a_part false)) mid) _ x h in
     found_opening ts (Staged (redirect w.0.0.1 (t.Simple (more a w.0.0.0))), w.0.1) x (g.simple_stage b p refl (simple_sound (r (d.a_part false)) (s.part false) mid w.0 w.1)) w.2
 
@@ -386,7 +386,7 @@ unfolding d.first_by
 first_sound r s ts x b h =
     let w = bind_ok (d.arg_by (r (d.a_part false)) false ts) _ x h in
     let p = arg_sound (r (d.a_part false)) false (s.part false) ts w.0 w.1 in
-    behind_first_sound r s ts w.0.0 w.0.1 x (b (arg_begins p)) p w.2
+    after_first_sound r s ts w.0.0 w.0.1 x (b (arg_begins p)) p w.2
 
 worded_sound : (r : Readers) → Sound r → (text : List ℕ) (k : Keyword) (ts : List Lexeme) (x : Opening × List Lexeme) → keyword text ≡ k → d.worded_by r k (Word text) ts ≡ Ok x →
     IsOpening (Word text ∷ ts) x.0 x.1

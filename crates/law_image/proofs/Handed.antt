@@ -110,14 +110,14 @@ fit_back true x y h = (refl, cc)
 fit_back false x y h = absurd (cc)
 
 -- what was handed over is short
-behind_options : (strict : Bool) (words : List (List ℕ)) → IsTrue (list_all is_short (strict_option strict ++ (codes "-S" ∷ words))) → IsTrue (list_all is_short words)
-behind_options true words h = h
-behind_options false words h = h
+after_options : (strict : Bool) (words : List (List ℕ)) → IsTrue (list_all is_short (strict_option strict ++ (codes "-S" ∷ words))) → IsTrue (list_all is_short words)
+after_options true words h = h
+after_options false words h = h
 
 pub launch_reads_back : (c : Node cmd) (s : State) → IsScript c → IsProper s → IsTrue (is_fit (shell_launch plain c s)) → reads (shell_args c s) (entries s) ≡ Some (c, entry_state s)
 launch_reads_back c s t p h =
     let k = and_parts (list_all is_short (shell_args c s)) (list_all is_short (entries s)) h in
-    let w = written_by c (value_of s (codes "*")) (image_words c) refl (behind_options s.strict (handed_words c ++ value_of s (codes "*")) k.0) in
+    let w = written_by c (value_of s (codes "*")) (image_words c) refl (after_options s.strict (handed_words c ++ value_of s (codes "*")) k.0) in
     reads_launch c s t w p (handed_writable s.functions (all_bindings s) (fns_handed s p) p.bodies k.1)
 
 pub handed_reads_back : HandedReadsBack

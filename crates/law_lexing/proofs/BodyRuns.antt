@@ -10,7 +10,7 @@ use Rattle.std.specs.Str.{bytes_eq, encode_utf8_all}
 use Rattle.rc_model.specs.Syntax.Tokens as t
 use Rattle.rc_model.specs.Syntax.Tokens.{Place, Due, Outcome, Class, Token}
 use Rattle.rc_model.specs.Mirrors.Reading.{Between, Body, goes, begin_line, closed, finish, follow, run}
-use Rattle.law_lexing.proofs.Steps.{run_at, join_nil, join_join, behind_append, line_end_is}
+use Rattle.law_lexing.proofs.Steps.{run_at, join_nil, join_join, after_append, line_end_is}
 use Rattle.rc_model.specs.declared.fault.FaultKind.TheVariants.{OpenHere}
 
 -- the run at the beginning of a line, with these bodies due
@@ -25,21 +25,21 @@ begin_line_runs ts bodies (d ∷ due) p rest = refl
 
 -- a line is read
 line_by : (d : Due) (body line : List ℕ) (due : List Due) (p : Place) (c : ℕ) (cs : List ℕ) (k : Class) → k ≢ t.LineEnd →
-    run_at (Body d body line) due p c cs k ≡ run (Body d body (line ++ encode_utf8 c)) due (t.behind_char p c) cs
+    run_at (Body d body line) due p c cs k ≡ run (Body d body (line ++ encode_utf8 c)) due (t.after_char p c) cs
 line_by d body line due p c cs t.LineEnd h = absurd (h refl)
-line_by d body line due p c cs k h = join_nil (run (Body d body (line ++ encode_utf8 c)) due (t.behind_char p c) cs)
+line_by d body line due p c cs k h = join_nil (run (Body d body (line ++ encode_utf8 c)) due (t.after_char p c) cs)
 
 not_newline : (b : Bool) → not b ≡ true → b ≡ false
 not_newline false h = refl
 not_newline true h = absurd cc
 
 line_runs : {cs rest : List ℕ} → t.Run t.line_goes_on cs rest → (d : Due) (body line : List ℕ) (due : List Due) (p : Place) →
-    run (Body d body line) due p (cs ++ rest) ≡ run (Body d body (line ++ encode_utf8_all cs)) due (t.behind_chars p cs) rest
+    run (Body d body line) due p (cs ++ rest) ≡ run (Body d body (line ++ encode_utf8_all cs)) due (t.after_chars p cs) rest
 line_runs (t.stop rest h) d body line due p = ap (λ z. run (Body d body z) due p rest) (sym (append-nil line))
 line_runs (t.next c cs rest h r) d body line due p =
     line_by d body line due p c (cs ++ rest) (t.class_of c) (λ e. eqb-false c 10 (not_newline (c == 10) h) (line_end_is c e))
-    ∙ line_runs r d body (line ++ encode_utf8 c) due (t.behind_char p c)
-    ∙ ap (λ z. run (Body d body z) due (t.behind_chars (t.behind_char p c) cs) rest) (append_assoc line (encode_utf8 c) (encode_utf8_all cs))
+    ∙ line_runs r d body (line ++ encode_utf8 c) due (t.after_char p c)
+    ∙ ap (λ z. run (Body d body z) due (t.after_chars (t.after_char p c) cs) rest) (append_assoc line (encode_utf8 c) (encode_utf8_all cs))
 
 is_mark : (xs ys : List ℕ) → xs ≡ ys → bytes_eq xs ys ≡ true
 is_mark xs ys e = (bytes_eq-Decides xs ys).1 e
@@ -53,16 +53,16 @@ is_other xs ys h = by (bytes_eq xs ys) refl
 
 -- a newline after a line that is the mark, and after another
 at_mark : (d : Due) (body line : List ℕ) (due : List Due) (p : Place) (rest : List ℕ) → line ≡ d.mark →
-    run (Body d body line) due p (10 ∷ rest) ≡ t.join [] (body ∷ []) (line_run due (t.behind_char p 10) rest)
+    run (Body d body line) due p (10 ∷ rest) ≡ t.join [] (body ∷ []) (line_run due (t.after_char p 10) rest)
 at_mark d body line due p rest e =
-    ap (λ b. follow (cond b (begin_line [] (body ∷ []) due) (goes [] (Body d (body ++ line ++ encode_utf8 10) []) due)) (λ s' due'. run s' due' (t.behind_char p 10) rest)) (is_mark line d.mark e)
-    ∙ begin_line_runs [] (body ∷ []) due (t.behind_char p 10) rest
+    ap (λ b. follow (cond b (begin_line [] (body ∷ []) due) (goes [] (Body d (body ++ line ++ encode_utf8 10) []) due)) (λ s' due'. run s' due' (t.after_char p 10) rest)) (is_mark line d.mark e)
+    ∙ begin_line_runs [] (body ∷ []) due (t.after_char p 10) rest
 
 at_other : (d : Due) (body line : List ℕ) (due : List Due) (p : Place) (rest : List ℕ) → line ≢ d.mark →
-    run (Body d body line) due p (10 ∷ rest) ≡ run (Body d (body ++ line ++ encode_utf8 10) []) due (t.behind_char p 10) rest
+    run (Body d body line) due p (10 ∷ rest) ≡ run (Body d (body ++ line ++ encode_utf8 10) []) due (t.after_char p 10) rest
 at_other d body line due p rest h =
-    ap (λ b. follow (cond b (begin_line [] (body ∷ []) due) (goes [] (Body d (body ++ line ++ encode_utf8 10) []) due)) (λ s' due'. run s' due' (t.behind_char p 10) rest)) (is_other line d.mark h)
-    ∙ join_nil (run (Body d (body ++ line ++ encode_utf8 10) []) due (t.behind_char p 10) rest)
+    ap (λ b. follow (cond b (begin_line [] (body ∷ []) due) (goes [] (Body d (body ++ line ++ encode_utf8 10) []) due)) (λ s' due'. run s' due' (t.after_char p 10) rest)) (is_other line d.mark h)
+    ∙ join_nil (run (Body d (body ++ line ++ encode_utf8 10) []) due (t.after_char p 10) rest)
 
 -- the end after a line
 some_bytes : (cs : List ℕ) → cs ≢ [] → encode_utf8_all cs ≢ []
@@ -79,32 +79,32 @@ last_body body [] p = refl
 last_body body (d ∷ due) p = refl
 
 pub body_runs : {mark body end rest : List ℕ} → t.Body mark body end rest → (d : Due) → mark ≡ d.mark → (acc : List ℕ) (due : List Due) (p : Place) →
-    run (Body d acc []) due p (body ++ end ++ rest) ≡ t.join [] ((acc ++ encode_utf8_all body) ∷ []) (line_run due (t.behind_chars p (body ++ end)) rest)
+    run (Body d acc []) due p (body ++ end ++ rest) ≡ t.join [] ((acc ++ encode_utf8_all body) ∷ []) (line_run due (t.after_chars p (body ++ end)) rest)
 body_runs (t.marked line rest r e) d m acc due p =
     ap (run (Body d acc []) due p) (append_assoc line (10 ∷ []) rest)
     ∙ line_runs r d acc [] due p
-    ∙ at_mark d acc (encode_utf8_all line) due (t.behind_chars p line) rest (e ∙ m)
-    ∙ ap (λ z. t.join [] (z ∷ []) (line_run due (t.behind_char (t.behind_chars p line) 10) rest)) (sym (append-nil acc))
-    ∙ ap (λ z. t.join [] ((acc ++ []) ∷ []) (line_run due z rest)) (sym (behind_append p line (10 ∷ [])))
+    ∙ at_mark d acc (encode_utf8_all line) due (t.after_chars p line) rest (e ∙ m)
+    ∙ ap (λ z. t.join [] (z ∷ []) (line_run due (t.after_char (t.after_chars p line) 10) rest)) (sym (append-nil acc))
+    ∙ ap (λ z. t.join [] ((acc ++ []) ∷ []) (line_run due z rest)) (sym (after_append p line (10 ∷ [])))
 body_runs (t.marked_last line r ne e) d m acc due p =
     line_runs r d acc [] due p
-    ∙ finish_line d acc (encode_utf8_all line) due (t.behind_chars p line) (some_bytes line ne)
+    ∙ finish_line d acc (encode_utf8_all line) due (t.after_chars p line) (some_bytes line ne)
     ∙ ap (λ b. cond b (closed [] (acc ∷ []) due) (Err (t.fault OpenHere d.line))) (is_mark (encode_utf8_all line) d.mark (e ∙ m))
-    ∙ last_body acc due (t.behind_chars p line)
-    ∙ ap (λ z. t.join [] (z ∷ []) (line_run due (t.behind_chars p line) [])) (sym (append-nil acc))
+    ∙ last_body acc due (t.after_chars p line)
+    ∙ ap (λ z. t.join [] (z ∷ []) (line_run due (t.after_chars p line) [])) (sym (append-nil acc))
 body_runs (t.other line body end rest r ne b) d m acc due p =
-    let p1 = t.behind_char (t.behind_chars p line) 10 in
+    let p1 = t.after_char (t.after_chars p line) 10 in
     let acc' = acc ++ encode_utf8_all line ++ encode_utf8 10 in
     ap (λ z. run (Body d acc []) due p (z ++ rest)) (append_assoc line (10 ∷ body) end)
     ∙ ap (run (Body d acc []) due p) (append_assoc line (10 ∷ body ++ end) rest)
     ∙ line_runs r d acc [] due p
-    ∙ at_other d acc (encode_utf8_all line) due (t.behind_chars p line) (body ++ end ++ rest) (λ e. ne (e ∙ sym m))
+    ∙ at_other d acc (encode_utf8_all line) due (t.after_chars p line) (body ++ end ++ rest) (λ e. ne (e ∙ sym m))
     ∙ body_runs b d m acc' due p1
-    ∙ ap (λ z. t.join [] (z ∷ []) (line_run due (t.behind_chars p1 (body ++ end)) rest))
+    ∙ ap (λ z. t.join [] (z ∷ []) (line_run due (t.after_chars p1 (body ++ end)) rest))
     (append_assoc (acc ++ encode_utf8_all line) (encode_utf8 10) (encode_utf8_all body) ∙ append_assoc acc (encode_utf8_all line) (encode_utf8 10 ++ encode_utf8_all body)
     ∙ ap (λ z. acc ++ z) (sym (encodes-append line (10 ∷ body))))
     ∙ ap (λ z. t.join [] ((acc ++ encode_utf8_all (line ++ 10 ∷ body)) ∷ []) (line_run due z rest))
-    (sym (ap (t.behind_chars p) (append_assoc line (10 ∷ body) end) ∙ behind_append p line (10 ∷ body ++ end)))
+    (sym (ap (t.after_chars p) (append_assoc line (10 ∷ body) end) ∙ after_append p line (10 ∷ body ++ end)))
 
 pub no_body_runs : {mark text : List ℕ} → t.NoBody mark text → (d : Due) → mark ≡ d.mark → (acc : List ℕ) (due : List Due) (p : Place) →
     run (Body d acc []) due p text ≡ Err (t.fault OpenHere d.line)
@@ -112,23 +112,23 @@ no_body_runs t.nothing d m acc due p = refl
 no_body_runs (t.other_last line r ne h) d m acc due p =
     ap (run (Body d acc []) due p) (sym (append-nil line))
     ∙ line_runs r d acc [] due p
-    ∙ finish_line d acc (encode_utf8_all line) due (t.behind_chars p line) (some_bytes line ne)
+    ∙ finish_line d acc (encode_utf8_all line) due (t.after_chars p line) (some_bytes line ne)
     ∙ ap (λ b. cond b (closed [] (acc ∷ []) due) (Err (t.fault OpenHere d.line))) (is_other (encode_utf8_all line) d.mark (λ e. h (e ∙ sym m)))
 no_body_runs (t.other line rest r h n) d m acc due p =
     line_runs r d acc [] due p
-    ∙ at_other d acc (encode_utf8_all line) due (t.behind_chars p line) rest (λ e. h (e ∙ sym m))
-    ∙ no_body_runs n d m (acc ++ encode_utf8_all line ++ encode_utf8 10) due (t.behind_char (t.behind_chars p line) 10)
+    ∙ at_other d acc (encode_utf8_all line) due (t.after_chars p line) rest (λ e. h (e ∙ sym m))
+    ∙ no_body_runs n d m (acc ++ encode_utf8_all line ++ encode_utf8 10) due (t.after_char (t.after_chars p line) 10)
 
 pub bodies_run : {due : List Due} {cs rest : List ℕ} {bodies : List (List ℕ)} → t.Bodies due cs rest bodies → (p : Place) →
-    line_run due p (cs ++ rest) ≡ t.join [] bodies (run (Between t.Apart) [] (t.behind_chars p cs) rest)
+    line_run due p (cs ++ rest) ≡ t.join [] bodies (run (Between t.Apart) [] (t.after_chars p cs) rest)
 bodies_run (t.all rest) p = sym (join_nil (run (Between t.Apart) [] p rest))
 bodies_run (t.one d due body end cs rest bodies b bs) p =
     ap (run (Body d [] []) due p) (append_assoc (body ++ end) cs rest)
     ∙ body_runs b d refl [] due p
-    ∙ ap (t.join [] (encode_utf8_all body ∷ [])) (bodies_run bs (t.behind_chars p (body ++ end)))
-    ∙ sym (join_join [] [] (encode_utf8_all body ∷ []) bodies (run (Between t.Apart) [] (t.behind_chars (t.behind_chars p (body ++ end)) cs) rest))
-    ∙ ap (λ z. t.join [] (encode_utf8_all body ∷ bodies) (run (Between t.Apart) [] z rest)) (sym (behind_append p (body ++ end) cs))
+    ∙ ap (t.join [] (encode_utf8_all body ∷ [])) (bodies_run bs (t.after_chars p (body ++ end)))
+    ∙ sym (join_join [] [] (encode_utf8_all body ∷ []) bodies (run (Between t.Apart) [] (t.after_chars (t.after_chars p (body ++ end)) cs) rest))
+    ∙ ap (λ z. t.join [] (encode_utf8_all body ∷ bodies) (run (Between t.Apart) [] z rest)) (sym (after_append p (body ++ end) cs))
 
 pub open_body_runs : {due : List Due} {text : List ℕ} {line : ℕ} → t.OpenBody due text line → (p : Place) → line_run due p text ≡ Err (t.fault OpenHere line)
 open_body_runs (t.first d due text n) p = no_body_runs n d refl [] due p
-open_body_runs (t.later d due body end text line b o) p = body_runs b d refl [] due p ∙ ap (t.join [] (encode_utf8_all body ∷ [])) (open_body_runs o (t.behind_chars p (body ++ end)))
+open_body_runs (t.later d due body end text line b o) p = body_runs b d refl [] due p ∙ ap (t.join [] (encode_utf8_all body ∷ [])) (open_body_runs o (t.after_chars p (body ++ end)))

@@ -6,14 +6,14 @@ use Rattle.std.proofs.lemmas.Bool.{eqb-true}
 use Rattle.rc_model.specs.Syntax.Tokens as t
 use Rattle.rc_model.specs.Syntax.Tokens.{Lexeme, Token, Place, Before, Due, Outcome, Class}
 use Rattle.rc_model.specs.declared.fault.SyntaxFault.{SyntaxFault}
-use Rattle.rc_model.specs.Mirrors.Reading.{State, Between, Operator, goes, emit, begin, bare, behind_dollars, closed, follow, run}
+use Rattle.rc_model.specs.Mirrors.Reading.{State, Between, Operator, goes, emit, begin, bare, after_dollars, closed, follow, run}
 use Rattle.law_lexing.proofs.Steps.{join_nil, join_tokens, follow_emit, join_closed}
 use Rattle.law_lexing.proofs.Operators.{operated_run, operator_ends, LexemeEnds, same_due}
 
 -- the run after `$`s whose name is still to come
 abbrev dollars_run : List Token → List Due → Place → List ℕ → Outcome
 dollars_run ds due p [] = closed (bare ds) [] due
-dollars_run ds due p (c ∷ cs) = follow (behind_dollars ds due p c (t.class_of c)) (λ s' due'. run s' due' (t.behind_char p c) cs)
+dollars_run ds due p (c ∷ cs) = follow (after_dollars ds due p c (t.class_of c)) (λ s' due'. run s' due' (t.after_char p c) cs)
 
 -- what it is, by whether there is a name
 abbrev resolved : Bool → List Token → List Due → Place → List ℕ → Outcome
@@ -27,17 +27,17 @@ sigil_count : (ds : List Token) (q : Place) (due : List Due) (p : Place) (rest :
     run (Operator t.DollarBefore ds q (36 ∷ 35 ∷ [])) due p rest ≡ t.join (bare ds) [] (run (Operator t.Apart [] q (36 ∷ 35 ∷ [])) due p rest)
 sigil_count ds q due p [] = sym (join_closed (bare ds) (t.token t.BareDollar q p ∷ []) [] due)
 sigil_count ds q due p (c ∷ cs) =
-    follow_emit (bare ds) (behind_dollars (t.token t.DollarCount q p ∷ []) due p c (t.class_of c)) (λ s' due'. run s' due' (t.behind_char p c) cs)
-    ∙ ap (t.join (bare ds) []) (sym (follow_emit [] (behind_dollars (t.token t.DollarCount q p ∷ []) due p c (t.class_of c)) (λ s' due'. run s' due' (t.behind_char p c) cs)
-    ∙ join_nil (follow (behind_dollars (t.token t.DollarCount q p ∷ []) due p c (t.class_of c)) (λ s' due'. run s' due' (t.behind_char p c) cs))))
+    follow_emit (bare ds) (after_dollars (t.token t.DollarCount q p ∷ []) due p c (t.class_of c)) (λ s' due'. run s' due' (t.after_char p c) cs)
+    ∙ ap (t.join (bare ds) []) (sym (follow_emit [] (after_dollars (t.token t.DollarCount q p ∷ []) due p c (t.class_of c)) (λ s' due'. run s' due' (t.after_char p c) cs)
+    ∙ join_nil (follow (after_dollars (t.token t.DollarCount q p ∷ []) due p c (t.class_of c)) (λ s' due'. run s' due' (t.after_char p c) cs))))
 
 sigil_flat : (ds : List Token) (q : Place) (due : List Due) (p : Place) (rest : List ℕ) →
     run (Operator t.DollarBefore ds q (36 ∷ 34 ∷ [])) due p rest ≡ t.join (bare ds) [] (run (Operator t.Apart [] q (36 ∷ 34 ∷ [])) due p rest)
 sigil_flat ds q due p [] = sym (join_closed (bare ds) (t.token t.BareDollar q p ∷ []) [] due)
 sigil_flat ds q due p (c ∷ cs) =
-    follow_emit (bare ds) (behind_dollars (t.token t.DollarFlat q p ∷ []) due p c (t.class_of c)) (λ s' due'. run s' due' (t.behind_char p c) cs)
-    ∙ ap (t.join (bare ds) []) (sym (follow_emit [] (behind_dollars (t.token t.DollarFlat q p ∷ []) due p c (t.class_of c)) (λ s' due'. run s' due' (t.behind_char p c) cs)
-    ∙ join_nil (follow (behind_dollars (t.token t.DollarFlat q p ∷ []) due p c (t.class_of c)) (λ s' due'. run s' due' (t.behind_char p c) cs))))
+    follow_emit (bare ds) (after_dollars (t.token t.DollarFlat q p ∷ []) due p c (t.class_of c)) (λ s' due'. run s' due' (t.after_char p c) cs)
+    ∙ ap (t.join (bare ds) []) (sym (follow_emit [] (after_dollars (t.token t.DollarFlat q p ∷ []) due p c (t.class_of c)) (λ s' due'. run s' due' (t.after_char p c) cs)
+    ∙ join_nil (follow (after_dollars (t.token t.DollarFlat q p ∷ []) due p c (t.class_of c)) (λ s' due'. run s' due' (t.after_char p c) cs))))
 
 -- one more `$`, after others, and as the first
 dollar_more : (ds : List Token) (q : Place) (due : List Due) (p : Place) (rest : List ℕ) → t.goes_on (36 ∷ []) rest ≡ false →
@@ -45,7 +45,7 @@ dollar_more : (ds : List Token) (q : Place) (due : List Due) (p : Place) (rest :
 dollar_more ds q due p [] g = ap (λ ts. closed ts [] due) (sym (bare-append ds (t.token t.Dollar q p ∷ [])))
 dollar_more ds q due p (c ∷ cs) g =
     operator_ends t.DollarBefore ds q (36 ∷ []) due p (c ∷ cs) g
-    ∙ follow_emit [] (behind_dollars (ds ++ t.token t.Dollar q p ∷ []) due p c (t.class_of c)) (λ s' due'. run s' due' (t.behind_char p c) cs)
+    ∙ follow_emit [] (after_dollars (ds ++ t.token t.Dollar q p ∷ []) due p c (t.class_of c)) (λ s' due'. run s' due' (t.after_char p c) cs)
     ∙ join_nil (dollars_run (ds ++ t.token t.Dollar q p ∷ []) due p (c ∷ cs))
 
 dollar_first : (prev : Before) (q : Place) (due : List Due) (p : Place) (rest : List ℕ) → t.awaits_mark prev ≡ false →
@@ -57,7 +57,7 @@ dollar_first t.QuotedBefore q due p [] a = sym (join_closed (t.caret t.QuotedBef
 dollar_first t.NameBefore q due p [] a = sym (join_closed (t.caret t.NameBefore t.Dollar q) (t.token t.BareDollar q p ∷ []) [] due)
 dollar_first t.DollarBefore q due p [] a = sym (join_closed (t.caret t.DollarBefore t.Dollar q) (t.token t.BareDollar q p ∷ []) [] due)
 dollar_first prev q due p (c ∷ cs) a =
-    follow_emit (t.caret prev t.Dollar q) (behind_dollars (t.token t.Dollar q p ∷ []) due p c (t.class_of c)) (λ s' due'. run s' due' (t.behind_char p c) cs)
+    follow_emit (t.caret prev t.Dollar q) (after_dollars (t.token t.Dollar q p ∷ []) due p c (t.class_of c)) (λ s' due'. run s' due' (t.after_char p c) cs)
 
 count_first : (prev : Before) (q : Place) (due : List Due) (p : Place) (rest : List ℕ) → t.awaits_mark prev ≡ false →
     operated_run prev [] q (Some t.DollarCount) due p rest ≡ t.join (t.caret prev t.Dollar q) [] (dollars_run (t.token t.DollarCount q p ∷ []) due p rest)
@@ -68,7 +68,7 @@ count_first t.QuotedBefore q due p [] a = sym (join_closed (t.caret t.QuotedBefo
 count_first t.NameBefore q due p [] a = sym (join_closed (t.caret t.NameBefore t.Dollar q) (t.token t.BareDollar q p ∷ []) [] due)
 count_first t.DollarBefore q due p [] a = sym (join_closed (t.caret t.DollarBefore t.Dollar q) (t.token t.BareDollar q p ∷ []) [] due)
 count_first prev q due p (c ∷ cs) a =
-    follow_emit (t.caret prev t.Dollar q ++ []) (behind_dollars (t.token t.DollarCount q p ∷ []) due p c (t.class_of c)) (λ s' due'. run s' due' (t.behind_char p c) cs)
+    follow_emit (t.caret prev t.Dollar q ++ []) (after_dollars (t.token t.DollarCount q p ∷ []) due p c (t.class_of c)) (λ s' due'. run s' due' (t.after_char p c) cs)
     ∙ ap (λ ts. t.join ts [] (dollars_run (t.token t.DollarCount q p ∷ []) due p (c ∷ cs))) (append-nil (t.caret prev t.Dollar q))
 
 flat_first : (prev : Before) (q : Place) (due : List Due) (p : Place) (rest : List ℕ) → t.awaits_mark prev ≡ false →
@@ -80,7 +80,7 @@ flat_first t.QuotedBefore q due p [] a = sym (join_closed (t.caret t.QuotedBefor
 flat_first t.NameBefore q due p [] a = sym (join_closed (t.caret t.NameBefore t.Dollar q) (t.token t.BareDollar q p ∷ []) [] due)
 flat_first t.DollarBefore q due p [] a = sym (join_closed (t.caret t.DollarBefore t.Dollar q) (t.token t.BareDollar q p ∷ []) [] due)
 flat_first prev q due p (c ∷ cs) a =
-    follow_emit (t.caret prev t.Dollar q ++ []) (behind_dollars (t.token t.DollarFlat q p ∷ []) due p c (t.class_of c)) (λ s' due'. run s' due' (t.behind_char p c) cs)
+    follow_emit (t.caret prev t.Dollar q ++ []) (after_dollars (t.token t.DollarFlat q p ∷ []) due p c (t.class_of c)) (λ s' due'. run s' due' (t.after_char p c) cs)
     ∙ ap (λ ts. t.join ts [] (dollars_run (t.token t.DollarFlat q p ∷ []) due p (c ∷ cs))) (append-nil (t.caret prev t.Dollar q))
 
 -- what a further `$` begins is known once the text after it is
@@ -88,9 +88,9 @@ abbrev Resolves : List ℕ → Type 0
 Resolves rest = (ds : List Token) (due : List Due) (p : Place) → dollars_run ds due p rest ≡ resolved (t.names rest) ds due p rest
 
 further : (ds : List Token) (due : List Due) (p : Place) (rest : List ℕ) → Resolves rest → t.goes_on (36 ∷ []) rest ≡ false →
-    run (Operator t.DollarBefore ds p (36 ∷ [])) due (t.behind_char p 36) rest ≡ resolved (t.names rest) ds due p (36 ∷ rest)
+    run (Operator t.DollarBefore ds p (36 ∷ [])) due (t.after_char p 36) rest ≡ resolved (t.names rest) ds due p (36 ∷ rest)
 further ds due p rest ih g =
-    let q = t.behind_char p 36 in
+    let q = t.after_char p 36 in
     let tok = t.token t.Dollar p q in
     let named : run (Between t.DollarBefore) due p (36 ∷ rest) ≡ resolved (t.names rest) (tok ∷ []) due q rest =
     join_nil (run (Operator t.DollarBefore [] p (36 ∷ [])) due q rest) ∙ dollar_more [] p due q rest g ∙ ih (tok ∷ []) due q in
@@ -108,21 +108,21 @@ further ds due p rest ih g =
 
 -- after a `$`: `#`, `"` or anything else
 sigil_at : (ds : List Token) (due : List Due) (p : Place) (c : ℕ) (cs : List ℕ) → Resolves (c ∷ cs) → (a b : Bool) → (c == 35) ≡ a → (c == 34) ≡ b →
-    run (Operator t.DollarBefore ds p (36 ∷ [])) due (t.behind_char p 36) (c ∷ cs) ≡ resolved (t.names (c ∷ cs)) ds due p (36 ∷ c ∷ cs)
-sigil_at ds due p c cs ih true b e f = subst (λ z. run (Operator t.DollarBefore ds p (36 ∷ [])) due (t.behind_char p 36) (z ∷ cs) ≡ resolved (t.names (z ∷ cs)) ds due p (36 ∷ z ∷ cs)) (sym (eqb-true c 35 e)) known
+    run (Operator t.DollarBefore ds p (36 ∷ [])) due (t.after_char p 36) (c ∷ cs) ≡ resolved (t.names (c ∷ cs)) ds due p (36 ∷ c ∷ cs)
+sigil_at ds due p c cs ih true b e f = subst (λ z. run (Operator t.DollarBefore ds p (36 ∷ [])) due (t.after_char p 36) (z ∷ cs) ≡ resolved (t.names (z ∷ cs)) ds due p (36 ∷ z ∷ cs)) (sym (eqb-true c 35 e)) known
   where
-    known : run (Operator t.DollarBefore ds p (36 ∷ [])) due (t.behind_char p 36) (35 ∷ cs) ≡ resolved (t.names (35 ∷ cs)) ds due p (36 ∷ 35 ∷ cs)
+    known : run (Operator t.DollarBefore ds p (36 ∷ [])) due (t.after_char p 36) (35 ∷ cs) ≡ resolved (t.names (35 ∷ cs)) ds due p (36 ∷ 35 ∷ cs)
     known =
-        join_nil (run (Operator t.DollarBefore ds p (36 ∷ 35 ∷ [])) due (t.behind_char (t.behind_char p 36) 35) cs)
-        ∙ sigil_count ds p due (t.behind_char (t.behind_char p 36) 35) cs
-        ∙ ap (t.join (bare ds) []) (sym (join_nil (run (Operator t.Apart [] p (36 ∷ [])) due (t.behind_char p 36) (35 ∷ cs)) ∙ join_nil (run (Operator t.Apart [] p (36 ∷ 35 ∷ [])) due (t.behind_char (t.behind_char p 36) 35) cs)))
-sigil_at ds due p c cs ih false true e f = subst (λ z. run (Operator t.DollarBefore ds p (36 ∷ [])) due (t.behind_char p 36) (z ∷ cs) ≡ resolved (t.names (z ∷ cs)) ds due p (36 ∷ z ∷ cs)) (sym (eqb-true c 34 f)) known
+        join_nil (run (Operator t.DollarBefore ds p (36 ∷ 35 ∷ [])) due (t.after_char (t.after_char p 36) 35) cs)
+        ∙ sigil_count ds p due (t.after_char (t.after_char p 36) 35) cs
+        ∙ ap (t.join (bare ds) []) (sym (join_nil (run (Operator t.Apart [] p (36 ∷ [])) due (t.after_char p 36) (35 ∷ cs)) ∙ join_nil (run (Operator t.Apart [] p (36 ∷ 35 ∷ [])) due (t.after_char (t.after_char p 36) 35) cs)))
+sigil_at ds due p c cs ih false true e f = subst (λ z. run (Operator t.DollarBefore ds p (36 ∷ [])) due (t.after_char p 36) (z ∷ cs) ≡ resolved (t.names (z ∷ cs)) ds due p (36 ∷ z ∷ cs)) (sym (eqb-true c 34 f)) known
   where
-    known : run (Operator t.DollarBefore ds p (36 ∷ [])) due (t.behind_char p 36) (34 ∷ cs) ≡ resolved (t.names (34 ∷ cs)) ds due p (36 ∷ 34 ∷ cs)
+    known : run (Operator t.DollarBefore ds p (36 ∷ [])) due (t.after_char p 36) (34 ∷ cs) ≡ resolved (t.names (34 ∷ cs)) ds due p (36 ∷ 34 ∷ cs)
     known =
-        join_nil (run (Operator t.DollarBefore ds p (36 ∷ 34 ∷ [])) due (t.behind_char (t.behind_char p 36) 34) cs)
-        ∙ sigil_flat ds p due (t.behind_char (t.behind_char p 36) 34) cs
-        ∙ ap (t.join (bare ds) []) (sym (join_nil (run (Operator t.Apart [] p (36 ∷ [])) due (t.behind_char p 36) (34 ∷ cs)) ∙ join_nil (run (Operator t.Apart [] p (36 ∷ 34 ∷ [])) due (t.behind_char (t.behind_char p 36) 34) cs)))
+        join_nil (run (Operator t.DollarBefore ds p (36 ∷ 34 ∷ [])) due (t.after_char (t.after_char p 36) 34) cs)
+        ∙ sigil_flat ds p due (t.after_char (t.after_char p 36) 34) cs
+        ∙ ap (t.join (bare ds) []) (sym (join_nil (run (Operator t.Apart [] p (36 ∷ [])) due (t.after_char p 36) (34 ∷ cs)) ∙ join_nil (run (Operator t.Apart [] p (36 ∷ 34 ∷ [])) due (t.after_char (t.after_char p 36) 34) cs)))
 sigil_at ds due p c cs ih false false e f = further ds due p (c ∷ cs) ih (neither (c == 35) (c == 34) e f)
   where
     neither : (a b : Bool) → a ≡ false → b ≡ false → ((a && true) || ((b && true) || false)) ≡ false
@@ -131,7 +131,7 @@ sigil_at ds due p c cs ih false false e f = further ds due p (c ∷ cs) ih (neit
     neither false true h h' = absurd cc
 
 another : (ds : List Token) (due : List Due) (p : Place) (cs : List ℕ) → Resolves cs →
-    run (Operator t.DollarBefore ds p (36 ∷ [])) due (t.behind_char p 36) cs ≡ resolved (t.names cs) ds due p (36 ∷ cs)
+    run (Operator t.DollarBefore ds p (36 ∷ [])) due (t.after_char p 36) cs ≡ resolved (t.names cs) ds due p (36 ∷ cs)
 another ds due p [] ih = further ds due p [] ih refl
 another ds due p (c ∷ cs) ih = sigil_at ds due p c cs ih (c == 35) (c == 34) refl refl
 
@@ -139,17 +139,17 @@ resolves_at : (c : ℕ) (cs : List ℕ) → Resolves cs → (a b : Bool) → (t.
 resolves_at c cs ih a true e f = subst (λ z. Resolves (z ∷ cs)) (sym (eqb-true c 36 f)) known
   where
     known : Resolves (36 ∷ cs)
-    known ds due p = join_nil (run (Operator t.DollarBefore ds p (36 ∷ [])) due (t.behind_char p 36) cs) ∙ another ds due p cs ih
+    known ds due p = join_nil (run (Operator t.DollarBefore ds p (36 ∷ [])) due (t.after_char p 36) cs) ∙ another ds due p cs ih
 resolves_at c cs ih true false e f =
     λ ds due p.
-    let go : State → List Due → Outcome = λ s' due'. run s' due' (t.behind_char p c) cs in
+    let go : State → List Due → Outcome = λ s' due'. run s' due' (t.after_char p c) cs in
     let k = t.class_of c in
     ap (λ b. follow (cond b (emit ds (begin t.DollarBefore due p c k)) (cond (c == 36) (goes [] (Operator t.DollarBefore ds p (c ∷ [])) due) (emit (bare ds) (begin t.Apart due p c k)))) go) e
     ∙ follow_emit ds (begin t.DollarBefore due p c k) go
     ∙ sym (ap (λ b. resolved (cond b true (cond (c == 36) (t.names cs) false)) ds due p (c ∷ cs)) e)
 resolves_at c cs ih false false e f =
     λ ds due p.
-    let go : State → List Due → Outcome = λ s' due'. run s' due' (t.behind_char p c) cs in
+    let go : State → List Due → Outcome = λ s' due'. run s' due' (t.after_char p c) cs in
     let k = t.class_of c in
     ap (λ b. follow (cond b (emit ds (begin t.DollarBefore due p c k)) (cond (c == 36) (goes [] (Operator t.DollarBefore ds p (c ∷ [])) due) (emit (bare ds) (begin t.Apart due p c k)))) go) e
     ∙ ap (λ b. follow (cond b (goes [] (Operator t.DollarBefore ds p (c ∷ [])) due) (emit (bare ds) (begin t.Apart due p c k))) go) f

@@ -17,7 +17,7 @@ record ZeroAt (p : Place) (cs : List ℕ) (line : ℕ) : Type 0 where
   pub rest : List ℕ
   pub is : cs ≡ front ++ 0 ∷ rest
   pub none : t.has_no_zero front ≡ true
-  pub at : (t.behind_chars p front).line ≡ line
+  pub at : (t.after_chars p front).line ≡ line
 
 zero_free : (line : ℕ) (cs : List ℕ) → t.has_no_zero cs ≡ true → zero_line line cs ≡ None
 zero_free line [] h = refl
@@ -28,30 +28,30 @@ zero_free line (c ∷ cs) h = by (c == 0) h (zero_free (cond (c == 10) (suc line
     by true h' g = absurd cc
     by false h' g = g h'
 
-zero_found : (p : Place) (cs rest : List ℕ) → t.has_no_zero cs ≡ true → zero_line p.line (cs ++ 0 ∷ rest) ≡ Some (t.behind_chars p cs).line
+zero_found : (p : Place) (cs rest : List ℕ) → t.has_no_zero cs ≡ true → zero_line p.line (cs ++ 0 ∷ rest) ≡ Some (t.after_chars p cs).line
 zero_found p [] rest h = refl
-zero_found p (c ∷ cs) rest h = by (c == 0) h (zero_found (t.behind_char p c) cs rest)
+zero_found p (c ∷ cs) rest h = by (c == 0) h (zero_found (t.after_char p c) cs rest)
   where
-    by : (b : Bool) → (not b && t.has_no_zero cs) ≡ true → (t.has_no_zero cs ≡ true → zero_line (t.behind_char p c).line (cs ++ 0 ∷ rest) ≡ Some (t.behind_chars (t.behind_char p c) cs).line) →
-        cond b (Some p.line) (zero_line (t.behind_char p c).line (cs ++ 0 ∷ rest)) ≡ Some (t.behind_chars (t.behind_char p c) cs).line
+    by : (b : Bool) → (not b && t.has_no_zero cs) ≡ true → (t.has_no_zero cs ≡ true → zero_line (t.after_char p c).line (cs ++ 0 ∷ rest) ≡ Some (t.after_chars (t.after_char p c) cs).line) →
+        cond b (Some p.line) (zero_line (t.after_char p c).line (cs ++ 0 ∷ rest)) ≡ Some (t.after_chars (t.after_char p c) cs).line
     by true h' g = absurd cc
     by false h' g = g h'
 
 no_zero_found : (p : Place) (cs : List ℕ) → zero_line p.line cs ≡ None → t.has_no_zero cs ≡ true
 no_zero_found p [] h = refl
-no_zero_found p (c ∷ cs) h = by (c == 0) h (no_zero_found (t.behind_char p c) cs)
+no_zero_found p (c ∷ cs) h = by (c == 0) h (no_zero_found (t.after_char p c) cs)
   where
-    by : (b : Bool) → cond b (Some p.line) (zero_line (t.behind_char p c).line cs) ≡ None → (zero_line (t.behind_char p c).line cs ≡ None → t.has_no_zero cs ≡ true) →
+    by : (b : Bool) → cond b (Some p.line) (zero_line (t.after_char p c).line cs) ≡ None → (zero_line (t.after_char p c).line cs ≡ None → t.has_no_zero cs ≡ true) →
         (not b && t.has_no_zero cs) ≡ true
     by true h' g = absurd cc
     by false h' g = g h'
 
 zero_at : (p : Place) (cs : List ℕ) (line : ℕ) → zero_line p.line cs ≡ Some line → ZeroAt p cs line
 zero_at p [] line h = absurd cc
-zero_at p (c ∷ cs) line h = by (c == 0) refl h (zero_at (t.behind_char p c) cs line)
+zero_at p (c ∷ cs) line h = by (c == 0) refl h (zero_at (t.after_char p c) cs line)
   where
-    by : (b : Bool) → (c == 0) ≡ b → cond b (Some p.line) (zero_line (t.behind_char p c).line cs) ≡ Some line →
-        (zero_line (t.behind_char p c).line cs ≡ Some line → ZeroAt (t.behind_char p c) cs line) → ZeroAt p (c ∷ cs) line
+    by : (b : Bool) → (c == 0) ≡ b → cond b (Some p.line) (zero_line (t.after_char p c).line cs) ≡ Some line →
+        (zero_line (t.after_char p c).line cs ≡ Some line → ZeroAt (t.after_char p c) cs line) → ZeroAt p (c ∷ cs) line
     by true e h' g = record { front = []; rest = cs; is = ap (λ z. z ∷ cs) (eqb-true c 0 e); none = refl; at = ap (λ o. unwrap_or o line) h' }
     by false e h' g =
         let z = g h' in

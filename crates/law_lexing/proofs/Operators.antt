@@ -56,42 +56,42 @@ operator_begins cs l h =
 
 -- an operator is read
 pub operator_runs : (prev : Before) (dollars : List Token) (q : Place) (acc : List ℕ) (due : List Due) (cs rest : List ℕ) (p : Place) → t.begins_operator (acc ++ cs) ≡ true →
-    run (Operator prev dollars q acc) due p (cs ++ rest) ≡ run (Operator prev dollars q (acc ++ cs)) due (t.behind_chars p cs) rest
+    run (Operator prev dollars q acc) due p (cs ++ rest) ≡ run (Operator prev dollars q (acc ++ cs)) due (t.after_chars p cs) rest
 operator_runs prev dollars q acc due [] rest p h = ap (λ z. run (Operator prev dollars q z) due p rest) (sym (append-nil acc))
 operator_runs prev dollars q acc due (c ∷ cs) rest p h =
     let e = append_assoc acc (c ∷ []) cs in
     let h' : t.begins_operator ((acc ++ c ∷ []) ++ cs) ≡ true = ap t.begins_operator e ∙ h in
-    ap (λ b. follow (cond b (goes [] (Operator prev dollars q (acc ++ c ∷ [])) due) (operated prev dollars q (t.operator acc) due p c (t.class_of c))) (λ s' due'. run s' due' (t.behind_char p c) (cs ++ rest)))
+    ap (λ b. follow (cond b (goes [] (Operator prev dollars q (acc ++ c ∷ [])) due) (operated prev dollars q (t.operator acc) due p c (t.class_of c))) (λ s' due'. run s' due' (t.after_char p c) (cs ++ rest)))
     (begins-front (acc ++ c ∷ []) cs h')
-    ∙ join_nil (run (Operator prev dollars q (acc ++ c ∷ [])) due (t.behind_char p c) (cs ++ rest))
-    ∙ operator_runs prev dollars q (acc ++ c ∷ []) due cs rest (t.behind_char p c) h'
-    ∙ ap (λ z. run (Operator prev dollars q z) due (t.behind_chars (t.behind_char p c) cs) rest) e
+    ∙ join_nil (run (Operator prev dollars q (acc ++ c ∷ [])) due (t.after_char p c) (cs ++ rest))
+    ∙ operator_runs prev dollars q (acc ++ c ∷ []) due cs rest (t.after_char p c) h'
+    ∙ ap (λ z. run (Operator prev dollars q z) due (t.after_chars (t.after_char p c) cs) rest) e
 
 -- what an operator is followed by
 abbrev pub operated_run : Before → List Token → Place → Option Lexeme → List Due → Place → List ℕ → Outcome
 operated_run prev dollars q o due p [] = operated_last prev dollars q o due p
-operated_run prev dollars q o due p (c ∷ cs) = follow (operated prev dollars q o due p c (t.class_of c)) (λ s' due'. run s' due' (t.behind_char p c) cs)
+operated_run prev dollars q o due p (c ∷ cs) = follow (operated prev dollars q o due p c (t.class_of c)) (λ s' due'. run s' due' (t.after_char p c) cs)
 
 pub operator_ends : (prev : Before) (dollars : List Token) (q : Place) (acc : List ℕ) (due : List Due) (p : Place) (rest : List ℕ) → t.goes_on acc rest ≡ false →
     run (Operator prev dollars q acc) due p rest ≡ operated_run prev dollars q (t.operator acc) due p rest
 operator_ends prev dollars q acc due p [] h = refl
 operator_ends prev dollars q acc due p (c ∷ cs) h =
-    ap (λ b. follow (cond b (goes [] (Operator prev dollars q (acc ++ c ∷ [])) due) (operated prev dollars q (t.operator acc) due p c (t.class_of c))) (λ s' due'. run s' due' (t.behind_char p c) cs)) h
+    ap (λ b. follow (cond b (goes [] (Operator prev dollars q (acc ++ c ∷ [])) due) (operated prev dollars q (t.operator acc) due p c (t.class_of c))) (λ s' due'. run s' due' (t.after_char p c) cs)) h
 
 -- from its first character on
 pub operator_begun : (prev : Before) (due : List Due) (p : Place) (c : ℕ) (cs rest : List ℕ) → t.awaits_mark prev ≡ false → t.begins_operator (c ∷ cs) ≡ true → t.goes_on (c ∷ cs) rest ≡ false →
-    run (Between prev) due p (c ∷ cs ++ rest) ≡ operated_run prev [] p (t.operator (c ∷ cs)) due (t.behind_chars p (c ∷ cs)) rest
+    run (Between prev) due p (c ∷ cs ++ rest) ≡ operated_run prev [] p (t.operator (c ∷ cs)) due (t.after_chars p (c ∷ cs)) rest
 operator_begun prev due p c cs rest a h g =
     ap (λ b. run_at (Between prev) due p c (cs ++ rest)
     (cond b t.Operates (cond ((c == 32) || (c == 9)) t.Blank (cond (c == 10) t.LineEnd (cond (c == 35) t.Hash (cond (c == 39) t.Quote (cond (c == 92) t.Backslash t.Ordinary)))))))
     (begins-front (c ∷ []) cs h)
     ∙ begun prev a
-    ∙ operator_runs prev [] p (c ∷ []) due cs rest (t.behind_char p c) h
-    ∙ operator_ends prev [] p (c ∷ cs) due (t.behind_chars p (c ∷ cs)) rest g
+    ∙ operator_runs prev [] p (c ∷ []) due cs rest (t.after_char p c) h
+    ∙ operator_ends prev [] p (c ∷ cs) due (t.after_chars p (c ∷ cs)) rest g
   where
-    begun : (b : Before) → t.awaits_mark b ≡ false → run_at (Between b) due p c (cs ++ rest) t.Operates ≡ run (Operator b [] p (c ∷ [])) due (t.behind_char p c) (cs ++ rest)
+    begun : (b : Before) → t.awaits_mark b ≡ false → run_at (Between b) due p c (cs ++ rest) t.Operates ≡ run (Operator b [] p (c ∷ [])) due (t.after_char p c) (cs ++ rest)
     begun (t.HereBefore begin' end) e = absurd cc
-    begun b e = join_nil (run (Operator b [] p (c ∷ [])) due (t.behind_char p c) (cs ++ rest))
+    begun b e = join_nil (run (Operator b [] p (c ∷ [])) due (t.after_char p c) (cs ++ rest))
 
 -- an operator that is neither a `$` nor a `<<` is a lexeme
 abbrev is_plain_lexeme : Lexeme → Bool
@@ -121,21 +121,21 @@ plain_meant t.NameBefore rest l h = refl
 plain_meant prev rest t.LeftParen h = refl
 plain_meant prev rest l h = refl
 
-no_here_behind : (prev : Before) (l : Lexeme) → bare_here (t.as_before prev l) ≡ []
-no_here_behind (t.HereBefore begin' end) l = refl
-no_here_behind t.DollarBefore (t.Quoted text) = refl
-no_here_behind t.DollarBefore (t.Word text) = refl
-no_here_behind t.DollarBefore (t.Name text) = refl
-no_here_behind t.DollarBefore t.Dollar = refl
-no_here_behind t.DollarBefore l = refl
-no_here_behind t.Apart (t.Word text) = refl
-no_here_behind t.Apart l = refl
-no_here_behind t.WordBefore (t.Word text) = refl
-no_here_behind t.WordBefore l = refl
-no_here_behind t.QuotedBefore (t.Word text) = refl
-no_here_behind t.QuotedBefore l = refl
-no_here_behind t.NameBefore (t.Word text) = refl
-no_here_behind t.NameBefore l = refl
+no_here_after : (prev : Before) (l : Lexeme) → bare_here (t.as_before prev l) ≡ []
+no_here_after (t.HereBefore begin' end) l = refl
+no_here_after t.DollarBefore (t.Quoted text) = refl
+no_here_after t.DollarBefore (t.Word text) = refl
+no_here_after t.DollarBefore (t.Name text) = refl
+no_here_after t.DollarBefore t.Dollar = refl
+no_here_after t.DollarBefore l = refl
+no_here_after t.Apart (t.Word text) = refl
+no_here_after t.Apart l = refl
+no_here_after t.WordBefore (t.Word text) = refl
+no_here_after t.WordBefore l = refl
+no_here_after t.QuotedBefore (t.Word text) = refl
+no_here_after t.QuotedBefore l = refl
+no_here_after t.NameBefore (t.Word text) = refl
+no_here_after t.NameBefore l = refl
 
 pub same_due : (prev : Before) (l : Lexeme) (due : List Due) → t.awaits_mark prev ≡ false → t.due_after prev l due ≡ due
 same_due (t.HereBefore begin' end) l due h = absurd cc
@@ -149,8 +149,8 @@ pub plain_ends : (prev : Before) (q : Place) (l : Lexeme) (due : List Due) (p : 
     LexemeEnds prev (t.meant prev rest l) q due p rest (operated_run prev [] q (Some l) due p rest)
 plain_ends prev q l due p [] a h =
     ap (λ z. closed (t.tokens_of prev (t.meant prev [] l) q p) [] z) (sym (same_due prev (t.meant prev [] l) due a))
-    ∙ ended_at prev (t.meant prev [] l) q due p (no_here_behind prev (t.meant prev [] l))
+    ∙ ended_at prev (t.meant prev [] l) q due p (no_here_after prev (t.meant prev [] l))
 plain_ends prev q l due p (c ∷ cs) a h =
-    ap (λ x. follow x (λ s' due'. run s' due' (t.behind_char p c) cs)) (plain_operated prev [] q l due p c (t.class_of c) h)
+    ap (λ x. follow x (λ s' due'. run s' due' (t.after_char p c) cs)) (plain_operated prev [] q l due p c (t.class_of c) h)
     ∙ ends_at prev (t.meant prev [] l) q due p c cs (t.class_of c)
     ∙ ap (λ m. t.join (t.tokens_of prev m q p) [] (run (Between (t.as_before prev m)) (t.due_after prev m due) p (c ∷ cs))) (sym (plain_meant prev (c ∷ cs) l h))

@@ -25,15 +25,15 @@ ended_at prev l q due p h =
     ∙ sym (join_closed (t.tokens_of prev l q p) (bare_here (t.as_before prev l)) [] (t.due_after prev l due))
 
 pub ends_at : (prev : Before) (l : Lexeme) (q : Place) (due : List Due) (p : Place) (c : ℕ) (cs : List ℕ) (k : Class) →
-    follow (ends prev l q due p c k) (λ s' due'. run s' due' (t.behind_char p c) cs)
+    follow (ends prev l q due p c k) (λ s' due'. run s' due' (t.after_char p c) cs)
     ≡ t.join (t.tokens_of prev l q p) [] (run_at (Between (t.as_before prev l)) (t.due_after prev l due) p c cs k)
-ends_at prev l q due p c cs k = follow_emit (t.tokens_of prev l q p) (begin (t.as_before prev l) (t.due_after prev l due) p c k) (λ s' due'. run s' due' (t.behind_char p c) cs)
+ends_at prev l q due p c cs k = follow_emit (t.tokens_of prev l q p) (begin (t.as_before prev l) (t.due_after prev l due) p c k) (λ s' due'. run s' due' (t.after_char p c) cs)
 
-no_here_behind_word : (prev : Before) (text : List ℕ) → bare_here (t.as_before prev (t.Word text)) ≡ []
-no_here_behind_word prev text = elim prev as (λ b. bare_here (t.as_before b (t.Word text)) ≡ []) [ t.HereBefore begin end ↦ refl | _ ↦ refl ]
+no_here_after_word : (prev : Before) (text : List ℕ) → bare_here (t.as_before prev (t.Word text)) ≡ []
+no_here_after_word prev text = elim prev as (λ b. bare_here (t.as_before b (t.Word text)) ≡ []) [ t.HereBefore begin end ↦ refl | _ ↦ refl ]
 
-blank_behind_word : (prev : Before) (text : List ℕ) → t.behind_blank (t.as_before prev (t.Word text)) ≡ t.Apart
-blank_behind_word prev text = elim prev as (λ b. t.behind_blank (t.as_before b (t.Word text)) ≡ t.Apart) [ t.HereBefore begin end ↦ refl | _ ↦ refl ]
+blank_after_word : (prev : Before) (text : List ℕ) → t.after_blank (t.as_before prev (t.Word text)) ≡ t.Apart
+blank_after_word prev text = elim prev as (λ b. t.after_blank (t.as_before b (t.Word text)) ≡ t.Apart) [ t.HereBefore begin end ↦ refl | _ ↦ refl ]
 
 -- a backslash before a newline ends a word
 word_before_newline : (prev : Before) (q : Place) (text : List ℕ) (due : List Due) (p : Place) (c : ℕ) (cs : List ℕ) → t.at_newline cs ≡ true →
@@ -41,13 +41,13 @@ word_before_newline : (prev : Before) (q : Place) (text : List ℕ) (due : List 
     ≡ t.join (t.tokens_of prev (t.Word text) q p) [] (run_at (Between (t.as_before prev (t.Word text))) (t.due_after prev (t.Word text) due) p c cs t.Backslash)
 word_before_newline prev q text due p c [] h = absurd cc
 word_before_newline prev q text due p c (d ∷ ds) h =
-    let p' = t.behind_char p c in
+    let p' = t.after_char p c in
     let due' = t.due_after prev (t.Word text) due in
     join_nil (run (WordBackslash prev q text p) due p' (d ∷ ds))
     ∙ ap (run_at (WordBackslash prev q text p) due p' d ds) (newline_class d h)
     ∙ ap (t.join (t.tokens_of prev (t.Word text) q p) [])
-    (ap (λ b. run (Between b) due' (t.behind_char p' d) ds) (sym (blank_behind_word prev text))
-    ∙ sym (join_nil (run (Between (t.behind_blank (t.as_before prev (t.Word text)))) due' (t.behind_char p' d) ds))
+    (ap (λ b. run (Between b) due' (t.after_char p' d) ds) (sym (blank_after_word prev text))
+    ∙ sym (join_nil (run (Between (t.after_blank (t.as_before prev (t.Word text)))) due' (t.after_char p' d) ds))
     ∙ sym (ap (run_at (Backslash (t.as_before prev (t.Word text)) p) due' p' d ds) (newline_class d h))
     ∙ sym (join_nil (run (Backslash (t.as_before prev (t.Word text)) p) due' p' (d ∷ ds))))
 
@@ -69,7 +69,7 @@ word_ends_by prev q text due p c cs t.Quote h = ends_at prev (t.Word text) q due
 pub word_ends : (prev : Before) (q : Place) (text : List ℕ) (due : List Due) (p : Place) (rest : List ℕ) → t.word_goes_on rest ≡ false →
     run (Word prev q text) due p rest
     ≡ t.join (t.tokens_of prev (t.Word text) q p) [] (run (Between (t.as_before prev (t.Word text))) (t.due_after prev (t.Word text) due) p rest)
-word_ends prev q text due p [] h = ended_at prev (t.Word text) q due p (no_here_behind_word prev text)
+word_ends prev q text due p [] h = ended_at prev (t.Word text) q due p (no_here_after_word prev text)
 word_ends prev q text due p (c ∷ cs) h = word_ends_by prev q text due p c cs (t.class_of c) h
 
 -- a backslash before anything else is a character of the word
@@ -84,12 +84,12 @@ after_backslash prev q text end due p [] h = refl
 after_backslash prev q text end due p (c ∷ cs) h = after_backslash_by prev q text end due p c cs (t.class_of c) (λ e. eqb-false c 10 h (line_end_is c e))
 
 word_goes_by : (prev : Before) (q : Place) (text : List ℕ) (due : List Due) (p : Place) (c : ℕ) (rest : List ℕ) (k : Class) → t.class_of c ≡ k → t.is_in_word k rest ≡ true →
-    run_at (Word prev q text) due p c rest k ≡ run (Word prev q (text ++ encode_utf8 c)) due (t.behind_char p c) rest
-word_goes_by prev q text due p c rest t.Ordinary e h = join_nil (run (Word prev q (text ++ encode_utf8 c)) due (t.behind_char p c) rest)
+    run_at (Word prev q text) due p c rest k ≡ run (Word prev q (text ++ encode_utf8 c)) due (t.after_char p c) rest
+word_goes_by prev q text due p c rest t.Ordinary e h = join_nil (run (Word prev q (text ++ encode_utf8 c)) due (t.after_char p c) rest)
 word_goes_by prev q text due p c rest t.Backslash e h =
-    join_nil (run (WordBackslash prev q text p) due (t.behind_char p c) rest)
-    ∙ after_backslash prev q text p due (t.behind_char p c) rest (not_true (t.at_newline rest) h)
-    ∙ ap (λ bs. run (Word prev q (text ++ bs)) due (t.behind_char p c) rest) (sym (encode_ascii 92 (lit< tt)) ∙ ap encode_utf8 (sym (backslash_is c e)))
+    join_nil (run (WordBackslash prev q text p) due (t.after_char p c) rest)
+    ∙ after_backslash prev q text p due (t.after_char p c) rest (not_true (t.at_newline rest) h)
+    ∙ ap (λ bs. run (Word prev q (text ++ bs)) due (t.after_char p c) rest) (sym (encode_ascii 92 (lit< tt)) ∙ ap encode_utf8 (sym (backslash_is c e)))
   where
     not_true : (b : Bool) → not b ≡ true → b ≡ false
     not_true false e' = refl
@@ -112,14 +112,14 @@ begun_backslash prev q due p [] h = refl
 begun_backslash prev q due p (c ∷ cs) h = begun_backslash_by prev q due p c cs (t.class_of c) (λ e. eqb-false c 10 h (line_end_is c e))
 
 pub word_begun_by : (prev : Before) (due : List Due) (p : Place) (c : ℕ) (rest : List ℕ) (k : Class) → t.class_of c ≡ k → t.begins_name prev c ≡ false → t.is_in_word k rest ≡ true →
-    run_at (Between prev) due p c rest k ≡ run (Word prev p (encode_utf8 c)) due (t.behind_char p c) rest
+    run_at (Between prev) due p c rest k ≡ run (Word prev p (encode_utf8 c)) due (t.after_char p c) rest
 word_begun_by prev due p c rest t.Ordinary e n h =
-    ap (λ b. follow (goes [] (cond b (Name p (encode_utf8 c)) (Word prev p (encode_utf8 c))) due) (λ s' due'. run s' due' (t.behind_char p c) rest)) n
-    ∙ join_nil (run (Word prev p (encode_utf8 c)) due (t.behind_char p c) rest)
+    ap (λ b. follow (goes [] (cond b (Name p (encode_utf8 c)) (Word prev p (encode_utf8 c))) due) (λ s' due'. run s' due' (t.after_char p c) rest)) n
+    ∙ join_nil (run (Word prev p (encode_utf8 c)) due (t.after_char p c) rest)
 word_begun_by prev due p c rest t.Backslash e n h =
-    join_nil (run (Backslash prev p) due (t.behind_char p c) rest)
-    ∙ begun_backslash prev p due (t.behind_char p c) rest (not_true (t.at_newline rest) h)
-    ∙ ap (λ bs. run (Word prev p bs) due (t.behind_char p c) rest) (sym (encode_ascii 92 (lit< tt)) ∙ ap encode_utf8 (sym (backslash_is c e)))
+    join_nil (run (Backslash prev p) due (t.after_char p c) rest)
+    ∙ begun_backslash prev p due (t.after_char p c) rest (not_true (t.at_newline rest) h)
+    ∙ ap (λ bs. run (Word prev p bs) due (t.after_char p c) rest) (sym (encode_ascii 92 (lit< tt)) ∙ ap encode_utf8 (sym (backslash_is c e)))
   where
     not_true : (b : Bool) → not b ≡ true → b ≡ false
     not_true false e' = refl
@@ -132,12 +132,12 @@ word_begun_by prev due p c rest t.Quote e n h = absurd cc
 
 -- a word is read
 pub word_runs : {cs rest : List ℕ} → t.Run t.word_goes_on cs rest → (prev : Before) (q : Place) (text : List ℕ) (due : List Due) (p : Place) →
-    run (Word prev q text) due p (cs ++ rest) ≡ run (Word prev q (text ++ encode_utf8_all cs)) due (t.behind_chars p cs) rest
+    run (Word prev q text) due p (cs ++ rest) ≡ run (Word prev q (text ++ encode_utf8_all cs)) due (t.after_chars p cs) rest
 word_runs (t.stop rest h) prev q text due p = ap (λ z. run (Word prev q z) due p rest) (sym (append-nil text))
 word_runs (t.next c cs rest h r) prev q text due p =
     word_goes_by prev q text due p c (cs ++ rest) (t.class_of c) refl h
-    ∙ word_runs r prev q (text ++ encode_utf8 c) due (t.behind_char p c)
-    ∙ ap (λ z. run (Word prev q z) due (t.behind_chars (t.behind_char p c) cs) rest) (append_assoc text (encode_utf8 c) (encode_utf8_all cs))
+    ∙ word_runs r prev q (text ++ encode_utf8 c) due (t.after_char p c)
+    ∙ ap (λ z. run (Word prev q z) due (t.after_chars (t.after_char p c) cs) rest) (append_assoc text (encode_utf8 c) (encode_utf8_all cs))
 
 pub run_stops : {more : List ℕ → Bool} {cs rest : List ℕ} → t.Run more cs rest → more rest ≡ false
 run_stops (t.stop rest h) = h
@@ -148,44 +148,44 @@ pub name_ends : (q : Place) (text : List ℕ) (due : List Due) (p : Place) (rest
     run (Name q text) due p rest ≡ t.join (t.tokens_of t.DollarBefore (t.Name text) q p) [] (run (Between t.NameBefore) due p rest)
 name_ends q text due p [] h = ended_at t.DollarBefore (t.Name text) q due p refl
 name_ends q text due p (c ∷ cs) h =
-    ap (λ b. follow (cond b (goes [] (Name q (text ++ encode_utf8 c)) due) (ends t.DollarBefore (t.Name text) q due p c (t.class_of c))) (λ s' due'. run s' due' (t.behind_char p c) cs)) h
+    ap (λ b. follow (cond b (goes [] (Name q (text ++ encode_utf8 c)) due) (ends t.DollarBefore (t.Name text) q due p c (t.class_of c))) (λ s' due'. run s' due' (t.after_char p c) cs)) h
     ∙ ends_at t.DollarBefore (t.Name text) q due p c cs (t.class_of c)
 
 pub name_runs : {cs rest : List ℕ} → t.Run t.name_goes_on cs rest → (q : Place) (text : List ℕ) (due : List Due) (p : Place) →
-    run (Name q text) due p (cs ++ rest) ≡ run (Name q (text ++ encode_utf8_all cs)) due (t.behind_chars p cs) rest
+    run (Name q text) due p (cs ++ rest) ≡ run (Name q (text ++ encode_utf8_all cs)) due (t.after_chars p cs) rest
 name_runs (t.stop rest h) q text due p = ap (λ z. run (Name q z) due p rest) (sym (append-nil text))
 name_runs (t.next c cs rest h r) q text due p =
-    ap (λ b. follow (cond b (goes [] (Name q (text ++ encode_utf8 c)) due) (ends t.DollarBefore (t.Name text) q due p c (t.class_of c))) (λ s' due'. run s' due' (t.behind_char p c) (cs ++ rest))) h
-    ∙ join_nil (run (Name q (text ++ encode_utf8 c)) due (t.behind_char p c) (cs ++ rest))
-    ∙ name_runs r q (text ++ encode_utf8 c) due (t.behind_char p c)
-    ∙ ap (λ z. run (Name q z) due (t.behind_chars (t.behind_char p c) cs) rest) (append_assoc text (encode_utf8 c) (encode_utf8_all cs))
+    ap (λ b. follow (cond b (goes [] (Name q (text ++ encode_utf8 c)) due) (ends t.DollarBefore (t.Name text) q due p c (t.class_of c))) (λ s' due'. run s' due' (t.after_char p c) (cs ++ rest))) h
+    ∙ join_nil (run (Name q (text ++ encode_utf8 c)) due (t.after_char p c) (cs ++ rest))
+    ∙ name_runs r q (text ++ encode_utf8 c) due (t.after_char p c)
+    ∙ ap (λ z. run (Name q z) due (t.after_chars (t.after_char p c) cs) rest) (append_assoc text (encode_utf8 c) (encode_utf8_all cs))
 
 -- a quoted word is read
 quoted_by : (prev : Before) (q : Place) (text : List ℕ) (due : List Due) (p : Place) (c : ℕ) (cs : List ℕ) (k : Class) → k ≢ t.Quote →
-    run_at (Quoted prev q text) due p c cs k ≡ run (Quoted prev q (text ++ encode_utf8 c)) due (t.behind_char p c) cs
+    run_at (Quoted prev q text) due p c cs k ≡ run (Quoted prev q (text ++ encode_utf8 c)) due (t.after_char p c) cs
 quoted_by prev q text due p c cs t.Quote h = absurd (h refl)
-quoted_by prev q text due p c cs k h = join_nil (run (Quoted prev q (text ++ encode_utf8 c)) due (t.behind_char p c) cs)
+quoted_by prev q text due p c cs k h = join_nil (run (Quoted prev q (text ++ encode_utf8 c)) due (t.after_char p c) cs)
 
 no_quote : (c : ℕ) → (c == 39) ≡ false → t.class_of c ≢ t.Quote
 no_quote c h e = eqb-false c 39 h (quote_is c e)
 
 pub quoted_runs : {cs : List ℕ} → t.InQuotes cs → (prev : Before) (q : Place) (text : List ℕ) (due : List Due) (p : Place) (rest : List ℕ) →
-    run (Quoted prev q text) due p (cs ++ rest) ≡ run (Quoted prev q (text ++ encode_utf8_all cs)) due (t.behind_chars p cs) rest
+    run (Quoted prev q text) due p (cs ++ rest) ≡ run (Quoted prev q (text ++ encode_utf8_all cs)) due (t.after_chars p cs) rest
 quoted_runs t.nothing prev q text due p rest = ap (λ z. run (Quoted prev q z) due p rest) (sym (append-nil text))
 quoted_runs (t.plain c cs h r) prev q text due p rest =
     quoted_by prev q text due p c (cs ++ rest) (t.class_of c) (no_quote c h)
-    ∙ quoted_runs r prev q (text ++ encode_utf8 c) due (t.behind_char p c) rest
-    ∙ ap (λ z. run (Quoted prev q z) due (t.behind_chars (t.behind_char p c) cs) rest) (append_assoc text (encode_utf8 c) (encode_utf8_all cs))
+    ∙ quoted_runs r prev q (text ++ encode_utf8 c) due (t.after_char p c) rest
+    ∙ ap (λ z. run (Quoted prev q z) due (t.after_chars (t.after_char p c) cs) rest) (append_assoc text (encode_utf8 c) (encode_utf8_all cs))
 quoted_runs (t.doubled cs r) prev q text due p rest =
-    let p1 = t.behind_char p 39 in
+    let p1 = t.after_char p 39 in
     join_nil (run (Closed prev q (text ++ encode_utf8 39)) due p1 (39 ∷ cs ++ rest))
-    ∙ join_nil (run (Quoted prev q ((text ++ encode_utf8 39) ++ encode_utf8 39)) due (t.behind_char p1 39) (cs ++ rest))
-    ∙ quoted_runs r prev q ((text ++ encode_utf8 39) ++ encode_utf8 39) due (t.behind_char p1 39) rest
-    ∙ ap (λ z. run (Quoted prev q z) due (t.behind_chars (t.behind_char p1 39) cs) rest)
+    ∙ join_nil (run (Quoted prev q ((text ++ encode_utf8 39) ++ encode_utf8 39)) due (t.after_char p1 39) (cs ++ rest))
+    ∙ quoted_runs r prev q ((text ++ encode_utf8 39) ++ encode_utf8 39) due (t.after_char p1 39) rest
+    ∙ ap (λ z. run (Quoted prev q z) due (t.after_chars (t.after_char p1 39) cs) rest)
     (append_assoc (text ++ encode_utf8 39) (encode_utf8 39) (encode_utf8_all cs) ∙ append_assoc text (encode_utf8 39) (encode_utf8 39 ++ encode_utf8_all cs))
 
-no_here_behind_quoted : (prev : Before) (text : List ℕ) → bare_here (t.as_before prev (t.Quoted text)) ≡ []
-no_here_behind_quoted prev text = elim prev as (λ b. bare_here (t.as_before b (t.Quoted text)) ≡ []) [ t.HereBefore begin end ↦ refl | _ ↦ refl ]
+no_here_after_quoted : (prev : Before) (text : List ℕ) → bare_here (t.as_before prev (t.Quoted text)) ≡ []
+no_here_after_quoted prev text = elim prev as (λ b. bare_here (t.as_before b (t.Quoted text)) ≡ []) [ t.HereBefore begin end ↦ refl | _ ↦ refl ]
 
 closed_ends_by : (prev : Before) (q : Place) (text : List ℕ) (due : List Due) (p : Place) (c : ℕ) (cs : List ℕ) (k : Class) → k ≢ t.Quote →
     run_at (Closed prev q text) due p c cs k
@@ -198,7 +198,7 @@ pub closed_ends : (prev : Before) (q : Place) (text : List ℕ) (due : List Due)
     run (Closed prev q text) due p rest
     ≡ t.join (t.tokens_of prev (t.Quoted (t.unquoted_text text)) q p) []
     (run (Between (t.as_before prev (t.Quoted (t.unquoted_text text)))) (t.due_after prev (t.Quoted (t.unquoted_text text)) due) p rest)
-closed_ends prev q text due p [] h = ended_at prev (t.Quoted (t.unquoted_text text)) q due p (no_here_behind_quoted prev (t.unquoted_text text))
+closed_ends prev q text due p [] h = ended_at prev (t.Quoted (t.unquoted_text text)) q due p (no_here_after_quoted prev (t.unquoted_text text))
 closed_ends prev q text due p (c ∷ cs) h = closed_ends_by prev q text due p c cs (t.class_of c) (λ e. no (39 == c) h (ap (λ z. 39 == z) (quote_is c e)))
   where
     no : (b : Bool) → (b && true) ≡ false → b ≡ true → ⊥

@@ -156,15 +156,15 @@ cut_spelled (k.blank _ _ _ c cs _ _ r) s z = cut_spelled r (scalars_back (c ∷ 
 cut_spelled (k.continued _ _ _ cs _ r) s z = cut_spelled r (scalars_back (92 ∷ 10 ∷ []) cs s) (clean_back (92 ∷ 10 ∷ []) cs z)
 cut_spelled (k.comment _ _ _ cs rest _ _ _ r) s z = cut_spelled r (scalars_back (35 ∷ cs) rest s) (clean_back (35 ∷ cs) rest z)
 cut_spelled (k.lexeme prev due p cs rest l o q r) s z =
-    join_spelled (tokens_of prev l p (k.behind_chars p cs)) [] o
-    (tokens_spelled prev l p (k.behind_chars p cs) (lexeme_spelled prev cs rest l q (scalars_front cs rest s) (clean_front cs rest z))) tt
+    join_spelled (tokens_of prev l p (k.after_chars p cs)) [] o
+    (tokens_spelled prev l p (k.after_chars p cs) (lexeme_spelled prev cs rest l q (scalars_front cs rest s) (clean_front cs rest z))) tt
     (cut_spelled r (scalars_back cs rest s) (clean_back cs rest z))
 cut_spelled (k.open_quote _ _ _ _ _) s z = tt
 cut_spelled (k.bad_descriptor _ _ _ _ _ _ _ _ _ _) s z = tt
 cut_spelled (k.here _ _ _ cs rest _ _ _ _ r) s z = cut_spelled r (scalars_back cs rest s) (clean_back cs rest z)
 cut_spelled (k.no_mark begin end due p text o _ r) s z = join_spelled (token k.BareHere begin end ∷ []) [] o (tt, tt) tt (cut_spelled r s z)
 cut_spelled (k.newline prev due p cs rest bodies o _ b r) s z =
-    join_spelled (token k.Newline p (k.behind_char p 10) ∷ []) bodies o (tt, tt) (bodies_texts b (scalars_front cs rest s) (clean_front cs rest z)) (cut_spelled r (scalars_back (10 ∷ cs) rest s) (clean_back (10 ∷ cs) rest z))
+    join_spelled (token k.Newline p (k.after_char p 10) ∷ []) bodies o (tt, tt) (bodies_texts b (scalars_front cs rest s) (clean_front cs rest z)) (cut_spelled r (scalars_back (10 ∷ cs) rest s) (clean_back (10 ∷ cs) rest z))
 cut_spelled (k.open_body _ _ _ _ _ _ _) s z = tt
 
 -- so is a here document with its body, and nothing else changes

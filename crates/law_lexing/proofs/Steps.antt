@@ -13,7 +13,7 @@ then_run p cs s due = run s due p cs
 
 -- the run from a character of this class on
 abbrev pub run_at : State → List Due → Place → ℕ → List ℕ → Class → Outcome
-run_at s due p c cs k = follow (step s due p c k) (λ s' due'. run s' due' (t.behind_char p c) cs)
+run_at s due p c cs k = follow (step s due p c k) (λ s' due'. run s' due' (t.after_char p c) cs)
 
 pub join_nil : (o : Outcome) → t.join [] [] o ≡ o
 join_nil (Ok x) = refl
@@ -37,9 +37,9 @@ pub join_closed : (ts us : List Token) (bodies : List (List ℕ)) (due : List Du
 join_closed ts us bodies [] = refl
 join_closed ts us bodies (d ∷ due) = refl
 
-pub behind_append : (p : Place) (xs ys : List ℕ) → t.behind_chars p (xs ++ ys) ≡ t.behind_chars (t.behind_chars p xs) ys
-behind_append p [] ys = refl
-behind_append p (x ∷ xs) ys = behind_append (t.behind_char p x) xs ys
+pub after_append : (p : Place) (xs ys : List ℕ) → t.after_chars p (xs ++ ys) ≡ t.after_chars (t.after_chars p xs) ys
+after_append p [] ys = refl
+after_append p (x ∷ xs) ys = after_append (t.after_char p x) xs ys
 
 -- what is known of a character by its class
 pick_quote : (a b c d e f : Bool) →

@@ -206,8 +206,8 @@ shorter_rest n cs front rest e h = omega (arith, ap length e, length-append fron
 lexeme_at : (n : ℕ) → Shorter n → (prev : Before) (due : List Due) (p : Place) (c : ℕ) (cs front rest : List ℕ) (l : Lexeme) → cs ≡ front ++ rest → length cs ≤ n →
     t.Spells prev (c ∷ front) rest l → CutAt prev due p (c ∷ cs)
 lexeme_at n ih prev due p c cs front rest l e h s =
-    let x = ih rest (shorter_rest n cs front rest e h) (t.as_before prev l) (t.due_after prev l due) (t.behind_chars p (c ∷ front)) in
-    subst (λ z. CutAt prev due p (c ∷ z)) (sym e) (record { outcome = t.join (t.tokens_of prev l p (t.behind_chars p (c ∷ front))) [] x.outcome; cut = t.lexeme prev due p (c ∷ front) rest l x.outcome s x.cut })
+    let x = ih rest (shorter_rest n cs front rest e h) (t.as_before prev l) (t.due_after prev l due) (t.after_chars p (c ∷ front)) in
+    subst (λ z. CutAt prev due p (c ∷ z)) (sym e) (record { outcome = t.join (t.tokens_of prev l p (t.after_chars p (c ∷ front))) [] x.outcome; cut = t.lexeme prev due p (c ∷ front) rest l x.outcome s x.cut })
 
 word_at : (n : ℕ) → Shorter n → (prev : Before) (due : List Due) (p : Place) (c : ℕ) (cs : List ℕ) → length cs ≤ n → t.begins_name prev c ≡ false → t.word_goes_on (c ∷ cs) ≡ true → CutAt prev due p (c ∷ cs)
 word_at n ih prev due p c cs h b g =
@@ -237,7 +237,7 @@ backslash_at n ih prev due p cs h false e = word_at n ih prev due p 92 cs h (no_
     no_name prev' = refl
 backslash_at n ih prev due p [] h true e = absurd cc
 backslash_at n ih prev due p (c ∷ cs) h true e =
-    let x = ih cs (omega arith) (t.behind_blank prev) due (t.behind_chars p (92 ∷ 10 ∷ [])) in
+    let x = ih cs (omega arith) (t.after_blank prev) due (t.after_chars p (92 ∷ 10 ∷ [])) in
     subst (λ z. CutAt prev due p (92 ∷ z ∷ cs)) (sym (eqb-true c 10 e)) (record { outcome = x.outcome; cut = t.continued prev due p cs x.outcome x.cut })
 
 quote_at : (n : ℕ) → Shorter n → (prev : Before) (due : List Due) (p : Place) (cs : List ℕ) → length cs ≤ n → CutAt prev due p (39 ∷ cs)
@@ -253,7 +253,7 @@ quote_at n ih prev due p cs h = by (quoted_or_open cs)
 comment_at : (n : ℕ) → Shorter n → (prev : Before) (due : List Due) (p : Place) (cs : List ℕ) → length cs ≤ n → t.awaits_mark prev ≡ false → CutAt prev due p (35 ∷ cs)
 comment_at n ih prev due p cs h a =
     let s = run_of t.line_goes_on refl cs in
-    let x = ih s.rest (shorter_rest n cs s.front s.rest s.is h) t.Apart due (t.behind_chars p (35 ∷ s.front)) in
+    let x = ih s.rest (shorter_rest n cs s.front s.rest s.is h) t.Apart due (t.after_chars p (35 ∷ s.front)) in
     subst (λ z. CutAt prev due p (35 ∷ z)) (sym s.is) (record { outcome = x.outcome; cut = t.comment prev due p s.front s.rest x.outcome a s.has x.cut })
 
 newline_at : (n : ℕ) → Shorter n → (prev : Before) (due : List Due) (p : Place) (cs : List ℕ) → length cs ≤ n → t.awaits_mark prev ≡ false → CutAt prev due p (10 ∷ cs)
@@ -262,16 +262,16 @@ newline_at n ih prev due p cs h a = by (bodies_or_open due cs)
     by : BodiesAt due cs ⊎ OpenAt due cs → CutAt prev due p (10 ∷ cs)
     by (inr o) = record { outcome = Err (t.fault OpenHere o.line); cut = t.open_body prev due p cs o.line a o.has }
     by (inl s) =
-        let x = ih s.rest (shorter_rest n cs s.front s.rest s.is h) t.Apart [] (t.behind_chars p (10 ∷ s.front)) in
+        let x = ih s.rest (shorter_rest n cs s.front s.rest s.is h) t.Apart [] (t.after_chars p (10 ∷ s.front)) in
         subst (λ z. CutAt prev due p (10 ∷ z)) (sym s.is)
-        (record { outcome = t.join (t.token t.Newline p (t.behind_char p 10) ∷ []) s.bodies x.outcome; cut = t.newline prev due p s.front s.rest s.bodies x.outcome a s.has x.cut })
+        (record { outcome = t.join (t.token t.Newline p (t.after_char p 10) ∷ []) s.bodies x.outcome; cut = t.newline prev due p s.front s.rest s.bodies x.outcome a s.has x.cut })
 
 operator_lexeme : (n : ℕ) → Shorter n → (prev : Before) (due : List Due) (p : Place) (c : ℕ) (cs front rest : List ℕ) → cs ≡ front ++ rest → length cs ≤ n → t.awaits_mark prev ≡ false →
     t.begins_operator (c ∷ front) ≡ true → t.goes_on (c ∷ front) rest ≡ false → (o : Option Lexeme) → t.operator (c ∷ front) ≡ o → CutAt prev due p (c ∷ cs)
 operator_lexeme n ih prev due p c cs front rest e h a b g None o =
     subst (λ z. CutAt prev due p (c ∷ z)) (sym e) (record { outcome = Err (t.fault BadDescriptor p.line); cut = t.bad_descriptor prev due p c front rest a b o g })
 operator_lexeme n ih prev due p c cs front rest e h a b g (Some t.BareHere) o =
-    let q = t.behind_chars p (c ∷ front) in
+    let q = t.after_chars p (c ∷ front) in
     let x = ih rest (shorter_rest n cs front rest e h) (t.HereBefore p q) due q in
     subst (λ z. CutAt prev due p (c ∷ z)) (sym e) (record { outcome = x.outcome; cut = t.here prev due p (c ∷ front) rest x.outcome a o g x.cut })
 operator_lexeme n ih prev due p c cs front rest e h a b g (Some l) o =
@@ -285,7 +285,7 @@ operator_at n ih prev due p c cs h a b =
 -- at a character, where a mark is looked for only if one may begin
 char_at : (n : ℕ) → Shorter n → (prev : Before) (due : List Due) (p : Place) (c : ℕ) (cs : List ℕ) → length cs ≤ n → (k : Class) → t.class_of c ≡ k → (t.awaits_mark prev ≡ false) ⊎ (t.is_mark k ≡ true) →
     CutAt prev due p (c ∷ cs)
-char_at n ih prev due p c cs h t.Blank e m = let x = ih cs h (t.behind_blank prev) due (t.behind_char p c) in record { outcome = x.outcome; cut = t.blank prev due p c cs x.outcome e x.cut }
+char_at n ih prev due p c cs h t.Blank e m = let x = ih cs h (t.after_blank prev) due (t.after_char p c) in record { outcome = x.outcome; cut = t.blank prev due p c cs x.outcome e x.cut }
 char_at n ih prev due p c cs h t.Ordinary e m = ordinary_at n ih prev due p c cs h (ap (λ k. t.is_in_word k cs) e) (t.begins_name prev c) refl
 char_at n ih prev due p c cs h t.Backslash e m = subst (λ z. CutAt prev due p (z ∷ cs)) (sym (backslash_is c e)) (backslash_at n ih prev due p cs h (t.at_newline cs) refl)
 char_at n ih prev due p c cs h t.Quote e m = subst (λ z. CutAt prev due p (z ∷ cs)) (sym (quote_is c e)) (quote_at n ih prev due p cs h)

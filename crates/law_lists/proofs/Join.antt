@@ -49,10 +49,10 @@ one_before : (a : Word) (ys : List Word) → ys ≢ [] → distributed (a ∷ []
 one_before a [] ne = absurd (ne refl)
 one_before a (b ∷ bs) ne = refl
 
-one_behind : (b : Word) (xs : List Word) → xs ≢ [] → length xs ≢ 1 → distributed xs (b ∷ []) ≡ Ok (map (λ a. a ++ b) xs)
-one_behind b [] ne more = absurd (ne refl)
-one_behind b (a ∷ []) ne more = absurd (more refl)
-one_behind b (a ∷ c ∷ as') ne more = refl
+one_after : (b : Word) (xs : List Word) → xs ≢ [] → length xs ≢ 1 → distributed xs (b ∷ []) ≡ Ok (map (λ a. a ++ b) xs)
+one_after b [] ne more = absurd (ne refl)
+one_after b (a ∷ []) ne more = absurd (more refl)
+one_after b (a ∷ c ∷ as') ne more = refl
 
 none_first : (ys : List Word) → distributed [] ys ≡ Err EmptyConcat
 none_first [] = refl
@@ -78,7 +78,7 @@ Joins-concatenated {xs} {ys} (pairs zs p) = ap Ok (Pairs-pairwise p) ∙ sym (sa
 Joins-concatenated {xs} {ys} (before a q ne more) =
     sym (other_counts xs ys (λ h. more (sym h ∙ ap length q)) ∙ ap (λ z. distributed z ys) q ∙ one_before a ys ne)
 Joins-concatenated {xs} {ys} (behind b q ne more) =
-    sym (other_counts xs ys (λ h. more (h ∙ ap length q)) ∙ ap (distributed xs) q ∙ one_behind b xs ne more)
+    sym (other_counts xs ys (λ h. more (h ∙ ap length q)) ∙ ap (distributed xs) q ∙ one_after b xs ne more)
 Joins-concatenated {xs} {ys} (left_empty q ne) = sym (other_counts xs ys (λ h. no_count ys ne (sym (ap length q) ∙ h)) ∙ ap (λ z. distributed z ys) q ∙ none_first ys)
 Joins-concatenated {xs} {ys} (right_empty q ne) = sym (other_counts xs ys (λ h. no_count xs ne (sym (ap length q) ∙ sym h)) ∙ ap (distributed xs) q ∙ none_second xs)
 Joins-concatenated {xs} {ys} (mismatch n a b c d) = sym (other_counts xs ys n ∙ both_several xs ys a b c d)

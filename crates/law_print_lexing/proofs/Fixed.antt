@@ -281,9 +281,9 @@ open_paren = record {
       at_start b (operator_step (codes "(") rest k.LeftParen refl (λ e. cc) (left_paren_alone rest) refl refl (g Apart apart));
 }
 
-pub brace_behind : Piece IsCalm IsApart Anything (codes " {") (k.LeftBrace ∷ [])
+pub brace_after : Piece IsCalm IsApart Anything (codes " {") (k.LeftBrace ∷ [])
 unfolding encode
-brace_behind = record {
+brace_after = record {
   chars = codes " {";
   spelled = refl;
   scalar = refl;
@@ -292,9 +292,9 @@ brace_behind = record {
       blank_step b (operator_step (codes "{") rest k.LeftBrace refl (λ e. cc) (left_brace_alone rest) refl refl (g Apart apart));
 }
 
-pub brace_behind_ends : (rest : List ℕ) → Ends (brace_behind.chars ++ rest)
-unfolding brace_behind
-brace_behind_ends rest = at_space
+pub brace_after_ends : (rest : List ℕ) → Ends (brace_after.chars ++ rest)
+unfolding brace_after
+brace_after_ends rest = at_space
 
 pub back_brace : Piece IsApart IsApart Anything (codes "`{") (k.Backquote ∷ k.LeftBrace ∷ [])
 unfolding encode

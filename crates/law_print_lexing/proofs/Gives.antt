@@ -1,7 +1,7 @@
 -- Characters and their lexemes, where no caret is inserted and no here document begins.
 use Rattle.std.proofs.Common.{◌≡◌, refl, ap, sym, subst, ℕ, false, List, [], ◌∷◌, ◌++◌, map, Ok}
 use Rattle.rc_model.specs.Syntax.Tokens.{Lexeme, Token, Place, Before, Apart, WordBefore, QuotedBefore, NameBefore, DollarBefore, HereBefore, Word}
-use Rattle.rc_model.specs.Syntax.Tokens.{Spells, Cuts, joins, awaits_mark, as_before, due_after, tokens_of, token, behind_char, behind_chars}
+use Rattle.rc_model.specs.Syntax.Tokens.{Spells, Cuts, joins, awaits_mark, as_before, due_after, tokens_of, token, after_char, after_chars}
 use Rattle.rc_model.specs.Syntax.Tokens as k
 
 pub data Gives : Before → List ℕ → List Lexeme → Type 0 where
@@ -16,7 +16,7 @@ pub record IsCutInto (prev : Before) (p : Place) (cs : List ℕ) (ls : List Lexe
   pub cuts : Cuts prev [] p cs (Ok (tokens, []))
   pub lexemes : map (λ t. t.lexeme) tokens ≡ ls
 
-blank_calm : (prev : Before) → awaits_mark prev ≡ false → k.behind_blank prev ≡ Apart
+blank_calm : (prev : Before) → awaits_mark prev ≡ false → k.after_blank prev ≡ Apart
 blank_calm Apart e = refl
 blank_calm WordBefore e = refl
 blank_calm QuotedBefore e = refl
@@ -43,16 +43,16 @@ tokens_calm (HereBefore _ _) l p q e j = cc
 pub cut : {prev : Before} {cs : List ℕ} {ls : List Lexeme} → Gives prev cs ls → (p : Place) → IsCutInto prev p cs ls
 cut (nothing {prev} e) p = record { tokens = []; cuts = k.finish prev p e; lexemes = refl }
 cut (blank {prev} {cs} {ls} e g) p =
-    let rest = cut g (behind_char p 32) in
+    let rest = cut g (after_char p 32) in
     record {
       tokens = rest.tokens;
-      cuts = k.blank prev [] p 32 cs _ refl (subst (λ b. Cuts b [] (behind_char p 32) cs (Ok (rest.tokens, []))) (sym
+      cuts = k.blank prev [] p 32 cs _ refl (subst (λ b. Cuts b [] (after_char p 32) cs (Ok (rest.tokens, []))) (sym
           (blank_calm prev e)) rest.cuts);
       lexemes = rest.lexemes;
     }
 cut (lexeme {prev} {cs} {rest} {l} {ls} e j s g) p =
-    let then' = cut g (behind_chars p cs) in
-    let q : Place = behind_chars p cs in
+    let then' = cut g (after_chars p cs) in
+    let q : Place = after_chars p cs in
     let whole : Cuts prev [] p (cs ++ rest) (Ok (tokens_of prev l p q ++ then'.tokens, [])) =
     k.lexeme prev [] p cs rest l _ s (subst (λ d. Cuts (as_before prev l) d q rest (Ok (then'.tokens, []))) (sym (due_calm prev l e)) then'.cuts) in
     record {

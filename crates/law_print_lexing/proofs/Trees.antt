@@ -121,11 +121,11 @@ mutual
       led f.for_paren (between (arg_piece name w.0) f.in_word f.in_word_ends
       (between (args_piece words w.1.0) f.close_head f.close_head_ends (cmd_piece body false w.1.1) (λ rest e. tt)) (λ rest e. tt))
   cmd_piece (t.Switch subject branches) begins w =
-      settled (led f.switch_word (between (arg_piece subject w.0) f.brace_behind f.brace_behind_ends
+      settled (led f.switch_word (between (arg_piece subject w.0) f.brace_after f.brace_after_ends
       (behind (listed_piece (branches_lines branches w.1)) f.close_brace (λ rest e. f.close_brace_ends rest)) (λ rest e. tt)))
   cmd_piece (t.Match subject patterns) begins w = led f.match_word (tailed (arg_piece subject w.0) (args_tail patterns w.1))
   cmd_piece (t.Define names body) begins w =
-      settled (led f.fn_word (between (args_piece names w.0) f.brace_behind f.brace_behind_ends
+      settled (led f.fn_word (between (args_piece names w.0) f.brace_after f.brace_after_ends
       (behind (cmd_piece body false w.1) f.close_brace (λ rest e. f.close_brace_ends rest)) (λ rest e. tt)))
   cmd_piece (t.Undefine names) begins w = led f.fn_word (args_piece names w)
   cmd_piece (t.Brace body) begins w = settled (led f.open_brace (behind (cmd_piece body false w) f.close_brace (λ rest e. f.close_brace_ends rest)))

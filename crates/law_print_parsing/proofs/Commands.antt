@@ -76,13 +76,13 @@ redir_on by_copy us = refl
 redir_on by_brace us = refl
 
 -- redirections are printed after a command, or before it
-behind_lexemes : (c : Node t.cmd) (begins : Bool) (rs : Many t.redir) → stands_first c begins ≡ true →
+after_lexemes : (c : Node t.cmd) (begins : Bool) (rs : Many t.redir) → stands_first c begins ≡ true →
     cmd_lexemes (t.Redirect rs c) begins ≡ cmd_lexemes c false ++ redirs_lexemes rs
 unfolding cmd_lexemes
-behind_lexemes (t.Simple words) begins rs h = rw h refl
-behind_lexemes (t.Brace body) begins rs h = refl
-behind_lexemes (t.Switch subject branches) begins rs h = refl
-behind_lexemes _ begins rs h = absurd cc
+after_lexemes (t.Simple words) begins rs h = rw h refl
+after_lexemes (t.Brace body) begins rs h = refl
+after_lexemes (t.Switch subject branches) begins rs h = refl
+after_lexemes _ begins rs h = absurd cc
 
 pub before_lexemes : (c : Node t.cmd) (begins : Bool) (rs : Many t.redir) → stands_first c begins ≡ false →
     cmd_lexemes (t.Redirect rs c) begins ≡ redirs_lexemes rs ++ cmd_lexemes c false
@@ -113,18 +113,18 @@ extended : (begins : Bool) (c : Node t.cmd) (rs : Many t.redir) → stands_first
 unfolding redirs_lexemes
 extended begins c none h f p rest e = rw (same_anywhere c begins h) (f.extends none p rest e)
 extended begins c (more r rs) h f p rest e =
-    at (ap (λ z. z ++ rest) (behind_lexemes c begins (more r rs) h) ∙ append_assoc (cmd_lexemes c false) (redirs_lexemes (more r rs)) rest)
+    at (ap (λ z. z ++ rest) (after_lexemes c begins (more r rs) h) ∙ append_assoc (cmd_lexemes c false) (redirs_lexemes (more r rs)) rest)
     (f.extends (more r rs) p rest e)
 
 extended_opens : (begins : Bool) (c : Node t.cmd) (rs : Many t.redir) → stands_first c begins ≡ true → Firm c → Opens begins (cmd_lexemes (redirect rs c) begins)
 extended_opens begins c none h f = rw (same_anywhere c begins h) (f.calm begins h)
-extended_opens begins c (more r rs) h f = rw (behind_lexemes c begins (more r rs) h) (open_on (redirs_lexemes (more r rs)) (f.calm begins h))
+extended_opens begins c (more r rs) h f = rw (after_lexemes c begins (more r rs) h) (open_on (redirs_lexemes (more r rs)) (f.calm begins h))
 
 extended_redir : (begins : Bool) (c : Node t.cmd) (rs : Many t.redir) → stands_first c begins ≡ true → Firm c →
     begins_redir (cmd_lexemes (redirect rs c) begins) ≡ false
 extended_redir begins c none h f = rw (same_anywhere c begins h) f.redir
 extended_redir begins c (more r rs) h f =
-    rw (behind_lexemes c begins (more r rs) h) (redir_on (f.calm begins h) (redirs_lexemes (more r rs)) ∙ f.redir)
+    rw (after_lexemes c begins (more r rs) h) (redir_on (f.calm begins h) (redirs_lexemes (more r rs)) ∙ f.redir)
 
 extended_firm : (c : Node t.cmd) (rs : Many t.redir) → Firm c → stands_first (redirect rs c) false ≡ true → Firm (redirect rs c)
 extended_firm c none f h = f

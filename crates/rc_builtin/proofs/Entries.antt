@@ -59,11 +59,11 @@ pub status_before : (status : List ℕ) (b : List ℕ × List ℕ) (bs : List (L
 status_before status b bs h = ap (map entry) (before_by (text_cmp status_name b.0) status b bs (insert_entry text_cmp bs status_name (value_text (status ∷ []))) h)
 
 -- or after it
-behind_by : (o : Ordering) (status : List ℕ) (b : List ℕ × List ℕ) (bs more : List (List ℕ × List ℕ)) → is_lt o ≡ false → is_eq o ≡ false →
+after_by : (o : Ordering) (status : List ℕ) (b : List ℕ × List ℕ) (bs more : List (List ℕ × List ℕ)) → is_lt o ≡ false → is_eq o ≡ false →
     match_ordering o ((status_name, value_text (status ∷ [])) ∷ b ∷ bs) ((b.0, value_text (status ∷ [])) ∷ bs) (b ∷ more) ≡ b ∷ more
-behind_by Less status b bs more h k = cc
-behind_by Equal status b bs more h k = cc
-behind_by Greater status b bs more h k = refl
+after_by Less status b bs more h k = cc
+after_by Equal status b bs more h k = cc
+after_by Greater status b bs more h k = refl
 
 or_false : (a b : Bool) → a || b ≡ false → b ≡ false
 or_false true b h = cc
@@ -75,11 +75,11 @@ bytes_eq_sym [] (y ∷ b) = refl
 bytes_eq_sym (x ∷ a) [] = refl
 bytes_eq_sym (x ∷ a) (y ∷ b) = ap (λ t. t && bytes_eq b a) (nat_eq_equiv.symm y x) ∙ ap (λ t. (x == y) && t) (bytes_eq_sym a b)
 
-pub status_behind : (status : List ℕ) (b : List ℕ × List ℕ) (bs : List (List ℕ × List ℕ)) → is_lt (text_cmp status_name b.0) ≡ false → is_kept b.0 ≡ false →
+pub status_after : (status : List ℕ) (b : List ℕ × List ℕ) (bs : List (List ℕ × List ℕ)) → is_lt (text_cmp status_name b.0) ≡ false → is_kept b.0 ≡ false →
     to_come false status (b ∷ bs) ≡ entry b ∷ to_come false status bs
-status_behind status b bs h k =
+status_after status b bs h k =
     let other : bytes_eq b.0 status_name ≡ false = or_false _ _ k in
-    ap (map entry) (behind_by (text_cmp status_name b.0) status b bs (insert_entry text_cmp bs status_name (value_text (status ∷ []))) h (is_eq-slice_cmp status_name b.0 ∙ (bytes_eq_sym b.0 status_name ∙ other)))
+    ap (map entry) (after_by (text_cmp status_name b.0) status b bs (insert_entry text_cmp bs status_name (value_text (status ∷ []))) h (is_eq-slice_cmp status_name b.0 ∙ (bytes_eq_sym b.0 status_name ∙ other)))
 
 -- One more entry, and what was still to come.
 pub turn_with_status : (w all : List (List ℕ)) (status e : List ℕ) (b : List ℕ × List ℕ) (bs : List (List ℕ × List ℕ)) → e ≡ entry b → w ++ to_come true status (b ∷ bs) ≡ all →
@@ -90,7 +90,7 @@ pub turn_before_status : (w all : List (List ℕ)) (status e : List ℕ) (b : Li
     w ++ to_come false status (b ∷ bs) ≡ all → (w ++ e ∷ []) ++ to_come false status bs ≡ all
 turn_before_status w all status e b bs h lt kept inv =
     append_assoc w (e ∷ []) (to_come false status bs) ∙ ap (λ t. w ++ t ∷ to_come false status bs) h
-    ∙ ap (λ t. w ++ t) (sym (status_behind status b bs lt kept)) ∙ inv
+    ∙ ap (λ t. w ++ t) (sym (status_after status b bs lt kept)) ∙ inv
 
 pub turn_at_status : (w v all : List (List ℕ)) (status x : List ℕ) (b : List ℕ × List ℕ) (bs : List (List ℕ × List ℕ)) → v ≡ w ++ x ∷ [] → x ≡ entry (status_name, value_text (status ∷ [])) →
     is_lt (text_cmp status_name b.0) ≡ true → w ++ to_come false status (b ∷ bs) ≡ all → v ++ to_come true status (b ∷ bs) ≡ all

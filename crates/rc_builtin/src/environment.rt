@@ -62,7 +62,7 @@ fn is_kept(name: &str) -> bool
 }
 
 /// Whether the entry of the status comes before that of the variable.
-fn is_behind_status(name: &str) -> bool
+fn is_after_status(name: &str) -> bool
     ensures { result ≡ is_lt (text_cmp status_name name.now) }
 {
     "status".cmp(name).is_lt()
@@ -87,7 +87,7 @@ pub fn entries(alloc: Global, state: &State) -> Result<Vec<String>, AllocError>
         if value.is_empty() || is_kept(name) {
             continue;
         }
-        if !has_status && is_behind_status(name) {
+        if !has_status && is_after_status(name) {
             all.push(status_entry(alloc, state)?)?;
             has_status = true;
         }

@@ -15,21 +15,21 @@ use Rattle.rc_lexer.specs.declared.machine.Lexer.{Lexer}
 use Rattle.rc_lexer.specs.Views.{slice_at}
 use Rattle.rc_lexer.specs.Classes.{class_is}
 use Rattle.rc_lexer.specs.declared.machine.Before.TheVariants as before
-use Rattle.rc_lexer.specs.Machine.{place_of, before_of, due_of, due_in, tokens_in, dollars_in, bodies_in, behind_step, Does, Spelled, Keeps, Resolved}
+use Rattle.rc_lexer.specs.Machine.{place_of, before_of, due_of, due_in, tokens_in, dollars_in, bodies_in, after_step, Does, Spelled, Keeps, Resolved}
 use Rattle.std.proofs.lemmas.Bool.{eqb-true}
 use Rattle.std.specs.Char.{encode_utf8}
 
-behind_emit : (ts us : List model.Token) (bodies : List (List ℕ)) (x : Step) → behind_step ts bodies (reading.emit us x) ≡ behind_step (ts ++ us) bodies x
-behind_emit ts us bodies (Ok x) = ap (λ z. Ok (z, bodies ++ x.1, x.2, x.3)) (sym (append_assoc ts us x.0))
-behind_emit ts us bodies (Err f) = refl
+after_emit : (ts us : List model.Token) (bodies : List (List ℕ)) (x : Step) → after_step ts bodies (reading.emit us x) ≡ after_step (ts ++ us) bodies x
+after_emit ts us bodies (Ok x) = ap (λ z. Ok (z, bodies ++ x.1, x.2, x.3)) (sym (append_assoc ts us x.0))
+after_emit ts us bodies (Err f) = refl
 
 -- the tokens of a step come after those so far
 pub emits : (script : List ℕ) (end : ℕ) (us : List model.Token) (x : Step) (old mid new : Lexer) (r : Result State LexError) →
     tokens_in script mid ≡ tokens_in script old ++ us →
     mid.bodies.items ≡ old.bodies.items → Does script end mid new r x → Does script end old new r (reading.emit us x)
 emits script end us x old mid new (Ok s) t b d =
-    behind_emit (tokens_in script old) us (bodies_in script old) x
-    ∙ ap (λ z. behind_step z (bodies_in script old) x) (sym t) ∙ ap (λ z. behind_step (tokens_in script mid) (map (slice_at script) z) x) (sym b) ∙ d
+    after_emit (tokens_in script old) us (bodies_in script old) x
+    ∙ ap (λ z. after_step z (bodies_in script old) x) (sym t) ∙ ap (λ z. after_step (tokens_in script mid) (map (slice_at script) z) x) (sym b) ∙ d
 emits script end us x old mid new (Err (Fault f)) t b d = ap (reading.emit us) d
 emits script end us x old mid new (Err NoMemory) t b d = d
 
@@ -98,7 +98,7 @@ behind a b dollars due p c k =
 pub named_does : (script : List ℕ) (end : ℕ) (place : Place) (c : ℕ) (k : model.Class) (old mid new : Lexer) (r : Result State LexError) →
     (model.is_name_char c || (c == 39)) ≡ true → Resolved (λ dollars. dollars) old mid →
     Does script end mid new r (reading.begin model.DollarBefore (due_in mid) (place_of place) c k) →
-    Does script end old new r (reading.behind_dollars (dollars_in script old) (due_in old) (place_of place) c k)
+    Does script end old new r (reading.after_dollars (dollars_in script old) (due_in old) (place_of place) c k)
 named_does script end place c k old mid new r h s d =
     along script end old new r _ _ (sym (ap (λ v. behind v (c == 36) (dollars_in script old) (due_in old) (place_of place) c k) h))
     (emits script end (dollars_in script old) (reading.begin model.DollarBefore (due_in old) (place_of place) c k) old mid new r (s.tokens script) s.bodies
@@ -107,7 +107,7 @@ named_does script end place c k old mid new r h s d =
 pub bare_does : (script : List ℕ) (end : ℕ) (place : Place) (c : ℕ) (k : model.Class) (old mid new : Lexer) (r : Result State LexError) →
     (model.is_name_char c || (c == 39)) ≡ false → c ≢ 36 → Resolved reading.bare old mid →
     Does script end mid new r (reading.begin model.Apart (due_in mid) (place_of place) c k) →
-    Does script end old new r (reading.behind_dollars (dollars_in script old) (due_in old) (place_of place) c k)
+    Does script end old new r (reading.after_dollars (dollars_in script old) (due_in old) (place_of place) c k)
 bare_does script end place c k old mid new r h n s d =
     along script end old new r _ _
     (sym (ap (λ v. behind v (c == 36) (dollars_in script old) (due_in old) (place_of place) c k) h

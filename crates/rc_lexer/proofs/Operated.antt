@@ -42,7 +42,7 @@ pub dollar_does : (script : List ℕ) (end : ℕ) (prev : model.Before) (q place
     mid'.tokens.items ≡ mid.tokens.items → mid'.dollars.items ≡ mid.dollars.items ++ t ∷ [] → mid'.bodies.items ≡ mid.bodies.items →
     mid'.due.items ≡ mid.due.items →
     token_of script t ≡ model.token model.Dollar (place_of q) (place_of place) →
-    Does script end mid' new r (reading.behind_dollars (dollars_in script mid') (due_in mid') (place_of place) c k) →
+    Does script end mid' new r (reading.after_dollars (dollars_in script mid') (due_in mid') (place_of place) c k) →
     Does script end old new r (reading.operated prev (dollars_in script old) (place_of q) o (due_in old) (place_of place) c k)
 dollar_does script end prev q place kind o c k t old mid mid' new r e h ts kept mt md mb mq is d =
     let tok = model.token model.Dollar (place_of q) (place_of place) in
@@ -52,11 +52,11 @@ dollar_does script end prev q place kind o c k t old mid mid' new r e h ts kept 
     operated_along script end prev (dollars_in script old) (place_of q) o (Some model.Dollar) (due_in old) (place_of place) c k old new r
     (e [] [] ∙ ap (λ z. Some (lexeme_of [] z [])) h)
     (emits script end (model.caret prev model.Dollar (place_of q))
-    (reading.behind_dollars (dollars_in script old ++ tok ∷ []) (due_in old) (place_of place) c k) old mid' new r
+    (reading.after_dollars (dollars_in script old ++ tok ∷ []) (due_in old) (place_of place) c k) old mid' new r
     (ap (tokens_of script) mt ∙ ts script) (mb ∙ kept.bodies)
     (along script end mid' new r _ _
-    (ap (λ z. reading.behind_dollars z (due_in mid') (place_of place) c k) ds
-    ∙ ap (λ z. reading.behind_dollars (dollars_in script old ++ tok ∷ []) (map due_of z) (place_of place) c k) (mq ∙ kept.due)) d))
+    (ap (λ z. reading.after_dollars z (due_in mid') (place_of place) c k) ds
+    ∙ ap (λ z. reading.after_dollars (dollars_in script old ++ tok ∷ []) (map due_of z) (place_of place) c k) (mq ∙ kept.due)) d))
 
 -- a `$#` or a `$"`
 pub sigil_does : (script : List ℕ) (end : ℕ) (prev : model.Before) (q place : Place) (kind : TokenKind) (o : Option model.Lexeme) (c : ℕ)
@@ -66,7 +66,7 @@ pub sigil_does : (script : List ℕ) (end : ℕ) (prev : model.Before) (q place 
     mid'.tokens.items ≡ bared.tokens.items → mid'.dollars.items ≡ bared.dollars.items ++ t ∷ [] → mid'.bodies.items ≡ bared.bodies.items →
     mid'.due.items ≡ bared.due.items →
     token_of script t ≡ model.token (lexeme_of script kind (slice)) (place_of q) (place_of place) →
-    Does script end mid' new r (reading.behind_dollars (dollars_in script mid') (due_in mid') (place_of place) c k) →
+    Does script end mid' new r (reading.after_dollars (dollars_in script mid') (due_in mid') (place_of place) c k) →
     Does script end old new r (reading.operated prev (dollars_in script old) (place_of q) o (due_in old) (place_of place) c k)
 sigil_does script end prev q place kind o c k t slice old mid bared mid' new r e h ts kept b mt md mb mq is d = by h
   where
@@ -81,15 +81,15 @@ sigil_does script end prev q place kind o c k t slice old mid bared mid' new r e
 
     at : (l : model.Lexeme) → lexeme_of script kind (slice) ≡ l →
         Does script end old new r (reading.emit (model.caret prev model.Dollar (place_of q) ++ reading.bare (dollars_in script old))
-        (reading.behind_dollars (model.token l (place_of q) (place_of place) ∷ []) (due_in old) (place_of place) c k))
+        (reading.after_dollars (model.token l (place_of q) (place_of place) ∷ []) (due_in old) (place_of place) c k))
     at l f =
         emits script end (model.caret prev model.Dollar (place_of q) ++ reading.bare (dollars_in script old))
-        (reading.behind_dollars (model.token l (place_of q) (place_of place) ∷ []) (due_in old) (place_of place) c k) old mid' new r
+        (reading.after_dollars (model.token l (place_of q) (place_of place) ∷ []) (due_in old) (place_of place) c k) old mid' new r
         tokens (mb ∙ b.bodies ∙ kept.bodies)
         (along script end mid' new r _ _
-        (ap (λ z. reading.behind_dollars z (due_in mid') (place_of place) c k)
+        (ap (λ z. reading.after_dollars z (due_in mid') (place_of place) c k)
         (dollars ∙ ap (λ z. z ∷ []) (is ∙ ap (λ z. model.token z (place_of q) (place_of place)) f))
-        ∙ ap (λ z. reading.behind_dollars (model.token l (place_of q) (place_of place) ∷ []) (map due_of z) (place_of place) c k) (mq ∙ b.due ∙ kept.due)) d)
+        ∙ ap (λ z. reading.after_dollars (model.token l (place_of q) (place_of place) ∷ []) (map due_of z) (place_of place) c k) (mq ∙ b.due ∙ kept.due)) d)
 
     by : (kind ≡ tk.DollarCount) ⊎ (kind ≡ tk.DollarFlat) → Does script end old new r
         (reading.operated prev (dollars_in script old) (place_of q) o (due_in old) (place_of place) c k)

@@ -27,7 +27,7 @@ use Rattle.std.specs.Prelude.{Vec}
 use Rattle.rc_lexer.specs.Answers.{Reads}
 use Rattle.rc_lexer.specs.Lexed.{ReadTo}
 use Rattle.rc_lexer.specs.Classes.{class_is}
-use Rattle.rc_lexer.specs.Machine.{place_of, tokens_in, bodies_in, state_in, due_left, behind_step, IsHead, Does}
+use Rattle.rc_lexer.specs.Machine.{place_of, tokens_in, bodies_in, state_in, due_left, after_step, IsHead, Does}
 
 -- no zero at a character, and one
 pub zero_past : (line c : ℕ) (cs : List ℕ) → c ≢ 0 → reading.zero_line line (c ∷ cs) ≡ reading.zero_line (cond (c == 10) (suc line) line) cs
@@ -57,7 +57,7 @@ slice_grows script more a at c next h k e n =
 -- the character at hand stands in the script
 pub head_is : (script bs rest more : List ℕ) (c : ℕ) (class : Class) (place next : Place) → bs ≡ script → place.byte ≤ length script →
     drop place.byte script ≡ rest → rest ≡ encode_utf8 c ++ more →
-    place_of next ≡ model.behind_char (place_of place) c → class_is class ≡ model.class_of c →
+    place_of next ≡ model.after_char (place_of place) c → class_is class ≡ model.class_of c →
     IsHead bs (record { c = c; class = class; place = place; next = next })
 head_is script bs rest more c class place next b h e f n k =
     let byte : next.byte ≡ place.byte + len_utf8 c = ap (λ z. z.byte) n in
@@ -71,14 +71,14 @@ head_is script bs rest more c class place next b h e f n k =
     })
 
 join_follow : (ts : List model.Token) (bodies : List (List ℕ)) (x : Step) (f : reading.State → List model.Due → model.Outcome) →
-    model.join ts bodies (reading.follow x f) ≡ reading.follow (behind_step ts bodies x) f
+    model.join ts bodies (reading.follow x f) ≡ reading.follow (after_step ts bodies x) f
 join_follow ts bodies (Ok x) f = sym (join_join ts x.0 bodies x.1 (f x.2 x.3))
 join_follow ts bodies (Err e) f = refl
 
 -- one more character is read
 pub step_reads : (script bs : List ℕ) (rest more : List ℕ) (c : ℕ) (class : Class) (place next : Place) (old new : Lexer) (s s' : State)
     (whole : model.Outcome) → bs ≡ script →
-    chars rest ≡ c ∷ chars more → place_of next ≡ model.behind_char (place_of place) c → class_is class ≡ model.class_of c →
+    chars rest ≡ c ∷ chars more → place_of next ≡ model.after_char (place_of place) c → class_is class ≡ model.class_of c →
     Does bs next.byte old new (Ok s') (reading.step (state_in bs place.byte old s) (due_left old s) (place_of place) c (class_is class)) →
     model.join (tokens_in script old) (bodies_in script old)
     (reading.run (state_in script place.byte old s) (due_left old s) (place_of place) (chars rest)) ≡ whole →
@@ -98,7 +98,7 @@ step_reads script bs rest more c class place next old new s s' whole b e n k d w
     ∙ w
 
 pub rest_past : (script rest more : List ℕ) (c : ℕ) (place next : Place) → drop place.byte script ≡ rest → rest ≡ encode_utf8 c ++ more →
-    place_of next ≡ model.behind_char (place_of place) c → drop next.byte script ≡ more
+    place_of next ≡ model.after_char (place_of place) c → drop next.byte script ≡ more
 rest_past script rest more c place next e f n = ap (λ z. drop z.byte script) n ∙ drop_past_char script more place.byte c (e ∙ f)
 
 -- what comes of a script
@@ -121,19 +121,19 @@ pub tokens_are : (script : List ℕ) (ts us : List model.Token) (bodies : List (
 tokens_are script ts us bodies z e f = subst (λ x. model.IsCut script (Ok x)) (sym f) (lexed_is script None (Ok (ts, bodies)) z e)
 
 -- lines are no more than bytes
-pub lines_past : (c : ℕ) (place next : Place) → place_of next ≡ model.behind_char (place_of place) c → place.line ≤ place.byte + 1 → next.line ≤ next.byte + 1
+pub lines_past : (c : ℕ) (place next : Place) → place_of next ≡ model.after_char (place_of place) c → place.line ≤ place.byte + 1 → next.line ≤ next.byte + 1
 lines_past c place next n h = by (c == 10) (ap (λ z. z.line) n)
   where
     by : (b : Bool) → next.line ≡ cond b (suc place.line) place.line → next.line ≤ next.byte + 1
     by true e = omega (arith, ap (λ z. z.byte) n, (len_utf8_bounds c).0)
     by false e = omega (arith, ap (λ z. z.byte) n, (len_utf8_bounds c).0)
 
-pub left_past : (script rest more : List ℕ) (c : ℕ) (place next : Place) → rest ≡ encode_utf8 c ++ more → place_of next ≡ model.behind_char (place_of place) c →
+pub left_past : (script rest more : List ℕ) (c : ℕ) (place next : Place) → rest ≡ encode_utf8 c ++ more → place_of next ≡ model.after_char (place_of place) c →
     place.byte + length rest ≡ length script → next.byte + length more ≡ length script
 left_past script rest more c place next e n h = omega (arith, ap (λ z. z.byte) n, ap length e, length-append (encode_utf8 c) more, length-encode c)
 
 pub char_within : (script rest more : List ℕ) (c : ℕ) (place next : Place) → place.byte ≤ length script → drop place.byte script ≡ rest →
-    rest ≡ encode_utf8 c ++ more → place_of next ≡ model.behind_char (place_of place) c →
+    rest ≡ encode_utf8 c ++ more → place_of next ≡ model.after_char (place_of place) c →
     next.byte ≤ length script
 char_within script rest more c place next h e f n = let fits = char_fits script more place.byte c h (e ∙ f) in omega (arith, ap (λ z. z.byte) n)
 

@@ -94,20 +94,20 @@ Stands script end s = Unit {0}
 
 -- the character at hand stands in the script between its places
 pub record IsHead (script : List ℕ) (head : Head) : Type 0 where
-  pub next : place_of head.next ≡ model.behind_char (place_of head.place) head.c
+  pub next : place_of head.next ≡ model.after_char (place_of head.place) head.c
   pub reads : (a : ℕ) → a ≤ head.place.byte → slice_range script a head.next.byte ≡ slice_range script a head.place.byte ++ encode_utf8 head.c
   pub class : class_is head.class ≡ model.class_of head.c
   pub within : head.next.byte ≤ length script
 
 -- a step, with tokens and bodies before it
-abbrev pub behind_step : List model.Token → List (List ℕ) → Step → Step
-behind_step ts bodies (Ok x) = Ok (ts ++ x.0, bodies ++ x.1, x.2, x.3)
-behind_step ts bodies (Err f) = Err f
+abbrev pub after_step : List model.Token → List (List ℕ) → Step → Step
+after_step ts bodies (Ok x) = Ok (ts ++ x.0, bodies ++ x.1, x.2, x.3)
+after_step ts bodies (Err f) = Err f
 
 -- the lexer does this step of the machine, or memory ran out
 abbrev pub Does : List ℕ → ℕ → Lexer → Lexer → Result State LexError → Step → Type 0
 Does script end old new (Ok s) x =
-    behind_step (tokens_in script old) (bodies_in script old) x ≡ Ok (tokens_in script new, bodies_in script new, state_in script end new s, due_left new s)
+    after_step (tokens_in script old) (bodies_in script old) x ≡ Ok (tokens_in script new, bodies_in script new, state_in script end new s, due_left new s)
 Does script end old new (Err (Fault f)) x = x ≡ Err f
 Does script end old new (Err NoMemory) x = Unit {0}
 

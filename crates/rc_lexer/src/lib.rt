@@ -104,17 +104,17 @@ fn zero_line(script: &str) -> Option<usize>
         if c == '\0' {
             return Some(place.line);
         }
-        place = behind_char(place, c);
+        place = after_char(place, c);
         rest = more;
     }
     None
 }
 
 /// The place after a character.
-fn behind_char(place: Place, c: char) -> Place
+fn after_char(place: Place, c: char) -> Place
     requires byte { place.byte < 2 ^ 63 }
     requires line { place.line < 2 ^ 63 + 1 }
-    ensures { place_of result ≡ model.behind_char (place_of place) c }
+    ensures { place_of result ≡ model.after_char (place_of place) c }
 {
     Place {
         byte: place.byte + c.len_utf8(),
@@ -141,7 +141,7 @@ fn read(alloc: Global, script: &str) -> Result<Lexer, LexError>
             c,
             class: class_of(c),
             place,
-            next: behind_char(place, c),
+            next: after_char(place, c),
         };
         state = lexer.step(script.as_bytes(), state, head)?;
         place = head.next;

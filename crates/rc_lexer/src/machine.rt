@@ -127,8 +127,8 @@ fn joins(before: Before, kind: TokenKind) -> bool
     }
 }
 
-fn behind_blank(before: Before) -> Before
-    ensures { before_of result ≡ model.behind_blank (before_of before) }
+fn after_blank(before: Before) -> Before
+    ensures { before_of result ≡ model.after_blank (before_of before) }
 {
     match before {
         Before::Here(start, stop) => Before::Here(start, stop),
@@ -278,7 +278,7 @@ impl Lexer {
                 _ => Ok(state),
             },
             State::Backslash(begun) => match head.class {
-                Class::LineEnd => Ok(State::Between(behind_blank(begun.before))),
+                Class::LineEnd => Ok(State::Between(after_blank(begun.before))),
                 _ => self.in_word(script, begun, head),
             },
             State::WordBackslash(begun, stop) => match head.class {
@@ -296,7 +296,7 @@ impl Lexer {
             },
             State::Closed(begun) => match head.class {
                 Class::Quote => Ok(State::Quoted(begun)),
-                _ => self.behind_quoted(script, begun, head),
+                _ => self.after_quoted(script, begun, head),
             },
             State::Operator(begun) => self.in_operator(script, begun, head),
             State::Body(body, line) => self.in_body(script, body, line, head),
@@ -315,7 +315,7 @@ impl Lexer {
             start: head.place,
         };
         match head.class {
-            Class::Blank => Ok(State::Between(behind_blank(before))),
+            Class::Blank => Ok(State::Between(after_blank(before))),
             Class::Quote => Ok(State::Quoted(fresh)),
             Class::Backslash => Ok(State::Backslash(fresh)),
             Class::Ordinary if begins_name(before, head.c) => Ok(State::Name(head.place)),
@@ -463,7 +463,7 @@ impl Lexer {
     }
 
     /// The character after a quoted word that it ends.
-    fn behind_quoted(&mut self, script: &[u8], begun: Begun, head: Head) -> Result<State, LexError>
+    fn after_quoted(&mut self, script: &[u8], begun: Begun, head: Head) -> Result<State, LexError>
         requires head { IsHead script.now head }
         requires order { begun.start.byte ≤ head.place.byte }
         ensures does { Does script.now head.next.byte self.old self.new result
@@ -507,10 +507,10 @@ impl Lexer {
     }
 
     /// The character after `$`s whose name is still to come.
-    fn behind_dollars(&mut self, script: &[u8], head: Head) -> Result<State, LexError>
+    fn after_dollars(&mut self, script: &[u8], head: Head) -> Result<State, LexError>
         requires { IsHead script.now head }
         ensures does { Does script.now head.next.byte self.old self.new result
-            (reading.behind_dollars (dollars_in script.now self.old) (due_in self.old) (place_of head.place) head.c
+            (reading.after_dollars (dollars_in script.now self.old) (due_in self.old) (place_of head.place) head.c
             (class_is head.class)) }
         ensures stands { IfOk result (λ s. Stands script.now head.next.byte s) }
     {
@@ -547,13 +547,13 @@ impl Lexer {
             TokenKind::Dollar => {
                 self.caret(begun.before, begun.start)?;
                 self.dollars.push(token(kind, begun.start, head.place))?;
-                self.behind_dollars(script, head)
+                self.after_dollars(script, head)
             }
             TokenKind::DollarCount | TokenKind::DollarFlat => {
                 self.caret(begun.before, begun.start)?;
                 self.bare_dollars()?;
                 self.dollars.push(token(kind, begun.start, head.place))?;
-                self.behind_dollars(script, head)
+                self.after_dollars(script, head)
             }
             _ => {
                 let meant = meant(begun.before, kind);

@@ -254,10 +254,10 @@ pub redirect_alone : (redirs : Many t.redir) (body : Node t.cmd) (begins : Bool)
 unfolding cmd_text
 redirect_alone redirs body begins e = rw e (sym (led-joined (codes " ") (redir_texts redirs)))
 
-pub redirect_behind : (redirs : Many t.redir) (body : Node t.cmd) (begins : Bool) → is_empty body ≡ false → stands_first body begins ≡ true →
+pub redirect_after : (redirs : Many t.redir) (body : Node t.cmd) (begins : Bool) → is_empty body ≡ false → stands_first body begins ≡ true →
     cmd_text (t.Redirect redirs body) begins ≡ cmd_text body false ++ led (codes " ") (codes " ") (redir_texts redirs)
 unfolding cmd_text
-redirect_behind redirs body begins e f = rw (e, f, led-each) refl
+redirect_after redirs body begins e f = rw (e, f, led-each) refl
 
 pub redirect_before : (redirs : Many t.redir) (body : Node t.cmd) (begins : Bool) → is_empty body ≡ false → stands_first body begins ≡ false →
     cmd_text (t.Redirect redirs body) begins ≡ trailed (redir_texts redirs) ++ cmd_text body false
@@ -311,7 +311,7 @@ pub ruleset writing = (
   assign_alone,
   assign_before,
   redirect_alone,
-  redirect_behind,
+  redirect_after,
   redirect_before,
   behind-append,
   parting_after-append,

@@ -60,7 +60,7 @@ fn print_cmd(out: &mut String, cmd: &Cmd, begins: bool) -> Result<(), AllocError
             if is_empty(body) {
                 Ok(())
             } else {
-                print_behind(out, " ", body)
+                print_after(out, " ", body)
             }
         }
         Cmd::Redirect(redirs, body) => {
@@ -82,35 +82,35 @@ fn print_cmd(out: &mut String, cmd: &Cmd, begins: bool) -> Result<(), AllocError
             print_cmd(out, first, begins)?;
             print_links(out, links)
         }
-        Cmd::Not(body) => print_behind(out, "! ", body),
-        Cmd::Subshell(body) => print_behind(out, "@ ", body),
+        Cmd::Not(body) => print_after(out, "! ", body),
+        Cmd::Subshell(body) => print_after(out, "@ ", body),
         Cmd::If(condition, body) => {
-            print_behind(out, "if(", condition)?;
-            print_behind(out, ") ", body)
+            print_after(out, "if(", condition)?;
+            print_after(out, ") ", body)
         }
-        Cmd::IfNot(body) => print_behind(out, "if not ", body),
+        Cmd::IfNot(body) => print_after(out, "if not ", body),
         Cmd::While(condition, body) => {
-            print_behind(out, "while(", condition)?;
-            print_behind(out, ") ", body)
+            print_after(out, "while(", condition)?;
+            print_after(out, ") ", body)
         }
         Cmd::ForAll(name, body) => {
-            print_arg_behind(out, "for(", name)?;
-            print_behind(out, ") ", body)
+            print_arg_after(out, "for(", name)?;
+            print_after(out, ") ", body)
         }
         Cmd::For(name, words, body) => {
-            print_arg_behind(out, "for(", name)?;
+            print_arg_after(out, "for(", name)?;
             out.push_str(" in ")?;
             print_args(out, words, "", " ")?;
-            print_behind(out, ") ", body)
+            print_after(out, ") ", body)
         }
         Cmd::Switch(subject, branches) => {
-            print_arg_behind(out, "switch ", subject)?;
+            print_arg_after(out, "switch ", subject)?;
             out.push_str(" {")?;
             print_branches(out, branches)?;
             out.push_str("}")
         }
         Cmd::Match(subject, patterns) => {
-            print_arg_behind(out, "~ ", subject)?;
+            print_arg_after(out, "~ ", subject)?;
             print_args(out, patterns, " ", " ")
         }
         Cmd::Define(names, body) => {
@@ -127,7 +127,7 @@ fn print_cmd(out: &mut String, cmd: &Cmd, begins: bool) -> Result<(), AllocError
 }
 
 #[cycle(print)]
-fn print_behind(out: &mut String, text: &str, cmd: &Cmd) -> Result<(), AllocError>
+fn print_after(out: &mut String, text: &str, cmd: &Cmd) -> Result<(), AllocError>
     ensures { OnOk result (string_bytes out.new
         ≡ string_bytes out.old ++ (text.now ++ cmd_text (cmd_tree cmd.now) false)) }
 {
@@ -147,7 +147,7 @@ fn print_braced(out: &mut String, text: &str, cmd: &Cmd) -> Result<(), AllocErro
 }
 
 #[cycle(print)]
-fn print_arg_behind(out: &mut String, text: &str, arg: &Arg) -> Result<(), AllocError>
+fn print_arg_after(out: &mut String, text: &str, arg: &Arg) -> Result<(), AllocError>
     ensures { OnOk result (string_bytes out.new ≡ string_bytes out.old ++ (text.now ++ arg_text (arg_tree arg.now))) }
 {
     out.push_str(text)?;
@@ -167,11 +167,11 @@ fn print_arg(out: &mut String, arg: &Arg) -> Result<(), AllocError>
             print_args(out, words, "", " ")?;
             out.push_str(")")
         }
-        Arg::Var(name) => print_arg_behind(out, "$", name),
-        Arg::Count(name) => print_arg_behind(out, "$#", name),
-        Arg::Flat(name) => print_arg_behind(out, "$\"", name),
+        Arg::Var(name) => print_arg_after(out, "$", name),
+        Arg::Count(name) => print_arg_after(out, "$#", name),
+        Arg::Flat(name) => print_arg_after(out, "$\"", name),
         Arg::Sub(name, subscripts) => {
-            print_arg_behind(out, "$", name)?;
+            print_arg_after(out, "$", name)?;
             out.push_str("(")?;
             print_args(out, subscripts, "", " ")?;
             out.push_str(")")
@@ -186,7 +186,7 @@ fn print_redir(out: &mut String, redir: &Redir) -> Result<(), AllocError>
     ensures { OnOk result (string_bytes out.new ≡ string_bytes out.old ++ redir_text (redir_tree redir.now)) }
 {
     match redir {
-        Redir::Open { mode, slot, file } => print_arg_behind(out, opening(*mode, *slot), file),
+        Redir::Open { mode, slot, file } => print_arg_after(out, opening(*mode, *slot), file),
         Redir::Copy { to, from } => out.push_str(copying(*to, *from)),
         // no tree that is written has one
         Redir::Here(_) => Ok(()),
@@ -217,8 +217,8 @@ fn print_pairs(out: &mut String, pairs: &[(Arg, Arg)]) -> Result<(), AllocError>
 {
     let mut between = "";
     for x in pairs {
-        print_arg_behind(out, between, &x.0)?;
-        print_arg_behind(out, "=", &x.1)?;
+        print_arg_after(out, between, &x.0)?;
+        print_arg_after(out, "=", &x.1)?;
         between = " ";
     }
     Ok(())
@@ -273,7 +273,7 @@ fn print_links(out: &mut String, links: &[(Logic, Cmd)]) -> Result<(), AllocErro
     ensures { OnOk result (string_bytes out.new ≡ string_bytes out.old ++ links_text (links_tree links.now)) }
 {
     for x in links {
-        print_behind(out, sign(x.0), &x.1)?;
+        print_after(out, sign(x.0), &x.1)?;
     }
     Ok(())
 }

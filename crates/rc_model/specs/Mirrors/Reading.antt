@@ -57,8 +57,8 @@ begin_line ts bodies (d ∷ due) = Ok (ts, bodies, Body d [] [], due)
 -- what a character begins
 abbrev pub begin : Before → List Due → Place → ℕ → Class → Step
 begin prev due p c t.Operates = goes (bare_here prev) (Operator (without_here prev) [] p (c ∷ [])) due
-begin prev due p c t.Blank = goes [] (Between (t.behind_blank prev)) due
-begin prev due p c t.LineEnd = begin_line (bare_here prev ++ t.token t.Newline p (t.behind_char p c) ∷ []) [] due
+begin prev due p c t.Blank = goes [] (Between (t.after_blank prev)) due
+begin prev due p c t.LineEnd = begin_line (bare_here prev ++ t.token t.Newline p (t.after_char p c) ∷ []) [] due
 begin prev due p c t.Hash = goes (bare_here prev) Comment due
 begin prev due p c t.Quote = goes [] (Quoted prev p (encode_utf8 c)) due
 begin prev due p c t.Backslash = goes [] (Backslash prev p) due
@@ -79,8 +79,8 @@ abbrev pub bare : List Token → List Token
 bare dollars = map (λ d. record { lexeme = t.BareDollar; start = d.start; stop = d.stop; line = d.line }) dollars
 
 -- after `$`s: a name begins, a further `$`, or they are bare
-abbrev pub behind_dollars : List Token → List Due → Place → ℕ → Class → Step
-behind_dollars dollars due p c k =
+abbrev pub after_dollars : List Token → List Due → Place → ℕ → Class → Step
+after_dollars dollars due p c k =
     if t.is_name_char c || (c == 39) then emit dollars (begin t.DollarBefore due p c k)
     else (if c == 36 then goes [] (Operator t.DollarBefore dollars p (c ∷ [])) due else emit (bare dollars) (begin t.Apart due p c k))
 
@@ -88,9 +88,9 @@ behind_dollars dollars due p c k =
 abbrev pub operated : Before → List Token → Place → Option Lexeme → List Due → Place → ℕ → Class → Step
 operated prev dollars q None due p c k = Err (t.fault t.BadDescriptor q.line)
 operated prev dollars q (Some t.BareHere) due p c k = begin (t.HereBefore q p) due p c k
-operated prev dollars q (Some t.Dollar) due p c k = emit (t.caret prev t.Dollar q) (behind_dollars (dollars ++ t.token t.Dollar q p ∷ []) due p c k)
-operated prev dollars q (Some t.DollarCount) due p c k = emit (t.caret prev t.Dollar q ++ bare dollars) (behind_dollars (t.token t.DollarCount q p ∷ []) due p c k)
-operated prev dollars q (Some t.DollarFlat) due p c k = emit (t.caret prev t.Dollar q ++ bare dollars) (behind_dollars (t.token t.DollarFlat q p ∷ []) due p c k)
+operated prev dollars q (Some t.Dollar) due p c k = emit (t.caret prev t.Dollar q) (after_dollars (dollars ++ t.token t.Dollar q p ∷ []) due p c k)
+operated prev dollars q (Some t.DollarCount) due p c k = emit (t.caret prev t.Dollar q ++ bare dollars) (after_dollars (t.token t.DollarCount q p ∷ []) due p c k)
+operated prev dollars q (Some t.DollarFlat) due p c k = emit (t.caret prev t.Dollar q ++ bare dollars) (after_dollars (t.token t.DollarFlat q p ∷ []) due p c k)
 operated prev dollars q (Some l) due p c k = ends prev (t.meant prev [] l) q due p c k
 
 -- one character
@@ -98,7 +98,7 @@ abbrev pub step : State → List Due → Place → ℕ → Class → Step
 step (Between prev) due p c k = begin prev due p c k
 step Comment due p c t.LineEnd = begin t.Apart due p c t.LineEnd
 step Comment due p c k = goes [] Comment due
-step (Backslash prev q) due p c t.LineEnd = goes [] (Between (t.behind_blank prev)) due
+step (Backslash prev q) due p c t.LineEnd = goes [] (Between (t.after_blank prev)) due
 step (Backslash prev q) due p c k = in_word prev q (92 ∷ []) due p c k
 step (WordBackslash prev q text end) due p c t.LineEnd = goes (t.tokens_of prev (t.Word text) q end) (Between t.Apart) (t.due_after prev (t.Word text) due)
 step (WordBackslash prev q text end) due p c k = in_word prev q (text ++ 92 ∷ []) due p c k
@@ -149,7 +149,7 @@ follow (Err f) then' = Err f
 -- the rest of a text
 abbrev pub run : State → List Due → Place → List ℕ → Outcome
 run s due p [] = finish s due p
-run s due p (c ∷ cs) = follow (step s due p c (t.class_of c)) (λ s' due'. run s' due' (t.behind_char p c) cs)
+run s due p (c ∷ cs) = follow (step s due p c (t.class_of c)) (λ s' due'. run s' due' (t.after_char p c) cs)
 
 -- the line of the first byte 0
 abbrev pub zero_line : ℕ → List ℕ → Option ℕ

@@ -62,13 +62,13 @@ abbrev pub first_place : Place
 first_place = record { byte = 0; line = 1 }
 
 -- the place after a character, and after several
-abbrev pub behind_char : Place → ℕ → Place
-behind_char p c = record { byte = p.byte + len_utf8 c; line = if c == 10 then suc p.line else p.line }
+abbrev pub after_char : Place → ℕ → Place
+after_char p c = record { byte = p.byte + len_utf8 c; line = if c == 10 then suc p.line else p.line }
 
 -- after several characters
-abbrev pub behind_chars : Place → List ℕ → Place
-behind_chars p [] = p
-behind_chars p (c ∷ cs) = behind_chars (behind_char p c) cs
+abbrev pub after_chars : Place → List ℕ → Place
+after_chars p [] = p
+after_chars p (c ∷ cs) = after_chars (after_char p c) cs
 
 -- the token between two places
 abbrev pub token : Lexeme → Place → Place → Token
@@ -199,9 +199,9 @@ awaits_mark (HereBefore p q) = true
 awaits_mark _ = false
 
 -- blanks may stand before a mark
-abbrev pub behind_blank : Before → Before
-behind_blank (HereBefore p q) = HereBefore p q
-behind_blank _ = Apart
+abbrev pub after_blank : Before → Before
+after_blank (HereBefore p q) = HereBefore p q
+after_blank _ = Apart
 
 -- the character begins a name
 abbrev pub begins_name : Before → ℕ → Bool
@@ -344,15 +344,15 @@ pub data Cuts : Before → List Due → Place → List ℕ → Outcome → Type 
   open_here : (prev : Before) (d : Due) (due : List Due) (p : Place) → awaits_mark prev ≡ false → Cuts prev (d ∷ due) p [] (Err (fault OpenHere d.line))
   -- a blank, a newline after a backslash, and a comment
   blank : (prev : Before) (due : List Due) (p : Place) (c : ℕ) (cs : List ℕ) (o : Outcome) → class_of c ≡ Blank →
-      Cuts (behind_blank prev) due (behind_char p c) cs o → Cuts prev due p (c ∷ cs) o
+      Cuts (after_blank prev) due (after_char p c) cs o → Cuts prev due p (c ∷ cs) o
   continued : (prev : Before) (due : List Due) (p : Place) (cs : List ℕ) (o : Outcome) →
-      Cuts (behind_blank prev) due (behind_chars p (92 ∷ 10 ∷ [])) cs o → Cuts prev due p (92 ∷ 10 ∷ cs) o
+      Cuts (after_blank prev) due (after_chars p (92 ∷ 10 ∷ [])) cs o → Cuts prev due p (92 ∷ 10 ∷ cs) o
   comment : (prev : Before) (due : List Due) (p : Place) (cs rest : List ℕ) (o : Outcome) → awaits_mark prev ≡ false → Run line_goes_on cs rest →
-      Cuts Apart due (behind_chars p (35 ∷ cs)) rest o → Cuts prev due p (35 ∷ cs ++ rest) o
+      Cuts Apart due (after_chars p (35 ∷ cs)) rest o → Cuts prev due p (35 ∷ cs ++ rest) o
   -- a word, a name, an operator
   lexeme : (prev : Before) (due : List Due) (p : Place) (cs rest : List ℕ) (l : Lexeme) (o : Outcome) → Spells prev cs rest l →
-      Cuts (as_before prev l) (due_after prev l due) (behind_chars p cs) rest o →
-      Cuts prev due p (cs ++ rest) (join (tokens_of prev l p (behind_chars p cs)) [] o)
+      Cuts (as_before prev l) (due_after prev l due) (after_chars p cs) rest o →
+      Cuts prev due p (cs ++ rest) (join (tokens_of prev l p (after_chars p cs)) [] o)
   open_quote : (prev : Before) (due : List Due) (p : Place) (cs : List ℕ) → InQuotes cs → Cuts prev due p (39 ∷ cs) (Err (fault OpenQuote p.line))
   bad_descriptor : (prev : Before) (due : List Due) (p : Place) (c : ℕ) (cs rest : List ℕ) → awaits_mark prev ≡ false → begins_operator (c ∷ cs) ≡ true →
       operator (c ∷ cs) ≡ None →
@@ -360,13 +360,13 @@ pub data Cuts : Before → List Due → Place → List ℕ → Outcome → Type 
   -- a `<<`, and one without a mark
   here : (prev : Before) (due : List Due) (p : Place) (cs rest : List ℕ) (o : Outcome) → awaits_mark prev ≡ false → operator cs ≡ Some BareHere →
       goes_on cs rest ≡ false →
-      Cuts (HereBefore p (behind_chars p cs)) due (behind_chars p cs) rest o → Cuts prev due p (cs ++ rest) o
+      Cuts (HereBefore p (after_chars p cs)) due (after_chars p cs) rest o → Cuts prev due p (cs ++ rest) o
   no_mark : (begin end : Place) (due : List Due) (p : Place) (text : List ℕ) (o : Outcome) → mark_goes_on text ≡ false →
       Cuts Apart due p text o → Cuts (HereBefore begin end) due p text (join (token BareHere begin end ∷ []) [] o)
   -- a newline with the bodies that are due
   newline : (prev : Before) (due : List Due) (p : Place) (cs rest : List ℕ) (bodies : List (List ℕ)) (o : Outcome) → awaits_mark prev ≡ false →
       Bodies due cs rest bodies →
-      Cuts Apart [] (behind_chars p (10 ∷ cs)) rest o → Cuts prev due p (10 ∷ cs ++ rest) (join (token Newline p (behind_char p 10) ∷ []) bodies o)
+      Cuts Apart [] (after_chars p (10 ∷ cs)) rest o → Cuts prev due p (10 ∷ cs ++ rest) (join (token Newline p (after_char p 10) ∷ []) bodies o)
   open_body : (prev : Before) (due : List Due) (p : Place) (rest : List ℕ) (line : ℕ) → awaits_mark prev ≡ false → OpenBody due rest line →
       Cuts prev due p (10 ∷ rest) (Err (fault OpenHere line))
 
@@ -399,7 +399,7 @@ has_no_zero cs = list_all (λ c. not (c == 0)) cs
 
 -- The text has these tokens, or this is its first fault. A byte 0 is looked for first.
 pub data Lexes (text : List ℕ) : Result (List Token) SyntaxFault → Type 0 where
-  zero_byte : (cs rest : List ℕ) → chars text ≡ cs ++ 0 ∷ rest → has_no_zero cs ≡ true → Lexes text (Err (fault ZeroByte (behind_chars first_place cs).line))
+  zero_byte : (cs rest : List ℕ) → chars text ≡ cs ++ 0 ∷ rest → has_no_zero cs ≡ true → Lexes text (Err (fault ZeroByte (after_chars first_place cs).line))
   cut : (o : Outcome) → has_no_zero (chars text) ≡ true → Cuts Apart [] first_place (chars text) o → Lexes text (result_of o)
 
 -- this and nothing else comes of the text

@@ -8,7 +8,7 @@ use Rattle.rc_model.specs.Syntax.Text.{text_cmp}
 use Rattle.rc_scope.specs.States.{state_of}
 use Rattle.rc_builtin.proofs.Entries.{to_come, handed, handed_on, turn_with_status, turn_before_status, turn_at_status, some_texts}
 use Rattle.rc_builtin.proofs.environment.entries.Goals as goal
-use Rattle.rc_builtin.proofs.environment.entries.Goals.{then-not-has_status+then-is_behind_status+in_ok-status_entry+in_ok-push, else-not-has_status, else-not-has_status-via-then-not-has_status+else-is_behind_status, else-not-has_status-via-else-not-has_status}
+use Rattle.rc_builtin.proofs.environment.entries.Goals.{then-not-has_status+then-is_after_status+in_ok-status_entry+in_ok-push, else-not-has_status, else-not-has_status-via-then-not-has_status+else-is_after_status, else-not-has_status-via-else-not-has_status}
 
 pub loop-name-init : goal.loop-name-init
 unfolding state_of
@@ -32,7 +32,7 @@ loop-name-preserved c =
     let e : string_bytes c.in_ok-entry.field-0 ≡ entry b = search rules in
     let more : map string_bytes c.push-in-loop-name.new.self.items ≡ map string_bytes c.if-not-has_status.all.items ++ string_bytes c.in_ok-entry.field-0 ∷ [] = grind (arith, common_steps) in
     elim c.if-not-has_status.branch [
-      | then-not-has_status+then-is_behind_status+in_ok-status_entry+in_ok-push v ↦
+      | then-not-has_status+then-is_after_status+in_ok-status_entry+in_ok-push v ↦
           let none_yet : c.loop-name.has_status ≡ false = search rules in
           let now_there : c.if-not-has_status.has_status ≡ true = search rules in
           let x : string_bytes v.in_ok-status_entry.field-0 ≡ entry (status_name, value_text (status ∷ [])) = search rules in
@@ -41,7 +41,7 @@ loop-name-preserved c =
           rw (more, now_there) (turn_with_status (map string_bytes c.if-not-has_status.all.items) all status (string_bytes c.in_ok-entry.field-0) b rest e
           (turn_at_status w (map string_bytes c.if-not-has_status.all.items) all status (string_bytes v.in_ok-status_entry.field-0) b rest put x lt (rw none_yet at turn)))
       | else-not-has_status v ↦ elim v.else-not-has_status.branch [
-        | else-not-has_status-via-then-not-has_status+else-is_behind_status u ↦
+        | else-not-has_status-via-then-not-has_status+else-is_after_status u ↦
             let none_yet : c.loop-name.has_status ≡ false = search rules in
             let none_still : c.if-not-has_status.has_status ≡ false = search rules in
             let lt : is_lt (text_cmp status_name b.0) ≡ false = search rules in

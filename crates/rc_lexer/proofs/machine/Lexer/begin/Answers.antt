@@ -3,7 +3,7 @@ use Rattle.rc_model.specs.Syntax.Tokens as model
 use Rattle.rc_model.specs.Mirrors.Reading as reading
 use Rattle.rc_lexer.specs.Views.{slice_at, token_of}
 use Rattle.rc_lexer.specs.Classes.{class_is}
-use Rattle.rc_lexer.specs.Machine.{place_of, before_of, due_in, tokens_in, bodies_in, behind_step}
+use Rattle.rc_lexer.specs.Machine.{place_of, before_of, due_in, tokens_in, bodies_in, after_step}
 use Rattle.rc_lexer.proofs.Steps.{newline_step, tokens_pushed}
 use Rattle.rc_lexer.proofs.machine.Lexer.begin.Goals as goal
 
@@ -12,8 +12,8 @@ returns-in_ok-push-in-LineEnd-clause-does c =
     let script = c.args.script.now in
     let old = c.args.self.now in
     let head = c.args.head in
-    let nl = model.token model.Newline (place_of head.place) (model.behind_char (place_of head.place) head.c) in
-    ap (λ k. behind_step (tokens_in script old) (bodies_in script old)
+    let nl = model.token model.Newline (place_of head.place) (model.after_char (place_of head.place) head.c) in
+    ap (λ k. after_step (tokens_in script old) (bodies_in script old)
     (reading.begin (before_of c.args.before) (due_in old) (place_of head.place) head.c (class_is k))) c.in-LineEnd.is
     ∙ newline_step script head.next.byte head.next.byte _ old.due.items _ _ (tokens_in script old) (reading.bare_here (before_of c.args.before)) _ _
     nl (bodies_in script old) _

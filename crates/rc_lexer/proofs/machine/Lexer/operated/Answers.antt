@@ -12,23 +12,23 @@ returns-in-BareHere-clause-does c = here_does _ _ _ _ _ _ _ _ _ _ _ c.args.self.
 pub returns-in_ok-push-in-Dollar-clause-does : goal.returns-in_ok-push-in-Dollar-clause-does
 returns-in_ok-push-in-Dollar-clause-does c =
     dollar_does c.args.script.now _ _ c.args.begun.start c.args.head.place c.in-Some.kind _ _ _ c.token.result c.args.self.now c.caret.new.self
-    (record c.caret.new.self { dollars = c.push.new.self }) c.behind_dollars.new.self _
+    (record c.caret.new.self { dollars = c.push.new.self }) c.after_dollars.new.self _
     c.in-Some.ensures c.in-Dollar.is c.in_ok-caret-in-Dollar.ensures.tokens c.in_ok-caret-in-Dollar.ensures.rest refl
     c.in_ok-push-in-Dollar.ensures.items refl refl
     (ap (token_of c.args.script.now) c.token.ensures
     ∙ ap (λ k. model.token (lexeme_of c.args.script.now k (slice_range c.args.script.now c.args.begun.start.byte c.args.head.place.byte))
     (place_of c.args.begun.start) (place_of c.args.head.place)) c.in-Dollar.is)
-    c.behind_dollars.ensures.does
+    c.after_dollars.ensures.does
 
 pub returns-in_ok-push-in-DollarCount-clause-does : goal.returns-in_ok-push-in-DollarCount-clause-does
 returns-in_ok-push-in-DollarCount-clause-does c =
     sigil_does c.args.script.now _ _ c.args.begun.start c.args.head.place c.in-Some.kind _ _ _ c.token-in-DollarCount.result
     (slice_range c.args.script.now c.args.begun.start.byte c.args.head.place.byte) c.args.self.now c.caret-in-DollarCount.new.self c.bare_dollars.new.self
-    (record c.bare_dollars.new.self { dollars = c.push-in-DollarCount.new.self }) c.behind_dollars-in-DollarCount.new.self _
+    (record c.bare_dollars.new.self { dollars = c.push-in-DollarCount.new.self }) c.after_dollars-in-DollarCount.new.self _
     c.in-Some.ensures c.in-DollarCount.is c.in_ok-caret-in-DollarCount.ensures.tokens c.in_ok-caret-in-DollarCount.ensures.rest
     c.in_ok-bare_dollars-in-DollarCount.ensures
     refl c.in_ok-push-in-DollarCount.ensures.items refl refl (ap (token_of c.args.script.now) c.token-in-DollarCount.ensures)
-    c.behind_dollars-in-DollarCount.ensures.does
+    c.after_dollars-in-DollarCount.ensures.does
 
 pub returns-in_ok-lexeme-in_default-kind : goal.returns-in_ok-lexeme-in_default-kind
 returns-in_ok-lexeme-in_default-kind c = record {

@@ -1,6 +1,6 @@
 use Rattle.std.proofs.Common.{sym, ◌∙◌}
 use Rattle.rc_lexer.proofs.Does.{named_does, bare_does}
-use Rattle.rc_lexer.proofs.machine.Lexer.behind_dollars.Goals as goal
+use Rattle.rc_lexer.proofs.machine.Lexer.after_dollars.Goals as goal
 
 pub returns-then-names-clause-does : goal.returns-then-names-clause-does
 returns-then-names-clause-does c =
