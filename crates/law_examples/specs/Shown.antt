@@ -1,11 +1,13 @@
--- How a worked example is written: the text of a script, the state that it begins in, its calls with their answers, and what it comes to.
+-- How a worked example is written: the text of a script, the state that it begins in, its calls with their answers, and
+-- what it comes to.
 use Rattle.std.proofs.Common.{◌≡◌, List, [], ◌∷◌, ◌++◌}
 use Rattle.std.proofs.Math.Utf8.{encode}
 use Rattle.std.specs.Prelude.{ℕ, true, codes, Some, None, Option, option_map}
 use Rattle.std.specs.Str.{chars, is_utf8}
 use Rattle.std.specs.Fmt.{digits}
 use Rattle.std.specs.Str.Lossy.{utf8_lossy, utf8_valid_len, utf8_error_len}
-use Rattle.rc_model.specs.Run.Calls.{Call, Answer, Event, event, calls, answers, plain, to_file, Launch, probe, start, wait, found, child, ended}
+use Rattle.rc_model.specs.Run.Calls.{Call, Answer, Event, event, calls, answers, plain, to_file, Launch, probe, start}
+use Rattle.rc_model.specs.Run.Calls.{wait, found, child, ended}
 use Rattle.rc_model.specs.declared.call.Slot.{Slot}
 use Rattle.rc_model.specs.declared.call.Slots.{Slots}
 use Rattle.rc_model.specs.declared.call.Kind.TheVariants.{Program}
@@ -16,8 +18,38 @@ use Rattle.rc_model.specs.Run.Script.{script, run}
 use Rattle.rc_model.specs.Syntax.Tree.{Node, cmd}
 use Rattle.rc_model.specs.Code.Layout.{Op, code}
 use Rattle.rc_model.specs.Mirrors.TreeOfText.{tree_of}
-use Rattle.rc_model.specs.Mirrors.Descent.{arg_by as Descent_arg_by, assigned_by as Descent_assigned_by, block_by as Descent_block_by, body_by as Descent_body_by, brace_by as Descent_brace_by, branch_by as Descent_branch_by, branches_by as Descent_branches_by, branches_from as Descent_branches_from, command_by as Descent_command_by, control_by as Descent_control_by, define_by as Descent_define_by, dollar_by as Descent_dollar_by, first_by as Descent_first_by, for_by as Descent_for_by, if_by as Descent_if_by, item_end as Descent_item_end, items_by as Descent_items_by, items_from as Descent_items_from, leading_by as Descent_leading_by, links_by as Descent_links_by, links_from as Descent_links_from, match_by as Descent_match_by, members_by as Descent_members_by, members_from as Descent_members_from, name_by as Descent_name_by, opening_by as Descent_opening_by, operand_by as Descent_operand_by, optional_by as Descent_optional_by, over_by as Descent_over_by, paren_by as Descent_paren_by, part_by as Descent_part_by, parts_by as Descent_parts_by, parts_from as Descent_parts_from, pipe_by as Descent_pipe_by, pipe_from as Descent_pipe_from, piped_by as Descent_piped_by, read as Descent_read, read_by as Descent_read_by, redir_by as Descent_redir_by, redirected_by as Descent_redirected_by, redirs_by as Descent_redirs_by, redirs_from as Descent_redirs_from, script_tree as Descent_script_tree, simple_by as Descent_simple_by, simple_from as Descent_simple_from, switch_by as Descent_switch_by, values_by as Descent_values_by, values_from as Descent_values_from, while_by as Descent_while_by, worded_by as Descent_worded_by, words_by as Descent_words_by, words_from as Descent_words_from}
-use Rattle.rc_model.specs.Syntax.Printing.{arg_text as Printing_arg_text, arg_texts as Printing_arg_texts, branch_items as Printing_branch_items, branch_lines as Printing_branch_lines, cmd_text as Printing_cmd_text, item_lines as Printing_item_lines, links_text as Printing_links_text, pair_texts as Printing_pair_texts, redir_text as Printing_redir_text, redir_texts as Printing_redir_texts, stages_text as Printing_stages_text}
+use Rattle.rc_model.specs.Mirrors.Descent.{arg_by as Descent_arg_by, assigned_by as Descent_assigned_by}
+use Rattle.rc_model.specs.Mirrors.Descent.{block_by as Descent_block_by, body_by as Descent_body_by}
+use Rattle.rc_model.specs.Mirrors.Descent.{brace_by as Descent_brace_by, branch_by as Descent_branch_by}
+use Rattle.rc_model.specs.Mirrors.Descent.{branches_by as Descent_branches_by, branches_from as Descent_branches_from}
+use Rattle.rc_model.specs.Mirrors.Descent.{command_by as Descent_command_by, control_by as Descent_control_by}
+use Rattle.rc_model.specs.Mirrors.Descent.{define_by as Descent_define_by, dollar_by as Descent_dollar_by}
+use Rattle.rc_model.specs.Mirrors.Descent.{first_by as Descent_first_by, for_by as Descent_for_by}
+use Rattle.rc_model.specs.Mirrors.Descent.{if_by as Descent_if_by, item_end as Descent_item_end}
+use Rattle.rc_model.specs.Mirrors.Descent.{items_by as Descent_items_by, items_from as Descent_items_from}
+use Rattle.rc_model.specs.Mirrors.Descent.{leading_by as Descent_leading_by, links_by as Descent_links_by}
+use Rattle.rc_model.specs.Mirrors.Descent.{links_from as Descent_links_from, match_by as Descent_match_by}
+use Rattle.rc_model.specs.Mirrors.Descent.{members_by as Descent_members_by, members_from as Descent_members_from}
+use Rattle.rc_model.specs.Mirrors.Descent.{name_by as Descent_name_by, opening_by as Descent_opening_by}
+use Rattle.rc_model.specs.Mirrors.Descent.{operand_by as Descent_operand_by, optional_by as Descent_optional_by}
+use Rattle.rc_model.specs.Mirrors.Descent.{over_by as Descent_over_by, paren_by as Descent_paren_by}
+use Rattle.rc_model.specs.Mirrors.Descent.{part_by as Descent_part_by, parts_by as Descent_parts_by}
+use Rattle.rc_model.specs.Mirrors.Descent.{parts_from as Descent_parts_from, pipe_by as Descent_pipe_by}
+use Rattle.rc_model.specs.Mirrors.Descent.{pipe_from as Descent_pipe_from, piped_by as Descent_piped_by}
+use Rattle.rc_model.specs.Mirrors.Descent.{read as Descent_read, read_by as Descent_read_by}
+use Rattle.rc_model.specs.Mirrors.Descent.{redir_by as Descent_redir_by, redirected_by as Descent_redirected_by}
+use Rattle.rc_model.specs.Mirrors.Descent.{redirs_by as Descent_redirs_by, redirs_from as Descent_redirs_from}
+use Rattle.rc_model.specs.Mirrors.Descent.{script_tree as Descent_script_tree, simple_by as Descent_simple_by}
+use Rattle.rc_model.specs.Mirrors.Descent.{simple_from as Descent_simple_from, switch_by as Descent_switch_by}
+use Rattle.rc_model.specs.Mirrors.Descent.{values_by as Descent_values_by, values_from as Descent_values_from}
+use Rattle.rc_model.specs.Mirrors.Descent.{while_by as Descent_while_by, worded_by as Descent_worded_by}
+use Rattle.rc_model.specs.Mirrors.Descent.{words_by as Descent_words_by, words_from as Descent_words_from}
+use Rattle.rc_model.specs.Syntax.Printing.{arg_text as Printing_arg_text, arg_texts as Printing_arg_texts}
+use Rattle.rc_model.specs.Syntax.Printing.{branch_items as Printing_branch_items, branch_lines as Printing_branch_lines}
+use Rattle.rc_model.specs.Syntax.Printing.{cmd_text as Printing_cmd_text, item_lines as Printing_item_lines}
+use Rattle.rc_model.specs.Syntax.Printing.{links_text as Printing_links_text, pair_texts as Printing_pair_texts}
+use Rattle.rc_model.specs.Syntax.Printing.{redir_text as Printing_redir_text, redir_texts as Printing_redir_texts}
+use Rattle.rc_model.specs.Syntax.Printing.{stages_text as Printing_stages_text}
 use Rattle.rc_model.specs.Run.Patterns.{matches}
 use Rattle.rc_model.specs.Run.Acts.{longest_file, longest_output}
 use Rattle.rc_model.specs.Handed.TreeReading.{cmd_at, arg_at}
@@ -77,7 +109,8 @@ infix 68 ◌▸◌
 abbrev pub ◌▸◌ : Call → Answer → Event
 call ▸ answer = event call answer
 
--- a program of /bin is found, started with these arguments, entries and descriptors, and waited for: it ends with this code
+-- a program of /bin is found, started with these arguments, entries and descriptors, and waited for: it ends with this
+-- code
 abbrev pub runs_in : Slots → List ℕ → List (List ℕ) → List (List ℕ) → (child code : ℕ) → List Event
 runs_in slots name args entries n c =
     let path = codes "/bin/" ++ name in
@@ -139,7 +172,8 @@ ran text s given = seen (then ended_so (by_code text s given))
 -- The script makes these calls, with all their answers, and ends with this status: by its meaning and by its code.
 abbrev pub Does : (text : List ℕ) → State → List Event → (status : List ℕ) → Type 0
 Does text s trace status =
-    (meant text s (answers trace) ≡ Some (calls trace, status, [])) × (ran text s (answers trace) ≡ Some (calls trace, status, []))
+    (meant text s (answers trace) ≡ Some (calls trace, status, [])) ×
+    (ran text s (answers trace) ≡ Some (calls trace, status, []))
 
 -- of the final state one value alone
 abbrev value_in : List ℕ → Option (List Call × State × List Answer) → Option (List Call × List (List ℕ))
@@ -158,7 +192,8 @@ ran_value name text s given = value_in name (then ended_so (by_code text s given
 -- The script makes these calls and leaves a variable with this value: by its meaning and by its code.
 abbrev pub Leaves : (text : List ℕ) → State → List Event → (name : List ℕ) → (value : List (List ℕ)) → Type 0
 Leaves text s trace name value =
-    (meant_value name text s (answers trace) ≡ Some (calls trace, value)) × (ran_value name text s (answers trace) ≡ Some (calls trace, value))
+    (meant_value name text s (answers trace) ≡ Some (calls trace, value)) ×
+    (ran_value name text s (answers trace) ≡ Some (calls trace, value))
 
 -- where a script waits by its meaning
 unfoldable pub meant_wait : List ℕ → State → List Answer → Option (List Call)
@@ -172,7 +207,8 @@ ran_wait text s given = then waits_so (by_code text s given)
 
 -- The last of these calls is not answered, and the script waits there: by its meaning and by its code.
 abbrev pub Awaits : (text : List ℕ) → State → List Event → Type 0
-Awaits text s trace = (meant_wait text s (answers trace) ≡ Some (calls trace)) × (ran_wait text s (answers trace) ≡ Some (calls trace))
+Awaits text s trace =
+    (meant_wait text s (answers trace) ≡ Some (calls trace)) × (ran_wait text s (answers trace) ≡ Some (calls trace))
 
 -- the calls of so many instructions, where they were cut
 unfoldable pub cut_at : ℕ → List ℕ → State → List Answer → Option (List Call)

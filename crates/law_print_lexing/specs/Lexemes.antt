@@ -33,7 +33,8 @@ sign And = AndAnd
 sign Or = OrOr
 
 abbrev pub redirected : Node t.cmd → (begins : Bool) → (redirs body : List Lexeme) → List Lexeme
-redirected c begins redirs body = if is_empty c then redirs else (if stands_first c begins then body ++ redirs else redirs ++ body)
+redirected c begins redirs body =
+    if is_empty c then redirs else (if stands_first c begins then body ++ redirs else redirs ++ body)
 
 abbrev pub body_lines : Node t.cmd → (items : List LexemeLine) → (body : List Lexeme) → List LexemeLine
 body_lines (t.Seq _) items body = items
@@ -51,18 +52,23 @@ unfoldable mutual
   cmd_lexemes t.Empty begins = []
   cmd_lexemes (t.Seq items) begins = listed (item_lines items begins false)
   cmd_lexemes (t.Simple words) begins = args_lexemes words
-  cmd_lexemes (t.Assign pairs body) begins = if is_empty body then pairs_lexemes pairs else pairs_lexemes pairs ++ cmd_lexemes body false
+  cmd_lexemes (t.Assign pairs body) begins =
+      if is_empty body then pairs_lexemes pairs else pairs_lexemes pairs ++ cmd_lexemes body false
   cmd_lexemes (t.Redirect redirs body) begins = redirected body begins (redirs_lexemes redirs) (cmd_lexemes body false)
   cmd_lexemes (t.Pipeline stages last) begins = stages_lexemes stages begins ++ cmd_lexemes last false
   cmd_lexemes (t.AndOr first links) begins = cmd_lexemes first begins ++ links_lexemes links
   cmd_lexemes (t.Not body) begins = Word (codes "!") ∷ cmd_lexemes body false
   cmd_lexemes (t.Subshell body) begins = Word (codes "@") ∷ cmd_lexemes body false
-  cmd_lexemes (t.If condition body) begins = Word (codes "if") ∷ LeftParen ∷ (cmd_lexemes condition false ++ (RightParen ∷ cmd_lexemes body false))
+  cmd_lexemes (t.If condition body) begins =
+      Word (codes "if") ∷ LeftParen ∷ (cmd_lexemes condition false ++ (RightParen ∷ cmd_lexemes body false))
   cmd_lexemes (t.IfNot body) begins = Word (codes "if") ∷ Word (codes "not") ∷ cmd_lexemes body false
-  cmd_lexemes (t.While condition body) begins = Word (codes "while") ∷ LeftParen ∷ (cmd_lexemes condition false ++ (RightParen ∷ cmd_lexemes body false))
-  cmd_lexemes (t.ForAll name body) begins = Word (codes "for") ∷ LeftParen ∷ (arg_lexemes name ++ (RightParen ∷ cmd_lexemes body false))
+  cmd_lexemes (t.While condition body) begins =
+      Word (codes "while") ∷ LeftParen ∷ (cmd_lexemes condition false ++ (RightParen ∷ cmd_lexemes body false))
+  cmd_lexemes (t.ForAll name body) begins =
+      Word (codes "for") ∷ LeftParen ∷ (arg_lexemes name ++ (RightParen ∷ cmd_lexemes body false))
   cmd_lexemes (t.For name words body) begins =
-      Word (codes "for") ∷ LeftParen ∷ (arg_lexemes name ++ (Word (codes "in") ∷ (args_lexemes words ++ (RightParen ∷ cmd_lexemes body false))))
+      Word (codes "for") ∷ LeftParen ∷ (arg_lexemes name ++ (Word (codes "in")
+      ∷ (args_lexemes words ++ (RightParen ∷ cmd_lexemes body false))))
   cmd_lexemes (t.Switch subject branches) begins =
       Word (codes "switch") ∷ (arg_lexemes subject ++ (LeftBrace ∷ (listed (branch_lines branches) ++ RightBrace ∷ [])))
   cmd_lexemes (t.Match subject patterns) begins = Word (codes "~") ∷ (arg_lexemes subject ++ args_lexemes patterns)
@@ -78,7 +84,8 @@ unfoldable mutual
   arg_lexemes (t.Var name) = Dollar ∷ name_lexemes name
   arg_lexemes (t.Count name) = DollarCount ∷ name_lexemes name
   arg_lexemes (t.Flat name) = DollarFlat ∷ name_lexemes name
-  arg_lexemes (t.Sub name subscripts) = (Dollar ∷ (name_lexemes name ++ Subscript ∷ [])) ++ (args_lexemes subscripts ++ RightParen ∷ [])
+  arg_lexemes (t.Sub name subscripts) =
+      (Dollar ∷ (name_lexemes name ++ Subscript ∷ [])) ++ (args_lexemes subscripts ++ RightParen ∷ [])
   arg_lexemes (t.Back body) = Backquote ∷ LeftBrace ∷ (cmd_lexemes body false ++ RightBrace ∷ [])
 
   -- a name after a `$`
@@ -107,7 +114,8 @@ unfoldable mutual
 
   pub pairs_lexemes : Many t.pair → List Lexeme
   pairs_lexemes none = []
-  pairs_lexemes (more (t.Pair name value) pairs) = (arg_lexemes name ++ (Equals ∷ arg_lexemes value)) ++ pairs_lexemes pairs
+  pairs_lexemes (more (t.Pair name value) pairs) =
+      (arg_lexemes name ++ (Equals ∷ arg_lexemes value)) ++ pairs_lexemes pairs
 
   pub redirs_lexemes : Many t.redir → List Lexeme
   redirs_lexemes none = []
@@ -115,7 +123,8 @@ unfoldable mutual
 
   pub stages_lexemes : Many t.stage → (begins : Bool) → List Lexeme
   stages_lexemes none begins = []
-  stages_lexemes (more (t.Stage body slot) stages) begins = cmd_lexemes body begins ++ (Bar slot ∷ stages_lexemes stages false)
+  stages_lexemes (more (t.Stage body slot) stages) begins =
+      cmd_lexemes body begins ++ (Bar slot ∷ stages_lexemes stages false)
 
   pub links_lexemes : Many t.link → List Lexeme
   links_lexemes none = []
@@ -123,12 +132,14 @@ unfoldable mutual
 
   pub item_lines : Many t.item → (begins others : Bool) → List LexemeLine
   item_lines none begins others = []
-  item_lines (more (t.Item body background) items) begins others = (cmd_lexemes body begins, background) ∷ item_lines items others others
+  item_lines (more (t.Item body background) items) begins others =
+      (cmd_lexemes body begins, background) ∷ item_lines items others others
 
   pub branch_lines : Many t.branch → List LexemeLine
   branch_lines none = []
   branch_lines (more (t.Branch patterns body) branches) =
-      (Word (codes "case") ∷ args_lexemes patterns, false) ∷ (body_lines body (branch_items body) (cmd_lexemes body true) ++ branch_lines branches)
+      (Word (codes "case") ∷ args_lexemes patterns, false)
+      ∷ (body_lines body (branch_items body) (cmd_lexemes body true) ++ branch_lines branches)
 
   pub branch_items : Node t.cmd → List LexemeLine
   branch_items (t.Seq items) = item_lines items true true
@@ -142,7 +153,8 @@ abbrev pub IsNameLiteral : List ℕ → (quoted : Bool) → Type 0
 IsNameLiteral text true = IsText text
 IsNameLiteral text false = IsName text
 
--- Trees that can be written: words are words, names are names, and descriptors are right. (A here document has no text.)
+-- Trees that can be written: words are words, names are names, and descriptors are right. (A here document has no
+-- text.)
 unfoldable mutual
   pub IsWritable : {s : t.Sort} → Node s → Type 0
   IsWritable t.Empty = Unit {0}

@@ -1,6 +1,7 @@
 -- How the compiler writes a part: at the end of the code, with each jump put in when its target is known.
 use Rattle.std.specs.Prelude.{◌≡◌, ℕ, List, [], ◌∷◌, ◌++◌, length, slice_set, Bool, true, false, codes}
-use Rattle.rc_model.specs.Syntax.Tree.{Node, Many, cmd, arg, pair, redir, branch, Pair, Branch, none, more, has_no_items}
+use Rattle.rc_model.specs.Syntax.Tree.{Node, Many, cmd, arg, pair, redir, branch, Pair, Branch, none, more}
+use Rattle.rc_model.specs.Syntax.Tree.{has_no_items}
 use Rattle.rc_model.specs.Syntax.Tree as tree
 use Rattle.rc_model.specs.Code.Layout.{Op, Nil, Word, Value, Glob, For, Next, Open, Copy, Here, Jump, IfFalse, Case}
 use Rattle.rc_model.specs.Code.Layout.{If, WasTrue, Stages, EndPipe, Subject}

@@ -24,6 +24,7 @@ move_of Miss = greedy.Miss
 -- a move leaves less of the word, and after a character less of the text
 abbrev pub LeavesLess : Move → List Ch → List ℕ → Type 0
 LeavesLess (PastStar rest) word text = length rest.now < length word
-LeavesLess (PastOne c rest more) word text = (length rest.now < length word) × (length more.now < length text) × IsUtf8 more.now
+LeavesLess (PastOne c rest more) word text =
+    (length rest.now < length word) × (length more.now < length text) × IsUtf8 more.now
 LeavesLess AtEnd word text = Unit {0}
 LeavesLess Miss word text = Unit {0}

@@ -12,7 +12,8 @@ use Rattle.rc_lexer.specs.declared.machine.Place.{Place}
 use Rattle.rc_lexer.specs.declared.machine.Before.{Before}
 use Rattle.rc_lexer.specs.declared.machine.Before.TheVariants as before
 use Rattle.rc_lexer.specs.declared.machine.State.{State}
-use Rattle.rc_lexer.specs.declared.machine.State.TheVariants.{Between, Comment, Backslash, WordBackslash, Word, Name, Quoted, Closed, Operator, Body}
+use Rattle.rc_lexer.specs.declared.machine.State.TheVariants.{Between, Comment, Backslash, WordBackslash, Word, Name}
+use Rattle.rc_lexer.specs.declared.machine.State.TheVariants.{Quoted, Closed, Operator, Body}
 use Rattle.rc_lexer.specs.declared.machine.Head.{Head}
 use Rattle.rc_lexer.specs.declared.machine.Due.{Due}
 use Rattle.rc_lexer.specs.declared.machine.Lexer.{Lexer}
@@ -57,11 +58,15 @@ state_of script end dollars due Comment = reading.Comment
 state_of script end dollars due (Backslash b) = reading.Backslash (before_of b.before) (place_of b.start)
 state_of script end dollars due (WordBackslash b q) =
     reading.WordBackslash (before_of b.before) (place_of b.start) (slice_range script b.start.byte q.byte) (place_of q)
-state_of script end dollars due (Word b) = reading.Word (before_of b.before) (place_of b.start) (slice_range script b.start.byte end)
+state_of script end dollars due (Word b) =
+    reading.Word (before_of b.before) (place_of b.start) (slice_range script b.start.byte end)
 state_of script end dollars due (Name p) = reading.Name (place_of p) (slice_range script p.byte end)
-state_of script end dollars due (Quoted b) = reading.Quoted (before_of b.before) (place_of b.start) (slice_range script b.start.byte end)
-state_of script end dollars due (Closed b) = reading.Closed (before_of b.before) (place_of b.start) (slice_range script b.start.byte end)
-state_of script end dollars due (Operator b) = reading.Operator (before_of b.before) dollars (place_of b.start) (slice_range script b.start.byte end)
+state_of script end dollars due (Quoted b) =
+    reading.Quoted (before_of b.before) (place_of b.start) (slice_range script b.start.byte end)
+state_of script end dollars due (Closed b) =
+    reading.Closed (before_of b.before) (place_of b.start) (slice_range script b.start.byte end)
+state_of script end dollars due (Operator b) =
+    reading.Operator (before_of b.before) dollars (place_of b.start) (slice_range script b.start.byte end)
 state_of script end dollars due (Body b l) = body_of due (slice_range script b l) (slice_range script l end)
 
 -- the here documents that are due after the one whose body is read
@@ -83,7 +88,8 @@ due_left l s = due_behind l.due.items s
 abbrev pub Stands : List ℕ → ℕ → State → Type 0
 Stands script end (Backslash b) = (b.start.byte ≤ end) × (slice_range script b.start.byte end ≡ 92 ∷ [])
 Stands script end (WordBackslash b q) =
-    (b.start.byte ≤ q.byte) × (q.byte ≤ end) × (slice_range script b.start.byte end ≡ slice_range script b.start.byte q.byte ++ 92 ∷ [])
+    (b.start.byte ≤ q.byte) × (q.byte ≤ end) ×
+    (slice_range script b.start.byte end ≡ slice_range script b.start.byte q.byte ++ 92 ∷ [])
 Stands script end (Word b) = b.start.byte ≤ end
 Stands script end (Name p) = p.byte ≤ end
 Stands script end (Quoted b) = b.start.byte ≤ end
@@ -95,7 +101,8 @@ Stands script end s = Unit {0}
 -- the character at hand stands in the script between its places
 pub record IsHead (script : List ℕ) (head : Head) : Type 0 where
   pub next : place_of head.next ≡ model.after_char (place_of head.place) head.c
-  pub reads : (a : ℕ) → a ≤ head.place.byte → slice_range script a head.next.byte ≡ slice_range script a head.place.byte ++ encode_utf8 head.c
+  pub reads : (a : ℕ) → a ≤ head.place.byte → slice_range script a head.next.byte ≡ slice_range script a head.place.byte
+      ++ encode_utf8 head.c
   pub class : class_is head.class ≡ model.class_of head.c
   pub within : head.next.byte ≤ length script
 
@@ -107,13 +114,15 @@ after_step ts bodies (Err f) = Err f
 -- the lexer does this step of the machine, or memory ran out
 abbrev pub Does : List ℕ → ℕ → Lexer → Lexer → Result State LexError → Step → Type 0
 Does script end old new (Ok s) x =
-    after_step (tokens_in script old) (bodies_in script old) x ≡ Ok (tokens_in script new, bodies_in script new, state_in script end new s, due_left new s)
+    after_step (tokens_in script old) (bodies_in script old) x
+    ≡ Ok (tokens_in script new, bodies_in script new, state_in script end new s, due_left new s)
 Does script end old new (Err (Fault f)) x = x ≡ Err f
 Does script end old new (Err NoMemory) x = Unit {0}
 
 -- the lexer has read a lexeme between two places, and this stands after it
 pub record Spelled (script : List ℕ) (before after : Before) (l : model.Lexeme) (p q : Place) (old new : Lexer) : Type 0 where
-  pub tokens : tokens_in script new ≡ tokens_in script old ++ model.tokens_of (before_of before) l (place_of p) (place_of q)
+  pub tokens : tokens_in script new ≡ tokens_in script old
+      ++ model.tokens_of (before_of before) l (place_of p) (place_of q)
   pub due : due_in new ≡ model.due_after (before_of before) l (due_in old)
   pub behind : before_of after ≡ model.as_before (before_of before) l
   pub dollars : new.dollars.items ≡ old.dollars.items
@@ -126,7 +135,8 @@ IfSpelled script before l p q old new (Err NoMemory) = Unit {0}
 
 -- the lexer is at the end
 abbrev pub Ends : List ℕ → Lexer → Lexer → Result (Unit {0}) LexError → Outcome → Type 0
-Ends script old new (Ok u) o = model.join (tokens_in script old) (bodies_in script old) o ≡ Ok (tokens_in script new, bodies_in script new)
+Ends script old new (Ok u) o =
+    model.join (tokens_in script old) (bodies_in script old) o ≡ Ok (tokens_in script new, bodies_in script new)
 Ends script old new (Err (Fault f)) o = o ≡ Err f
 Ends script old new (Err NoMemory) o = Unit {0}
 
@@ -149,7 +159,8 @@ lexeme_tokens script prev kind p q =
 
 -- the lexer has read a mark
 pub record Marked (quoted : Bool) (mark : List ℕ) (p q : Place) (old new : Lexer) : Type 0 where
-  pub tokens : (script : List ℕ) → tokens_in script new ≡ tokens_in script old ++ model.token (model.HereDoc quoted []) (place_of p) (place_of q) ∷ []
+  pub tokens : (script : List ℕ) → tokens_in script new ≡ tokens_in script old
+      ++ model.token (model.HereDoc quoted []) (place_of p) (place_of q) ∷ []
   pub due : due_in new ≡ due_in old ++ record { mark = mark; line = p.line } ∷ []
   pub dollars : new.dollars.items ≡ old.dollars.items
   pub bodies : new.bodies.items ≡ old.bodies.items

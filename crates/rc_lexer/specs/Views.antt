@@ -5,10 +5,13 @@ use Rattle.rc_model.specs.Syntax.Tokens as model
 use Rattle.rc_model.specs.Syntax.Tokens.{unquoted_text}
 use Rattle.rc_lexer.specs.declared.Span.{Span}
 use Rattle.rc_lexer.specs.declared.TokenKind.{TokenKind}
-use Rattle.rc_lexer.specs.declared.TokenKind.TheVariants.{Word, Quoted, Semicolon, Ampersand, Newline, AndAnd, OrOr, Bar, Caret, FreeCaret, Equals}
+use Rattle.rc_lexer.specs.declared.TokenKind.TheVariants.{Word, Quoted, Semicolon, Ampersand, Newline, AndAnd, OrOr}
+use Rattle.rc_lexer.specs.declared.TokenKind.TheVariants.{Bar, Caret, FreeCaret, Equals}
 use Rattle.rc_lexer.specs.declared.TokenKind.TheVariants.{LeftParen, RightParen}
-use Rattle.rc_lexer.specs.declared.TokenKind.TheVariants.{LeftBrace, RightBrace, Backquote, Input, Output, Append, CopyTo, HereDoc, Dollar}
-use Rattle.rc_lexer.specs.declared.TokenKind.TheVariants.{DollarCount, DollarFlat, Name, Subscript, BareDollar, BareHere}
+use Rattle.rc_lexer.specs.declared.TokenKind.TheVariants.{LeftBrace, RightBrace, Backquote, Input, Output, Append}
+use Rattle.rc_lexer.specs.declared.TokenKind.TheVariants.{CopyTo, HereDoc, Dollar}
+use Rattle.rc_lexer.specs.declared.TokenKind.TheVariants.{DollarCount, DollarFlat, Name, Subscript, BareDollar}
+use Rattle.rc_lexer.specs.declared.TokenKind.TheVariants.{BareHere}
 use Rattle.rc_lexer.specs.declared.Token.{Token}
 
 -- the slice of a script at a span
@@ -47,7 +50,13 @@ lexeme_of script BareDollar text = model.BareDollar
 lexeme_of script BareHere text = model.BareHere
 
 abbrev pub token_of : List ℕ → Token → model.Token
-token_of script t = record { lexeme = lexeme_of script t.kind (slice_at script t.span); start = t.span.start; stop = t.span.stop; line = t.line }
+token_of script t =
+    record {
+      lexeme = lexeme_of script t.kind (slice_at script t.span);
+      start = t.span.start;
+      stop = t.span.stop;
+      line = t.line;
+    }
 
 abbrev pub tokens_of : List ℕ → List Token → List model.Token
 tokens_of script ts = map (λ t. token_of script t) ts

@@ -21,9 +21,11 @@ use Rattle.rc_tree_types.specs.declared.Redir.TheVariants as r
 use Rattle.rc_tree_types.specs.declared.Item.{Item}
 use Rattle.rc_tree_types.specs.declared.Stage.{Stage}
 use Rattle.rc_tree_types.specs.declared.Branch.{Branch}
-use Rattle.rc_tree_types.specs.declared.Cmd.{Row_of-Arg, end_of-Arg, more_of-Arg, Row_of-Item, end_of-Item, more_of-Item}
+use Rattle.rc_tree_types.specs.declared.Cmd.{Row_of-Arg, end_of-Arg, more_of-Arg, Row_of-Item, end_of-Item}
+use Rattle.rc_tree_types.specs.declared.Cmd.{more_of-Item}
 use Rattle.rc_tree_types.specs.declared.Cmd.{Row_of-Cmd-Assign-0-2, end_of-Cmd-Assign-0-2, more_of-Cmd-Assign-0-2}
-use Rattle.rc_tree_types.specs.declared.Cmd.{Row_of-Redir, end_of-Redir, more_of-Redir, Row_of-Stage, end_of-Stage, more_of-Stage}
+use Rattle.rc_tree_types.specs.declared.Cmd.{Row_of-Redir, end_of-Redir, more_of-Redir, Row_of-Stage, end_of-Stage}
+use Rattle.rc_tree_types.specs.declared.Cmd.{more_of-Stage}
 use Rattle.rc_tree_types.specs.declared.Cmd.{Row_of-Cmd-AndOr-1-2, end_of-Cmd-AndOr-1-2, more_of-Cmd-AndOr-1-2}
 use Rattle.rc_tree_types.specs.declared.Cmd.{Row_of-Branch, end_of-Branch, more_of-Branch}
 use Rattle.rc_tree_types.specs.declared.Arg.TheBlock as rows
@@ -182,7 +184,8 @@ items_shown : (v : Vec Item Global) → item_row (rows.hidden-the_row-Item-1 v) 
 items_shown v = items_listed (rows.hidden-the_row-Item-1 v) ∙ ap items_tree (rows.items_hidden-the_row-Item-1 v)
 
 pairs_shown : (v : Vec (Arg × Arg) Global) → pair_row (rows.hidden-the_row-Cmd-Assign-0-2-2 v) ≡ pairs_tree v.items
-pairs_shown v = pairs_listed (rows.hidden-the_row-Cmd-Assign-0-2-2 v) ∙ ap pairs_tree (rows.items_hidden-the_row-Cmd-Assign-0-2-2 v)
+pairs_shown v =
+    pairs_listed (rows.hidden-the_row-Cmd-Assign-0-2-2 v) ∙ ap pairs_tree (rows.items_hidden-the_row-Cmd-Assign-0-2-2 v)
 
 redirs_shown : (v : Vec Redir Global) → redir_row (rows.hidden-the_row-Redir-3 v) ≡ redirs_tree v.items
 redirs_shown v = redirs_listed (rows.hidden-the_row-Redir-3 v) ∙ ap redirs_tree (rows.items_hidden-the_row-Redir-3 v)
@@ -191,10 +194,12 @@ stages_shown : (v : Vec Stage Global) → stage_row (rows.hidden-the_row-Stage-4
 stages_shown v = stages_listed (rows.hidden-the_row-Stage-4 v) ∙ ap stages_tree (rows.items_hidden-the_row-Stage-4 v)
 
 links_shown : (v : Vec (Logic × Cmd) Global) → link_row (rows.hidden-the_row-Cmd-AndOr-1-2-5 v) ≡ links_tree v.items
-links_shown v = links_listed (rows.hidden-the_row-Cmd-AndOr-1-2-5 v) ∙ ap links_tree (rows.items_hidden-the_row-Cmd-AndOr-1-2-5 v)
+links_shown v =
+    links_listed (rows.hidden-the_row-Cmd-AndOr-1-2-5 v) ∙ ap links_tree (rows.items_hidden-the_row-Cmd-AndOr-1-2-5 v)
 
 branches_shown : (v : Vec Branch Global) → branch_row (rows.hidden-the_row-Branch-6 v) ≡ branches_tree v.items
-branches_shown v = branches_listed (rows.hidden-the_row-Branch-6 v) ∙ ap branches_tree (rows.items_hidden-the_row-Branch-6 v)
+branches_shown v =
+    branches_listed (rows.hidden-the_row-Branch-6 v) ∙ ap branches_tree (rows.items_hidden-the_row-Branch-6 v)
 
 -- the tree of each kind of node
 
@@ -210,19 +215,23 @@ pub tree_Simple : (v : Vec Arg Global) → cmd_tree (c.Simple v) ≡ t.Simple (a
 unfolding cmd_tree
 tree_Simple v = ap t.Simple (args_shown v)
 
-pub tree_Assign : (v : Vec (Arg × Arg) Global) (x : Box Cmd Global) → cmd_tree (c.Assign v x) ≡ t.Assign (pairs_tree v.items) (cmd_tree x.value)
+pub tree_Assign : (v : Vec (Arg × Arg) Global) (x : Box Cmd Global) → cmd_tree (c.Assign v x)
+    ≡ t.Assign (pairs_tree v.items) (cmd_tree x.value)
 unfolding cmd_tree
 tree_Assign v x = ap (λ ns. t.Assign ns (cmd_tree x.value)) (pairs_shown v)
 
-pub tree_Redirect : (v : Vec Redir Global) (x : Box Cmd Global) → cmd_tree (c.Redirect v x) ≡ t.Redirect (redirs_tree v.items) (cmd_tree x.value)
+pub tree_Redirect : (v : Vec Redir Global) (x : Box Cmd Global) → cmd_tree (c.Redirect v x)
+    ≡ t.Redirect (redirs_tree v.items) (cmd_tree x.value)
 unfolding cmd_tree
 tree_Redirect v x = ap (λ ns. t.Redirect ns (cmd_tree x.value)) (redirs_shown v)
 
-pub tree_Pipeline : (v : Vec Stage Global) (x : Box Cmd Global) → cmd_tree (c.Pipeline v x) ≡ t.Pipeline (stages_tree v.items) (cmd_tree x.value)
+pub tree_Pipeline : (v : Vec Stage Global) (x : Box Cmd Global) → cmd_tree (c.Pipeline v x)
+    ≡ t.Pipeline (stages_tree v.items) (cmd_tree x.value)
 unfolding cmd_tree
 tree_Pipeline v x = ap (λ ns. t.Pipeline ns (cmd_tree x.value)) (stages_shown v)
 
-pub tree_AndOr : (x : Box Cmd Global) (v : Vec (Logic × Cmd) Global) → cmd_tree (c.AndOr x v) ≡ t.AndOr (cmd_tree x.value) (links_tree v.items)
+pub tree_AndOr : (x : Box Cmd Global) (v : Vec (Logic × Cmd) Global) → cmd_tree (c.AndOr x v)
+    ≡ t.AndOr (cmd_tree x.value) (links_tree v.items)
 unfolding cmd_tree
 tree_AndOr x v = ap (t.AndOr (cmd_tree x.value)) (links_shown v)
 
@@ -250,11 +259,13 @@ pub tree_ForAll : (n : Arg) (x : Box Cmd Global) → cmd_tree (c.ForAll n x) ≡
 unfolding cmd_tree
 tree_ForAll n x = refl
 
-pub tree_For : (n : Arg) (v : Vec Arg Global) (x : Box Cmd Global) → cmd_tree (c.For n v x) ≡ t.For (arg_tree n) (args_tree v.items) (cmd_tree x.value)
+pub tree_For : (n : Arg) (v : Vec Arg Global) (x : Box Cmd Global) → cmd_tree (c.For n v x)
+    ≡ t.For (arg_tree n) (args_tree v.items) (cmd_tree x.value)
 unfolding cmd_tree
 tree_For n v x = ap (λ ns. t.For (arg_tree n) ns (cmd_tree x.value)) (args_shown v)
 
-pub tree_Switch : (n : Arg) (v : Vec Branch Global) → cmd_tree (c.Switch n v) ≡ t.Switch (arg_tree n) (branches_tree v.items)
+pub tree_Switch : (n : Arg) (v : Vec Branch Global) → cmd_tree (c.Switch n v)
+    ≡ t.Switch (arg_tree n) (branches_tree v.items)
 unfolding cmd_tree
 tree_Switch n v = ap (t.Switch (arg_tree n)) (branches_shown v)
 
@@ -262,7 +273,8 @@ pub tree_Match : (n : Arg) (v : Vec Arg Global) → cmd_tree (c.Match n v) ≡ t
 unfolding cmd_tree
 tree_Match n v = ap (t.Match (arg_tree n)) (args_shown v)
 
-pub tree_Define : (v : Vec Arg Global) (x : Box Cmd Global) → cmd_tree (c.Define v x) ≡ t.Define (args_tree v.items) (cmd_tree x.value)
+pub tree_Define : (v : Vec Arg Global) (x : Box Cmd Global) → cmd_tree (c.Define v x)
+    ≡ t.Define (args_tree v.items) (cmd_tree x.value)
 unfolding cmd_tree
 tree_Define v x = ap (λ ns. t.Define ns (cmd_tree x.value)) (args_shown v)
 
@@ -298,7 +310,8 @@ pub tree_Flat : (x : Box Arg Global) → arg_tree (a.Flat x) ≡ t.Flat (arg_tre
 unfolding arg_tree
 tree_Flat x = refl
 
-pub tree_Sub : (x : Box Arg Global) (v : Vec Arg Global) → arg_tree (a.Sub x v) ≡ t.Sub (arg_tree x.value) (args_tree v.items)
+pub tree_Sub : (x : Box Arg Global) (v : Vec Arg Global) → arg_tree (a.Sub x v)
+    ≡ t.Sub (arg_tree x.value) (args_tree v.items)
 unfolding arg_tree
 tree_Sub x v = ap (t.Sub (arg_tree x.value)) (args_shown v)
 
@@ -352,7 +365,8 @@ pub ruleset tree_nodes = (
 )
 
 -- one more element of a list is one more node
-pub nodes_push : {X : Type 0} {s : Sort} (f : X → Node s) (xs : List X) (x : X) → nodes f (xs ++ x ∷ []) ≡ snoc (nodes f xs) (f x)
+pub nodes_push : {X : Type 0} {s : Sort} (f : X → Node s) (xs : List X) (x : X) → nodes f (xs ++ x ∷ [])
+    ≡ snoc (nodes f xs) (f x)
 nodes_push f [] x = refl
 nodes_push f (y ∷ ys) x = ap (more (f y)) (nodes_push f ys x)
 

@@ -1,6 +1,8 @@
 -- What a shell holds and owes after a trace.
-use Rattle.std.specs.Prelude.{◌≡◌, ◌≢◌, ℕ, suc, ◌+◌, ◌-◌, ◌≤◌, ◌<◌, List, [], ◌∷◌, Option, Some, None, nat_eq, if◌then◌else◌, ◌⊎◌, Bool, true, false}
-use Rattle.rc_model.specs.Run.Calls.{Slot, Own, To, Slots, Call, Answer, open_file, here, make_pipe, close, read, write, start, wait, as_file, as_pair, as_child, Event, fitting, is_halt}
+use Rattle.std.specs.Prelude.{◌≡◌, ◌≢◌, ℕ, suc, ◌+◌, ◌-◌, ◌≤◌, ◌<◌, List, [], ◌∷◌, Option, Some, None, nat_eq}
+use Rattle.std.specs.Prelude.{if◌then◌else◌, ◌⊎◌, Bool, true, false}
+use Rattle.rc_model.specs.Run.Calls.{Slot, Own, To, Slots, Call, Answer, open_file, here, make_pipe, close, read, write}
+use Rattle.rc_model.specs.Run.Calls.{start, wait, as_file, as_pair, as_child, Event, fitting, is_halt}
 use Rattle.rc_model.specs.Run.Plans.{Plan, ask}
 use Rattle.rc_model.specs.Syntax.Tree.{Node, cmd}
 use Rattle.rc_model.specs.Run.State.{State}
@@ -13,7 +15,8 @@ pub data Thing : Type 0 where
   read_end : (pipe : ℕ) → Thing
   write_end : (pipe : ℕ) → Thing
 
--- where a shell stands with its newest pipe: it was just made; a shell was started with its write end; that end was closed
+-- where a shell stands with its newest pipe: it was just made; a shell was started with its write end; that end was
+-- closed
 pub data Due : Type 0 where
   free : Due
   made : (pipe write : ℕ) → Due
@@ -59,7 +62,8 @@ joins p a_file line = line
 joins p (read_end q) line = put line p (line q)
 joins p (write_end q) line = put line p (line q)
 
--- A pipe goes on with the pipeline of an earlier one where the child that was started for it has that one's read end as its descriptor 0,
+-- A pipe goes on with the pipeline of an earlier one where the child that was started for it has that one's read end as
+-- its descriptor 0,
 -- and that end is closed as soon as the new write end is.
 abbrev pub line_after : Due → ℕ → (ℕ → Thing) → (ℕ → ℕ) → ℕ → ℕ
 line_after (passed p (To k)) h things line = if nat_eq k.0 h then joins p (things h) line else line
@@ -67,7 +71,12 @@ line_after _ h things line = line
 
 -- a close ends a holding, and a wait what is owed, answered or refused
 abbrev pub called : Call → Account → Account
-called (close h) a = record a { files = λ k. a.files k - one h k; line = line_after a.due h a.things a.line; due = next_due a.due (close h) }
+called (close h) a =
+    record a {
+      files = λ k. a.files k - one h k;
+      line = line_after a.due h a.things a.line;
+      due = next_due a.due (close h);
+    }
 called (wait c) a = record a { owed = λ k. a.owed k - one c k; due = next_due a.due (wait c) }
 called c a = record a { due = next_due a.due c }
 
@@ -110,7 +119,17 @@ after a c x = past (answered c x (called c a))
 
 -- at the start nothing is held, and what stands in the background list is owed
 abbrev pub at_start : State → Account
-at_start s = record { place = 0; files = λ k. 0; things = λ k. a_file; owed = counts s.background; feeds = λ k. None; line = λ k. 0; due = free }
+at_start s =
+    record {
+      place = 0;
+      files = λ k. 0;
+      things = λ k. a_file;
+      owed = counts s.background;
+      feeds = λ k. None;
+      line = λ k.
+          0;
+      due = free;
+    }
 
 abbrev pub account : Account → List Event → Account
 account a [] = a
@@ -235,7 +254,8 @@ AllOneWriteEnd a (e ∷ es) = OneWriteEnd a × AllOneWriteEnd (after a e.call e.
 
 -- nothing is lost by a shell that began in a state and has this trace
 pub record NothingLost (s : State) (trace : List Event) : Type 0 where
-  -- each call names what is held or owed, a new write end comes first, and a wait comes when no end is held of its pipeline
+  -- each call names what is held or owed, a new write end comes first, and a wait comes when no end is held of its
+  -- pipeline
   pub each_call : AllAllowed (at_start s) trace
   -- so at most one write end is held at any moment
   pub one_write_end : AllOneWriteEnd (at_start s) trace
@@ -244,13 +264,15 @@ pub record NothingLost (s : State) (trace : List Event) : Type 0 where
 abbrev pub NothingLeft : State → List Event → State → Type 0
 NothingLeft s trace t = Settled (account (at_start s) trace) t
 
--- A list of answers is fresh for a plan where no number is given while it is held or owed, and the two of a pair differ.
+-- A list of answers is fresh for a plan where no number is given while it is held or owed, and the two of a pair
+-- differ.
 abbrev pub Unless : Bool → Type 0 → Type 0
 Unless true X = Unit {0}
 Unless false X = X
 
 abbrev pub FreshAnswers : {X : Type 0} → Account → Plan X → List Answer → Type 0
-FreshAnswers a (ask c go) (x ∷ given) = Unless (is_halt x) (Fresh a c x × FreshAnswers (after a c x) (go (fitting c x)) given)
+FreshAnswers a (ask c go) (x ∷ given) =
+    Unless (is_halt x) (Fresh a c x × FreshAnswers (after a c x) (go (fitting c x)) given)
 FreshAnswers a _ _ = Unit {0}
 
 -- for the meaning of a script, with n turns

@@ -1,6 +1,7 @@
 -- A family of shells, each with its own answers, over every order of them.
 use Rattle.std.specs.Prelude.{◌≡◌, ◌≢◌, ℕ, zero, suc, ◌≤◌, ◌<◌, List, [], ◌∷◌, ◌++◌, Option, Some, None, unwrap_or, ◌⊎◌}
-use Rattle.rc_model.specs.Run.Calls.{Slot, Own, To, slot_of, Launch, Call, Answer, start, wait, read, child, Event, event, calls, answers}
+use Rattle.rc_model.specs.Run.Calls.{Slot, Own, To, slot_of, Launch, Call, Answer, start, wait, read, child, Event}
+use Rattle.rc_model.specs.Run.Calls.{event, calls, answers}
 use Rattle.rc_model.specs.Run.Plans.{IsAnswered, Ends, Waits}
 use Rattle.rc_model.specs.Syntax.Tree.{Node, cmd, Empty}
 use Rattle.rc_model.specs.Run.State.{State, new_state}
@@ -8,15 +9,18 @@ use Rattle.rc_model.specs.Run.Script.{script}
 use Rattle.rc_model.specs.Handed.Arguments.{entry_state, reads}
 use Rattle.rc_model.specs.Handed.Proper.{IsScript, IsProper}
 use Rattle.rc_model.specs.Handed.Handed.{IsHanded}
-use Rattle.rc_model.specs.Family.Accounts.{Thing, a_file, read_end, write_end, Account, put, account, at_start, IsFresh, NothingLost, NothingLeft}
+use Rattle.rc_model.specs.Family.Accounts.{Thing, a_file, read_end, write_end, Account, put, account, at_start, IsFresh}
+use Rattle.rc_model.specs.Family.Accounts.{NothingLost, NothingLeft}
 
--- what a descriptor stands for: an end of the pipe that a process, its maker, made at a place of its trace, or anything else
+-- what a descriptor stands for: an end of the pipe that a process, its maker, made at a place of its trace, or anything
+-- else
 pub data Stands : Type 0 where
   elsewhere : Stands
   reads_from : (maker place : ℕ) → Stands
   writes_to : (maker place : ℕ) → Stands
 
--- a process: which process started it and the number that this one has for it, what its descriptors stand for, the script and state that it was handed, and its trace
+-- a process: which process started it and the number that this one has for it, what its descriptors stand for, the
+-- script and state that it was handed, and its trace
 pub record Process : Type 0 where
   pub origin : Option (ℕ × ℕ)
   pub stands : ℕ → Stands
@@ -97,7 +101,14 @@ pub record IsPossible (f : Family) (e : Step) : Type 0 where
 module _ (reads : Launch → Node cmd × State) where
   -- the child of process k
   abbrev pub child_process : ℕ → Process → Launch → ℕ → Process
-  child_process k p l n = record { origin = Some (k, n); stands = λ i. stood_for k p (slot_of l.slots i); tree = (reads l).0; state = (reads l).1; trace = [] }
+  child_process k p l n =
+      record {
+        origin = Some (k, n);
+        stands = λ i. stood_for k p (slot_of l.slots i);
+        tree = (reads l).0;
+        state = (reads l).1;
+        trace = [];
+      }
 
   abbrev pub with_child : Family → ℕ → Process → Option (Launch × ℕ) → Family
   with_child f k p None = f
@@ -113,7 +124,8 @@ module _ (reads : Launch → Node cmd × State) where
 
   -- process 0
   abbrev pub first : Node cmd → State → Family
-  first c s = record { count = 1; at = λ k. record { origin = None; stands = λ i. elsewhere; tree = c; state = s; trace = [] } }
+  first c s =
+      record { count = 1; at = λ k. record { origin = None; stands = λ i. elsewhere; tree = c; state = s; trace = [] } }
 
   abbrev pub ArePossible : Family → List Step → Type 0
   ArePossible f [] = Unit {0}
@@ -153,7 +165,8 @@ WasHanded f j maker place = IsChildOf f j maker × WritesTo (f.at j) maker place
 -- the write ends of a family
 pub record WriteEnds (f : Family) : Type 0 where
   -- a maker hands each write end to at most one child
-  pub one_child : (maker place i j : ℕ) → i < f.count → j < f.count → WasHanded f i maker place → WasHanded f j maker place → i ≡ j
+  pub one_child : (maker place i j : ℕ) → i < f.count → j < f.count → WasHanded f i maker place →
+      WasHanded f j maker place → i ≡ j
   -- once the maker has closed it, every shell that has it is that child or descends from it
   pub descends : (maker place j : ℕ) → j < f.count → (HoldsWrite (f.at maker) place → ⊥) → HasWrite f j maker place
       → (i : ℕ) × (i < f.count) × WasHanded f i maker place × Descends f j i
@@ -183,7 +196,8 @@ pub record NoRing (f : Family) : Type 0 where
   -- so none waits for itself, through however many others
   pub not_itself : (k : ℕ) → WaitsLong f k k → ⊥
   -- and the one of greatest number that has not ended waits for none that has not ended
-  pub greatest : (k : ℕ) → ((j : ℕ) → j < f.count → k < j → HasEnded (f.at j)) → (j : ℕ) → WaitsFor f k j → HasEnded (f.at j)
+  pub greatest : (k : ℕ) → ((j : ℕ) → j < f.count → k < j → HasEnded (f.at j)) → (j : ℕ) → WaitsFor f k j →
+      HasEnded (f.at j)
 
 -- The laws of a family.
 
@@ -202,9 +216,12 @@ module _ (reads : Launch → Node cmd × State) where
 
   -- one process for each start of a shell that was answered by a child, in their order, and process 0
   abbrev pub OnePerStart : Node cmd → State → List Step → Type 0
-  OnePerStart c s es = ((family reads (first reads c s) es).at 0).origin ≡ None × StandFrom (family reads (first reads c s) es) 1 (starts es)
+  OnePerStart c s es =
+      ((family reads (first reads c s) es).at 0).origin ≡ None ×
+      StandFrom (family reads (first reads c s) es) 1 (starts es)
 
-  -- what a process was handed: process 0 the first script and state, any other what its launch is read as, which stands in its parent's trace
+  -- what a process was handed: process 0 the first script and state, any other what its launch is read as, which stands
+  -- in its parent's trace
   pub record WasStarted (f : Family) (j k : ℕ) : Type 0 where
     pub earlier : k < j
     pub launch : Launch
@@ -231,7 +248,8 @@ module _ (reads : Launch → Node cmd × State) where
     pub handed : (j : ℕ) → j < f.count → HandedSo c s f j
     pub launched : (j k : ℕ) → j < f.count → (w : WasStarted f j k) → IsHanded w.launch
     pub nothing_lost : EachOf (λ p. NothingLost p.state p.trace) f
-    pub nothing_left : EachOf (λ p. (n : ℕ) (t : State) → script n p.tree p.state (answers p.trace) ≡ Ends (calls p.trace) t [] → NothingLeft p.state p.trace t) f
+    pub nothing_left : EachOf (λ p. (n : ℕ) (t : State) → script n p.tree p.state (answers p.trace)
+        ≡ Ends (calls p.trace) t [] → NothingLeft p.state p.trace t) f
     pub write_ends : WriteEnds f
     pub no_ring : NoRing f
 
@@ -241,7 +259,8 @@ module _ (reads : Launch → Node cmd × State) where
 abbrev pub read_launch : Launch → Node cmd × State
 read_launch l = unwrap_or (reads l.args l.entries) (Empty, new_state)
 
--- process j was started by process k: it began with the tree that k handed over, and with the entry of the state that k handed over
+-- process j was started by process k: it began with the tree that k handed over, and with the entry of the state that k
+-- handed over
 pub record BeganAsHanded (f : Family) (j k : ℕ) : Type 0 where
   pub started : WasStarted read_launch f j k
   pub handed : IsHanded started.launch

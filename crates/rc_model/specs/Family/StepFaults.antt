@@ -4,7 +4,8 @@ use Rattle.rc_model.specs.Run.Calls.{Launch, Call, Answer}
 use Rattle.rc_model.specs.Run.Plans.{IsAnswered}
 use Rattle.rc_model.specs.Syntax.Tree.{Node, cmd}
 use Rattle.rc_model.specs.Run.State.{State}
-use Rattle.rc_model.specs.Family.Family.{Process, Family, IsPending, HasEnded, GoesAsMeant, EachOf, shell_started, child_process, told, stepped}
+use Rattle.rc_model.specs.Family.Family.{Process, Family, IsPending, HasEnded, GoesAsMeant, EachOf, shell_started}
+use Rattle.rc_model.specs.Family.Family.{child_process, told, stepped}
 
 pub data StepFault : Type 0 where
   NoProcess : StepFault
@@ -12,7 +13,8 @@ pub data StepFault : Type 0 where
   WrongKind : StepFault
   AtLimit : StepFault
 
--- what a launch is read as, and whether the code of a process has run as many instructions as the limit without its end or a call that wants an answer
+-- what a launch is read as, and whether the code of a process has run as many instructions as the limit without its end
+-- or a call that wants an answer
 module _ (reads : Launch → Node cmd × State) (hits : Process → Type 0) where
   -- the process itself, or the one to be appended
   abbrev pub ChildHits : ℕ → Process → Option (Launch × ℕ) → Type 0
@@ -24,7 +26,9 @@ module _ (reads : Launch → Node cmd × State) (hits : Process → Type 0) wher
   IsRefused f k x NoProcess = f.count ≤ k
   IsRefused f k x AtEnd = (k < f.count) × HasEnded (f.at k)
   IsRefused f k x WrongKind = (k < f.count) × ((c : Call) × IsPending (f.at k) c × (IsAnswered c x → ⊥))
-  IsRefused f k x AtLimit = (k < f.count) × ((c : Call) × IsPending (f.at k) c × IsAnswered c x × (hits (told (f.at k) c x) ⊎ ChildHits k (f.at k) (shell_started c x)))
+  IsRefused f k x AtLimit =
+      (k < f.count) × ((c : Call) × IsPending (f.at k) c × IsAnswered c x ×
+      (hits (told (f.at k) c x) ⊎ ChildHits k (f.at k) (shell_started c x)))
 
   -- a step that is made: the call that it answered, and the family that comes of it
   pub record IsMade (f : Family) (k : ℕ) (x : Answer) (c : Call) (next : Family) : Type 0 where

@@ -1,5 +1,6 @@
 -- What a shell hands over to another in the arguments and entries of a launch, and how that one reads it.
-use Rattle.std.specs.Prelude.{ℕ, List, [], ◌∷◌, drop, Bool, true, false, if◌then◌else◌, codes, Option, Some, None, Result, Ok, Err}
+use Rattle.std.specs.Prelude.{ℕ, List, [], ◌∷◌, drop, Bool, true, false, if◌then◌else◌, codes, Option, Some, None}
+use Rattle.std.specs.Prelude.{Result, Ok, Err}
 use Rattle.std.specs.Str.{bytes_eq}
 use Rattle.rc_model.specs.Run.Calls.{Launch, plain}
 use Rattle.rc_model.specs.Syntax.Tree.{Node, cmd}

@@ -1,5 +1,6 @@
 -- What the entries of an environment denote: variables, functions and the status.
-use Rattle.std.specs.Prelude.{ℕ, List, [], ◌∷◌, drop, map, Bool, true, false, not, ◌&&◌, ◌==◌, if◌then◌else◌, codes, Option, Some, None}
+use Rattle.std.specs.Prelude.{ℕ, List, [], ◌∷◌, drop, map, Bool, true, false, not, ◌&&◌, ◌==◌, if◌then◌else◌, codes}
+use Rattle.std.specs.Prelude.{Option, Some, None}
 use Rattle.std.specs.Prelude.{Result, Ok}
 use Rattle.std.specs.List.{list_any, slice_split}
 use Rattle.std.specs.Str.{bytes_eq}
@@ -70,7 +71,8 @@ abbrev pub is_function : List ℕ → Bool
 is_function name = begins_with (codes "fn#") name && is_function_name (drop 3 name)
 
 -- a function that was read, among the others
-abbrev pub with_function : List ℕ → Result (Node cmd) ImageFault → Result Functions ImageFault → Result Functions ImageFault
+abbrev pub with_function : List ℕ → Result (Node cmd) ImageFault → Result Functions ImageFault →
+    Result Functions ImageFault
 with_function name body others = body >>= λ c. others >>= λ fs. Ok (insert_entry text_cmp fs (drop 3 name) c)
 
 -- the functions, read one after the other; the first entry of a name counts, and those seen before are given

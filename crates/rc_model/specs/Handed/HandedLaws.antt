@@ -22,12 +22,14 @@ ReadsProper = (own : Bool) (args entries : List (List ℕ)) (s : State) → read
 
 -- and whatever words, the tree is one that a shell holds
 abbrev pub ReadsScripts : Type 0
-ReadsScripts = (strict : Bool) (words entries : List (List ℕ)) (x : Node cmd × State) → read_image strict words entries ≡ Ok x →
+ReadsScripts =
+    (strict : Bool) (words entries : List (List ℕ)) (x : Node cmd × State) → read_image strict words entries ≡ Ok x →
     IsScript x.0 × IsProper x.1
 
 -- ** the shells that a script starts
 
--- a launch hands over a tree that a shell holds and a proper state, and reads back as that tree and the state in which a subshell begins
+-- a launch hands over a tree that a shell holds and a proper state, and reads back as that tree and the state in which
+-- a subshell begins
 pub record IsReadBack (l : Launch) : Type 0 where
   pub handed : IsHanded l
   pub tree : IsScript handed.tree
@@ -53,16 +55,22 @@ AcceptedAreScripts = (text : List ℕ) (c : Node cmd) → IsAccepted text c → 
 
 -- whatever the answers, each shell that a script starts reads back what it is handed
 abbrev pub ScriptsReadBack : Type 0
-ScriptsReadBack = (n : ℕ) (c : Node cmd) (s : State) (given : List Answer) → IsScript c → IsProper s → AllReadBack (calls_made (script n c s given))
+ScriptsReadBack =
+    (n : ℕ) (c : Node cmd) (s : State) (given : List Answer) → IsScript c → IsProper s →
+    AllReadBack (calls_made (script n c s given))
 
 -- and the state at its end is proper
 abbrev pub EndsAreProper : Type 0
-EndsAreProper = (n : ℕ) (c : Node cmd) (s t : State) (given left : List Answer) (made : List Call) → IsScript c → IsProper s →
+EndsAreProper =
+    (n : ℕ) (c : Node cmd) (s t : State) (given left : List Answer) (made : List Call) → IsScript c → IsProper s →
     script n c s given ≡ Ends made t left → IsProper t
 
 -- the same of a trace that is begun as the script means, or ends as it means
 abbrev pub TracesReadBack : Type 0
-TracesReadBack = (c : Node cmd) (s : State) (trace : List Event) → IsScript c → IsProper s → IsBegunAsMeant c s trace → AllReadBack (calls trace)
+TracesReadBack =
+    (c : Node cmd) (s : State) (trace : List Event) → IsScript c → IsProper s → IsBegunAsMeant c s trace →
+    AllReadBack (calls trace)
 
 abbrev pub TracesEndProper : Type 0
-TracesEndProper = (c : Node cmd) (s t : State) (trace : List Event) → IsScript c → IsProper s → EndsAsMeant c s trace t → IsProper t
+TracesEndProper =
+    (c : Node cmd) (s t : State) (trace : List Event) → IsScript c → IsProper s → EndsAsMeant c s trace t → IsProper t

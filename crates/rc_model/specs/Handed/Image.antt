@@ -1,5 +1,6 @@
 -- What a shell hands over as text: trees, the entries of its environment, and launches.
-use Rattle.std.specs.Prelude.{ℕ, nat_le, length, List, [], ◌∷◌, ◌++◌, Bool, true, false, ◌||◌, ◌&&◌, ◌==◌, if◌then◌else◌, codes, map, Option, Some, None, unwrap_or}
+use Rattle.std.specs.Prelude.{ℕ, nat_le, length, List, [], ◌∷◌, ◌++◌, Bool, true, false, ◌||◌, ◌&&◌, ◌==◌}
+use Rattle.std.specs.Prelude.{if◌then◌else◌, codes, map, Option, Some, None, unwrap_or}
 use Rattle.std.specs.List.{flat_map, join_with_byte, list_all}
 use Rattle.std.specs.Str.{bytes_eq}
 use Rattle.std.specs.Fmt.{decimal}
@@ -54,9 +55,12 @@ unfoldable mutual
   node_image (t.IfNot body) = codes "n" ++ node_image body
   node_image (t.While condition body) = codes "w" ++ (node_image condition ++ node_image body)
   node_image (t.ForAll name body) = codes "f" ++ (node_image name ++ node_image body)
-  node_image (t.For name words body) = codes "F" ++ (node_image name ++ (list_image (count words) (many_image words) ++ node_image body))
-  node_image (t.Switch subject branches) = codes "S" ++ (node_image subject ++ list_image (count branches) (many_image branches))
-  node_image (t.Match subject patterns) = codes "~" ++ (node_image subject ++ list_image (count patterns) (many_image patterns))
+  node_image (t.For name words body) =
+      codes "F" ++ (node_image name ++ (list_image (count words) (many_image words) ++ node_image body))
+  node_image (t.Switch subject branches) =
+      codes "S" ++ (node_image subject ++ list_image (count branches) (many_image branches))
+  node_image (t.Match subject patterns) =
+      codes "~" ++ (node_image subject ++ list_image (count patterns) (many_image patterns))
   node_image (t.Define names body) = codes "d" ++ (list_image (count names) (many_image names) ++ node_image body)
   node_image (t.Undefine names) = codes "u" ++ list_image (count names) (many_image names)
   node_image (t.Brace body) = codes "b" ++ node_image body
@@ -66,7 +70,8 @@ unfoldable mutual
   node_image (t.Var name) = codes "$" ++ node_image name
   node_image (t.Count name) = codes "#" ++ node_image name
   node_image (t.Flat name) = codes "\"" ++ node_image name
-  node_image (t.Sub name subscripts) = codes "[" ++ (node_image name ++ list_image (count subscripts) (many_image subscripts))
+  node_image (t.Sub name subscripts) =
+      codes "[" ++ (node_image name ++ list_image (count subscripts) (many_image subscripts))
   node_image (t.Back body) = codes "`" ++ node_image body
   node_image (t.Item body background) = item_mark background ++ node_image body
   node_image (t.Pair name value) = node_image name ++ node_image value
@@ -124,7 +129,8 @@ with_functions (f ∷ fs) others = insert_entry text_cmp (with_functions fs othe
 
 -- the entries of a launch, in byte order of their names: the variables, always the status, and the functions
 abbrev pub entries : State → List (List ℕ)
-entries s = map entry (with_functions s.functions (insert_entry text_cmp (handed_values s.variables) status_name (value_text (s.status ∷ []))))
+entries s =
+    map entry (with_functions s.functions (insert_entry text_cmp (handed_values s.variables) status_name (value_text (s.status ∷ []))))
 
 -- an argument or an entry is at most so long
 abbrev pub is_short : List ℕ → Bool

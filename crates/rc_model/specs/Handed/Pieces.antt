@@ -22,7 +22,8 @@ pub record IsLongest (limit : ℕ) (text piece : List ℕ) : Type 0 where
 -- the pieces of a text, each the longest of what is left
 pub data ArePieces (limit : ℕ) : List ℕ → List (List ℕ) → Type 0 where
   no_more : ArePieces limit [] []
-  next : (text piece rest : List ℕ) (pieces : List (List ℕ)) → text ≢ [] → text ≡ piece ++ rest → IsLongest limit text piece →
+  next : (text piece rest : List ℕ) (pieces : List (List ℕ)) → text ≢ [] → text ≡ piece ++ rest →
+      IsLongest limit text piece →
       ArePieces limit rest pieces → ArePieces limit text (piece ∷ pieces)
 
 -- in one word, and in several
@@ -35,7 +36,8 @@ several_words pieces = (codes "rc2;" ++ decimal (length pieces)) ∷ pieces
 -- the words of a spelling: one where it is short enough, else its pieces, which are not too many
 pub data AreWords (limit : ℕ) (text : List ℕ) : List (List ℕ) → Type 0 where
   in_one : length (codes "rc1;" ++ text) ≤ limit → AreWords limit text (one_word text)
-  in_pieces : (pieces : List (List ℕ)) → limit < length (codes "rc1;" ++ text) → ArePieces limit text pieces → length pieces ≤ most_pieces →
+  in_pieces : (pieces : List (List ℕ)) → limit < length (codes "rc1;" ++ text) → ArePieces limit text pieces →
+      length pieces ≤ most_pieces →
       AreWords limit text (several_words pieces)
 
 -- ** the same as a function
@@ -59,7 +61,8 @@ unfoldable pub pieces : (most limit : ℕ) → List ℕ → Option (List (List �
 pieces most limit [] = Some []
 pieces zero limit (b ∷ bs) = None
 pieces (suc most) limit (b ∷ bs) =
-    option_map (λ rest. take (last_cut limit (b ∷ bs)) (b ∷ bs) ∷ rest) (pieces most limit (drop (last_cut limit (b ∷ bs)) (b ∷ bs)))
+    option_map (λ rest. take (last_cut limit (b ∷ bs)) (b ∷ bs)
+    ∷ rest) (pieces most limit (drop (last_cut limit (b ∷ bs)) (b ∷ bs)))
 
 -- the words of a spelling; none where it takes too many pieces
 abbrev pub words_of : (limit : ℕ) → List ℕ → Option (List (List ℕ))

@@ -13,7 +13,9 @@ OneSpelling = (c : Node cmd) (text : List ℕ) → SpellsImage c text → text �
 
 -- and has that one where its numbers can be said
 abbrev pub HasSpelling : Type 0
-HasSpelling = (c : Node cmd) → IsTrue (well_formed c) → IsTrue (has_characters c) → IsTrue (within greatest_number c) → SpellsImage c (image c)
+HasSpelling =
+    (c : Node cmd) → IsTrue (well_formed c) → IsTrue (has_characters c) → IsTrue (within greatest_number c) →
+    SpellsImage c (image c)
 
 -- a text spells no more than one tree
 abbrev pub OneTree : Type 0
@@ -21,8 +23,11 @@ OneTree = (c d : Node cmd) (text : List ℕ) → SpellsImage c text → SpellsIm
 
 -- what is read are the spellings of well formed trees
 abbrev pub ReadsSpellings : Type 0
-ReadsSpellings = (text : List ℕ) (c : Node cmd) → (read_tree text ≡ Ok c) ↔ (SpellsImage c text × IsTrue (well_formed c))
+ReadsSpellings =
+    (text : List ℕ) (c : Node cmd) → (read_tree text ≡ Ok c) ↔ (SpellsImage c text × IsTrue (well_formed c))
 
 -- what was written reads back
 abbrev pub TreesReadBack : Type 0
-TreesReadBack = (c : Node cmd) → IsTrue (well_formed c) → IsTrue (has_characters c) → IsTrue (within greatest_number c) → read_tree (image c) ≡ Ok c
+TreesReadBack =
+    (c : Node cmd) → IsTrue (well_formed c) → IsTrue (has_characters c) → IsTrue (within greatest_number c) →
+    read_tree (image c) ≡ Ok c

@@ -1,9 +1,11 @@
 -- Reading a tree from left to right, with the first fault that is met.
-use Rattle.std.specs.Prelude.{ℕ, zero, suc, nat_lt, nat_le, length, take, drop, List, [], ◌∷◌, Bool, true, false, ◌&&◌, ◌==◌, if◌then◌else◌, Result, Ok, Err, codes}
+use Rattle.std.specs.Prelude.{ℕ, zero, suc, nat_lt, nat_le, length, take, drop, List, [], ◌∷◌, Bool, true, false, ◌&&◌}
+use Rattle.std.specs.Prelude.{◌==◌, if◌then◌else◌, Result, Ok, Err, codes}
 use Rattle.rc_model.specs.Run.Numbers.{is_digit, digits_value, greatest_number}
 use Rattle.rc_model.specs.Syntax.Text.{begins_with}
 use Rattle.rc_model.specs.Run.Calls.{Read, Write, Append}
-use Rattle.rc_model.specs.Syntax.Tree.{Sort, Node, Many, cmd, arg, item, pair, redir, stage, link, branch, piece, none, more, And, Or}
+use Rattle.rc_model.specs.Syntax.Tree.{Sort, Node, Many, cmd, arg, item, pair, redir, stage, link, branch, piece, none}
+use Rattle.rc_model.specs.Syntax.Tree.{more, And, Or}
 use Rattle.rc_model.specs.Syntax.Tree as t
 use Rattle.rc_model.specs.Syntax.WellFormed.{has_text}
 use Rattle.rc_model.specs.Handed.TreeSpelling.{is_numeral, is_text}
@@ -71,11 +73,14 @@ marked mark n (b ∷ rest) = if b == mark then Ok (n, rest) else Err BadLength
 
 -- a number and a mark
 abbrev pub count_at : ℕ → Reader ℕ
-count_at mark bytes = if is_count (digit_run bytes) then marked mark (digits_value 0 (digit_run bytes)) (past_digits bytes) else Err BadLength
+count_at mark bytes =
+    if is_count (digit_run bytes) then marked mark (digits_value 0 (digit_run bytes)) (past_digits bytes)
+    else Err BadLength
 
 -- so many bytes, which are a text
 abbrev pub bytes_at : ℕ → Reader (List ℕ)
-bytes_at n bytes = if nat_le n (length bytes) && is_text (take n bytes) then Ok (take n bytes, drop n bytes) else Err BadLength
+bytes_at n bytes =
+    if nat_le n (length bytes) && is_text (take n bytes) then Ok (take n bytes, drop n bytes) else Err BadLength
 
 -- a text with its length
 abbrev pub text_at : Reader (List ℕ)
@@ -222,7 +227,8 @@ other_version (b ∷ bs) = b == 59
 -- the fault of another beginning than `rc1;`: `rc`, another number and `;` are another version
 abbrev pub beginning_fault : List ℕ → ImageFault
 beginning_fault text =
-    if begins_with (codes "rc") text && (is_count (digit_run (drop 2 text)) && other_version (past_digits (drop 2 text)))
+    if begins_with (codes "rc") text &&
+    (is_count (digit_run (drop 2 text)) && other_version (past_digits (drop 2 text)))
     then Version
     else BadTag
 

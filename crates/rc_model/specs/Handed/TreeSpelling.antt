@@ -1,5 +1,6 @@
 -- How a tree is spelled: which texts are spellings of which trees.
-use Rattle.std.specs.Prelude.{◌≡◌, ℕ, ◌+◌, ◌≤◌, Bool, true, false, not, ◌&&◌, ◌==◌, List, [], ◌∷◌, ◌++◌, length, codes, IsTrue, nat_le}
+use Rattle.std.specs.Prelude.{◌≡◌, ℕ, ◌+◌, ◌≤◌, Bool, true, false, not, ◌&&◌, ◌==◌, List, [], ◌∷◌, ◌++◌, length, codes}
+use Rattle.std.specs.Prelude.{IsTrue, nat_le}
 use Rattle.std.specs.List.{list_all}
 use Rattle.std.specs.Str.{is_utf8}
 use Rattle.rc_model.specs.Run.Numbers.{is_digit, digits_value, greatest_number}
@@ -127,8 +128,10 @@ abbrev mutual
   all_in word size (t.Seq items) = (size (count items) && all_in_many word size items)
   all_in word size (t.Simple words) = (size (count words) && all_in_many word size words)
   all_in word size (t.Assign pairs body) = (size (count pairs) && all_in_many word size pairs) && all_in word size body
-  all_in word size (t.Redirect redirs body) = (size (count redirs) && all_in_many word size redirs) && all_in word size body
-  all_in word size (t.Pipeline stages last) = (size (count stages) && all_in_many word size stages) && all_in word size last
+  all_in word size (t.Redirect redirs body) =
+      (size (count redirs) && all_in_many word size redirs) && all_in word size body
+  all_in word size (t.Pipeline stages last) =
+      (size (count stages) && all_in_many word size stages) && all_in word size last
   all_in word size (t.AndOr first links) = all_in word size first && (size (count links) && all_in_many word size links)
   all_in word size (t.Not body) = all_in word size body
   all_in word size (t.Subshell body) = all_in word size body
@@ -136,9 +139,12 @@ abbrev mutual
   all_in word size (t.IfNot body) = all_in word size body
   all_in word size (t.While condition body) = all_in word size condition && all_in word size body
   all_in word size (t.ForAll name body) = all_in word size name && all_in word size body
-  all_in word size (t.For name words body) = all_in word size name && ((size (count words) && all_in_many word size words) && all_in word size body)
-  all_in word size (t.Switch subject branches) = all_in word size subject && (size (count branches) && all_in_many word size branches)
-  all_in word size (t.Match subject patterns) = all_in word size subject && (size (count patterns) && all_in_many word size patterns)
+  all_in word size (t.For name words body) =
+      all_in word size name && ((size (count words) && all_in_many word size words) && all_in word size body)
+  all_in word size (t.Switch subject branches) =
+      all_in word size subject && (size (count branches) && all_in_many word size branches)
+  all_in word size (t.Match subject patterns) =
+      all_in word size subject && (size (count patterns) && all_in_many word size patterns)
   all_in word size (t.Define names body) = (size (count names) && all_in_many word size names) && all_in word size body
   all_in word size (t.Undefine names) = (size (count names) && all_in_many word size names)
   all_in word size (t.Brace body) = all_in word size body
@@ -147,13 +153,15 @@ abbrev mutual
   all_in word size (t.Var name) = all_in word size name
   all_in word size (t.Count name) = all_in word size name
   all_in word size (t.Flat name) = all_in word size name
-  all_in word size (t.Sub name subscripts) = all_in word size name && (size (count subscripts) && all_in_many word size subscripts)
+  all_in word size (t.Sub name subscripts) =
+      all_in word size name && (size (count subscripts) && all_in_many word size subscripts)
   all_in word size (t.Back body) = all_in word size body
   all_in word size (t.Item body background) = all_in word size body
   all_in word size (t.Pair name value) = all_in word size name && all_in word size value
   all_in word size (t.Stage body slot) = all_in word size body
   all_in word size (t.Link logic body) = all_in word size body
-  all_in word size (t.Branch patterns body) = (size (count patterns) && all_in_many word size patterns) && all_in word size body
+  all_in word size (t.Branch patterns body) =
+      (size (count patterns) && all_in_many word size patterns) && all_in word size body
   all_in word size (t.Open mode slot path) = all_in word size path
   all_in word size (t.Here pieces) = (size (count pieces) && all_in_many word size pieces)
   all_in word size (t.Lit text quoted) = word text

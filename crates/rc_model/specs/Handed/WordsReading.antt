@@ -1,5 +1,6 @@
 -- Reading an image from its words, with the first fault that is met.
-use Rattle.std.specs.Prelude.{ℕ, suc, nat_le, List, [], ◌∷◌, length, take, drop, Bool, false, if◌then◌else◌, codes, Option, Some, None}
+use Rattle.std.specs.Prelude.{ℕ, suc, nat_le, List, [], ◌∷◌, length, take, drop, Bool, false, if◌then◌else◌, codes}
+use Rattle.std.specs.Prelude.{Option, Some, None}
 use Rattle.std.specs.Prelude.{Result, Ok, Err}
 use Rattle.std.specs.List.{concat}
 use Rattle.std.specs.Str.{bytes_eq}
@@ -8,7 +9,8 @@ use Rattle.rc_model.specs.Syntax.Text.{begins_with}
 use Rattle.rc_model.specs.Syntax.Tree.{Node, cmd}
 use Rattle.rc_model.specs.Run.Numbers.{digits_value}
 use Rattle.rc_model.specs.Handed.Pieces.{longest_word, words_of}
-use Rattle.rc_model.specs.Handed.TreeReading.{ImageFault, BadTag, BadLength, ◌>>=◌, read_spelling, read_tree, beginning_fault}
+use Rattle.rc_model.specs.Handed.TreeReading.{ImageFault, BadTag, BadLength, ◌>>=◌, read_spelling, read_tree}
+use Rattle.rc_model.specs.Handed.TreeReading.{beginning_fault}
 
 -- a tree with the number of words that were taken
 abbrev pub Taken : Type 0

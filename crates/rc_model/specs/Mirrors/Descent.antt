@@ -1,15 +1,20 @@
 -- The descent: a script is read token by token, with one token in sight and so many levels of the tree at most.
-use Rattle.std.specs.Prelude.{ℕ, zero, suc, nat_le, nat_lt, Bool, true, false, not, ◌&&◌, if◌then◌else◌, List, [], ◌∷◌, length, Option, Some, None, Result, Ok, Err}
+use Rattle.std.specs.Prelude.{ℕ, zero, suc, nat_le, nat_lt, Bool, true, false, not, ◌&&◌, if◌then◌else◌, List, [], ◌∷◌}
+use Rattle.std.specs.Prelude.{length, Option, Some, None, Result, Ok, Err}
 use Rattle.rc_model.specs.Syntax.Tokens.{Lexeme, Word, Quoted, Semicolon, Ampersand, Newline, AndAnd, OrOr, Bar, Equals}
-use Rattle.rc_model.specs.Syntax.Tokens.{LeftParen, RightParen, LeftBrace, RightBrace, Backquote, Redirection, CopyTo, HereDoc}
+use Rattle.rc_model.specs.Syntax.Tokens.{LeftParen, RightParen, LeftBrace, RightBrace, Backquote, Redirection, CopyTo}
+use Rattle.rc_model.specs.Syntax.Tokens.{HereDoc}
 use Rattle.rc_model.specs.Syntax.Tokens.{Dollar, DollarCount, DollarFlat, Name, Subscript}
 use Rattle.rc_model.specs.Syntax.Tree.{Node, Many, none, more, count, snoc}
 use Rattle.rc_model.specs.Syntax.Tree as t
 use Rattle.rc_model.specs.Syntax.HereDocs.{pieces_of}
 use Rattle.rc_model.specs.Syntax.WellFormed.{depth}
-use Rattle.rc_model.specs.Syntax.Grammar.{Keyword, ForWord, InWord, WhileWord, IfWord, NotWord, SwitchWord, FnWord, MatchWord, BangWord, AtWord, NoKeyword, keyword, is_case}
-use Rattle.rc_model.specs.Syntax.Grammar.{begins_arg, begins_redir, begins_brace, begins_command, begins_link, closes, ends, ends_case}
-use Rattle.rc_model.specs.Syntax.Grammar.{past_newlines, past_blanks, past_caret, after_caret, concat_of, redirect, and_or, is_if}
+use Rattle.rc_model.specs.Syntax.Grammar.{Keyword, ForWord, InWord, WhileWord, IfWord, NotWord, SwitchWord, FnWord}
+use Rattle.rc_model.specs.Syntax.Grammar.{MatchWord, BangWord, AtWord, NoKeyword, keyword, is_case}
+use Rattle.rc_model.specs.Syntax.Grammar.{begins_arg, begins_redir, begins_brace, begins_command, begins_link, closes}
+use Rattle.rc_model.specs.Syntax.Grammar.{ends, ends_case}
+use Rattle.rc_model.specs.Syntax.Grammar.{past_newlines, past_blanks, past_caret, after_caret, concat_of, redirect}
+use Rattle.rc_model.specs.Syntax.Grammar.{and_or, is_if}
 
 -- why tokens aren't read to their end
 pub data Fault : Type 0 where
@@ -32,7 +37,8 @@ abbrev pub ◌>>=◌ : {A B : Type 0} → Result A Fault → (A → Result B Fau
 (Ok x) >>= f = f x
 (Err e) >>= f = Err e
 
--- what is read one level deeper: a name, a part of an argument, an operand, what follows a bar, a command, the commands of a list
+-- what is read one level deeper: a name, a part of an argument, an operand, what follows a bar, a command, the commands
+-- of a list
 pub data Nested : Type 0 where
   a_name : Nested
   a_part : (inside : Bool) → Nested
@@ -60,13 +66,15 @@ name_by deeper (Dollar ∷ ts) = deeper a_name ts >>= λ n. Ok (t.Var n.0, n.1)
 name_by deeper _ = Err Unexpected
 
 -- the parts after carets, after those that were read before
-abbrev pub parts_turn : Reader (Node t.arg) → (inside : Bool) → (Many t.arg → Reader (Many t.arg)) → Many t.arg → List Lexeme → Option (List Lexeme) → Read (Many t.arg)
+abbrev pub parts_turn : Reader (Node t.arg) → (inside : Bool) → (Many t.arg → Reader (Many t.arg)) → Many t.arg →
+    List Lexeme → Option (List Lexeme) → Read (Many t.arg)
 parts_turn part inside go_on front ts None = Ok (front, ts)
 parts_turn part inside go_on front ts (Some next) = part (past_blanks inside next) >>= λ a. go_on (snoc front a.0) a.1
 
 unfoldable pub parts_from : Reader (Node t.arg) → (inside : Bool) → ℕ → Many t.arg → Reader (Many t.arg)
 parts_from part inside zero front ts = Ok (front, ts)
-parts_from part inside (suc turns) front ts = parts_turn part inside (λ as' u. parts_from part inside turns as' u) front ts (after_caret (past_blanks inside ts))
+parts_from part inside (suc turns) front ts =
+    parts_turn part inside (λ as' u. parts_from part inside turns as' u) front ts (after_caret (past_blanks inside ts))
 
 unfoldable pub parts_by : Reader (Node t.arg) → (inside : Bool) → Reader (Many t.arg)
 parts_by part inside ts = parts_from part inside (length ts) none ts
@@ -171,7 +179,8 @@ abbrev pub branches_turn : Readers → (Many t.branch → Reader (Many t.branch)
 branches_turn deeper go_on front (RightBrace ∷ ts) = Ok (front, ts)
 branches_turn deeper go_on front (Semicolon ∷ ts) = go_on front ts
 branches_turn deeper go_on front (Newline ∷ ts) = go_on front ts
-branches_turn deeper go_on front (Word text ∷ ts) = if is_case text then (branch_by deeper (past_caret ts) >>= λ b. go_on (snoc front b.0) b.1) else Err Unexpected
+branches_turn deeper go_on front (Word text ∷ ts) =
+    if is_case text then (branch_by deeper (past_caret ts) >>= λ b. go_on (snoc front b.0) b.1) else Err Unexpected
 branches_turn deeper go_on front _ = Err Unexpected
 
 unfoldable pub branches_from : Readers → ℕ → Many t.branch → Reader (Many t.branch)
@@ -196,7 +205,8 @@ match_by deeper ts = do
   Ok (t.Match a.0 as'.0, as'.1)
 
 abbrev pub defined_by : Readers → Many t.arg → Reader (Node t.cmd)
-defined_by deeper names ts = if begins_brace ts then (brace_by deeper ts >>= λ c. Ok (t.Define names c.0, c.1)) else Ok (t.Undefine names, ts)
+defined_by deeper names ts =
+    if begins_brace ts then (brace_by deeper ts >>= λ c. Ok (t.Define names c.0, c.1)) else Ok (t.Undefine names, ts)
 
 unfoldable pub define_by : Readers → Reader (Node t.cmd)
 define_by deeper ts = do
@@ -220,7 +230,8 @@ staged read = read >>= λ c. Ok (Staged c.0, c.1)
 
 abbrev pub behind_first : Readers → Node t.arg → Reader Opening
 behind_first deeper a (Equals ∷ ts) = Ok (Named a, ts)
-behind_first deeper a ts = simple_by (deeper (a_part false)) ts >>= λ x. Ok (Staged (redirect x.0.1 (t.Simple (more a x.0.0))), x.1)
+behind_first deeper a ts =
+    simple_by (deeper (a_part false)) ts >>= λ x. Ok (Staged (redirect x.0.1 (t.Simple (more a x.0.0))), x.1)
 
 unfoldable pub first_by : Readers → Reader Opening
 first_by deeper ts = arg_by (deeper (a_part false)) false ts >>= λ a. behind_first deeper a.0 a.1
@@ -282,7 +293,8 @@ over_by deeper a (Word text ∷ ts) = in_by deeper a (keyword text) ts
 over_by deeper a _ = Err Unexpected
 
 unfoldable pub for_by : Readers → Reader (Node t.cmd)
-for_by deeper (LeftParen ∷ ts) = arg_by (deeper (a_part true)) true (past_newlines ts) >>= λ a. over_by deeper a.0 (past_newlines a.1)
+for_by deeper (LeftParen ∷ ts) =
+    arg_by (deeper (a_part true)) true (past_newlines ts) >>= λ a. over_by deeper a.0 (past_newlines a.1)
 for_by deeper _ = Err Unexpected
 
 -- an operand that begins with `!`, `@`, a control word or a redirection
@@ -317,16 +329,19 @@ unfoldable pub leading_by : Readers → (after_if : Bool) → Reader (Node t.cmd
 leading_by deeper after_if (Word text ∷ ts) = control_by deeper after_if (keyword text) ts
 leading_by deeper after_if ts = redirected_by deeper ts
 
--- pipelines and assignments: a pipeline with these stages and a last one so far, and an assignment with these pairs so far
+-- pipelines and assignments: a pipeline with these stages and a last one so far, and an assignment with these pairs so
+-- far
 abbrev pub pipeline_of : Many t.stage → Node t.cmd → Node t.cmd
 pipeline_of none last = last
 pipeline_of (more s ss) last = t.Pipeline (more s ss) last
 
 -- a bar reads what follows it, and goes on after a stage
-abbrev pub pipe_turn : Readers → (Many t.stage → Node t.cmd → Reader (Node t.cmd)) → Many t.stage → Node t.cmd → Reader (Node t.cmd)
+abbrev pub pipe_turn : Readers → (Many t.stage → Node t.cmd → Reader (Node t.cmd)) → Many t.stage → Node t.cmd →
+    Reader (Node t.cmd)
 pipe_turn deeper go_on stages last (Bar slot ∷ ts) =
     if nat_lt (count stages) 63 then (deeper a_piped (past_newlines ts) >>= λ p.
-    (if p.0.1 then go_on (snoc stages (t.Stage last slot)) p.0.0 p.1 else Ok (pipeline_of (snoc stages (t.Stage last slot)) p.0.0, p.1)))
+    (if p.0.1 then go_on (snoc stages (t.Stage last slot)) p.0.0 p.1
+    else Ok (pipeline_of (snoc stages (t.Stage last slot)) p.0.0, p.1)))
     else Err TooManyStages
 pipe_turn deeper go_on stages last ts = Ok (pipeline_of stages last, ts)
 
@@ -338,21 +353,24 @@ unfoldable pub pipe_by : Readers → Node t.cmd → Reader (Node t.cmd)
 pipe_by deeper first ts = pipe_from deeper (length ts) none first ts
 
 abbrev pub value_turn : Readers → (Many t.pair → Reader (Node t.cmd)) → Many t.pair → Opening → Reader (Node t.cmd)
-value_turn deeper go_on pairs (Named a) ts = arg_by (deeper (a_part false)) false ts >>= λ v. go_on (snoc pairs (t.Pair a v.0)) v.1
+value_turn deeper go_on pairs (Named a) ts =
+    arg_by (deeper (a_part false)) false ts >>= λ v. go_on (snoc pairs (t.Pair a v.0)) v.1
 value_turn deeper go_on pairs (Staged c) ts = pipe_by deeper c ts >>= λ p. Ok (t.Assign pairs p.0, p.1)
 
 unfoldable pub values_from : Readers → ℕ → Many t.pair → Reader (Node t.cmd)
 values_from deeper zero pairs ts = Ok (t.Assign pairs t.Empty, ts)
 values_from deeper (suc turns) pairs ts =
     if begins_leading ts then (leading_by deeper false ts >>= λ c. Ok (t.Assign pairs c.0, c.1))
-    else if begins_command ts then (opening_by deeper ts >>= λ o. value_turn deeper (λ ps u. values_from deeper turns ps u) pairs o.0 o.1)
+    else if begins_command ts then (opening_by deeper ts >>= λ o. value_turn deeper (λ ps u.
+    values_from deeper turns ps u) pairs o.0 o.1)
     else Ok (t.Assign pairs t.Empty, ts)
 
 unfoldable pub values_by : Readers → Many t.pair → Reader (Node t.cmd)
 values_by deeper pairs ts = values_from deeper (length ts) pairs ts
 
 unfoldable pub assigned_by : Readers → Node t.arg → Reader (Node t.cmd)
-assigned_by deeper a ts = arg_by (deeper (a_part false)) false ts >>= λ v. values_by deeper (more (t.Pair a v.0) none) v.1
+assigned_by deeper a ts =
+    arg_by (deeper (a_part false)) false ts >>= λ v. values_by deeper (more (t.Pair a v.0) none) v.1
 
 -- an operand; what follows a bar, and whether it is a stage, after which there may be a further bar
 abbrev pub opened_by : Readers → Opening → Reader (Node t.cmd)
@@ -360,7 +378,9 @@ opened_by deeper (Named a) ts = assigned_by deeper a ts
 opened_by deeper (Staged c) ts = pipe_by deeper c ts
 
 unfoldable pub operand_by : Readers → (after_if : Bool) → Reader (Node t.cmd)
-operand_by deeper after_if ts = if begins_leading ts then leading_by deeper after_if ts else (opening_by deeper ts >>= λ o. opened_by deeper o.0 o.1)
+operand_by deeper after_if ts =
+    if begins_leading ts then leading_by deeper after_if ts
+    else (opening_by deeper ts >>= λ o. opened_by deeper o.0 o.1)
 
 abbrev pub last_stage : Read (Node t.cmd) → Read (Node t.cmd × Bool)
 last_stage read = read >>= λ c. Ok ((c.0, false), c.1)
@@ -370,12 +390,16 @@ piped_open deeper (Named a) ts = last_stage (assigned_by deeper a ts)
 piped_open deeper (Staged c) ts = Ok ((c, true), ts)
 
 unfoldable pub piped_by : Readers → Reader (Node t.cmd × Bool)
-piped_by deeper ts = if begins_leading ts then last_stage (leading_by deeper false ts) else (opening_by deeper ts >>= λ o. piped_open deeper o.0 o.1)
+piped_by deeper ts =
+    if begins_leading ts then last_stage (leading_by deeper false ts)
+    else (opening_by deeper ts >>= λ o. piped_open deeper o.0 o.1)
 
 -- a command, and the commands of a list
 abbrev pub links_turn : Readers → (Many t.link → Reader (Many t.link)) → Many t.link → Reader (Many t.link)
-links_turn deeper go_on front (AndAnd ∷ ts) = operand_by deeper false (past_newlines ts) >>= λ c. go_on (snoc front (t.Link t.And c.0)) c.1
-links_turn deeper go_on front (OrOr ∷ ts) = operand_by deeper false (past_newlines ts) >>= λ c. go_on (snoc front (t.Link t.Or c.0)) c.1
+links_turn deeper go_on front (AndAnd ∷ ts) =
+    operand_by deeper false (past_newlines ts) >>= λ c. go_on (snoc front (t.Link t.And c.0)) c.1
+links_turn deeper go_on front (OrOr ∷ ts) =
+    operand_by deeper false (past_newlines ts) >>= λ c. go_on (snoc front (t.Link t.Or c.0)) c.1
 links_turn deeper go_on front ts = Ok (front, ts)
 
 unfoldable pub links_from : Readers → ℕ → Many t.link → Reader (Many t.link)
@@ -409,7 +433,8 @@ item_turn deeper go_on after_if front ts = do
 unfoldable pub items_from : Readers → (in_switch : Bool) → ℕ → (after_if : Bool) → Many t.item → Reader (Many t.item)
 items_from deeper in_switch zero after_if front ts = Ok (front, ts)
 items_from deeper in_switch (suc turns) after_if front ts =
-    if ends in_switch ts then Ok (front, ts) else item_turn deeper (λ b is u. items_from deeper in_switch turns b is u) after_if front ts
+    if ends in_switch ts then Ok (front, ts)
+    else item_turn deeper (λ b is u. items_from deeper in_switch turns b is u) after_if front ts
 
 unfoldable pub items_by : Readers → (in_switch : Bool) → Reader (Many t.item)
 items_by deeper in_switch ts = items_from deeper in_switch (length ts) false none ts

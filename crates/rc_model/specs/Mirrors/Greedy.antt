@@ -1,5 +1,6 @@
 -- Matching from left to right with one place to go back to, move by move.
-use Rattle.std.specs.Prelude.{ℕ, zero, suc, ◌*◌, ◌==◌, Bool, true, false, not, if◌then◌else◌, ◌&&◌, List, [], ◌∷◌, length, Option, Some, None}
+use Rattle.std.specs.Prelude.{ℕ, zero, suc, ◌*◌, ◌==◌, Bool, true, false, not, if◌then◌else◌, ◌&&◌, List, [], ◌∷◌}
+use Rattle.std.specs.Prelude.{length, Option, Some, None}
 use Rattle.rc_model.specs.Syntax.Words.{Word, has_pattern}
 use Rattle.rc_model.specs.Run.Patterns.{is_marked, stands_for, is_dots, holds}
 use Rattle.rc_model.specs.Run.Matching.{Kind, Star, Question, Open, Plain, kind, is_close}
@@ -65,7 +66,8 @@ move_by e (Some v) w t = PastStar v
 abbrev pub move : Bool → Word → List ℕ → Move
 move e w t = move_by e (after_star w) w t
 
--- what a match does next, where it has come to in the word and in the text, whether there is a star to go back to, and what follows that star in both
+-- what a match does next, where it has come to in the word and in the text, whether there is a star to go back to, and
+-- what follows that star in both
 abbrev pub Matcher : Type 0
 Matcher = Word → List ℕ → Bool → Word → List ℕ → Option Bool
 
@@ -87,4 +89,6 @@ greedy_from (suc n) e w t s bw bt = after_move (greedy_from n e) e (move e w t) 
 
 -- as many moves as pattern times text
 abbrev pub greedy : Bool → Word → List ℕ → Option Bool
-greedy e w t = if e && (has_pattern w && is_dots t) then Some false else greedy_from (suc (length w) * suc (length t)) e w t false w t
+greedy e w t =
+    if e && (has_pattern w && is_dots t) then Some false
+    else greedy_from (suc (length w) * suc (length t)) e w t false w t

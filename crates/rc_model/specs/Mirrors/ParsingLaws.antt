@@ -14,11 +14,14 @@ use Rattle.rc_model.specs.Mirrors.Descent.{Unexpected, IfNot, TooDeep, TooManySt
 
 -- what is found is the tree of an accepted script
 abbrev pub FindsOnlyTrees : Type 0
-FindsOnlyTrees = (levels : ℕ) (ts : List Lexeme) (tree : Node t.cmd) → script_tree levels ts ≡ Ok tree → IsAccepted ts tree
+FindsOnlyTrees =
+    (levels : ℕ) (ts : List Lexeme) (tree : Node t.cmd) → script_tree levels ts ≡ Ok tree → IsAccepted ts tree
 
 -- each tree of an accepted script is found
 abbrev pub FindsEachTree : Type 0
-FindsEachTree = (levels : ℕ) (ts : List Lexeme) (tree : Node t.cmd) → 200 ≤ levels → IsAccepted ts tree → script_tree levels ts ≡ Ok tree
+FindsEachTree =
+    (levels : ℕ) (ts : List Lexeme) (tree : Node t.cmd) → 200 ≤ levels → IsAccepted ts tree → script_tree levels ts
+    ≡ Ok tree
 
 -- an accepted script has no other tree
 abbrev pub HasOneTree : Type 0
@@ -26,24 +29,35 @@ HasOneTree = (ts : List Lexeme) (tree other : Node t.cmd) → IsAccepted ts tree
 
 -- where a token is unexpected, or an `if not` is misplaced, there is no tree of any size
 abbrev pub HasNoTree : Type 0
-HasNoTree = (levels : ℕ) (ts : List Lexeme) (tree : Node t.cmd) → (script_tree levels ts ≡ Err Unexpected) ⊎ (script_tree levels ts ≡ Err IfNot) → IsScript ts tree → ⊥
+HasNoTree =
+    (levels : ℕ) (ts : List Lexeme) (tree : Node t.cmd) → (script_tree levels ts ≡ Err Unexpected) ⊎
+    (script_tree levels ts ≡ Err IfNot) → IsScript ts tree → ⊥
 
 -- too many stages are found only where a pipeline has them
 abbrev pub HasTooManyStages : Type 0
-HasTooManyStages = (levels : ℕ) (ts : List Lexeme) (tree : Node t.cmd) → script_tree levels ts ≡ Err TooManyStages → IsScript ts tree → 64 < most_stages tree
+HasTooManyStages =
+    (levels : ℕ) (ts : List Lexeme) (tree : Node t.cmd) → script_tree levels ts ≡ Err TooManyStages → IsScript ts tree →
+    64 < most_stages tree
 
 -- and too many levels only where the tree has them
 abbrev pub IsTooDeep : Type 0
-IsTooDeep = (levels : ℕ) (ts : List Lexeme) (tree : Node t.cmd) → 200 ≤ levels → script_tree levels ts ≡ Err TooDeep → IsScript ts tree → 200 < depth tree
+IsTooDeep =
+    (levels : ℕ) (ts : List Lexeme) (tree : Node t.cmd) → 200 ≤ levels → script_tree levels ts ≡ Err TooDeep →
+    IsScript ts tree → 200 < depth tree
 
 -- a tree of spelled lexemes is sound, unless it has too many stages
 abbrev pub HasSoundTrees : Type 0
-HasSoundTrees = (ts : List Lexeme) (tree : Node t.cmd) → AreSpelled ts → IsScript ts tree → most_stages tree ≤ 64 → is_sound tree ≡ true
+HasSoundTrees =
+    (ts : List Lexeme) (tree : Node t.cmd) → AreSpelled ts → IsScript ts tree → most_stages tree ≤ 64 → is_sound tree
+    ≡ true
 
 -- each tree of a text that is well formed and has no here document is that of its print, where that isn't too long
 abbrev pub RoundTrip : Type 0
-RoundTrip = (text : List ℕ) (tokens : List Token) (tree : Node t.cmd) → IsUtf8 text → Lexes text (Ok tokens) → IsScript (lexemes tokens) tree →
-    well_formed tree ≡ true → has_here tree ≡ false → length (printed tree) ≤ longest_script → script.IsAccepted (printed tree) tree
+RoundTrip =
+    (text : List ℕ) (tokens : List Token) (tree : Node t.cmd) → IsUtf8 text → Lexes text (Ok tokens) →
+    IsScript (lexemes tokens) tree →
+    well_formed tree ≡ true → has_here tree ≡ false → length (printed tree) ≤ longest_script →
+    script.IsAccepted (printed tree) tree
 
 -- the tree of an accepted script is well formed
 abbrev pub AcceptedAreWellFormed : Type 0
@@ -51,8 +65,11 @@ AcceptedAreWellFormed = (text : List ℕ) (tree : Node t.cmd) → script.IsAccep
 
 -- each script is accepted or refused
 abbrev pub IsDecided : Type 0
-IsDecided = (text : List ℕ) → ((tree : Node t.cmd) × script.IsAccepted text tree) ⊎ ((fault : SyntaxFault) × IsRefused text fault)
+IsDecided =
+    (text : List ℕ) → ((tree : Node t.cmd) × script.IsAccepted text tree) ⊎
+    ((fault : SyntaxFault) × IsRefused text fault)
 
 -- and never both
 abbrev pub IsNeverBoth : Type 0
-IsNeverBoth = (text : List ℕ) (fault : SyntaxFault) (tree : Node t.cmd) → IsRefused text fault → script.IsAccepted text tree → ⊥
+IsNeverBoth =
+    (text : List ℕ) (fault : SyntaxFault) (tree : Node t.cmd) → IsRefused text fault → script.IsAccepted text tree → ⊥

@@ -62,7 +62,8 @@ begin prev due p c t.LineEnd = begin_line (bare_here prev ++ t.token t.Newline p
 begin prev due p c t.Hash = goes (bare_here prev) Comment due
 begin prev due p c t.Quote = goes [] (Quoted prev p (encode_utf8 c)) due
 begin prev due p c t.Backslash = goes [] (Backslash prev p) due
-begin prev due p c t.Ordinary = goes [] (if t.begins_name prev c then Name p (encode_utf8 c) else Word prev p (encode_utf8 c)) due
+begin prev due p c t.Ordinary =
+    goes [] (if t.begins_name prev c then Name p (encode_utf8 c) else Word prev p (encode_utf8 c)) due
 
 -- the character ends a lexeme
 abbrev pub ends : Before → Lexeme → Place → List Due → Place → ℕ → Class → Step
@@ -82,15 +83,19 @@ bare dollars = map (λ d. record { lexeme = t.BareDollar; start = d.start; stop 
 abbrev pub after_dollars : List Token → List Due → Place → ℕ → Class → Step
 after_dollars dollars due p c k =
     if t.is_name_char c || (c == 39) then emit dollars (begin t.DollarBefore due p c k)
-    else (if c == 36 then goes [] (Operator t.DollarBefore dollars p (c ∷ [])) due else emit (bare dollars) (begin t.Apart due p c k))
+    else (if c == 36 then goes [] (Operator t.DollarBefore dollars p (c ∷ [])) due
+    else emit (bare dollars) (begin t.Apart due p c k))
 
 -- the character ends an operator
 abbrev pub operated : Before → List Token → Place → Option Lexeme → List Due → Place → ℕ → Class → Step
 operated prev dollars q None due p c k = Err (t.fault t.BadDescriptor q.line)
 operated prev dollars q (Some t.BareHere) due p c k = begin (t.HereBefore q p) due p c k
-operated prev dollars q (Some t.Dollar) due p c k = emit (t.caret prev t.Dollar q) (after_dollars (dollars ++ t.token t.Dollar q p ∷ []) due p c k)
-operated prev dollars q (Some t.DollarCount) due p c k = emit (t.caret prev t.Dollar q ++ bare dollars) (after_dollars (t.token t.DollarCount q p ∷ []) due p c k)
-operated prev dollars q (Some t.DollarFlat) due p c k = emit (t.caret prev t.Dollar q ++ bare dollars) (after_dollars (t.token t.DollarFlat q p ∷ []) due p c k)
+operated prev dollars q (Some t.Dollar) due p c k =
+    emit (t.caret prev t.Dollar q) (after_dollars (dollars ++ t.token t.Dollar q p ∷ []) due p c k)
+operated prev dollars q (Some t.DollarCount) due p c k =
+    emit (t.caret prev t.Dollar q ++ bare dollars) (after_dollars (t.token t.DollarCount q p ∷ []) due p c k)
+operated prev dollars q (Some t.DollarFlat) due p c k =
+    emit (t.caret prev t.Dollar q ++ bare dollars) (after_dollars (t.token t.DollarFlat q p ∷ []) due p c k)
 operated prev dollars q (Some l) due p c k = ends prev (t.meant prev [] l) q due p c k
 
 -- one character
@@ -100,17 +105,23 @@ step Comment due p c t.LineEnd = begin t.Apart due p c t.LineEnd
 step Comment due p c k = goes [] Comment due
 step (Backslash prev q) due p c t.LineEnd = goes [] (Between (t.after_blank prev)) due
 step (Backslash prev q) due p c k = in_word prev q (92 ∷ []) due p c k
-step (WordBackslash prev q text end) due p c t.LineEnd = goes (t.tokens_of prev (t.Word text) q end) (Between t.Apart) (t.due_after prev (t.Word text) due)
+step (WordBackslash prev q text end) due p c t.LineEnd =
+    goes (t.tokens_of prev (t.Word text) q end) (Between t.Apart) (t.due_after prev (t.Word text) due)
 step (WordBackslash prev q text end) due p c k = in_word prev q (text ++ 92 ∷ []) due p c k
 step (Word prev q text) due p c k = in_word prev q text due p c k
-step (Name q text) due p c k = if t.is_name_char c then goes [] (Name q (text ++ encode_utf8 c)) due else ends t.DollarBefore (t.Name text) q due p c k
+step (Name q text) due p c k =
+    if t.is_name_char c then goes [] (Name q (text ++ encode_utf8 c)) due
+    else ends t.DollarBefore (t.Name text) q due p c k
 step (Quoted prev q text) due p c t.Quote = goes [] (Closed prev q (text ++ encode_utf8 c)) due
 step (Quoted prev q text) due p c k = goes [] (Quoted prev q (text ++ encode_utf8 c)) due
 step (Closed prev q text) due p c t.Quote = goes [] (Quoted prev q (text ++ encode_utf8 c)) due
 step (Closed prev q text) due p c k = ends prev (t.Quoted (t.unquoted_text text)) q due p c k
 step (Operator prev dollars q cs) due p c k =
-    if t.begins_operator (cs ++ c ∷ []) then goes [] (Operator prev dollars q (cs ++ c ∷ [])) due else operated prev dollars q (t.operator cs) due p c k
-step (Body d body line) due p c t.LineEnd = if bytes_eq line d.mark then begin_line [] (body ∷ []) due else goes [] (Body d (body ++ line ++ encode_utf8 c) []) due
+    if t.begins_operator (cs ++ c ∷ []) then goes [] (Operator prev dollars q (cs ++ c ∷ [])) due
+    else operated prev dollars q (t.operator cs) due p c k
+step (Body d body line) due p c t.LineEnd =
+    if bytes_eq line d.mark then begin_line [] (body ∷ []) due
+    else goes [] (Body d (body ++ line ++ encode_utf8 c) []) due
 step (Body d body line) due p c k = goes [] (Body d body (line ++ encode_utf8 c)) due
 
 -- the end, with these last tokens
@@ -139,7 +150,8 @@ finish (Quoted prev q text) due p = Err (t.fault t.OpenQuote q.line)
 finish (Closed prev q text) due p = ended prev (t.Quoted (t.unquoted_text text)) q due p
 finish (Operator prev dollars q cs) due p = operated_last prev dollars q (t.operator cs) due p
 finish (Body d body []) due p = Err (t.fault t.OpenHere d.line)
-finish (Body d body (b ∷ line)) due p = if bytes_eq (b ∷ line) d.mark then closed [] (body ∷ []) due else Err (t.fault t.OpenHere d.line)
+finish (Body d body (b ∷ line)) due p =
+    if bytes_eq (b ∷ line) d.mark then closed [] (body ∷ []) due else Err (t.fault t.OpenHere d.line)
 
 -- what follows a step
 abbrev pub follow : Step → (State → List Due → Outcome) → Outcome

@@ -2,7 +2,8 @@
 use Rattle.std.specs.Prelude.{◌≡◌, ◌≢◌, ℕ, true, List, [], ◌∷◌, map, Ok, IsUtf8}
 use Rattle.std.specs.List.{list_all}
 use Rattle.std.specs.Str.{chars}
-use Rattle.rc_model.specs.Syntax.Tokens.{Lexeme, Token, Lexes, Word, Quoted, Bar, Redirection, CopyTo, HereDoc, Name, Run, word_goes_on, is_name_char, has_no_zero}
+use Rattle.rc_model.specs.Syntax.Tokens.{Lexeme, Token, Lexes, Word, Quoted, Bar, Redirection, CopyTo, HereDoc, Name}
+use Rattle.rc_model.specs.Syntax.Tokens.{Run, word_goes_on, is_name_char, has_no_zero}
 use Rattle.rc_model.specs.Syntax.WellFormed.{is_output, opens, copies}
 
 -- text without byte 0
@@ -35,4 +36,6 @@ AreSpelled (l ∷ ls) = IsSpelled l × AreSpelled ls
 
 -- the lexemes of a text are spelled so
 abbrev pub SpellingLaw : Type 0
-SpellingLaw = (text : List ℕ) (tokens : List Token) → IsUtf8 text → Lexes text (Ok tokens) → AreSpelled (map (λ t. t.lexeme) tokens)
+SpellingLaw =
+    (text : List ℕ) (tokens : List Token) → IsUtf8 text → Lexes text (Ok tokens) →
+    AreSpelled (map (λ t. t.lexeme) tokens)

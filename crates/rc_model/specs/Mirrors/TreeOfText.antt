@@ -24,4 +24,6 @@ tree_of script = if is_utf8 script && nat_le (length script) longest_script then
 
 -- it is found exactly where the script is accepted with that tree
 abbrev pub FindsTheTree : Type 0
-FindsTheTree = (script : List ℕ) (tree : Node cmd) → (tree_of script ≡ Some tree → IsAccepted script tree) × (IsAccepted script tree → tree_of script ≡ Some tree)
+FindsTheTree =
+    (script : List ℕ) (tree : Node cmd) → (tree_of script ≡ Some tree → IsAccepted script tree) ×
+    (IsAccepted script tree → tree_of script ≡ Some tree)

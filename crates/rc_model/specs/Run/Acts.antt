@@ -1,5 +1,6 @@
 -- What an instruction of the machine and a step of the meaning share.
-use Rattle.std.specs.Prelude.{◌&&◌, ℕ, zero, suc, length, ◌==◌, true, false, not, List, [], ◌∷◌, ◌++◌, Bool, ◌||◌, if◌then◌else◌, Option, Some, None, codes, nat_eq, nat_le, map, Result, Ok, Err, filter}
+use Rattle.std.specs.Prelude.{◌&&◌, ℕ, zero, suc, length, ◌==◌, true, false, not, List, [], ◌∷◌, ◌++◌, Bool, ◌||◌}
+use Rattle.std.specs.Prelude.{if◌then◌else◌, Option, Some, None, codes, nat_eq, nat_le, map, Result, Ok, Err, filter}
 use Rattle.std.specs.List.{starts_with, join_with_byte, concat}
 use Rattle.std.specs.Str.{bytes_eq}
 use Rattle.std.specs.Str.Lossy.{utf8_lossy}
@@ -8,10 +9,13 @@ use Rattle.rc_model.specs.Syntax.Text.{spaced}
 use Rattle.rc_model.specs.Syntax.Words.{Word, word_texts, plain_words}
 use Rattle.rc_model.specs.Run.Lists.{ListFault, EmptyConcat, CountMismatch, concatenated, selected, split}
 use Rattle.rc_model.specs.Run.Patterns.{matched}
-use Rattle.rc_model.specs.Run.Calls.{Mode, Read, to_file, Slots, with_slot, Kind, Program, Ending, Code, Signal, Launch, open_file, here, make_pipe, close, read, write, start, wait, probe, as_file, as_pair, as_bytes, as_kind, as_child, as_ending}
+use Rattle.rc_model.specs.Run.Calls.{Mode, Read, to_file, Slots, with_slot, Kind, Program, Ending, Code, Signal, Launch}
+use Rattle.rc_model.specs.Run.Calls.{open_file, here, make_pipe, close, read, write, start, wait, probe, as_file}
+use Rattle.rc_model.specs.Run.Calls.{as_pair, as_bytes, as_kind, as_child, as_ending}
 use Rattle.rc_model.specs.Run.Plans.{Plan, ask, done_with}
 use Rattle.rc_model.specs.Syntax.Tree.{Node, Many, cmd, stage, piece, none, more, Stage, Text, Name}
-use Rattle.rc_model.specs.Run.State.{is_true, State, value_of, set_value, got, is_name, is_readable, is_function_name, with_status, define, add_child}
+use Rattle.rc_model.specs.Run.State.{is_true, State, value_of, set_value, got, is_name, is_readable, is_function_name}
+use Rattle.rc_model.specs.Run.State.{with_status, define, add_child}
 use Rattle.rc_model.specs.Run.Shell.{Shell, Next, ◌>>=◌, ◌>>◌, pure, skip, call, say, get, change, exits}
 use Rattle.rc_model.specs.Handed.Image.{program_launch, shell_launch, is_fit}
 
@@ -140,7 +144,8 @@ open_here slots pieces = do
 
 -- a name that is a path is taken as it is
 abbrev pub is_path : List ℕ → Bool
-is_path name = starts_with nat_eq name (codes "/") || starts_with nat_eq name (codes "./") || starts_with nat_eq name (codes "../")
+is_path name =
+    starts_with nat_eq name (codes "/") || starts_with nat_eq name (codes "./") || starts_with nat_eq name (codes "../")
 
 -- where a program may be
 abbrev pub candidate : List ℕ → List ℕ → List ℕ
@@ -293,7 +298,8 @@ abbrev pub from_pipe : Option ℕ → Slots → Slots
 from_pipe None slots = slots
 from_pipe (Some h) slots = with_slot slots 0 (to_file h)
 
-abbrev pub next_stage : (Option ℕ → List ℕ → Shell StartedStages) → Option ℕ → List ℕ → ℕ → ℕ → Started → Shell StartedStages
+abbrev pub next_stage : (Option ℕ → List ℕ → Shell StartedStages) → Option ℕ → List ℕ → ℕ → ℕ → Started →
+    Shell StartedStages
 next_stage go before children read_end write_end (Child n) = do
   say (close write_end)
   close_end before
@@ -303,7 +309,8 @@ next_stage go before children read_end write_end (NoChild why) = do
   say (close read_end)
   no_stages before children why
 
-abbrev pub stage_with : (Option ℕ → List ℕ → Shell StartedStages) → Slots → Node cmd → ℕ → Option ℕ → List ℕ → Option (ℕ × ℕ) → Shell StartedStages
+abbrev pub stage_with : (Option ℕ → List ℕ → Shell StartedStages) → Slots → Node cmd → ℕ → Option ℕ → List ℕ →
+    Option (ℕ × ℕ) → Shell StartedStages
 stage_with go slots body slot before children None = no_stages before children (codes "cannot pipe")
 stage_with go slots body slot before children (Some (read_end, write_end)) = do
   child ← start_shell (with_slot (from_pipe before slots) slot (to_file write_end)) body
@@ -339,7 +346,8 @@ abbrev pub read_on : (List ℕ → Shell Got) → ℕ → List ℕ → Option (L
 read_on again most text None = pure (got_all text (Some (codes "cannot read")))
 read_on again most text (Some []) = pure (got_all text None)
 read_on again most text (Some (b ∷ bs)) =
-    if nat_le (length (text ++ b ∷ bs)) most then again (text ++ b ∷ bs) else pure (got_all (text ++ b ∷ bs) (Some (codes "too large")))
+    if nat_le (length (text ++ b ∷ bs)) most then again (text ++ b ∷ bs)
+    else pure (got_all (text ++ b ∷ bs) (Some (codes "too large")))
 
 -- reads up to the empty answer; each but the last gives a byte, so that more than most reads are never made
 abbrev pub reading : ℕ → ℕ → ℕ → List ℕ → Shell Got

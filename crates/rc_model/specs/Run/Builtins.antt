@@ -1,5 +1,6 @@
 -- The built-in commands, and what the words of a simple command run.
-use Rattle.std.specs.Prelude.{ℕ, length, ◌==◌, not, List, [], ◌∷◌, ◌++◌, Bool, ◌||◌, ◌&&◌, if◌then◌else◌, Option, Some, None, codes, drop, nat_le, map}
+use Rattle.std.specs.Prelude.{ℕ, length, ◌==◌, not, List, [], ◌∷◌, ◌++◌, Bool, ◌||◌, ◌&&◌, if◌then◌else◌, Option, Some}
+use Rattle.std.specs.Prelude.{None, codes, drop, nat_le, map}
 use Rattle.std.specs.List.{list_any, list_all}
 use Rattle.std.specs.Str.{bytes_eq}
 use Rattle.rc_model.specs.Syntax.Text.{spaced}
@@ -12,7 +13,8 @@ use Rattle.rc_model.specs.Syntax.Tree.{Node, cmd}
 use Rattle.rc_model.specs.Mirrors.TreeOfText.{tree_of}
 use Rattle.rc_model.specs.Run.State.{State, value_of, set_value, is_name, function_of, drop_child}
 use Rattle.rc_model.specs.Run.Shell.{Shell, ◌>>=◌, ◌>>◌, pure, skip, call, say, get, change, exits}
-use Rattle.rc_model.specs.Run.Acts.{set_status, fails, is_path, candidates, find_program, run_program, waited, read_all, longest_file}
+use Rattle.rc_model.specs.Run.Acts.{set_status, fails, is_path, candidates, find_program, run_program, waited, read_all}
+use Rattle.rc_model.specs.Run.Acts.{longest_file}
 
 -- the built-in commands
 pub data Builtin : Type 0 where
@@ -134,7 +136,8 @@ exit_status (w ∷ ws) = set_status (spaced (w ∷ ws))
 -- `shift [n]`
 abbrev pub shifted : Option ℕ → Shell Called
 shifted None = usage
-shifted (Some n) = finished (change (λ s. record (set_value s (codes "*") (drop n (value_of s (codes "*")))) { status = [] }))
+shifted (Some n) =
+    finished (change (λ s. record (set_value s (codes "*") (drop n (value_of s (codes "*")))) { status = [] }))
 
 abbrev pub shift : List (List ℕ) → Shell Called
 shift [] = shifted (Some 1)
@@ -174,10 +177,13 @@ wait_for (n ∷ m ∷ ms) = usage
 -- `whatis name ...`: a member is quoted unless all its characters are plain and it is no keyword
 abbrev pub is_plain_char : ℕ → Bool
 is_plain_char c =
-    is_digit c || (nat_le 65 c && nat_le c 90) || (nat_le 97 c && nat_le c 122) || list_any (λ d. d == c) (codes "_./-+,:%")
+    is_digit c || (nat_le 65 c && nat_le c 90) || (nat_le 97 c && nat_le c 122) || list_any (λ d.
+    d == c) (codes "_./-+,:%")
 
 abbrev pub shown : List ℕ → List ℕ
-shown text = if not (length text == 0) && (list_all is_plain_char text && is_plain (keyword text)) then text else quoted_text text
+shown text =
+    if not (length text == 0) && (list_all is_plain_char text && is_plain (keyword text)) then text
+    else quoted_text text
 
 abbrev pub shown_value : List (List ℕ) → List ℕ
 shown_value [] = codes "()"

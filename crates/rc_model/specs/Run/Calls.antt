@@ -1,5 +1,6 @@
 -- What a shell asks of its world, and what the world answers.
-use Rattle.std.specs.Prelude.{ℕ, zero, suc, nat_le, List, [], ◌∷◌, ◌++◌, length, map, Option, Some, None, option_map, Bool, true, false, if◌then◌else◌}
+use Rattle.std.specs.Prelude.{ℕ, zero, suc, nat_le, List, [], ◌∷◌, ◌++◌, length, map, Option, Some, None, option_map}
+use Rattle.std.specs.Prelude.{Bool, true, false, if◌then◌else◌}
 pub use Rattle.rc_model.specs.declared.call.Mode.{Mode}
 pub use Rattle.rc_model.specs.declared.call.Mode.TheVariants.{Read, Write, Append}
 pub use Rattle.rc_model.specs.declared.call.Handle.{Handle}
@@ -11,7 +12,8 @@ pub use Rattle.rc_model.specs.declared.call.Kind.TheVariants.{Directory, Program
 pub use Rattle.rc_model.specs.declared.call.Ending.{Ending}
 pub use Rattle.rc_model.specs.declared.call.Ending.TheVariants.{Code, Signal}
 pub use Rattle.rc_model.specs.declared.call.Fault.{Fault}
-pub use Rattle.rc_model.specs.declared.call.Fault.TheVariants.{NotFound, Denied, Exists, Broken, Full, Other, Halt, NoMemory}
+pub use Rattle.rc_model.specs.declared.call.Fault.TheVariants.{NotFound, Denied, Exists, Broken, Full, Other, Halt}
+pub use Rattle.rc_model.specs.declared.call.Fault.TheVariants.{NoMemory}
 
 -- an open file in the place of a descriptor
 abbrev pub to_file : ℕ → Slot
@@ -139,7 +141,8 @@ want (list_names path) = WantsNames
 want (probe path) = WantsKind
 want (change_dir path) = WantsDone
 
--- what a call gives as its answer: one of another kind, a read of over 4096 bytes and out of memory count as another refusal
+-- what a call gives as its answer: one of another kind, a read of over 4096 bytes and out of memory count as another
+-- refusal
 abbrev pub taken_as : Want → Answer → Answer
 taken_as WantsFile (file h) = file h
 taken_as WantsPair (pair r w) = pair r w

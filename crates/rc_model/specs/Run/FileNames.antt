@@ -1,5 +1,6 @@
 -- File names: what the words of a command stand for, and the calls by which that is found.
-use Rattle.std.specs.Prelude.{ℕ, Bool, true, not, ◌&&◌, ◌||◌, ◌==◌, if◌then◌else◌, List, [], ◌∷◌, ◌++◌, length, codes, map, filter, Option, unwrap_or, is_some}
+use Rattle.std.specs.Prelude.{ℕ, Bool, true, not, ◌&&◌, ◌||◌, ◌==◌, if◌then◌else◌, List, [], ◌∷◌, ◌++◌, length, codes}
+use Rattle.std.specs.Prelude.{map, filter, Option, unwrap_or, is_some}
 use Rattle.std.specs.List.{list_any, slice_split, join_with_byte}
 use Rattle.std.specs.Str.{chars, bytes_eq}
 use Rattle.std.specs.BTreeMap.{insert_entry}
@@ -15,7 +16,9 @@ components w = slice_split (λ m. m.0 == 47) w
 
 -- a name that can't stand in a directory
 abbrev pub is_no_name : List ℕ → Bool
-is_no_name name = (length name == 0) || (bytes_eq name (codes ".") || (bytes_eq name (codes "..") || list_any (λ c. (c == 47) || (c == 0)) name))
+is_no_name name =
+    (length name == 0) || (bytes_eq name (codes ".") || (bytes_eq name (codes "..") || list_any (λ c.
+    (c == 47) || (c == 0)) name))
 
 -- texts in byte order, each once
 abbrev pub in_order : List (List ℕ) → List (List ℕ × Unit {0})
@@ -59,7 +62,9 @@ step c next path = if has_pattern c then listed c next path else next (path ++ w
 -- The paths that begin with this one and go on with these components, each of them after a slash.
 abbrev pub walk : List Word → List ℕ → Shell (List (List ℕ))
 walk [] path = pure (path ∷ [])
-walk (c ∷ cs) path = if list_any has_pattern (c ∷ cs) then step c (walk cs) (path ++ codes "/") else if_there (path ++ 47 ∷ join_with_byte 47 (map word_text (c ∷ cs)))
+walk (c ∷ cs) path =
+    if list_any has_pattern (c ∷ cs) then step c (walk cs) (path ++ codes "/")
+    else if_there (path ++ 47 ∷ join_with_byte 47 (map word_text (c ∷ cs)))
 
 -- the paths of these components
 abbrev pub paths_of : List Word → Shell (List (List ℕ))

@@ -1,5 +1,6 @@
 -- Lists of words and of texts: joining, selecting, splitting.
-use Rattle.std.specs.Prelude.{ℕ, zero, suc, ◌==◌, not, List, [], ◌∷◌, ◌++◌, map, length, take, drop, Option, Some, None, Result, Ok, Err, if◌then◌else◌, filter}
+use Rattle.std.specs.Prelude.{ℕ, zero, suc, ◌==◌, not, List, [], ◌∷◌, ◌++◌, map, length, take, drop, Option, Some, None}
+use Rattle.std.specs.Prelude.{Result, Ok, Err, if◌then◌else◌, filter}
 use Rattle.std.specs.List.{list_any, flat_map, before_first, after_first, slice_split}
 use Rattle.std.specs.Str.{chars, encode_utf8_all}
 use Rattle.rc_model.specs.Syntax.Words.{Word}
@@ -64,4 +65,5 @@ selected value subscripts = flat_map (selected_by value) subscripts
 -- the longest runs of characters that are no separators
 abbrev pub split : List ℕ → List ℕ → List (List ℕ)
 split text separators =
-    map encode_utf8_all (filter (λ run. not (length run == 0)) (slice_split (λ c. list_any (λ d. d == c) (chars separators)) (chars text)))
+    map encode_utf8_all (filter (λ run.
+    not (length run == 0)) (slice_split (λ c. list_any (λ d. d == c) (chars separators)) (chars text)))

@@ -13,7 +13,8 @@ pub data Kind : Type 0 where
 
 -- marked `*`, `?` and `[` are pattern characters
 abbrev pub kind : ℕ × Bool → Kind
-kind m = if is_marked 42 m then Star else (if is_marked 63 m then Question else (if is_marked 91 m then Open else Plain))
+kind m =
+    if is_marked 42 m then Star else (if is_marked 63 m then Question else (if is_marked 91 m then Open else Plain))
 
 -- a marked `]`
 abbrev pub is_close : ℕ × Bool → Bool
@@ -33,7 +34,8 @@ pub data IsMember (c : ℕ) : Word → Type 0 where
   range : (m d n : ℕ × Bool) (ms : Word) → is_marked 45 d ≡ true → m.0 ≤ c → c ≤ n.0 → IsMember c (m ∷ d ∷ n ∷ ms)
   after_range : (m d n : ℕ × Bool) (ms : Word) → is_marked 45 d ≡ true → IsMember c ms → IsMember c (m ∷ d ∷ n ∷ ms)
 
--- The class with these characters between its brackets holds the character. A marked `~` in front complements; an empty class holds nothing.
+-- The class with these characters between its brackets holds the character. A marked `~` in front complements; an empty
+-- class holds nothing.
 pub data IsHeld (c : ℕ) : Word → Type 0 where
   among : (m : ℕ × Bool) (ms : Word) → is_marked 126 m ≡ false → IsMember c (m ∷ ms) → IsHeld c (m ∷ ms)
   apart : (m : ℕ × Bool) (ms : Word) → is_marked 126 m ≡ true → (IsMember c ms → ⊥) → IsHeld c (m ∷ ms)
@@ -43,16 +45,22 @@ pub data Fits (explicit : Bool) : Word → List ℕ → Type 0 where
   -- nothing is left of both
   end : Fits explicit [] []
   -- a character that is no pattern character stands for itself
-  itself : (m : ℕ × Bool) (word : Word) (c : ℕ) (text : List ℕ) → kind m ≡ Plain → m.0 ≡ c → Fits explicit word text → Fits explicit (m ∷ word) (c ∷ text)
+  itself : (m : ℕ × Bool) (word : Word) (c : ℕ) (text : List ℕ) → kind m ≡ Plain → m.0 ≡ c → Fits explicit word text →
+      Fits explicit (m ∷ word) (c ∷ text)
   -- `?` stands for one character
-  question : (m : ℕ × Bool) (word : Word) (c : ℕ) (text : List ℕ) → kind m ≡ Question → stands_for explicit c ≡ true → Fits explicit word text → Fits explicit (m ∷ word) (c ∷ text)
+  question : (m : ℕ × Bool) (word : Word) (c : ℕ) (text : List ℕ) → kind m ≡ Question → stands_for explicit c ≡ true →
+      Fits explicit word text → Fits explicit (m ∷ word) (c ∷ text)
   -- `*` stands for any front of the text
-  star : (m : ℕ × Bool) (word : Word) (all front text : List ℕ) → kind m ≡ Star → list_all (stands_for explicit) front ≡ true → all ≡ front ++ text → Fits explicit word text → Fits explicit (m ∷ word) all
+  star : (m : ℕ × Bool) (word : Word) (all front text : List ℕ) → kind m ≡ Star → list_all (stands_for explicit) front
+      ≡ true → all ≡ front ++ text → Fits explicit word text → Fits explicit (m ∷ word) all
   -- a class, up to the next marked `]`, stands for one character that it holds
-  class : (m : ℕ × Bool) (rest members : Word) (close : ℕ × Bool) (word : Word) (c : ℕ) (text : List ℕ) → kind m ≡ Open → rest ≡ members ++ close ∷ word →
-      list_all (λ x. not (is_close x)) members ≡ true → is_close close ≡ true → IsHeld c members → stands_for explicit c ≡ true → Fits explicit word text → Fits explicit (m ∷ rest) (c ∷ text)
+  class : (m : ℕ × Bool) (rest members : Word) (close : ℕ × Bool) (word : Word) (c : ℕ) (text : List ℕ) → kind m
+      ≡ Open → rest ≡ members ++ close ∷ word →
+      list_all (λ x. not (is_close x)) members ≡ true → is_close close ≡ true → IsHeld c members → stands_for explicit c
+      ≡ true → Fits explicit word text → Fits explicit (m ∷ rest) (c ∷ text)
 
--- The word matches the text, given by its characters: in explicit form `.` and `..` only where it holds no pattern character.
+-- The word matches the text, given by its characters: in explicit form `.` and `..` only where it holds no pattern
+-- character.
 pub record Matches (explicit : Bool) (word : Word) (text : List ℕ) : Type 0 where
   pub fits : Fits explicit word text
   pub spelled_out : explicit ≡ true → has_pattern word ≡ true → is_dots text ≡ false

@@ -4,11 +4,18 @@ use Rattle.rc_model.specs.Syntax.Words.{Word, written, word_texts, subject}
 use Rattle.rc_model.specs.Run.Patterns.{matched}
 use Rattle.rc_model.specs.Run.Calls.{Slots, to_file, slot_of, with_slot, close}
 use Rattle.rc_model.specs.Run.Plans.{ask, done_with}
-use Rattle.rc_model.specs.Syntax.Tree.{is_empty, has_no_items, guards, Node, Many, Logic, And, Or, cmd, arg, item, pair, redir, link, branch, none, more, Empty, Seq, Simple, Assign, Redirect, Pipeline, AndOr, Not, Subshell, If, IfNot, While, ForAll, For, Switch, Match, Define, Undefine, Brace, Lit, Concat, Paren, Var, Count, Flat, Sub, Back, Item, Pair, Open, Copy, Here, Link, Branch}
+use Rattle.rc_model.specs.Syntax.Tree.{is_empty, has_no_items, guards, Node, Many, Logic, And, Or, cmd, arg, item, pair}
+use Rattle.rc_model.specs.Syntax.Tree.{redir, link, branch, none, more, Empty, Seq, Simple, Assign, Redirect, Pipeline}
+use Rattle.rc_model.specs.Syntax.Tree.{AndOr, Not, Subshell, If, IfNot, While, ForAll, For, Switch, Match, Define}
+use Rattle.rc_model.specs.Syntax.Tree.{Undefine, Brace, Lit, Concat, Paren, Var, Count, Flat, Sub, Back, Item, Pair}
+use Rattle.rc_model.specs.Syntax.Tree.{Open, Copy, Here, Link, Branch}
 use Rattle.rc_model.specs.Run.State.{set_value, push_local, pop_local, with_flag, inverted, undefine, is_true}
 use Rattle.rc_model.specs.Run.Shell.{Shell, Next, Exit, under, ◌>>=◌, ◌>>◌, pure, skip, change, stops}
 use Rattle.rc_model.specs.Run.FileNames.{expanded}
-use Rattle.rc_model.specs.Run.Acts.{check, set_status, closing, variable, value_words, count_words, flat_words, selected_words, concat_words, match_status, define_each, open_one, open_here, subshell, background, StartedStages, Running, Refused, start_stages, end_stages, from_pipe, back_words}
+use Rattle.rc_model.specs.Run.Acts.{check, set_status, closing, variable, value_words, count_words, flat_words}
+use Rattle.rc_model.specs.Run.Acts.{selected_words, concat_words, match_status, define_each, open_one, open_here}
+use Rattle.rc_model.specs.Run.Acts.{subshell, background, StartedStages, Running, Refused, start_stages, end_stages}
+use Rattle.rc_model.specs.Run.Acts.{from_pipe, back_words}
 use Rattle.rc_model.specs.Run.Builtins.{Called, Finished, Body, BodyWith, run_words}
 
 -- what a command does
@@ -27,11 +34,15 @@ local_end m = λ s. under (m s) (λ a. change pop_local) (λ s owed. done_with (
 
 -- an open file
 abbrev pub file_end : ℕ → Runner → Runner
-file_end h m = λ s. under (m s) (λ a s. ask (close h) (λ b. done_with (Next tt s))) (λ s owed. ask (close h) (λ b. done_with (Exit s owed)))
+file_end h m =
+    λ s. under (m s) (λ a s. ask (close h) (λ b. done_with (Next tt s))) (λ s owed.
+    ask (close h) (λ b. done_with (Exit s owed)))
 
 -- the last stage of a pipeline
 abbrev pub pipe_end : Option ℕ → List ℕ → Runner → Runner
-pipe_end read_end children m = λ s. under (m s) (λ a. end_stages read_end children) (λ s owed. closing read_end (done_with (Exit s (owed ++ children))))
+pipe_end read_end children m =
+    λ s. under (m s) (λ a. end_stages read_end children) (λ s owed.
+    closing read_end (done_with (Exit s (owed ++ children))))
 
 -- ** what the forms do with the meanings of their parts
 
@@ -120,7 +131,8 @@ abbrev mutual
     v ← args_mean words call n slots []
     w ← expanded v
     checked g (run_words slots (word_texts w) >>= called call slots)
-  cmd_means (Assign pairs body) g call n slots = pairs_mean pairs (is_empty body) (cmd_means body g call n slots) call n slots
+  cmd_means (Assign pairs body) g call n slots =
+      pairs_mean pairs (is_empty body) (cmd_means body g call n slots) call n slots
   cmd_means (Redirect redirs body) g call n slots = redirs_mean redirs (cmd_means body g call n) call n slots
   cmd_means (Pipeline stages last) g call n slots = do
     st ← start_stages slots stages
@@ -136,7 +148,8 @@ abbrev mutual
     cmd_means test true call n slots
     if_means (cmd_means body g call n slots)
   cmd_means (IfNot body) g call n slots = if_not_means (cmd_means body g call n slots)
-  cmd_means (While test body) g call n slots = turns n (condition (has_no_items test) (cmd_means test true call n slots)) (cmd_means body g call n slots)
+  cmd_means (While test body) g call n slots =
+      turns n (condition (has_no_items test) (cmd_means test true call n slots)) (cmd_means body g call n slots)
   cmd_means (ForAll name body) g call n slots = do
     v ← value_words slots (written (codes "*") false ∷ [])
     x ← arg_means name call n slots
@@ -230,7 +243,8 @@ abbrev mutual
     w ← expanded v
     h ← open_one slots mode (word_texts w)
     file_end h (redirs_mean rest body call n (with_slot slots slot (to_file h)))
-  redirs_mean (more (Copy to from) rest) body call n slots = redirs_mean rest body call n (with_slot slots to (slot_of slots from))
+  redirs_mean (more (Copy to from) rest) body call n slots =
+      redirs_mean rest body call n (with_slot slots to (slot_of slots from))
   redirs_mean (more (Here pieces) rest) body call n slots = do
     h ← open_here slots pieces
     file_end h (redirs_mean rest body call n (with_slot slots 0 (to_file h)))

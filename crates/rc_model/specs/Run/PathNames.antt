@@ -1,5 +1,6 @@
 -- Which names a word with pattern characters stands for, given what the world answers to each call.
-use Rattle.std.specs.Prelude.{◌≡◌, ◌≢◌, ◌⊎◌, ◌↔◌, ⊤, ℕ, Bool, true, false, not, List, [], ◌∷◌, ◌++◌, codes, Option, Some, None, unwrap_or, is_some}
+use Rattle.std.specs.Prelude.{◌≡◌, ◌≢◌, ◌⊎◌, ◌↔◌, ⊤, ℕ, Bool, true, false, not, List, [], ◌∷◌, ◌++◌, codes, Option}
+use Rattle.std.specs.Prelude.{Some, None, unwrap_or, is_some}
 use Rattle.std.specs.List.{join_with_byte, AllByRecursion}
 use Rattle.std.specs.List.Sorted.{IsStrictlySortedBy}
 use Rattle.std.specs.Str.{chars}
@@ -56,24 +57,29 @@ ends_plain [] = false
 ends_plain (c ∷ []) = not (has_pattern c)
 ends_plain (c ∷ d ∷ cs) = ends_plain (d ∷ cs)
 
--- The word stands for this path: its components for texts that are joined by slashes, and where the last has no pattern character the path is there.
+-- The word stands for this path: its components for texts that are joined by slashes, and where the last has no pattern
+-- character the path is there.
 pub record Named (tells : Call → Answer) (w : Word) (path : List ℕ) : Type 0 where
   pub texts : List (List ℕ)
   pub chosen : Chosen tells [] (components w) texts
   pub joined : path ≡ join_with_byte 47 texts
   pub checked : ends_plain (components w) ≡ true → is_there tells path ≡ true
 
--- what a word with a pattern character becomes: the paths that it stands for, in byte order and each once, or itself where there are none
+-- what a word with a pattern character becomes: the paths that it stands for, in byte order and each once, or itself
+-- where there are none
 pub data Expands (tells : Call → Answer) (w : Word) : List Word → Type 0 where
-  found : (paths : List (List ℕ)) → ((p : List ℕ) → IsIn p paths ↔ Named tells w p) → IsStrictlySortedBy text_cmp paths → paths ≢ [] → Expands tells w (plain_words paths)
+  found : (paths : List (List ℕ)) → ((p : List ℕ) → IsIn p paths ↔ Named tells w p) →
+      IsStrictlySortedBy text_cmp paths → paths ≢ [] → Expands tells w (plain_words paths)
   itself : ((p : List ℕ) → Named tells w p → ⊥) → Expands tells w (w ∷ [])
 
 -- what one word becomes by the events of its calls: itself without any, where it has no pattern character
 pub data ExpandsBy (w : Word) : List Event → List Word → Type 0 where
   plain : has_pattern w ≡ false → ExpandsBy w [] (w ∷ [])
-  names : (trace : List Event) (vs : List Word) (tells : Call → Answer) → has_pattern w ≡ true → Agreeing tells trace → Expands tells w vs → ExpandsBy w trace vs
+  names : (trace : List Event) (vs : List Word) (tells : Call → Answer) → has_pattern w ≡ true → Agreeing tells trace →
+      Expands tells w vs → ExpandsBy w trace vs
 
 -- what words become, from left to right, each with all its calls before the next
 pub data AllExpand : List Word → List Event → List Word → Type 0 where
   none : AllExpand [] [] []
-  next : (w : Word) (ws : List Word) (trace later : List Event) (vs us : List Word) → ExpandsBy w trace vs → AllExpand ws later us → AllExpand (w ∷ ws) (trace ++ later) (vs ++ us)
+  next : (w : Word) (ws : List Word) (trace later : List Event) (vs us : List Word) → ExpandsBy w trace vs →
+      AllExpand ws later us → AllExpand (w ∷ ws) (trace ++ later) (vs ++ us)

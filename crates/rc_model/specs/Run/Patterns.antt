@@ -1,5 +1,6 @@
 -- Patterns: which texts a word matches.
-use Rattle.std.specs.Prelude.{ℕ, nat_le, Bool, true, false, not, ◌&&◌, ◌||◌, ◌==◌, if◌then◌else◌, List, [], ◌∷◌, ◌++◌, map, codes, bytes_eq}
+use Rattle.std.specs.Prelude.{ℕ, nat_le, Bool, true, false, not, ◌&&◌, ◌||◌, ◌==◌, if◌then◌else◌, List, [], ◌∷◌, ◌++◌}
+use Rattle.std.specs.Prelude.{map, codes, bytes_eq}
 use Rattle.std.specs.List.{list_any}
 use Rattle.rc_model.specs.Syntax.Words.{Word, has_pattern}
 
@@ -28,7 +29,8 @@ abbrev pub holds : Word → ℕ → Bool
 holds [] c = false
 holds (m ∷ []) c = m.0 == c
 holds (m ∷ d ∷ []) c = (m.0 == c) || (d.0 == c)
-holds (m ∷ d ∷ n ∷ ms) c = if is_marked 45 d then is_between m.0 n.0 c || holds ms c else (m.0 == c) || holds (d ∷ n ∷ ms) c
+holds (m ∷ d ∷ n ∷ ms) c =
+    if is_marked 45 d then is_between m.0 n.0 c || holds ms c else (m.0 == c) || holds (d ∷ n ∷ ms) c
 
 -- the class with these characters between its brackets
 abbrev pub class_of : Word → Pattern
@@ -42,7 +44,9 @@ pub data Begun : Type 0 where
 
 -- one character outside of classes: what it stands for, and what it begins
 abbrev pub outside : ℕ × Bool → List Pattern
-outside m = if is_marked 42 m then AnyRun ∷ [] else (if is_marked 63 m then AnyOne ∷ [] else (if is_marked 91 m then [] else This m.0 ∷ []))
+outside m =
+    if is_marked 42 m then AnyRun ∷ []
+    else (if is_marked 63 m then AnyOne ∷ [] else (if is_marked 91 m then [] else This m.0 ∷ []))
 
 abbrev pub begun_by : ℕ × Bool → Begun
 begun_by m = if is_marked 91 m then Inside [] else Outside
@@ -82,8 +86,10 @@ parts_match explicit [] (c ∷ cs) = false
 parts_match explicit (This d ∷ ps) cs = one (λ c. c == d) (parts_match explicit ps) cs
 parts_match explicit (AnyOne ∷ ps) cs = one (stands_for explicit) (parts_match explicit ps) cs
 parts_match explicit (AnyRun ∷ ps) cs = any_run explicit (parts_match explicit ps) cs
-parts_match explicit (OneOf members true ∷ ps) cs = one (λ c. stands_for explicit c && not (holds members c)) (parts_match explicit ps) cs
-parts_match explicit (OneOf members false ∷ ps) cs = one (λ c. stands_for explicit c && holds members c) (parts_match explicit ps) cs
+parts_match explicit (OneOf members true ∷ ps) cs =
+    one (λ c. stands_for explicit c && not (holds members c)) (parts_match explicit ps) cs
+parts_match explicit (OneOf members false ∷ ps) cs =
+    one (λ c. stands_for explicit c && holds members c) (parts_match explicit ps) cs
 parts_match explicit (Nothing ∷ ps) cs = false
 
 -- `.` and `..`
@@ -92,7 +98,8 @@ is_dots cs = bytes_eq cs (codes ".") || bytes_eq cs (codes "..")
 
 -- the word matches these characters
 unfoldable pub matches : Word → List ℕ → (explicit : Bool) → Bool
-matches w cs explicit = if explicit && (has_pattern w && is_dots cs) then false else parts_match explicit (parts_from Outside w) cs
+matches w cs explicit =
+    if explicit && (has_pattern w && is_dots cs) then false else parts_match explicit (parts_from Outside w) cs
 
 -- one of the patterns matches the subject
 abbrev pub matched : List Word → List Word → Bool

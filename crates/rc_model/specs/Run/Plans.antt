@@ -1,4 +1,5 @@
--- Plans: trees of calls. A plan is done with a value, or it makes a call and goes on by the answer, or it is cut: its turns or instructions are used up.
+-- Plans: trees of calls. A plan is done with a value, or it makes a call and goes on by the answer, or it is cut: its
+-- turns or instructions are used up.
 use Rattle.std.specs.Prelude.{◌≡◌, List, [], ◌∷◌, ◌++◌, Option, if◌then◌else◌, false}
 use Rattle.rc_model.specs.Run.Calls.{Call, Answer, refused, Halt, fitting, is_halt, Event, event, extend}
 

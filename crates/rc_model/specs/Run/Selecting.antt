@@ -7,7 +7,8 @@ pub data Names (count : ℕ) (text : List ℕ) : ℕ → ℕ → Type 0 where
   -- `m`
   one : (m : ℕ) → number_of text ≡ Some m → Names count text m m
   -- `m-n`
-  range : (a b : List ℕ) (m n : ℕ) → text ≡ a ++ 45 ∷ b → number_of a ≡ Some m → number_of b ≡ Some n → Names count text m n
+  range : (a b : List ℕ) (m n : ℕ) → text ≡ a ++ 45 ∷ b → number_of a ≡ Some m → number_of b ≡ Some n →
+      Names count text m n
   -- `m-`
   onward : (a : List ℕ) (m : ℕ) → text ≡ a ++ 45 ∷ [] → number_of a ≡ Some m → Names count text m count
 
@@ -15,12 +16,14 @@ pub data Names (count : ℕ) (text : List ℕ) : ℕ → ℕ → Type 0 where
 abbrev pub members_between : (first last place : ℕ) → List (List ℕ) → List (List ℕ)
 members_between first last place [] = []
 members_between first last place (x ∷ xs) =
-    if nat_le first place && nat_le place last then x ∷ members_between first last (suc place) xs else members_between first last (suc place) xs
+    if nat_le first place && nat_le place last then x ∷ members_between first last (suc place) xs
+    else members_between first last (suc place) xs
 
 -- what a subscript selects
 pub data Selects (value : List (List ℕ)) (text : List ℕ) : List (List ℕ) → Type 0 where
   -- the members at the places that it names
-  places : (first last : ℕ) → Names (length value) text (suc first) last → Selects value text (members_between (suc first) last 1 value)
+  places : (first last : ℕ) → Names (length value) text (suc first) last →
+      Selects value text (members_between (suc first) last 1 value)
   -- no place is 0
   at_zero : (last : ℕ) → Names (length value) text 0 last → Selects value text []
   -- any other text

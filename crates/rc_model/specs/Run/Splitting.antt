@@ -13,7 +13,8 @@ pub data Splits (is_separator : ℕ → Bool) : List ℕ → List (List ℕ) →
   -- separators alone
   gap : (cs : List ℕ) → list_all is_separator cs ≡ true → Splits is_separator cs []
   -- separators, a member, and what follows it
-  next : (cs before member rest : List ℕ) (members : List (List ℕ)) → list_all is_separator before ≡ true → member ≢ [] → list_any is_separator member ≡ false → is_cut is_separator rest ≡ true →
+  next : (cs before member rest : List ℕ) (members : List (List ℕ)) → list_all is_separator before ≡ true →
+      member ≢ [] → list_any is_separator member ≡ false → is_cut is_separator rest ≡ true →
       cs ≡ before ++ (member ++ rest) → Splits is_separator rest members → Splits is_separator cs (member ∷ members)
 
 -- the separators are the characters of a text

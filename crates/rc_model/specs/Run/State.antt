@@ -1,5 +1,6 @@
 -- The state of a shell. A finite map is the list of its entries, in byte order of their names.
-use Rattle.std.specs.Prelude.{ℕ, List, [], ◌∷◌, ◌++◌, length, Bool, false, not, ◌&&◌, ◌||◌, ◌==◌, if◌then◌else◌, codes, unwrap_or, Option, Some}
+use Rattle.std.specs.Prelude.{ℕ, List, [], ◌∷◌, ◌++◌, length, Bool, false, not, ◌&&◌, ◌||◌, ◌==◌, if◌then◌else◌, codes}
+use Rattle.std.specs.Prelude.{unwrap_or, Option, Some}
 use Rattle.std.specs.List.{list_all, list_any}
 use Rattle.std.specs.Str.{bytes_eq}
 use Rattle.std.specs.Map.{lookup, remove_entry}
@@ -27,7 +28,8 @@ pub record State : Type 0 where
 
 -- nothing is set, and the status is null
 abbrev pub new_state : State
-new_state = record { variables = []; locals = []; functions = []; status = []; flag = false; strict = false; background = [] }
+new_state =
+    record { variables = []; locals = []; functions = []; status = []; flag = false; strict = false; background = [] }
 
 -- the name of the status
 abbrev pub status_name : List ℕ
@@ -68,7 +70,8 @@ abbrev pub with_status : State → List ℕ → State
 with_status s text = record s { status = text }
 
 -- a name with these values; one with none is not in the map
-abbrev pub put_values : List (List ℕ × List (List (List ℕ))) → List ℕ → List (List (List ℕ)) → List (List ℕ × List (List (List ℕ)))
+abbrev pub put_values : List (List ℕ × List (List (List ℕ))) → List ℕ → List (List (List ℕ)) →
+    List (List ℕ × List (List (List ℕ)))
 put_values variables name [] = remove_entry (bytes_eq name) variables
 put_values variables name (v ∷ vs) = insert_entry text_cmp variables name (v ∷ vs)
 
@@ -97,7 +100,9 @@ is_true status = list_all (λ c. (c == 48) || (c == 124)) status
 
 -- what `$` and a name give: for digits a member of `$*`
 abbrev pub got : State → List ℕ → List (List ℕ)
-got s name = if list_all is_digit name && not (length name == 0) then member (value_of s (codes "*")) (Some (digits_value 0 name)) else value_of s name
+got s name =
+    if list_all is_digit name && not (length name == 0)
+    then member (value_of s (codes "*")) (Some (digits_value 0 name)) else value_of s name
 
 -- a new local with this value; one of the status sets it
 abbrev pub push_local : State → List ℕ → List (List ℕ) → State

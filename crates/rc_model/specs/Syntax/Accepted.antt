@@ -4,7 +4,8 @@ use Rattle.std.specs.List.{count_by, list_any}
 use Rattle.std.specs.Str.{is_utf8}
 use Rattle.std.specs.Str.Lossy.{utf8_valid_len}
 use Rattle.rc_model.specs.Syntax.Tokens.{Token, Lexeme, Lexes}
-use Rattle.rc_model.specs.Syntax.Faults.{SyntaxFault, fault, TooLong, NotText, Unexpected, IfNot, TooDeep, TooManyStages}
+use Rattle.rc_model.specs.Syntax.Faults.{SyntaxFault, fault, TooLong, NotText, Unexpected, IfNot, TooDeep}
+use Rattle.rc_model.specs.Syntax.Faults.{TooManyStages}
 use Rattle.rc_model.specs.Syntax.Tree.{Node, cmd}
 use Rattle.rc_model.specs.Syntax.WellFormed.{depth, most_stages}
 use Rattle.rc_model.specs.Syntax.Grammar.{IsScript}
@@ -41,15 +42,19 @@ IsLineOf script tokens line = (list_any (λ t. t.line == line) tokens ≡ true) 
 -- Why a script is refused: the first of these that is so. Of a tree that is both too deep and too wide either is said.
 pub data IsRefused (script : List ℕ) : SyntaxFault → Type 0 where
   too_long : longest_script < length script → IsRefused script (fault TooLong 0)
-  not_text : length script ≤ longest_script → is_utf8 script ≡ false → IsRefused script (fault NotText (line_of script (utf8_valid_len script)))
-  no_tokens : (f : SyntaxFault) → length script ≤ longest_script → is_utf8 script ≡ true → Lexes script (Err f) → IsRefused script f
+  not_text : length script ≤ longest_script → is_utf8 script ≡ false →
+      IsRefused script (fault NotText (line_of script (utf8_valid_len script)))
+  no_tokens : (f : SyntaxFault) → length script ≤ longest_script → is_utf8 script ≡ true → Lexes script (Err f) →
+      IsRefused script f
   -- no tree of any size
   unexpected : (tokens : List Token) (line : ℕ) → HasTokens script tokens → IsLineOf script tokens line →
       ((tree : Node cmd) → IsScript (lexemes tokens) tree → ⊥) → IsRefused script (fault Unexpected line)
   if_not : (tokens : List Token) (line : ℕ) → HasTokens script tokens → IsLineOf script tokens line →
       ((tree : Node cmd) → IsScript (lexemes tokens) tree → ⊥) → IsRefused script (fault IfNot line)
   -- no tree but one that is too deep, and none but one with a pipeline of too many stages
-  too_deep : (tokens : List Token) → HasTokens script tokens → ((tree : Node cmd) → IsScript (lexemes tokens) tree → 200 < depth tree) →
+  too_deep : (tokens : List Token) → HasTokens script tokens →
+      ((tree : Node cmd) → IsScript (lexemes tokens) tree → 200 < depth tree) →
       IsRefused script (fault TooDeep 0)
   too_many_stages : (tokens : List Token) (line : ℕ) → HasTokens script tokens → IsLineOf script tokens line →
-      ((tree : Node cmd) → IsScript (lexemes tokens) tree → 64 < most_stages tree) → IsRefused script (fault TooManyStages line)
+      ((tree : Node cmd) → IsScript (lexemes tokens) tree → 64 < most_stages tree) →
+      IsRefused script (fault TooManyStages line)

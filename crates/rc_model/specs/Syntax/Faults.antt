@@ -2,7 +2,9 @@
 use Rattle.std.specs.Prelude.{ℕ, List, ◌++◌, codes}
 use Rattle.std.specs.Fmt.{decimal}
 pub use Rattle.rc_model.specs.declared.fault.FaultKind.{FaultKind}
-pub use Rattle.rc_model.specs.declared.fault.FaultKind.TheVariants.{TooLong, NotText, ZeroByte, OpenQuote, BadDescriptor, OpenHere, Unexpected, IfNot, TooDeep, TooManyStages}
+pub use Rattle.rc_model.specs.declared.fault.FaultKind.TheVariants.{TooLong, NotText, ZeroByte, OpenQuote}
+pub use Rattle.rc_model.specs.declared.fault.FaultKind.TheVariants.{BadDescriptor, OpenHere, Unexpected, IfNot, TooDeep}
+pub use Rattle.rc_model.specs.declared.fault.FaultKind.TheVariants.{TooManyStages}
 pub use Rattle.rc_model.specs.declared.fault.SyntaxFault.{SyntaxFault}
 
 -- a fault at a line

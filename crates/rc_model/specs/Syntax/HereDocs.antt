@@ -21,11 +21,15 @@ with_text pieces (b ∷ bs) = snoc pieces (t.Text (b ∷ bs))
 abbrev pub begun_by : ℕ → Begun
 begun_by c = if c == 36 then Dollar [] else Plain (encode_utf8 c)
 
--- what has begun after one more character: `$$` is `$`, a `$` with no name after it stays, and a `^` after a name is left out
+-- what has begun after one more character: `$$` is `$`, a `$` with no name after it stays, and a `^` after a name is
+-- left out
 abbrev pub behind : Begun → ℕ → Begun
 behind (Plain text) c = if c == 36 then Dollar text else Plain (text ++ encode_utf8 c)
-behind (Dollar text) c = if is_name_char c then Naming (encode_utf8 c) else if c == 36 then Plain (text ++ 36 ∷ []) else Plain (text ++ 36 ∷ encode_utf8 c)
-behind (Naming name) c = if is_name_char c then Naming (name ++ encode_utf8 c) else if c == 94 then Plain [] else begun_by c
+behind (Dollar text) c =
+    if is_name_char c then Naming (encode_utf8 c) else if c == 36 then Plain (text ++ 36 ∷ [])
+    else Plain (text ++ 36 ∷ encode_utf8 c)
+behind (Naming name) c =
+    if is_name_char c then Naming (name ++ encode_utf8 c) else if c == 94 then Plain [] else begun_by c
 
 -- the pieces so far, with the one that one more character ends
 abbrev pub ended_by : Begun → ℕ → Many t.piece → Many t.piece

@@ -1,5 +1,6 @@
 -- The text of a tree, and the trees that have none, since a here document is inside.
-use Rattle.std.specs.Prelude.{ℕ, Bool, true, false, not, ◌&&◌, ◌||◌, ◌==◌, if◌then◌else◌, List, [], ◌∷◌, ◌++◌, codes, bytes_eq}
+use Rattle.std.specs.Prelude.{ℕ, Bool, true, false, not, ◌&&◌, ◌||◌, ◌==◌, if◌then◌else◌, List, [], ◌∷◌, ◌++◌, codes}
+use Rattle.std.specs.Prelude.{bytes_eq}
 use Rattle.std.specs.List.{flat_map}
 use Rattle.rc_model.specs.Run.Calls.{Mode, Read, Write, Append}
 use Rattle.rc_model.specs.Syntax.Tokens.{quoted_text}
@@ -63,7 +64,8 @@ abbrev mutual
   begin_with_case none = false
   begin_with_case (more word words) = begins_with_case word
 
--- Redirections stand after this command; before every other. A simple command that would make a case line of an item that begins with it
+-- Redirections stand after this command; before every other. A simple command that would make a case line of an item
+-- that begins with it
 -- has them before it.
 abbrev pub stands_first : Node t.cmd → (begins : Bool) → Bool
 stands_first (t.Simple words) begins = not (begins && begin_with_case words)
@@ -75,11 +77,13 @@ stands_first _ begins = false
 abbrev pub redirected : Node t.cmd → (begins : Bool) → (redirs : List (List ℕ)) → (text : List ℕ) → List ℕ
 redirected body begins redirs text =
     if is_empty body then joined (codes " ") redirs
-    else (if stands_first body begins then text ++ flat_map (λ r. codes " " ++ r) redirs else flat_map (λ r. r ++ codes " ") redirs ++ text)
+    else (if stands_first body begins then text ++ flat_map (λ r. codes " " ++ r) redirs
+    else flat_map (λ r. r ++ codes " ") redirs ++ text)
 
 -- assignments, and the text of the command for which they are made
 abbrev pub assigned : Node t.cmd → (pairs : List (List ℕ)) → (text : List ℕ) → List ℕ
-assigned body pairs text = if is_empty body then joined (codes " ") pairs else joined (codes " ") pairs ++ (codes " " ++ text)
+assigned body pairs text =
+    if is_empty body then joined (codes " ") pairs else joined (codes " ") pairs ++ (codes " " ++ text)
 
 -- the lines of a branch's body: those of a list, else one
 abbrev pub body_lines : Node t.cmd → (items : List Line) → (text : List ℕ) → List Line
@@ -98,12 +102,15 @@ unfoldable mutual
   cmd_text (t.AndOr first links) begins = cmd_text first begins ++ links_text links
   cmd_text (t.Not body) begins = codes "! " ++ cmd_text body false
   cmd_text (t.Subshell body) begins = codes "@ " ++ cmd_text body false
-  cmd_text (t.If condition body) begins = codes "if(" ++ (cmd_text condition false ++ (codes ") " ++ cmd_text body false))
+  cmd_text (t.If condition body) begins =
+      codes "if(" ++ (cmd_text condition false ++ (codes ") " ++ cmd_text body false))
   cmd_text (t.IfNot body) begins = codes "if not " ++ cmd_text body false
-  cmd_text (t.While condition body) begins = codes "while(" ++ (cmd_text condition false ++ (codes ") " ++ cmd_text body false))
+  cmd_text (t.While condition body) begins =
+      codes "while(" ++ (cmd_text condition false ++ (codes ") " ++ cmd_text body false))
   cmd_text (t.ForAll name body) begins = codes "for(" ++ (arg_text name ++ (codes ") " ++ cmd_text body false))
   cmd_text (t.For name words body) begins =
-      codes "for(" ++ (arg_text name ++ (codes " in " ++ (joined (codes " ") (arg_texts words) ++ (codes ") " ++ cmd_text body false))))
+      codes "for(" ++ (arg_text name ++ (codes " in " ++ (joined (codes " ") (arg_texts words) ++ (codes ") "
+      ++ cmd_text body false))))
   cmd_text (t.Switch subject branches) begins =
       codes "switch " ++ (arg_text subject ++ (codes " {" ++ (listed (branch_lines branches) ++ codes "}")))
   cmd_text (t.Match subject patterns) begins = codes "~ " ++ joined (codes " ") (arg_text subject ∷ arg_texts patterns)
@@ -119,7 +126,8 @@ unfoldable mutual
   arg_text (t.Var name) = codes "$" ++ arg_text name
   arg_text (t.Count name) = codes "$#" ++ arg_text name
   arg_text (t.Flat name) = codes "$\"" ++ arg_text name
-  arg_text (t.Sub name subscripts) = codes "$" ++ (arg_text name ++ (codes "(" ++ (joined (codes " ") (arg_texts subscripts) ++ codes ")")))
+  arg_text (t.Sub name subscripts) =
+      codes "$" ++ (arg_text name ++ (codes "(" ++ (joined (codes " ") (arg_texts subscripts) ++ codes ")")))
   arg_text (t.Back body) = codes "`{" ++ (cmd_text body false ++ codes "}")
 
   pub redir_text : Node t.redir → List ℕ
@@ -151,13 +159,15 @@ unfoldable mutual
   -- the first item begins as said, and the others as said after it
   pub item_lines : Many t.item → (begins others : Bool) → List Line
   item_lines none begins others = []
-  item_lines (more (t.Item body background) items) begins others = (cmd_text body begins, background) ∷ item_lines items others others
+  item_lines (more (t.Item body background) items) begins others =
+      (cmd_text body begins, background) ∷ item_lines items others others
 
   -- each branch is a case line and the lines of its body
   pub branch_lines : Many t.branch → List Line
   branch_lines none = []
   branch_lines (more (t.Branch patterns body) branches) =
-      (joined (codes " ") (codes "case" ∷ arg_texts patterns), false) ∷ (body_lines body (branch_items body) (cmd_text body true) ++ branch_lines branches)
+      (joined (codes " ") (codes "case" ∷ arg_texts patterns), false)
+      ∷ (body_lines body (branch_items body) (cmd_text body true) ++ branch_lines branches)
 
   pub branch_items : Node t.cmd → List Line
   branch_items (t.Seq items) = item_lines items true true

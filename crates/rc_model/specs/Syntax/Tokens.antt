@@ -1,5 +1,6 @@
 -- Tokens: the pieces of a script that the grammar speaks of, and how a text is cut into them.
-use Rattle.std.specs.Prelude.{◌≡◌, ◌≢◌, ℕ, suc, ◌+◌, Bool, true, false, not, if◌then◌else◌, ◌==◌, ◌||◌, ◌&&◌, nat_le, List, [], ◌∷◌, ◌++◌, find, codes}
+use Rattle.std.specs.Prelude.{◌≡◌, ◌≢◌, ℕ, suc, ◌+◌, Bool, true, false, not, if◌then◌else◌, ◌==◌, ◌||◌, ◌&&◌, nat_le}
+use Rattle.std.specs.Prelude.{List, [], ◌∷◌, ◌++◌, find, codes}
 use Rattle.std.specs.Prelude.{Option, Some, None, option_map, Result, Ok, Err}
 use Rattle.std.specs.Char.{len_utf8}
 use Rattle.std.specs.List.{list_any, list_all}
@@ -79,10 +80,12 @@ abbrev pub operators : List (List ℕ × Lexeme)
 operators =
     (codes ";", Semicolon) ∷ (codes "&", Ampersand) ∷ (codes "&&", AndAnd) ∷ (codes "||", OrOr)
     ∷ (codes "|", Bar 1) ∷ (codes "|[1]", Bar 1) ∷ (codes "|[2]", Bar 2)
-    ∷ (codes "^", Caret) ∷ (codes "=", Equals) ∷ (codes "(", LeftParen) ∷ (codes ")", RightParen) ∷ (codes "{", LeftBrace) ∷ (codes "}", RightBrace) ∷ (codes "`", Backquote)
+    ∷ (codes "^", Caret) ∷ (codes "=", Equals) ∷ (codes "(", LeftParen) ∷ (codes ")", RightParen)
+    ∷ (codes "{", LeftBrace) ∷ (codes "}", RightBrace) ∷ (codes "`", Backquote)
     ∷ (codes ">", Redirection Write 1) ∷ (codes ">[1]", Redirection Write 1) ∷ (codes ">[2]", Redirection Write 2)
     ∷ (codes ">>", Redirection Append 1) ∷ (codes ">>[1]", Redirection Append 1) ∷ (codes ">>[2]", Redirection Append 2)
-    ∷ (codes "<", Redirection Read 0) ∷ (codes "<[0]", Redirection Read 0) ∷ (codes ">[1=2]", CopyTo 1 2) ∷ (codes ">[2=1]", CopyTo 2 1)
+    ∷ (codes "<", Redirection Read 0) ∷ (codes "<[0]", Redirection Read 0) ∷ (codes ">[1=2]", CopyTo 1 2)
+    ∷ (codes ">[2=1]", CopyTo 2 1)
     ∷ (codes "<<", BareHere) ∷ (codes "<<[0]", BareHere)
     ∷ (codes "$", Dollar) ∷ (codes "$#", DollarCount) ∷ (36 ∷ 34 ∷ [], DollarFlat) ∷ []
 
@@ -114,7 +117,8 @@ abbrev pub class_of : ℕ → Class
 class_of c =
     if begins_operator (c ∷ []) then Operates
     else (if (c == 32) || (c == 9) then Blank
-    else (if c == 10 then LineEnd else (if c == 35 then Hash else (if c == 39 then Quote else (if c == 92 then Backslash else Ordinary)))))
+    else (if c == 10 then LineEnd else (if c == 35 then Hash else (if c == 39 then Quote
+    else (if c == 92 then Backslash else Ordinary)))))
 
 -- whether a newline comes next
 abbrev pub at_newline : List ℕ → Bool
@@ -135,7 +139,8 @@ word_goes_on (c ∷ cs) = is_in_word (class_of c) cs
 -- ASCII letters, digits, `_` and `*`
 abbrev pub is_name_char : ℕ → Bool
 is_name_char c =
-    (nat_le 48 c && nat_le c 57) || (nat_le 65 c && nat_le c 90) || (nat_le 97 c && nat_le c 122) || (c == 95) || (c == 42)
+    (nat_le 48 c && nat_le c 57) || (nat_le 65 c && nat_le c 90) || (nat_le 97 c &&
+    nat_le c 122) || (c == 95) || (c == 42)
 
 -- a name goes on
 abbrev pub name_goes_on : List ℕ → Bool
@@ -183,7 +188,8 @@ abbrev pub unquoted_text : List ℕ → List ℕ
 unquoted_text [] = []
 unquoted_text (q ∷ bs) = without_quotes false bs
 
--- What stands directly before a place: nothing that matters, an unquoted word, a quoted word, a name, a `$` with its name still to come, or a `<<` between these places
+-- What stands directly before a place: nothing that matters, an unquoted word, a quoted word, a name, a `$` with its
+-- name still to come, or a `<<` between these places
 -- with its mark still to come.
 pub data Before : Type 0 where
   Apart : Before
@@ -284,35 +290,44 @@ due_after prev l due = due
 pub data Spells : Before → List ℕ → List ℕ → Lexeme → Type 0 where
   word : (prev : Before) (c : ℕ) (cs rest : List ℕ) → begins_name prev c ≡ false → Run word_goes_on (c ∷ cs) rest →
       Spells prev (c ∷ cs) rest (Word (encode_utf8_all (c ∷ cs)))
-  name : (c : ℕ) (cs rest : List ℕ) → Run name_goes_on (c ∷ cs) rest → Spells DollarBefore (c ∷ cs) rest (Name (encode_utf8_all (c ∷ cs)))
+  name : (c : ℕ) (cs rest : List ℕ) → Run name_goes_on (c ∷ cs) rest →
+      Spells DollarBefore (c ∷ cs) rest (Name (encode_utf8_all (c ∷ cs)))
   quoted : (prev : Before) (cs rest : List ℕ) → InQuotes cs → begins_with (39 ∷ []) rest ≡ false →
       Spells prev (39 ∷ cs ++ 39 ∷ []) rest (Quoted (unquoted_text (encode_utf8_all (39 ∷ cs ++ 39 ∷ []))))
-  operated : (prev : Before) (cs rest : List ℕ) (l : Lexeme) → awaits_mark prev ≡ false → operator cs ≡ Some l → l ≢ BareHere → goes_on cs rest ≡ false →
+  operated : (prev : Before) (cs rest : List ℕ) (l : Lexeme) → awaits_mark prev ≡ false → operator cs ≡ Some l →
+      l ≢ BareHere → goes_on cs rest ≡ false →
       Spells prev cs rest (meant prev rest l)
 
--- The text begins with the body of a here document and with its end, a line that is the mark. That line may be the last one, without a newline.
+-- The text begins with the body of a here document and with its end, a line that is the mark. That line may be the last
+-- one, without a newline.
 pub data Body (mark : List ℕ) : List ℕ → List ℕ → List ℕ → Type 0 where
-  marked : (line rest : List ℕ) → Run line_goes_on line (10 ∷ rest) → encode_utf8_all line ≡ mark → Body mark [] (line ++ 10 ∷ []) rest
-  marked_last : (line : List ℕ) → Run line_goes_on line [] → line ≢ [] → encode_utf8_all line ≡ mark → Body mark [] line []
-  other : (line body end rest : List ℕ) → Run line_goes_on line (10 ∷ body ++ end ++ rest) → encode_utf8_all line ≢ mark → Body mark body end rest →
+  marked : (line rest : List ℕ) → Run line_goes_on line (10 ∷ rest) → encode_utf8_all line ≡ mark →
+      Body mark [] (line ++ 10 ∷ []) rest
+  marked_last : (line : List ℕ) → Run line_goes_on line [] → line ≢ [] → encode_utf8_all line ≡ mark →
+      Body mark [] line []
+  other : (line body end rest : List ℕ) → Run line_goes_on line (10 ∷ body ++ end ++ rest) →
+      encode_utf8_all line ≢ mark → Body mark body end rest →
       Body mark (line ++ 10 ∷ body) end rest
 
 -- No line of the text is the mark.
 pub data NoBody (mark : List ℕ) : List ℕ → Type 0 where
   nothing : NoBody mark []
   other_last : (line : List ℕ) → Run line_goes_on line [] → line ≢ [] → encode_utf8_all line ≢ mark → NoBody mark line
-  other : (line rest : List ℕ) → Run line_goes_on line (10 ∷ rest) → encode_utf8_all line ≢ mark → NoBody mark rest → NoBody mark (line ++ 10 ∷ rest)
+  other : (line rest : List ℕ) → Run line_goes_on line (10 ∷ rest) → encode_utf8_all line ≢ mark → NoBody mark rest →
+      NoBody mark (line ++ 10 ∷ rest)
 
 -- The text begins with the bodies of these here documents and their ends, one after the other.
 pub data Bodies : List Due → List ℕ → List ℕ → List (List ℕ) → Type 0 where
   all : (rest : List ℕ) → Bodies [] [] rest []
-  one : (d : Due) (due : List Due) (body end cs rest : List ℕ) (bodies : List (List ℕ)) → Body d.mark body end (cs ++ rest) → Bodies due cs rest bodies →
+  one : (d : Due) (due : List Due) (body end cs rest : List ℕ) (bodies : List (List ℕ)) →
+      Body d.mark body end (cs ++ rest) → Bodies due cs rest bodies →
       Bodies (d ∷ due) (body ++ end ++ cs) rest (encode_utf8_all body ∷ bodies)
 
 -- One of the bodies has no end: the first such here document begins at this line.
 pub data OpenBody : List Due → List ℕ → ℕ → Type 0 where
   first : (d : Due) (due : List Due) (text : List ℕ) → NoBody d.mark text → OpenBody (d ∷ due) text d.line
-  later : (d : Due) (due : List Due) (body end text : List ℕ) (line : ℕ) → Body d.mark body end text → OpenBody due text line →
+  later : (d : Due) (due : List Due) (body end text : List ℕ) (line : ℕ) → Body d.mark body end text →
+      OpenBody due text line →
       OpenBody (d ∷ due) (body ++ end ++ text) line
 
 -- what a text is cut into: its tokens, and the bodies of its here documents in the order of their marks
@@ -341,33 +356,42 @@ mark_goes_on (c ∷ cs) = is_mark (class_of c)
 pub data Cuts : Before → List Due → Place → List ℕ → Outcome → Type 0 where
   -- the end, with no body due, and with one
   finish : (prev : Before) (p : Place) → awaits_mark prev ≡ false → Cuts prev [] p [] (Ok ([], []))
-  open_here : (prev : Before) (d : Due) (due : List Due) (p : Place) → awaits_mark prev ≡ false → Cuts prev (d ∷ due) p [] (Err (fault OpenHere d.line))
+  open_here : (prev : Before) (d : Due) (due : List Due) (p : Place) → awaits_mark prev ≡ false →
+      Cuts prev (d ∷ due) p [] (Err (fault OpenHere d.line))
   -- a blank, a newline after a backslash, and a comment
   blank : (prev : Before) (due : List Due) (p : Place) (c : ℕ) (cs : List ℕ) (o : Outcome) → class_of c ≡ Blank →
       Cuts (after_blank prev) due (after_char p c) cs o → Cuts prev due p (c ∷ cs) o
   continued : (prev : Before) (due : List Due) (p : Place) (cs : List ℕ) (o : Outcome) →
       Cuts (after_blank prev) due (after_chars p (92 ∷ 10 ∷ [])) cs o → Cuts prev due p (92 ∷ 10 ∷ cs) o
-  comment : (prev : Before) (due : List Due) (p : Place) (cs rest : List ℕ) (o : Outcome) → awaits_mark prev ≡ false → Run line_goes_on cs rest →
+  comment : (prev : Before) (due : List Due) (p : Place) (cs rest : List ℕ) (o : Outcome) → awaits_mark prev ≡ false →
+      Run line_goes_on cs rest →
       Cuts Apart due (after_chars p (35 ∷ cs)) rest o → Cuts prev due p (35 ∷ cs ++ rest) o
   -- a word, a name, an operator
-  lexeme : (prev : Before) (due : List Due) (p : Place) (cs rest : List ℕ) (l : Lexeme) (o : Outcome) → Spells prev cs rest l →
+  lexeme : (prev : Before) (due : List Due) (p : Place) (cs rest : List ℕ) (l : Lexeme) (o : Outcome) →
+      Spells prev cs rest l →
       Cuts (as_before prev l) (due_after prev l due) (after_chars p cs) rest o →
       Cuts prev due p (cs ++ rest) (join (tokens_of prev l p (after_chars p cs)) [] o)
-  open_quote : (prev : Before) (due : List Due) (p : Place) (cs : List ℕ) → InQuotes cs → Cuts prev due p (39 ∷ cs) (Err (fault OpenQuote p.line))
-  bad_descriptor : (prev : Before) (due : List Due) (p : Place) (c : ℕ) (cs rest : List ℕ) → awaits_mark prev ≡ false → begins_operator (c ∷ cs) ≡ true →
+  open_quote : (prev : Before) (due : List Due) (p : Place) (cs : List ℕ) → InQuotes cs →
+      Cuts prev due p (39 ∷ cs) (Err (fault OpenQuote p.line))
+  bad_descriptor : (prev : Before) (due : List Due) (p : Place) (c : ℕ) (cs rest : List ℕ) → awaits_mark prev ≡ false →
+      begins_operator (c ∷ cs) ≡ true →
       operator (c ∷ cs) ≡ None →
       goes_on (c ∷ cs) rest ≡ false → Cuts prev due p (c ∷ cs ++ rest) (Err (fault BadDescriptor p.line))
   -- a `<<`, and one without a mark
-  here : (prev : Before) (due : List Due) (p : Place) (cs rest : List ℕ) (o : Outcome) → awaits_mark prev ≡ false → operator cs ≡ Some BareHere →
+  here : (prev : Before) (due : List Due) (p : Place) (cs rest : List ℕ) (o : Outcome) → awaits_mark prev ≡ false →
+      operator cs ≡ Some BareHere →
       goes_on cs rest ≡ false →
       Cuts (HereBefore p (after_chars p cs)) due (after_chars p cs) rest o → Cuts prev due p (cs ++ rest) o
   no_mark : (begin end : Place) (due : List Due) (p : Place) (text : List ℕ) (o : Outcome) → mark_goes_on text ≡ false →
       Cuts Apart due p text o → Cuts (HereBefore begin end) due p text (join (token BareHere begin end ∷ []) [] o)
   -- a newline with the bodies that are due
-  newline : (prev : Before) (due : List Due) (p : Place) (cs rest : List ℕ) (bodies : List (List ℕ)) (o : Outcome) → awaits_mark prev ≡ false →
+  newline : (prev : Before) (due : List Due) (p : Place) (cs rest : List ℕ) (bodies : List (List ℕ)) (o : Outcome) →
+      awaits_mark prev ≡ false →
       Bodies due cs rest bodies →
-      Cuts Apart [] (after_chars p (10 ∷ cs)) rest o → Cuts prev due p (10 ∷ cs ++ rest) (join (token Newline p (after_char p 10) ∷ []) bodies o)
-  open_body : (prev : Before) (due : List Due) (p : Place) (rest : List ℕ) (line : ℕ) → awaits_mark prev ≡ false → OpenBody due rest line →
+      Cuts Apart [] (after_chars p (10 ∷ cs)) rest o →
+      Cuts prev due p (10 ∷ cs ++ rest) (join (token Newline p (after_char p 10) ∷ []) bodies o)
+  open_body : (prev : Before) (due : List Due) (p : Place) (rest : List ℕ) (line : ℕ) → awaits_mark prev ≡ false →
+      OpenBody due rest line →
       Cuts prev due p (10 ∷ rest) (Err (fault OpenHere line))
 
 -- each here document takes the next body
@@ -385,7 +409,8 @@ abbrev pub filled : List Token → List (List ℕ) → List Token
 filled [] bodies = []
 filled (t ∷ ts) [] = t ∷ ts
 filled (t ∷ ts) (body ∷ bodies) =
-    if is_here t.lexeme then record { lexeme = with_body t.lexeme body; start = t.start; stop = t.stop; line = t.line } ∷ filled ts bodies
+    if is_here t.lexeme then record { lexeme = with_body t.lexeme body; start = t.start; stop = t.stop; line = t.line }
+    ∷ filled ts bodies
     else t ∷ filled ts (body ∷ bodies)
 
 -- the tokens of an outcome, with their bodies
@@ -399,8 +424,10 @@ has_no_zero cs = list_all (λ c. not (c == 0)) cs
 
 -- The text has these tokens, or this is its first fault. A byte 0 is looked for first.
 pub data Lexes (text : List ℕ) : Result (List Token) SyntaxFault → Type 0 where
-  zero_byte : (cs rest : List ℕ) → chars text ≡ cs ++ 0 ∷ rest → has_no_zero cs ≡ true → Lexes text (Err (fault ZeroByte (after_chars first_place cs).line))
-  cut : (o : Outcome) → has_no_zero (chars text) ≡ true → Cuts Apart [] first_place (chars text) o → Lexes text (result_of o)
+  zero_byte : (cs rest : List ℕ) → chars text ≡ cs ++ 0 ∷ rest → has_no_zero cs ≡ true →
+      Lexes text (Err (fault ZeroByte (after_chars first_place cs).line))
+  cut : (o : Outcome) → has_no_zero (chars text) ≡ true → Cuts Apart [] first_place (chars text) o →
+      Lexes text (result_of o)
 
 -- this and nothing else comes of the text
 pub record IsCut (text : List ℕ) (read : Result (List Token) SyntaxFault) : Type 0 where
