@@ -41,7 +41,8 @@ impl RunFault {
     pub(crate) fn at(error: &io::Error, other: RunFault) -> RunFault
         ensures either { (result ≡ other) ⊎ (result ≡ RunFault.NoMemory) }
         ensures other { error_kind error.now ≢ ErrorKind.OutOfMemory → result ≡ other }
-        ensures memory { error_kind error.now ≡ ErrorKind.OutOfMemory → raw_os_error error.now ≡ None → result ≡ RunFault.NoMemory }
+        ensures memory { error_kind error.now ≡ ErrorKind.OutOfMemory → raw_os_error error.now ≡ None →
+            result ≡ RunFault.NoMemory }
     {
         match error.kind() {
             ErrorKind::OutOfMemory if error.raw_os_error().is_none() => RunFault::NoMemory,

@@ -16,18 +16,19 @@ use std::io::Read;
 /// The most instructions that a script may take.
 const LIMIT: u64 = 1 << 62;
 
-/// Runs the script that the input gives, and tells what the process ends with. There is no use for
-/// words yet.
+/// Runs the script of the input, and answers the number that the process ends with. No arguments are
+/// taken yet.
 pub fn run_rc<W: World, R: Read + Drop>(
     alloc: Global,
     world: &mut W,
-    words: &[String],
+    arguments: &[String],
     input: R,
 ) -> Result<u8, RunFault>
-    ensures usage { (result ≡ Err RunFault.Usage) ↔ (0 < length words.now) }
-    ensures meant { (script : List ℕ) × IsScriptOf (R.remaining input) script × RunsAsMeant (W.events world.old) (W.events world.new) script result }
+    ensures usage { (result ≡ Err RunFault.Usage) ↔ (0 < length arguments.now) }
+    ensures meant { (script : List ℕ) × IsScriptOf (R.remaining input) script
+        × RunsAsMeant (W.events world.old) (W.events world.new) script result }
 {
-    if !words.is_empty() {
+    if !arguments.is_empty() {
         return Err(RunFault::Usage);
     }
     let script = read_script(alloc, input)?;

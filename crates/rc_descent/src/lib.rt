@@ -25,13 +25,17 @@ pub fn script(alloc: Global, lexemes: &[Lexeme]) -> Result<Cmd, TokenError>
     // What is found is the tree of an accepted script.
     ensures found { IfOk result (λ c. IsAccepted (lexemes_of lexemes.now) (cmd_tree c)) }
     // It has no other tree.
-    ensures only { IfOk result (λ c. (other : Node cmd) → IsScript (lexemes_of lexemes.now) other → other ≡ cmd_tree c) }
+    ensures only { IfOk result (λ c. (other : Node cmd) →
+        IsScript (lexemes_of lexemes.now) other → other ≡ cmd_tree c) }
     // Where a token is unexpected or an `if not` misplaced, there is no tree of any size.
-    ensures none { HasFault result Fault.Unexpected ⊎ HasFault result Fault.IfNot → (tree : Node cmd) → IsScript (lexemes_of lexemes.now) tree → ⊥ }
+    ensures none { HasFault result Fault.Unexpected ⊎ HasFault result Fault.IfNot →
+        (tree : Node cmd) → IsScript (lexemes_of lexemes.now) tree → ⊥ }
     // Too many stages are found only where a pipeline has them.
-    ensures stages { HasFault result Fault.TooManyStages → (tree : Node cmd) → IsScript (lexemes_of lexemes.now) tree → 64 < most_stages tree }
+    ensures stages { HasFault result Fault.TooManyStages →
+        (tree : Node cmd) → IsScript (lexemes_of lexemes.now) tree → 64 < most_stages tree }
     // Too many levels are found only where the tree has them.
-    ensures levels { HasFault result Fault.TooDeep → (tree : Node cmd) → IsScript (lexemes_of lexemes.now) tree → 200 < depth tree }
+    ensures levels { HasFault result Fault.TooDeep →
+        (tree : Node cmd) → IsScript (lexemes_of lexemes.now) tree → 200 < depth tree }
 {
     tree(alloc, lexemes)
 }

@@ -3,8 +3,15 @@
 ghost use Rattle.std.specs.Prelude.{◌≡◌, true, false, IfOk, string_bytes};
 ghost use Rattle.rc_model.specs.Syntax.Tree.{Lit};
 ghost use Rattle.rc_model.specs.Syntax.Grammar.{concat_of, redirect, and_or, is_if};
-ghost use Rattle.rc_model.specs.Mirrors.Descent.{read, a_name, a_part, an_operand, a_piped, a_command, a_list, parts_by, arg_by, members_by, words_by, redir_by, redirs_by, simple_by, brace_by, paren_by, dollar_by, branch_by, branches_by, switch_by, match_by, define_by, block_by, first_by, opening_by, body_by, optional_by, if_by, while_by, over_by, for_by, control_by, redirected_by, leading_by, pipe_by, pipeline_of, values_by, assigned_by, operand_by, links_by, item_end, items_by};
-ghost use Rattle.rc_tree_types.specs.View.{cmd_tree, arg_tree, redir_tree, args_tree, items_tree, pairs_tree, redirs_tree, stages_tree, links_tree, branches_tree, branch_tree};
+ghost use Rattle.rc_model.specs.Mirrors.Descent.{read, a_name, a_part, an_operand, a_piped, a_command, a_list};
+ghost use Rattle.rc_model.specs.Mirrors.Descent.{parts_by, arg_by, members_by, words_by, redir_by, redirs_by};
+ghost use Rattle.rc_model.specs.Mirrors.Descent.{simple_by, brace_by, paren_by, dollar_by, branch_by, branches_by};
+ghost use Rattle.rc_model.specs.Mirrors.Descent.{switch_by, match_by, define_by, block_by, first_by, opening_by};
+ghost use Rattle.rc_model.specs.Mirrors.Descent.{body_by, optional_by, if_by, while_by, over_by, for_by, control_by};
+ghost use Rattle.rc_model.specs.Mirrors.Descent.{redirected_by, leading_by, pipe_by, pipeline_of, values_by};
+ghost use Rattle.rc_model.specs.Mirrors.Descent.{assigned_by, operand_by, links_by, item_end, items_by};
+ghost use Rattle.rc_tree_types.specs.View.{cmd_tree, arg_tree, redir_tree, args_tree, items_tree, pairs_tree, redirs_tree};
+ghost use Rattle.rc_tree_types.specs.View.{stages_tree, links_tree, branches_tree, branch_tree};
 ghost use Rattle.rc_lexemes.specs.Lexemes.{lexemes_of};
 ghost use Rattle.rc_lexemes.specs.Reading.{Gives};
 ghost use Rattle.rc_descent.specs.Reading.{opening_of};
@@ -61,7 +68,8 @@ fn part(
     inside: bool,
     lexemes: &[Lexeme],
 ) -> Result<(Box<Arg>, &[Lexeme]), TokenError>
-    ensures { Gives (λ x. (arg_tree x.0.value, lexemes_of x.1.now)) result (read left (a_part inside) (lexemes_of lexemes.now)) }
+    ensures { Gives (λ x. (arg_tree x.0.value, lexemes_of x.1.now)) result
+        (read left (a_part inside) (lexemes_of lexemes.now)) }
 {
     if left == 0 {
         return Err(fault_at(Fault::TooDeep, lexemes));
@@ -98,7 +106,8 @@ fn dollar(
     below: usize,
     lexemes: &[Lexeme],
 ) -> Result<(Box<Arg>, &[Lexeme]), TokenError>
-    ensures { Gives (λ x. (arg_tree x.0.value, lexemes_of x.1.now)) result (dollar_by (read below) (lexemes_of lexemes.now)) }
+    ensures { Gives (λ x. (arg_tree x.0.value, lexemes_of x.1.now)) result
+        (dollar_by (read below) (lexemes_of lexemes.now)) }
 {
     let (inner, rest) = name(alloc, below, lexemes)?;
     match rest {
@@ -119,7 +128,8 @@ fn arg(
     inside: bool,
     lexemes: &[Lexeme],
 ) -> Result<(Box<Arg>, &[Lexeme]), TokenError>
-    ensures { Gives (λ x. (arg_tree x.0.value, lexemes_of x.1.now)) result (arg_by (read left (a_part inside)) inside (lexemes_of lexemes.now)) }
+    ensures { Gives (λ x. (arg_tree x.0.value, lexemes_of x.1.now)) result
+        (arg_by (read left (a_part inside)) inside (lexemes_of lexemes.now)) }
 {
     let (first, rest) = part(alloc, left, inside, lexemes)?;
     let (others, rest) = parts(alloc, left, inside, rest)?;
@@ -135,7 +145,8 @@ fn parts(
     inside: bool,
     lexemes: &[Lexeme],
 ) -> Result<(Vec<Arg>, &[Lexeme]), TokenError>
-    ensures { Gives (λ x. (args_tree x.0.items, lexemes_of x.1.now)) result (parts_by (read left (a_part inside)) inside (lexemes_of lexemes.now)) }
+    ensures { Gives (λ x. (args_tree x.0.items, lexemes_of x.1.now)) result
+        (parts_by (read left (a_part inside)) inside (lexemes_of lexemes.now)) }
 {
     let mut others = Vec::new(alloc);
     let mut rest = lexemes;
@@ -159,7 +170,8 @@ fn members(
     left: usize,
     lexemes: &[Lexeme],
 ) -> Result<(Vec<Arg>, &[Lexeme]), TokenError>
-    ensures { Gives (λ x. (args_tree x.0.items, lexemes_of x.1.now)) result (members_by (read left (a_part true)) (lexemes_of lexemes.now)) }
+    ensures { Gives (λ x. (args_tree x.0.items, lexemes_of x.1.now)) result
+        (members_by (read left (a_part true)) (lexemes_of lexemes.now)) }
 {
     let mut words = Vec::new(alloc);
     let mut rest = lexemes;
@@ -186,7 +198,8 @@ fn words(
     left: usize,
     lexemes: &[Lexeme],
 ) -> Result<(Vec<Arg>, &[Lexeme]), TokenError>
-    ensures { Gives (λ x. (args_tree x.0.items, lexemes_of x.1.now)) result (words_by (read left (a_part false)) (lexemes_of lexemes.now)) }
+    ensures { Gives (λ x. (args_tree x.0.items, lexemes_of x.1.now)) result
+        (words_by (read left (a_part false)) (lexemes_of lexemes.now)) }
 {
     let mut words = Vec::new(alloc);
     let mut rest = lexemes;
@@ -210,7 +223,8 @@ fn redir(
     left: usize,
     lexemes: &[Lexeme],
 ) -> Result<(Box<Redir>, &[Lexeme]), TokenError>
-    ensures { Gives (λ x. (redir_tree x.0.value, lexemes_of x.1.now)) result (redir_by (read left (a_part false)) (lexemes_of lexemes.now)) }
+    ensures { Gives (λ x. (redir_tree x.0.value, lexemes_of x.1.now)) result
+        (redir_by (read left (a_part false)) (lexemes_of lexemes.now)) }
 {
     match lexemes {
         [Lexeme::Redirection(mode, slot), rest @ ..] => {
@@ -231,7 +245,8 @@ fn redirs(
     left: usize,
     lexemes: &[Lexeme],
 ) -> Result<(Vec<Redir>, &[Lexeme]), TokenError>
-    ensures { Gives (λ x. (redirs_tree x.0.items, lexemes_of x.1.now)) result (redirs_by (read left (a_part false)) (lexemes_of lexemes.now)) }
+    ensures { Gives (λ x. (redirs_tree x.0.items, lexemes_of x.1.now)) result
+        (redirs_by (read left (a_part false)) (lexemes_of lexemes.now)) }
 {
     let mut redirs = Vec::new(alloc);
     let mut rest = lexemes;
@@ -255,7 +270,8 @@ fn simple(
     left: usize,
     lexemes: &[Lexeme],
 ) -> Result<((Vec<Arg>, Vec<Redir>), &[Lexeme]), TokenError>
-    ensures { Gives (λ x. ((args_tree x.0.0.items, redirs_tree x.0.1.items), lexemes_of x.1.now)) result (simple_by (read left (a_part false)) (lexemes_of lexemes.now)) }
+    ensures { Gives (λ x. ((args_tree x.0.0.items, redirs_tree x.0.1.items), lexemes_of x.1.now)) result
+        (simple_by (read left (a_part false)) (lexemes_of lexemes.now)) }
 {
     let mut words = Vec::new(alloc);
     let mut redirs = Vec::new(alloc);
@@ -285,7 +301,8 @@ fn brace(
     below: usize,
     lexemes: &[Lexeme],
 ) -> Result<(Box<Cmd>, &[Lexeme]), TokenError>
-    ensures { Gives (λ x. (cmd_tree x.0.value, lexemes_of x.1.now)) result (brace_by (read below) (lexemes_of lexemes.now)) }
+    ensures { Gives (λ x. (cmd_tree x.0.value, lexemes_of x.1.now)) result
+        (brace_by (read below) (lexemes_of lexemes.now)) }
 {
     let [Lexeme::LeftBrace, rest @ ..] = lexemes else {
         return Err(fault_at(Fault::Unexpected, lexemes));
@@ -305,7 +322,8 @@ fn paren(
     below: usize,
     lexemes: &[Lexeme],
 ) -> Result<(Box<Cmd>, &[Lexeme]), TokenError>
-    ensures { Gives (λ x. (cmd_tree x.0.value, lexemes_of x.1.now)) result (paren_by (read below) (lexemes_of lexemes.now)) }
+    ensures { Gives (λ x. (cmd_tree x.0.value, lexemes_of x.1.now)) result
+        (paren_by (read below) (lexemes_of lexemes.now)) }
 {
     let [Lexeme::LeftParen, rest @ ..] = lexemes else {
         return Err(fault_at(Fault::Unexpected, lexemes));
@@ -325,7 +343,8 @@ fn branch(
     below: usize,
     lexemes: &[Lexeme],
 ) -> Result<(Branch, &[Lexeme]), TokenError>
-    ensures { Gives (λ x. (branch_tree x.0, lexemes_of x.1.now)) result (branch_by (read below) (lexemes_of lexemes.now)) }
+    ensures { Gives (λ x. (branch_tree x.0, lexemes_of x.1.now)) result
+        (branch_by (read below) (lexemes_of lexemes.now)) }
 {
     let (patterns, rest) = words(alloc, below, lexemes)?;
     if !ends_case(rest) {
@@ -344,7 +363,8 @@ fn branches(
     below: usize,
     lexemes: &[Lexeme],
 ) -> Result<(Vec<Branch>, &[Lexeme]), TokenError>
-    ensures { Gives (λ x. (branches_tree x.0.items, lexemes_of x.1.now)) result (branches_by (read below) (lexemes_of lexemes.now)) }
+    ensures { Gives (λ x. (branches_tree x.0.items, lexemes_of x.1.now)) result
+        (branches_by (read below) (lexemes_of lexemes.now)) }
 {
     let [Lexeme::LeftBrace, inner @ ..] = lexemes else {
         return Err(fault_at(Fault::Unexpected, lexemes));
@@ -376,7 +396,8 @@ fn switch(
     below: usize,
     lexemes: &[Lexeme],
 ) -> Result<(Box<Cmd>, &[Lexeme]), TokenError>
-    ensures { Gives (λ x. (cmd_tree x.0.value, lexemes_of x.1.now)) result (switch_by (read below) (lexemes_of lexemes.now)) }
+    ensures { Gives (λ x. (cmd_tree x.0.value, lexemes_of x.1.now)) result
+        (switch_by (read below) (lexemes_of lexemes.now)) }
 {
     let (subject, rest) = arg(alloc, below, false, lexemes)?;
     let (branches, rest) = branches(alloc, below, past_newlines(rest))?;
@@ -393,7 +414,8 @@ fn matching(
     below: usize,
     lexemes: &[Lexeme],
 ) -> Result<(Box<Cmd>, &[Lexeme]), TokenError>
-    ensures { Gives (λ x. (cmd_tree x.0.value, lexemes_of x.1.now)) result (match_by (read below) (lexemes_of lexemes.now)) }
+    ensures { Gives (λ x. (cmd_tree x.0.value, lexemes_of x.1.now)) result
+        (match_by (read below) (lexemes_of lexemes.now)) }
 {
     let (subject, rest) = arg(alloc, below, false, lexemes)?;
     let (patterns, rest) = words(alloc, below, rest)?;
@@ -408,7 +430,8 @@ fn define(
     below: usize,
     lexemes: &[Lexeme],
 ) -> Result<(Box<Cmd>, &[Lexeme]), TokenError>
-    ensures { Gives (λ x. (cmd_tree x.0.value, lexemes_of x.1.now)) result (define_by (read below) (lexemes_of lexemes.now)) }
+    ensures { Gives (λ x. (cmd_tree x.0.value, lexemes_of x.1.now)) result
+        (define_by (read below) (lexemes_of lexemes.now)) }
 {
     let (first, rest) = arg(alloc, below, false, lexemes)?;
     let (mut names, rest) = words(alloc, below, rest)?;
@@ -428,7 +451,8 @@ fn block(
     below: usize,
     lexemes: &[Lexeme],
 ) -> Result<(Box<Cmd>, &[Lexeme]), TokenError>
-    ensures { Gives (λ x. (cmd_tree x.0.value, lexemes_of x.1.now)) result (block_by (read below) (lexemes_of lexemes.now)) }
+    ensures { Gives (λ x. (cmd_tree x.0.value, lexemes_of x.1.now)) result
+        (block_by (read below) (lexemes_of lexemes.now)) }
 {
     let (body, rest) = brace(alloc, below, lexemes)?;
     let body = block_of(alloc, body)?;
@@ -444,7 +468,8 @@ fn first(
     below: usize,
     lexemes: &[Lexeme],
 ) -> Result<(Opening, &[Lexeme]), TokenError>
-    ensures { Gives (λ x. (opening_of x.0, lexemes_of x.1.now)) result (first_by (read below) (lexemes_of lexemes.now)) }
+    ensures { Gives (λ x. (opening_of x.0, lexemes_of x.1.now)) result
+        (first_by (read below) (lexemes_of lexemes.now)) }
 {
     let (first, rest) = arg(alloc, below, false, lexemes)?;
     if let [Lexeme::Equals, rest @ ..] = rest {
@@ -464,7 +489,8 @@ fn opened(
     below: usize,
     lexemes: &[Lexeme],
 ) -> Result<(Opening, &[Lexeme]), TokenError>
-    ensures { Gives (λ x. (opening_of x.0, lexemes_of x.1.now)) result (opening_by (read below) (lexemes_of lexemes.now)) }
+    ensures { Gives (λ x. (opening_of x.0, lexemes_of x.1.now)) result
+        (opening_by (read below) (lexemes_of lexemes.now)) }
 {
     let (command, rest) = match lexemes {
         [Lexeme::Word(text), rest @ ..] => match keyword_named(text) {
@@ -488,7 +514,8 @@ fn body(
     below: usize,
     lexemes: &[Lexeme],
 ) -> Result<(Box<Cmd>, &[Lexeme]), TokenError>
-    ensures { Gives (λ x. (cmd_tree x.0.value, lexemes_of x.1.now)) result (body_by (read below) (lexemes_of lexemes.now)) }
+    ensures { Gives (λ x. (cmd_tree x.0.value, lexemes_of x.1.now)) result
+        (body_by (read below) (lexemes_of lexemes.now)) }
 {
     let rest = past_newlines(lexemes);
     if begins_command(rest) {
@@ -508,7 +535,8 @@ fn optional(
     below: usize,
     lexemes: &[Lexeme],
 ) -> Result<(Box<Cmd>, &[Lexeme]), TokenError>
-    ensures { Gives (λ x. (cmd_tree x.0.value, lexemes_of x.1.now)) result (optional_by (read below) (lexemes_of lexemes.now)) }
+    ensures { Gives (λ x. (cmd_tree x.0.value, lexemes_of x.1.now)) result
+        (optional_by (read below) (lexemes_of lexemes.now)) }
 {
     if begins_command(lexemes) {
         inner_operand(alloc, below, lexemes)
@@ -526,7 +554,8 @@ fn conditional(
     after_if: bool,
     lexemes: &[Lexeme],
 ) -> Result<(Box<Cmd>, &[Lexeme]), TokenError>
-    ensures { Gives (λ x. (cmd_tree x.0.value, lexemes_of x.1.now)) result (if_by (read below) after_if (lexemes_of lexemes.now)) }
+    ensures { Gives (λ x. (cmd_tree x.0.value, lexemes_of x.1.now)) result
+        (if_by (read below) after_if (lexemes_of lexemes.now)) }
 {
     if let [Lexeme::Word(text), rest @ ..] = lexemes {
         let Keyword::Not = keyword_named(text) else {
@@ -551,7 +580,8 @@ fn repeated(
     below: usize,
     lexemes: &[Lexeme],
 ) -> Result<(Box<Cmd>, &[Lexeme]), TokenError>
-    ensures { Gives (λ x. (cmd_tree x.0.value, lexemes_of x.1.now)) result (while_by (read below) (lexemes_of lexemes.now)) }
+    ensures { Gives (λ x. (cmd_tree x.0.value, lexemes_of x.1.now)) result
+        (while_by (read below) (lexemes_of lexemes.now)) }
 {
     let (condition, rest) = paren(alloc, below, lexemes)?;
     let (body, rest) = body(alloc, below, rest)?;
@@ -567,7 +597,8 @@ fn over(
     name: Box<Arg>,
     lexemes: &[Lexeme],
 ) -> Result<(Box<Cmd>, &[Lexeme]), TokenError>
-    ensures { Gives (λ x. (cmd_tree x.0.value, lexemes_of x.1.now)) result (over_by (read below) (arg_tree name.value) (lexemes_of lexemes.now)) }
+    ensures { Gives (λ x. (cmd_tree x.0.value, lexemes_of x.1.now)) result
+        (over_by (read below) (arg_tree name.value) (lexemes_of lexemes.now)) }
 {
     match lexemes {
         [Lexeme::RightParen, rest @ ..] => {
@@ -594,7 +625,8 @@ fn iterated(
     below: usize,
     lexemes: &[Lexeme],
 ) -> Result<(Box<Cmd>, &[Lexeme]), TokenError>
-    ensures { Gives (λ x. (cmd_tree x.0.value, lexemes_of x.1.now)) result (for_by (read below) (lexemes_of lexemes.now)) }
+    ensures { Gives (λ x. (cmd_tree x.0.value, lexemes_of x.1.now)) result
+        (for_by (read below) (lexemes_of lexemes.now)) }
 {
     let [Lexeme::LeftParen, rest @ ..] = lexemes else {
         return Err(fault_at(Fault::Unexpected, lexemes));
@@ -613,7 +645,8 @@ fn control(
     keyword: Keyword,
     lexemes: &[Lexeme],
 ) -> Result<(Box<Cmd>, &[Lexeme]), TokenError>
-    ensures { Gives (λ x. (cmd_tree x.0.value, lexemes_of x.1.now)) result (control_by (read below) after_if keyword (lexemes_of lexemes.now)) }
+    ensures { Gives (λ x. (cmd_tree x.0.value, lexemes_of x.1.now)) result
+        (control_by (read below) after_if keyword (lexemes_of lexemes.now)) }
 {
     let rest = past_caret(lexemes);
     match keyword {
@@ -640,7 +673,8 @@ fn redirected(
     below: usize,
     lexemes: &[Lexeme],
 ) -> Result<(Box<Cmd>, &[Lexeme]), TokenError>
-    ensures { Gives (λ x. (cmd_tree x.0.value, lexemes_of x.1.now)) result (redirected_by (read below) (lexemes_of lexemes.now)) }
+    ensures { Gives (λ x. (cmd_tree x.0.value, lexemes_of x.1.now)) result
+        (redirected_by (read below) (lexemes_of lexemes.now)) }
 {
     let (first, rest) = redir(alloc, below, lexemes)?;
     let (mut redirs, rest) = redirs(alloc, below, rest)?;
@@ -658,7 +692,8 @@ fn leading(
     after_if: bool,
     lexemes: &[Lexeme],
 ) -> Result<(Box<Cmd>, &[Lexeme]), TokenError>
-    ensures { Gives (λ x. (cmd_tree x.0.value, lexemes_of x.1.now)) result (leading_by (read below) after_if (lexemes_of lexemes.now)) }
+    ensures { Gives (λ x. (cmd_tree x.0.value, lexemes_of x.1.now)) result
+        (leading_by (read below) after_if (lexemes_of lexemes.now)) }
 {
     match lexemes {
         [Lexeme::Word(text), rest @ ..] => control(
@@ -681,7 +716,8 @@ fn pipe(
     first: Box<Cmd>,
     lexemes: &[Lexeme],
 ) -> Result<(Box<Cmd>, &[Lexeme]), TokenError>
-    ensures { Gives (λ x. (cmd_tree x.0.value, lexemes_of x.1.now)) result (pipe_by (read below) (cmd_tree first.value) (lexemes_of lexemes.now)) }
+    ensures { Gives (λ x. (cmd_tree x.0.value, lexemes_of x.1.now)) result
+        (pipe_by (read below) (cmd_tree first.value) (lexemes_of lexemes.now)) }
 {
     let mut stages = Vec::new(alloc);
     let mut last = first;
@@ -713,7 +749,8 @@ fn piped(
     left: usize,
     lexemes: &[Lexeme],
 ) -> Result<((Box<Cmd>, bool), &[Lexeme]), TokenError>
-    ensures { Gives (λ x. ((cmd_tree x.0.0.value, x.0.1), lexemes_of x.1.now)) result (read left a_piped (lexemes_of lexemes.now)) }
+    ensures { Gives (λ x. ((cmd_tree x.0.0.value, x.0.1), lexemes_of x.1.now)) result
+        (read left a_piped (lexemes_of lexemes.now)) }
 {
     if left == 0 {
         return Err(fault_at(Fault::TooDeep, lexemes));
@@ -741,7 +778,8 @@ fn assigned(
     name: Box<Arg>,
     lexemes: &[Lexeme],
 ) -> Result<(Box<Cmd>, &[Lexeme]), TokenError>
-    ensures { Gives (λ x. (cmd_tree x.0.value, lexemes_of x.1.now)) result (assigned_by (read below) (arg_tree name.value) (lexemes_of lexemes.now)) }
+    ensures { Gives (λ x. (cmd_tree x.0.value, lexemes_of x.1.now)) result
+        (assigned_by (read below) (arg_tree name.value) (lexemes_of lexemes.now)) }
 {
     let (value, rest) = arg(alloc, below, false, lexemes)?;
     let mut pairs = Vec::new(alloc);
@@ -758,7 +796,8 @@ fn values(
     mut pairs: Vec<(Arg, Arg)>,
     lexemes: &[Lexeme],
 ) -> Result<(Box<Cmd>, &[Lexeme]), TokenError>
-    ensures { Gives (λ x. (cmd_tree x.0.value, lexemes_of x.1.now)) result (values_by (read below) (pairs_tree pairs.items) (lexemes_of lexemes.now)) }
+    ensures { Gives (λ x. (cmd_tree x.0.value, lexemes_of x.1.now)) result
+        (values_by (read below) (pairs_tree pairs.items) (lexemes_of lexemes.now)) }
 {
     let mut rest = lexemes;
     let turns = lexemes.len();
@@ -795,7 +834,8 @@ fn operand(
     after_if: bool,
     lexemes: &[Lexeme],
 ) -> Result<(Box<Cmd>, &[Lexeme]), TokenError>
-    ensures { Gives (λ x. (cmd_tree x.0.value, lexemes_of x.1.now)) result (operand_by (read below) after_if (lexemes_of lexemes.now)) }
+    ensures { Gives (λ x. (cmd_tree x.0.value, lexemes_of x.1.now)) result
+        (operand_by (read below) after_if (lexemes_of lexemes.now)) }
 {
     if begins_leading(lexemes) {
         return leading(alloc, below, after_if, lexemes);
@@ -815,7 +855,8 @@ fn inner_operand(
     left: usize,
     lexemes: &[Lexeme],
 ) -> Result<(Box<Cmd>, &[Lexeme]), TokenError>
-    ensures { Gives (λ x. (cmd_tree x.0.value, lexemes_of x.1.now)) result (read left an_operand (lexemes_of lexemes.now)) }
+    ensures { Gives (λ x. (cmd_tree x.0.value, lexemes_of x.1.now)) result
+        (read left an_operand (lexemes_of lexemes.now)) }
 {
     if left == 0 {
         return Err(fault_at(Fault::TooDeep, lexemes));
@@ -831,7 +872,8 @@ fn links(
     below: usize,
     lexemes: &[Lexeme],
 ) -> Result<(Vec<(Logic, Cmd)>, &[Lexeme]), TokenError>
-    ensures { Gives (λ x. (links_tree x.0.items, lexemes_of x.1.now)) result (links_by (read below) (lexemes_of lexemes.now)) }
+    ensures { Gives (λ x. (links_tree x.0.items, lexemes_of x.1.now)) result
+        (links_by (read below) (lexemes_of lexemes.now)) }
 {
     let mut links = Vec::new(alloc);
     let mut rest = lexemes;
@@ -858,7 +900,8 @@ fn command(
     after_if: bool,
     lexemes: &[Lexeme],
 ) -> Result<(Box<Cmd>, &[Lexeme]), TokenError>
-    ensures { Gives (λ x. (cmd_tree x.0.value, lexemes_of x.1.now)) result (read left (a_command after_if) (lexemes_of lexemes.now)) }
+    ensures { Gives (λ x. (cmd_tree x.0.value, lexemes_of x.1.now)) result
+        (read left (a_command after_if) (lexemes_of lexemes.now)) }
 {
     if left == 0 {
         return Err(fault_at(Fault::TooDeep, lexemes));
@@ -877,7 +920,8 @@ fn items(
     in_switch: bool,
     lexemes: &[Lexeme],
 ) -> Result<(Vec<Item>, &[Lexeme]), TokenError>
-    ensures { Gives (λ x. (items_tree x.0.items, lexemes_of x.1.now)) result (items_by (read below) in_switch (lexemes_of lexemes.now)) }
+    ensures { Gives (λ x. (items_tree x.0.items, lexemes_of x.1.now)) result
+        (items_by (read below) in_switch (lexemes_of lexemes.now)) }
 {
     let mut items = Vec::new(alloc);
     let mut rest = lexemes;
@@ -911,7 +955,8 @@ pub fn list(
     in_switch: bool,
     lexemes: &[Lexeme],
 ) -> Result<(Vec<Item>, &[Lexeme]), TokenError>
-    ensures { Gives (λ x. (items_tree x.0.items, lexemes_of x.1.now)) result (read left (a_list in_switch) (lexemes_of lexemes.now)) }
+    ensures { Gives (λ x. (items_tree x.0.items, lexemes_of x.1.now)) result
+        (read left (a_list in_switch) (lexemes_of lexemes.now)) }
 {
     if left == 0 {
         return Err(fault_at(Fault::TooDeep, lexemes));

@@ -38,7 +38,7 @@ pub enum ShellFault {
     /// The script is not accepted. No call was made.
     #[error("not a script")]
     Syntax(SyntaxFault),
-    #[error("no memory")]
+    #[error("out of memory")]
     NoMemory,
 }
 
@@ -50,7 +50,8 @@ fn run_tree<W: World>(
     state: State,
     limit: u64,
 ) -> Result<Ran, ShellFault>
-    ensures { Told (W.events world.old) (W.events world.new) (λ trace. RunsAsMeant limit (cmd_tree cmd.now) (state_of state) trace result) }
+    ensures { Told (W.events world.old) (W.events world.new)
+        (λ trace. RunsAsMeant limit (cmd_tree cmd.now) (state_of state) trace result) }
 {
     let Ok(code) = compile(alloc, cmd) else {
         return Err(ShellFault::NoMemory);
@@ -82,7 +83,8 @@ pub fn execute<W: World>(
     ensures silent { (fault : SyntaxFault) → IsRefused script.now fault → W.events world.new ≡ W.events world.old }
 
     // The calls are those of the meaning, and of at most `limit` instructions, over the answers that were given.
-    ensures meant { (t : Node cmd) → IsAccepted script.now t → Told (W.events world.old) (W.events world.new) (λ trace. RunsAsMeant limit t (state_of state) trace result) }
+    ensures meant { (t : Node cmd) → IsAccepted script.now t →
+        Told (W.events world.old) (W.events world.new) (λ trace. RunsAsMeant limit t (state_of state) trace result) }
 
     // Over fresh answers nothing is lost at any moment, and where the script ended nothing is left.
     ensures lost { IfAccepted script.now (W.events world.old) (W.events world.new) (LosesNothing (state_of state)) }
@@ -93,7 +95,8 @@ pub fn execute<W: World>(
     ensures proper { EndsProper (state_of state) result }
 
     // Where the meaning ends or waits, so does the code, from some number of instructions on.
-    ensures converse { (t : Node cmd) → IsAccepted script.now t → (given : List Answer) → Agrees t (state_of state) given }
+    ensures converse { (t : Node cmd) → IsAccepted script.now t →
+        (given : List Answer) → Agrees t (state_of state) given }
 {
     match parse(alloc, script) {
         Ok(cmd) => run_tree(alloc, world, &cmd, state, limit),

@@ -33,12 +33,20 @@ const RUNS: [(&str, &[u8], usize); 14] = [
     ("a form that doesn't run yet", b"echo first; ~ a a", 1),
 ];
 
+/// What descriptor 2 is to a child of the shell.
+const PROBE_ERRORS: &[u8] = b"sh probes_errors.sh; nope";
+
 /// Shows each run: its status, what it wrote to descriptor 1, and what to descriptor 2.
-pub fn show_all<R: Print + Files<File = File> + Processes + AllocGlobal>(rt: &R) -> Result<()> {
+pub fn show_all<R: Print + Files<File = File> + Processes + AllocGlobal>(
+    rt: &R,
+    own_path: &str,
+) -> Result<()> {
     for (what, text, times) in RUNS {
-        show(rt, what, &with_text(rt, text, times)?)?;
+        show(rt, what, &with_text(rt, shell(rt.alloc())?, text, times)?)?;
     }
-    show(rt, "a word", &with_word(rt)?)?;
+    show(rt, "an argument", &with_argument(rt)?)?;
+    let closed = with_text(rt, without_errors(rt.alloc(), own_path)?, PROBE_ERRORS, 1)?;
+    show(rt, "descriptor 2 closed at the start", &closed)?;
     show(rt, "an input that can't be read", &with_directory(rt)?)
 }
 
@@ -49,12 +57,27 @@ fn shell(alloc: Global) -> Result<Command, AllocError> {
     Ok(command)
 }
 
-fn with_text<R: Processes + AllocGlobal>(rt: &R, text: &[u8], times: usize) -> Result<Output> {
+/// The shell as a process that is started without a descriptor 2: `rc 2>&-`.
+fn without_errors(alloc: Global, own_path: &str) -> Result<Command, AllocError> {
+    let mut command = Command::new(alloc, "/bin/sh")?;
+    command.arg("-c")?;
+    command.arg("exec \"$0\" rc 2>&-")?;
+    command.arg(own_path)?;
+    Ok(command)
+}
+
+/// A run of the shell over this text, repeated.
+fn with_text<R: Processes + AllocGlobal>(
+    rt: &R,
+    mut shell: Command,
+    text: &[u8],
+    times: usize,
+) -> Result<Output> {
     let mut script = Vec::new(rt.alloc());
     for _ in 0..times {
         script.extend_from_slice(text)?;
     }
-    let mut child = shell(rt.alloc())?
+    let mut child = shell
         .stdin(Stdio::piped())
         .stdout(Stdio::piped())
         .stderr(Stdio::piped())
@@ -65,8 +88,8 @@ fn with_text<R: Processes + AllocGlobal>(rt: &R, text: &[u8], times: usize) -> R
     Ok(child.wait_with_output(rt.alloc())?)
 }
 
-fn with_word<R: Processes + AllocGlobal>(rt: &R) -> Result<Output> {
-    Ok(shell(rt.alloc())?.arg("word")?.output(rt)?)
+fn with_argument<R: Processes + AllocGlobal>(rt: &R) -> Result<Output> {
+    Ok(shell(rt.alloc())?.arg("argument")?.output(rt)?)
 }
 
 fn with_directory<R: Files<File = File> + Processes + AllocGlobal>(rt: &R) -> Result<Output> {
