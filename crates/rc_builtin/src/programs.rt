@@ -12,6 +12,7 @@ ghost use Rattle.rc_builtin.specs.Starts.{path_of, paths_in, started_of};
 ghost use Rattle.rc_scope.specs.States.{state_of};
 
 use crate::environment::entries;
+use rc_model::limits::LONGEST_ARGUMENT;
 use rc_scope::State;
 use rc_world::{ChildNo, Ending, Kind, Launch, Program, Slots, Stop, World, calls};
 use std::alloc::{AllocError, Global};
@@ -151,7 +152,7 @@ pub enum Started {
 fn is_short(text: &str) -> bool
     ensures { result ≡ is_short text.now }
 {
-    text.len() <= 100_000
+    text.len() <= LONGEST_ARGUMENT
 }
 
 fn are_short(texts: &[String]) -> bool

@@ -14,11 +14,9 @@ mod read;
 
 pub use rc_lexemes::{Fault, Lexeme, TokenError, TokenFault};
 use rc_lexemes::{fault_at, seq};
+use rc_model::limits::MOST_LEVELS;
 use rc_tree::{Cmd, is_within};
 use std::alloc::Global;
-
-/// How many levels a tree may have.
-const LEVELS: usize = 200;
 
 /// The tree of these lexemes.
 pub fn script(alloc: Global, lexemes: &[Lexeme]) -> Result<Cmd, TokenError>
@@ -43,14 +41,14 @@ pub fn script(alloc: Global, lexemes: &[Lexeme]) -> Result<Cmd, TokenError>
 /// The tree that the descent finds.
 #[tactic(auto, using(crate::proofs::Scripts::script_fits, crate::proofs::Scripts::script_unfit, crate::proofs::Scripts::script_fails, crate::proofs::Scripts::script_goes_on, std::proofs::lemmas::Grind::common_steps))]
 fn tree(alloc: Global, lexemes: &[Lexeme]) -> Result<Cmd, TokenError>
-    ensures { Gives (λ c. cmd_tree c) result (script_tree LEVELS (lexemes_of lexemes.now)) }
+    ensures { Gives (λ c. cmd_tree c) result (script_tree MOST_LEVELS (lexemes_of lexemes.now)) }
 {
-    let (items, rest) = read::list(alloc, LEVELS, false, lexemes)?;
+    let (items, rest) = read::list(alloc, MOST_LEVELS, false, lexemes)?;
     if rest.len() != 0 {
         return Err(fault_at(Fault::Unexpected, rest));
     }
     let tree = seq(alloc, items)?;
-    if !is_within(&tree, LEVELS) {
+    if !is_within(&tree, MOST_LEVELS) {
         return Err(fault_at(Fault::TooDeep, lexemes));
     }
     Ok(Box::into_inner(tree))

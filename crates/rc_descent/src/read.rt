@@ -26,6 +26,7 @@ use rc_lexemes::{
     push_stage, redirect, redirected as redirect_of, repeated as while_of, seq,
     simple as simple_of, subscripted, subshell, switched, undefined, variable,
 };
+use rc_model::limits::MOST_STAGES;
 use rc_model::{Keyword, Logic};
 use rc_tree::{Arg, Branch, Cmd, Item, Redir};
 use std::alloc::Global;
@@ -727,7 +728,7 @@ fn pipe(
         let [Lexeme::Bar(slot), after @ ..] = rest else {
             break;
         };
-        if stages.len() >= 63 {
+        if stages.len() >= MOST_STAGES - 1 {
             return Err(fault_at(Fault::TooManyStages, rest));
         }
         push_stage(&mut stages, last, *slot)?;

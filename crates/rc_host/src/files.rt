@@ -5,6 +5,7 @@ ghost use Rattle.rc_model.specs.declared.call.Fault.TheVariants.{Halt, Other};
 ghost use Rattle.rc_host.specs.Files.{options_of, IsReadEnd, IsWriteEnd};
 
 use crate::fault::fault_of;
+use rc_model::limits::LONGEST_READ;
 use rc_world::{Fault, Mode};
 use std::alloc::Global;
 use std::fs::{File, OpenOptions};
@@ -13,9 +14,6 @@ use std::os::unix::fs::OpenOptionsExt;
 use std::process::Stdio;
 use std::rt::HostRuntime;
 use std::{fs, io, process};
-
-/// The most bytes that are read at once.
-const MOST: usize = 4096;
 
 /// How many names are tried for the file of a here document.
 const NAMES: u32 = 100;
@@ -40,7 +38,7 @@ impl OpenFile {
 
     /// The next bytes, none at the end.
     pub fn read(&self, alloc: Global) -> Result<Vec<u8>, Fault>
-        ensures bound { IfOk result (λ bytes. vec_len bytes ≤ MOST) }
+        ensures bound { IfOk result (λ bytes. vec_len bytes ≤ LONGEST_READ) }
         ensures write_end { IsWriteEnd self.now → result ≡ Err Other }
         ensures answered { result ≢ Err Halt }
     {
@@ -79,14 +77,14 @@ pub fn options_of(mode: Mode) -> OpenOptions
 
 /// The next bytes of a reader, none at its end.
 pub fn read_some<R: Read>(alloc: Global, reader: &mut R) -> Result<Vec<u8>, Fault>
-    ensures bound { IfOk result (λ bytes. vec_len bytes ≤ MOST) }
+    ensures bound { IfOk result (λ bytes. vec_len bytes ≤ LONGEST_READ) }
     ensures bytes { IfOk result (λ bytes. Consumes (R.remaining reader.old) (R.remaining reader.new) bytes.items) }
     ensures end { IfOk result (λ bytes. bytes.items ≡ [] → IsAtEnd (R.remaining reader.new)) }
     ensures err { OnErr result (Keeps (R.remaining reader.old) (R.remaining reader.new)) }
     ensures answered { result ≢ Err Halt }
 {
     let mut bytes = Vec::new(alloc);
-    if bytes.resize(MOST, 0u8).is_err() {
+    if bytes.resize(LONGEST_READ, 0u8).is_err() {
         return Err(Fault::NoMemory);
     }
     match reader.read(&mut bytes) {

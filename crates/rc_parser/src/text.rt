@@ -3,11 +3,9 @@
 ghost use Rattle.std.specs.Prelude.{◌≡◌, ◌≤◌, length, IfOk, IfErr, IsUtf8, OnOk};
 ghost use Rattle.rc_model.specs.Syntax.Accepted.{line_of, longest_script, IsRefused};
 
+use rc_model::limits::LONGEST_SCRIPT;
 use rc_model::{FaultKind, SyntaxFault};
 use std::str;
-
-/// How many bytes a script has at most.
-const LONGEST: usize = 1_048_576;
 
 /// The script as text, if it is short enough and UTF-8.
 #[tactic(auto, using(crate::proofs::Texts::texts))]
@@ -17,7 +15,7 @@ pub fn checked(script: &[u8]) -> Result<&str, SyntaxFault>
     ensures short { OnOk result (length script.now ≤ longest_script) }
     ensures refused { IfErr result (λ f. IsRefused script.now f) }
 {
-    if script.len() > LONGEST {
+    if script.len() > LONGEST_SCRIPT {
         return Err(SyntaxFault {
             kind: FaultKind::TooLong,
             line: 0,

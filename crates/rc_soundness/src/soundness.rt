@@ -7,18 +7,16 @@ ghost use Rattle.rc_tree_types.specs.View.{args_tree, items_tree, pairs_tree, re
 ghost use Rattle.rc_tree_types.specs.View.{branches_tree};
 ghost use Rattle.rc_soundness.specs.Fits.{fits, all_fit};
 
+use rc_model::limits::{MOST_LEVELS, MOST_STAGES};
 use rc_model::{Logic, Mode};
 use rc_tree_types::{Arg, Branch, Cmd, Item, Piece, Redir, Stage};
-
-/// The greatest depth of a tree.
-const DEPTH_LIMIT: usize = 200;
 
 /// Whether the tree is well formed. It takes no memory.
 #[tactic(auto, unfolding(crate::specs::Fits::fits))]
 pub fn well_formed(cmd: &Cmd) -> bool
     ensures { result ≡ well_formed (cmd_tree cmd.now) }
 {
-    fit_cmd(cmd, DEPTH_LIMIT)
+    fit_cmd(cmd, MOST_LEVELS)
 }
 
 /// Whether the command is well formed with at most `left` levels.
@@ -38,7 +36,7 @@ fn fit_cmd(cmd: &Cmd, left: usize) -> bool
         Cmd::Assign(xs, c) => !xs.is_empty() && fit_pairs(xs, left) && fit_cmd(c, left),
         Cmd::Redirect(xs, c) => !xs.is_empty() && fit_redirs(xs, left) && fit_cmd(c, left),
         Cmd::Pipeline(xs, c) => {
-            !xs.is_empty() && xs.len() < 64 && fit_stages(xs, left) && fit_cmd(c, left)
+            !xs.is_empty() && xs.len() < MOST_STAGES && fit_stages(xs, left) && fit_cmd(c, left)
         }
         Cmd::AndOr(c, xs) => !xs.is_empty() && fit_cmd(c, left) && fit_links(xs, left),
         Cmd::Not(c) => fit_cmd(c, left),

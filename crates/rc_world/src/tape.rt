@@ -13,6 +13,7 @@ ghost use Rattle.rc_world.specs.Views.{child_answer, ending_answer, names_answer
 ghost use Rattle.rc_world.specs.Tapes.{next_answer, tape_answers, tape_events, Plays};
 
 use crate::{Answer, Call, ChildNo, Ending, Fault, Handle, Kind, Launch, Mode, Slot, World};
+use rc_model::limits::LONGEST_READ;
 
 /// A world that plays answers in order, each to the next call, and then answers `Halt` to every
 /// further call. An answer of the wrong kind, one of over 4096 bytes and `NoMemory` count as a
@@ -145,7 +146,7 @@ impl World for Tape {
     {
         match self.play(Call::Read(handle))? {
             Answer::Bytes(bytes) => {
-                if bytes.len() <= 4096 {
+                if bytes.len() <= LONGEST_READ {
                     Ok(bytes)
                 } else {
                     Err(Fault::Other)

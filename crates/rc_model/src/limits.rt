@@ -1,0 +1,16 @@
+//! The limits of the shell.
+
+/// The most bytes of a script.
+pub const LONGEST_SCRIPT: usize = 1_048_576;
+
+/// The most levels of a tree.
+pub const MOST_LEVELS: usize = 200;
+
+/// The most stages of a pipeline.
+pub const MOST_STAGES: usize = 64;
+
+/// The most bytes of one read.
+pub const LONGEST_READ: usize = 4096;
+
+/// The most bytes of an argument or an entry of a launch.
+pub const LONGEST_ARGUMENT: usize = 100_000;
