@@ -1,5 +1,5 @@
 -- The entries of a launch, variable by variable.
-use Rattle.std.proofs.Common.{◌≡◌, ℕ, Bool, true, false, cond, List, [], ◌∷◌, ◌++◌, length, map, refl, sym, ap, ◌∙◌, string_bytes, append_assoc, ◌||◌, ◌&&◌, ◌==◌}
+use Rattle.std.proofs.Common.{◌≡◌, ℕ, Bool, true, false, cond, List, [], ◌∷◌, ◌++◌, length, map, refl, sym, ap, ◌∙◌, string_bytes, append_assoc, ◌||◌, ◌&&◌, ◌==◌, ◌<◌, ◌≤◌, ◌+◌, zero, suc, drop, get_or, drop-cons, add-one, arith}
 use Rattle.std.specs.Cmp.{nat_eq_equiv}
 use Rattle.std.proofs.lemmas.Map.Text.{is_eq-slice_cmp}
 use Rattle.std.specs.declared.cmp.Ordering.{Ordering}
@@ -8,19 +8,25 @@ use Rattle.std.specs.Ordering.{is_eq, is_lt, match_ordering}
 use Rattle.std.specs.BTreeMap.{insert_entry}
 use Rattle.std.specs.Str.{bytes_eq}
 use Rattle.std.specs.declared.alloc.Global.{Global}
-use Rattle.std.specs.declared.vec.Vec.{Vec}
 use Rattle.std.specs.declared.string.String.{String}
 use Rattle.rc_model.specs.Syntax.Text.{text_cmp}
-use Rattle.rc_model.specs.Run.State.{status_name}
-use Rattle.rc_model.specs.Handed.Image.{entry, value_text, with_binding, is_kept, handed_values}
-use Rattle.rc_scope.specs.States.{variable_of}
-
-abbrev Variable : Type 0
-Variable = String Global × Vec (String Global) Global
+use Rattle.rc_model.specs.Run.State.{State, status_name}
+use Rattle.rc_model.specs.Handed.Image.{entry, entries, with_functions, value_text, with_binding, is_kept, handed_values}
+use Rattle.rc_model.specs.Run.State.{visible}
+use Rattle.rc_scope.specs.Bindings.{bindings_of, visible_values}
+use Rattle.rc_scope.specs.declared.variables.Binding.{Binding}
 
 -- the variables that are handed over
-abbrev pub handed : List (String Global × Vec (String Global) Global) → List (List ℕ × List ℕ)
-handed vs = handed_values (map variable_of vs)
+abbrev pub handed_bindings : List (List ℕ × List (List ℕ)) → List (List ℕ × List ℕ)
+handed_bindings vs = handed_values (map (λ v. (v.0, v.1 ∷ [])) vs)
+
+abbrev pub handed : List Binding → List (List ℕ × List ℕ)
+handed vs = handed_bindings (bindings_of vs)
+
+-- they are those of the state
+pub handed_visible : (vs : List (List ℕ × List (List (List ℕ)))) → handed_bindings (visible_values vs) ≡ handed_values vs
+handed_visible [] = refl
+handed_visible (v ∷ vs) = ap (with_binding v.0 (visible v.1)) (handed_visible vs)
 
 -- the entries that are still to come, with the status among them unless it is there already
 abbrev pub to_come : Bool → List ℕ → List (List ℕ × List ℕ) → List (List ℕ)
@@ -28,24 +34,24 @@ to_come true status bindings = map entry bindings
 to_come false status bindings = map entry (insert_entry text_cmp bindings status_name (value_text (status ∷ [])))
 
 -- a variable that is not handed over
-pub handed_not : (v : String Global × Vec (String Global) Global) (vs : List (String Global × Vec (String Global) Global)) → ((map string_bytes v.1.items ≡ []) → handed (v ∷ vs) ≡ handed vs)
-handed_not v vs e = ap (λ value. with_binding (string_bytes v.0) value (handed vs)) e
+pub handed_not : (v : Binding) (vs : List Binding) → ((map string_bytes v.value.now ≡ []) → handed (v ∷ vs) ≡ handed vs)
+handed_not v vs e = ap (λ value. with_binding (v.name.now) value (handed vs)) e
 
 kept_by : (b : Bool) (name : List ℕ) (value : List (List ℕ)) (others : List (List ℕ × List ℕ)) → b ≡ true → is_kept name ≡ b → with_binding name value others ≡ others
 kept_by b name [] others e h = refl
 kept_by b name (m ∷ ms) others e h = ap (λ k. cond k others ((name, value_text (m ∷ ms)) ∷ others)) (h ∙ e)
 
-pub handed_kept : (v : String Global × Vec (String Global) Global) (vs : List (String Global × Vec (String Global) Global)) → is_kept (string_bytes v.0) ≡ true → handed (v ∷ vs) ≡ handed vs
-handed_kept v vs h = kept_by true (string_bytes v.0) (map string_bytes v.1.items) (handed vs) refl h
+pub handed_kept : (v : Binding) (vs : List Binding) → is_kept (v.name.now) ≡ true → handed (v ∷ vs) ≡ handed vs
+handed_kept v vs h = kept_by true (v.name.now) (map string_bytes v.value.now) (handed vs) refl h
 
 handed_by : (name : List ℕ) (value : List (List ℕ)) (others : List (List ℕ × List ℕ)) → (value ≡ [] → ⊥) → is_kept name ≡ false → with_binding name value others ≡ (name, value_text value) ∷ others
 handed_by name [] others e h = absurd (e refl)
 handed_by name (m ∷ ms) others e h = ap (λ k. cond k others ((name, value_text (m ∷ ms)) ∷ others)) h
 
 -- one that is
-pub handed_on : (v : String Global × Vec (String Global) Global) (vs : List (String Global × Vec (String Global) Global)) → (map string_bytes v.1.items ≡ [] → ⊥) → is_kept (string_bytes v.0) ≡ false →
-    handed (v ∷ vs) ≡ (string_bytes v.0, value_text (map string_bytes v.1.items)) ∷ handed vs
-handed_on v vs e h = handed_by (string_bytes v.0) (map string_bytes v.1.items) (handed vs) e h
+pub handed_on : (v : Binding) (vs : List Binding) → (map string_bytes v.value.now ≡ [] → ⊥) → is_kept (v.name.now) ≡ false →
+    handed (v ∷ vs) ≡ (v.name.now, value_text (map string_bytes v.value.now)) ∷ handed vs
+handed_on v vs e h = handed_by (v.name.now) (map string_bytes v.value.now) (handed vs) e h
 
 -- the status comes before a variable
 before_by : (o : Ordering) (status : List ℕ) (b : List ℕ × List ℕ) (bs more : List (List ℕ × List ℕ)) → is_lt o ≡ true →
@@ -102,3 +108,39 @@ turn_at_status w v all status x b bs p h lt inv =
 pub some_texts : (xs : List (String Global)) → (length xs ≡ 0 → ⊥) → map string_bytes xs ≡ [] → ⊥
 some_texts [] h e = h refl
 some_texts (x ∷ xs) h e = cc
+
+-- ** the variables that are left
+
+binding_left : (bs : List Binding) (i : ℕ) (v : Binding) → i < length bs → v ≡ get_or bs i v → drop i bs ≡ v ∷ drop (i + 1) bs
+binding_left bs i v lt is =
+    drop-cons bs i v lt ∙ ap (λ n. get_or bs i v ∷ drop n bs) (sym (add-one i)) ∙ ap (λ w. w ∷ drop (i + 1) bs) (sym is)
+
+length_texts : (xs : List (String Global)) → length xs ≡ 0 → map string_bytes xs ≡ []
+length_texts [] h = refl
+length_texts (x ∷ xs) h = absurd (omega (arith, h))
+
+-- one without members is not handed over, nor is one that stays with the shell
+pub skips_empty : (bs : List Binding) (i : ℕ) (v : Binding) → i < length bs → v ≡ get_or bs i v → length v.value.now ≡ 0 → handed (drop i bs) ≡ handed (drop (i + 1) bs)
+skips_empty bs i v lt is none = ap handed (binding_left bs i v lt is) ∙ handed_not v (drop (i + 1) bs) (length_texts v.value.now none)
+
+pub skips_kept : (bs : List Binding) (i : ℕ) (v : Binding) → i < length bs → v ≡ get_or bs i v → is_kept v.name.now ≡ true → handed (drop i bs) ≡ handed (drop (i + 1) bs)
+skips_kept bs i v lt is kept = ap handed (binding_left bs i v lt is) ∙ handed_kept v (drop (i + 1) bs) kept
+
+pub hands_over : (bs : List Binding) (i : ℕ) (v : Binding) → i < length bs → v ≡ get_or bs i v → (length v.value.now ≡ 0 → ⊥) → is_kept v.name.now ≡ false
+    → handed (drop i bs) ≡ (v.name.now, value_text (map string_bytes v.value.now)) ∷ handed (drop (i + 1) bs)
+hands_over bs i v lt is some kept = ap handed (binding_left bs i v lt is) ∙ handed_on v (drop (i + 1) bs) (some_texts v.value.now some) kept
+
+-- all of them are still to come
+pub all_to_come : (bs : List Binding) (s : State) → bindings_of bs ≡ visible_values s.variables → s.functions ≡ [] → to_come false s.status (handed bs) ≡ entries s
+all_to_come bs s h none =
+    ap (λ v. map entry (insert_entry text_cmp (handed_bindings v) status_name (value_text (s.status ∷ [])))) h
+    ∙ ap (λ v. map entry (insert_entry text_cmp v status_name (value_text (s.status ∷ [])))) (handed_visible s.variables)
+    ∙ ap (λ fs. map entry (with_functions fs (insert_entry text_cmp (handed_values s.variables) status_name (value_text (s.status ∷ []))))) (sym none)
+
+pub no_more : (bs : List Binding) (i : ℕ) → length bs ≤ i → handed (drop i bs) ≡ []
+no_more [] zero h = refl
+no_more [] (suc i) h = refl
+no_more (b ∷ bs) zero h = absurd (omega (arith, h))
+no_more (b ∷ bs) (suc i) h = no_more bs i (omega (arith, h))
+
+pub ruleset skipped = (skips_empty, skips_kept, no_more)

@@ -2,10 +2,10 @@
 use Rattle.std.proofs.Common.{◌≡◌, ℕ, Bool, true, false, cond, List, Option, ap}
 use Rattle.std.specs.Prelude.{codes}
 use Rattle.rc_model.specs.Handed.Image.{is_fit}
-use Rattle.rc_model.specs.Run.Acts.{Started, NoChild, child_of, begun, started}
+use Rattle.rc_model.specs.Run.Acts.{NoChild, child_of, begun, started}
 use Rattle.rc_model.specs.Run.Calls.{Event, Launch, start, as_child}
-use Rattle.rc_model.specs.Run.Plans.{Plan, done_with, asks, Ran}
-use Rattle.rc_model.specs.Run.Shell.{Result, Next, pure}
+use Rattle.rc_model.specs.Run.Plans.{done_with, asks, Ran}
+use Rattle.rc_model.specs.Run.Shell.{Next, pure}
 use Rattle.rc_model.specs.Run.State.{State}
 use Rattle.rc_world.specs.Comes.{Left}
 use Rattle.rc_world.specs.declared.types.Stop.{Stop}

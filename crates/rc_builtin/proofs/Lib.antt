@@ -2,4 +2,5 @@ pub mod Acts
 pub mod Entries
 pub mod Escapes
 pub mod Fits
+pub mod Runs
 pub mod Search

@@ -1,5 +1,5 @@
 -- One turn of the search for a program.
-use Rattle.std.proofs.Common.{◌≡◌, ℕ, ◌<◌, ◌+◌, Bool, true, false, cond, List, ◌∷◌, length, map, drop, get_or, Option, Some, ap, ◌∙◌, subst, sym, string_bytes, drop-cons, add-one}
+use Rattle.std.proofs.Common.{◌≡◌, ℕ, ◌<◌, ◌+◌, Bool, true, false, cond, List, ◌∷◌, length, drop, get_or, Option, Some, ap, ◌∙◌, subst, sym, string_bytes, drop-cons, add-one}
 use Rattle.std.specs.declared.alloc.Global.{Global}
 use Rattle.std.specs.declared.string.String.{String}
 use Rattle.rc_model.specs.Run.Acts.{candidate, is_program, first_program}

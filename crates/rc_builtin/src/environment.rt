@@ -77,21 +77,24 @@ fn status_entry(alloc: Global, state: &State) -> Result<String, AllocError>
     entry(alloc, "status", value.as_slice())
 }
 
-/// The entries of a launch, in byte order of their names.
+/// The entries of a launch, in byte order of their names, where there are no functions.
+#[tactic(auto, using(crate::proofs::Entries::skipped))]
 pub fn entries(alloc: Global, state: &State) -> Result<Vec<String>, AllocError>
+    requires { (state_of state.now).functions ≡ [] }
     ensures { IfOk result (λ all. map string_bytes all.items ≡ entries (state_of state.now)) }
 {
+    let bindings = state.bindings()?;
     let mut all = Vec::new(alloc);
     let mut has_status = false;
-    for (name, value) in &state.variables {
-        if value.is_empty() || is_kept(name) {
+    for variable in &bindings {
+        if variable.value.is_empty() || is_kept(variable.name) {
             continue;
         }
-        if !has_status && is_after_status(name) {
+        if !has_status && is_after_status(variable.name) {
             all.push(status_entry(alloc, state)?)?;
             has_status = true;
         }
-        all.push(entry(alloc, name, value)?)?;
+        all.push(entry(alloc, variable.name, variable.value)?)?;
     }
     if !has_status {
         all.push(status_entry(alloc, state)?)?;

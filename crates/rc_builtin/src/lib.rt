@@ -4,4 +4,4 @@
 mod environment;
 mod programs;
 
-pub use programs::{fault, find_program, report, run_program};
+pub use programs::{Outcome, fault, find_program, report, run_program};

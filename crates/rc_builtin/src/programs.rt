@@ -1,6 +1,6 @@
 //! Programs: they are looked for, started and waited for.
 
-ghost use Rattle.std.specs.Prelude.{◌≡◌, ◌∷◌, ◌++◌, [], codes, IfOk, map, string_bytes};
+ghost use Rattle.std.specs.Prelude.{◌≡◌, ◌∷◌, ◌++◌, [], Some, codes, IfOk, OnErr, map, string_bytes};
 ghost use Rattle.rc_model.specs.Run.Acts.{report, fault, is_path, candidate, is_program, first_program, find_program};
 ghost use Rattle.rc_model.specs.Run.Acts.{ending_status, started, refuse, wait_started, run_found, run_program};
 ghost use Rattle.rc_model.specs.Run.State as model;
@@ -8,6 +8,7 @@ ghost use Rattle.rc_model.specs.Handed.Image.{is_short, is_fit, program_launch};
 ghost use Rattle.rc_world.specs.Comes.{Reads, Does};
 ghost use Rattle.rc_world.specs.Views.{launch_of};
 ghost use Rattle.std.specs.List.{list_all};
+ghost use Rattle.rc_builtin.specs.Outcomes.{Runs};
 ghost use Rattle.rc_builtin.specs.Starts.{path_of, paths_in, started_of};
 ghost use Rattle.rc_scope.specs.States.{state_of};
 
@@ -131,8 +132,9 @@ fn refuse<W: World>(
     name: &str,
     why: &str,
 ) -> Result<(), Stop>
-    ensures { Does W.events world.old world.new state_of state.old state.new
+    ensures does { Does W.events world.old world.new state_of state.old state.new
         (refuse slots name.now why.now) (λ x. x) result }
+    ensures err { OnErr result (state_of state.new ≡ state_of state.old) }
 {
     let text = refusal_text(alloc, name, why)?;
     report(alloc, world, state, slots, &text)?;
@@ -193,8 +195,9 @@ fn wait_started<W: World>(
     name: &str,
     started: Started,
 ) -> Result<(), Stop>
-    ensures { Does W.events world.old world.new state_of state.old state.new
+    ensures does { Does W.events world.old world.new state_of state.old state.new
         (wait_started slots name.now (started_of started)) (λ x. x) result }
+    ensures err { OnErr result (state_of state.new ≡ state_of state.old) }
 {
     let child = match started {
         Started::Child(child) => child,
@@ -206,7 +209,7 @@ fn wait_started<W: World>(
     Ok(())
 }
 
-/// What is asked for a program.
+/// What is asked for a program, where there are no functions.
 fn launch(
     alloc: Global,
     state: &State,
@@ -214,6 +217,7 @@ fn launch(
     path: String,
     args: &[String],
 ) -> Result<Launch, AllocError>
+    requires { (state_of state.now).functions ≡ [] }
     ensures { IfOk result (λ launch. launch_of launch
         ≡ program_launch slots (string_bytes path) (map string_bytes args.now) (state_of state.now)) }
 {
@@ -230,6 +234,35 @@ fn launch(
     })
 }
 
+/// The program at this path is started, where there are no functions.
+#[tactic(auto, using(crate::proofs::Acts::acting))]
+fn run_at<W: World>(
+    alloc: Global,
+    world: &mut W,
+    state: &mut State,
+    slots: Slots,
+    name: &str,
+    args: &[String],
+    path: String,
+) -> Result<(), Stop>
+    requires { (state_of state.old).functions ≡ [] }
+    ensures does { Does W.events world.old world.new state_of state.old state.new
+        (run_found slots name.now (map string_bytes args.now) (Some (string_bytes path))) (λ x. x) result }
+    ensures err { OnErr result (state_of state.new ≡ state_of state.old) }
+{
+    let launch = launch(alloc, state, slots, path, args)?;
+    let child = make_started(world, &launch)?;
+    wait_started(alloc, world, state, slots, name, child)
+}
+
+/// What became of a program.
+#[derive(Clone, Copy)]
+pub enum Outcome {
+    Finished,
+    /// It can't be started yet, since there are functions, which can't be handed over yet.
+    NotYet,
+}
+
 /// A program that was looked for is started.
 #[tactic(auto, using(crate::proofs::Acts::acting))]
 fn run_found<W: World>(
@@ -240,16 +273,20 @@ fn run_found<W: World>(
     name: &str,
     args: &[String],
     path: Option<String>,
-) -> Result<(), Stop>
-    ensures { Does W.events world.old world.new state_of state.old state.new
-        (run_found slots name.now (map string_bytes args.now) (path_of path)) (λ x. x) result }
+) -> Result<Outcome, Stop>
+    ensures runs { Runs W.events world.old world.new state_of state.old state.new
+        (run_found slots name.now (map string_bytes args.now) (path_of path)) result }
+    ensures err { OnErr result (state_of state.new ≡ state_of state.old) }
 {
     let Some(path) = path else {
-        return refuse(alloc, world, state, slots, name, "not found");
+        refuse(alloc, world, state, slots, name, "not found")?;
+        return Ok(Outcome::Finished);
     };
-    let launch = launch(alloc, state, slots, path, args)?;
-    let child = make_started(world, &launch)?;
-    wait_started(alloc, world, state, slots, name, child)
+    if state.has_functions() {
+        return Ok(Outcome::NotYet);
+    }
+    run_at(alloc, world, state, slots, name, args, path)?;
+    Ok(Outcome::Finished)
 }
 
 /// Runs a program by its name.
@@ -261,9 +298,10 @@ pub fn run_program<W: World>(
     slots: Slots,
     name: &str,
     args: &[String],
-) -> Result<(), Stop>
-    ensures { Does W.events world.old world.new state_of state.old state.new
-        (run_program slots name.now (map string_bytes args.now)) (λ x. x) result }
+) -> Result<Outcome, Stop>
+    ensures runs { Runs W.events world.old world.new state_of state.old state.new
+        (run_program slots name.now (map string_bytes args.now)) result }
+    ensures err { OnErr result (state_of state.new ≡ state_of state.old) }
 {
     let path = find_program(alloc, world, state, name)?;
     run_found(alloc, world, state, slots, name, args, path)
@@ -278,7 +316,9 @@ pub fn fault<W: World>(
     slots: Slots,
     text: &str,
 ) -> Result<(), Stop>
-    ensures { Does W.events world.old world.new state_of state.old state.new (fault slots text.now) (λ x. x) result }
+    ensures does { Does W.events world.old world.new state_of state.old state.new
+        (fault slots text.now) (λ x. x) result }
+    ensures err { OnErr result (state_of state.new ≡ state_of state.old) }
 {
     report(alloc, world, state, slots, text)?;
     state.set_status("error")?;

@@ -3,4 +3,5 @@ pub mod Left
 pub mod Names
 pub mod Places
 pub mod Runs
+pub mod Scopes
 pub mod Stacks

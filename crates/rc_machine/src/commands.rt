@@ -9,7 +9,7 @@ ghost use Rattle.rc_scope.specs.States.{state_of};
 
 use crate::machine::{Machine, Move};
 use crate::values::texts;
-use rc_builtin::{fault, run_program};
+use rc_builtin::{Outcome as Program, fault, run_program};
 use rc_scope::State;
 use rc_text::is_true;
 use rc_world::{Slots, Stop, World};
@@ -50,11 +50,13 @@ fn run_words<W: World>(
         fault(alloc, world, state, slots, "empty argument list")?;
         return Ok(Outcome::Exit);
     };
-    if is_not_yet(name) {
+    if state.function(name).is_some() || is_not_yet(name) {
         return Ok(Outcome::NotYet);
     }
-    run_program(alloc, world, state, slots, name, args)?;
-    Ok(Outcome::Finished)
+    match run_program(alloc, world, state, slots, name, args)? {
+        Program::Finished => Ok(Outcome::Finished),
+        Program::NotYet => Ok(Outcome::NotYet),
+    }
 }
 
 impl Machine {

@@ -15,13 +15,16 @@ impl Machine {
     ghost use Rattle.rc_machine.specs.Outcomes.{Leads, Steps, failed};
 
     /// The end of the shell: what is open ends, the innermost first.
+    #[tactic(auto, using(crate::proofs::Scopes::unwinding))]
     pub(crate) fn unwind(&mut self) -> Move
         ensures { Leads (unwind (config_of self.old).scopes (config_of self.old).state []) (config_of self.new) result }
     {
-        match self.scopes.close() {
-            Some(_) => Move::NotYet,
-            None => Move::Ended,
+        while let Some(scope) = self.scopes.close() {
+            if scope.binds() {
+                self.state.pop_local();
+            }
         }
+        Move::Ended
     }
 
     /// A runtime error ends the shell.

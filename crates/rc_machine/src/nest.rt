@@ -1,6 +1,6 @@
 //! What is open, each within the one before it.
 
-ghost use Rattle.std.specs.Prelude.{◌≡◌, [], ◌∷◌, OnOk, MatchOption};
+ghost use Rattle.std.specs.Prelude.{◌≡◌, [], ◌∷◌, drop, OnOk, MatchOption};
 
 use std::alloc::{AllocError, Global};
 use std::marker::Model;
@@ -42,5 +42,21 @@ impl<T: Drop> Nest<T> {
         ensures { MatchOption result (self.old ≡ []) (λ item. self.old ≡ item ∷ self.new) }
     {
         self.items.pop()
+    }
+
+    /// These are open, the first innermost.
+    #[tactic(auto, using(crate::proofs::Scopes::turned_twice))]
+    pub fn of(mut items: Vec<T>) -> Nest<T>
+        ensures { result ≡ items.items }
+    {
+        items.reverse();
+        Nest { items }
+    }
+
+    /// The innermost.
+    pub fn innermost(&self) -> Option<&T>
+        ensures { MatchOption result (self.now ≡ []) (λ item. self.now ≡ item.now ∷ drop 1 self.now) }
+    {
+        self.items.last()
     }
 }

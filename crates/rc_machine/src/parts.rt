@@ -1,5 +1,7 @@
 //! What a machine holds beside its code: the frames of calls, and what ends later.
 
+ghost use Rattle.std.specs.Prelude.{◌≡◌};
+
 use crate::nest::Nest;
 use rc_code::Code;
 
@@ -22,4 +24,18 @@ pub enum Scope {
         rest: Nest<String>,
         bound: bool,
     },
+}
+
+impl Scope {
+    ghost use Rattle.rc_machine.specs.Configs.{binds, scope_of};
+
+    /// Whether a variable is bound until it ends.
+    pub fn binds(&self) -> bool
+        ensures { result ≡ binds (scope_of self.now) }
+    {
+        match self {
+            Scope::Local => true,
+            Scope::Loop { bound, .. } => *bound,
+        }
+    }
 }

@@ -10,7 +10,7 @@ ghost use Rattle.rc_model.specs.Syntax.Tokens.{is_name_char};
 ghost use Rattle.rc_model.specs.Syntax.Words.{plain_words, word_texts};
 ghost use Rattle.rc_scope.specs.States.{state_of};
 
-use rc_scope::State;
+use rc_scope::{State, is_name};
 use rc_stack::Stack;
 use rc_text::{List, Word};
 use std::alloc::{AllocError, Global};
@@ -92,13 +92,6 @@ fn is_readable(text: &str) -> bool
     has_name_bytes(text) && !text.is_empty()
 }
 
-/// Whether the text names a variable.
-fn is_name(text: &str) -> bool
-    ensures { result ≡ is_name text.now }
-{
-    has_name_bytes(text) && !has_digits(text)
-}
-
 /// Whether the text has only digits, or nothing.
 fn has_digits(text: &str) -> bool
     ensures { result ≡ list_all is_digit text.now }
@@ -136,26 +129,14 @@ fn member<'a>(value: &'a [String], digits: &str) -> &'a [String]
     }
 }
 
-/// A copy of the texts.
-fn copy(alloc: Global, texts: &[String]) -> Result<Vec<String>, AllocError>
-    ensures { IfOk result (λ copy. map string_bytes copy.items ≡ map string_bytes texts.now) }
-{
-    let mut copy = Vec::new(alloc);
-    for text in texts {
-        copy.push(text.clone()?)?;
-    }
-    Ok(copy)
-}
-
 /// What `$` and a name give: for digits a member of `$*`.
-fn got(alloc: Global, state: &State, name: &str) -> Result<Vec<String>, AllocError>
-    ensures { IfOk result (λ value. map string_bytes value.items ≡ got (state_of state.now) name.now) }
+fn got<'a>(state: &'a State, name: &str) -> &'a [String]
+    ensures { map string_bytes result.now ≡ got (state_of state.now) name.now }
 {
     if !has_digits(name) || name.is_empty() {
-        return state.get(name);
+        return state.value(name);
     }
-    let all = state.get("*")?;
-    copy(alloc, member(&all, name))
+    member(state.value("*"), name)
 }
 
 /// The one name that the words are, where it can stand behind `$`.
@@ -189,11 +170,12 @@ pub fn variable_name(words: &[Word]) -> Result<Option<String>, AllocError>
 }
 
 /// What `$` gives for these words: none where they are no name.
-pub fn read(alloc: Global, state: &State, words: &[Word]) -> Result<Option<Vec<String>>, AllocError>
-    ensures { IfOk result (λ value. option_map (λ v. map string_bytes v.items) value ≡ read (state_of state.now) (word_texts words.now)) }
+pub fn read<'a>(state: &'a State, words: &[Word]) -> Result<Option<&'a [String]>, AllocError>
+    ensures { IfOk result (λ value. option_map (λ v. map string_bytes v.now) value
+        ≡ read (state_of state.now) (word_texts words.now)) }
 {
     match readable_name(words)? {
-        Some(name) => Ok(Some(got(alloc, state, &name)?)),
+        Some(name) => Ok(Some(got(state, &name))),
         None => Ok(None),
     }
 }

@@ -1,2 +1,5 @@
-pub mod Texts
-pub mod Variables
+pub mod Stacks
+pub mod Bodies
+pub mod Firsts
+pub mod Ends
+pub mod Spaces

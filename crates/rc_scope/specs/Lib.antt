@@ -1,1 +1,4 @@
+pub mod Stacks
+pub mod Bindings
+pub mod Bodies
 pub mod States

@@ -1,7 +1,13 @@
 //! The state of a shell.
 #![tactic(auto)]
 
+mod children;
+mod functions;
 mod names;
 mod state;
+mod texts;
+mod variables;
 
+pub use names::{is_function_name, is_name};
 pub use state::{SetError, State};
+pub use variables::Binding;

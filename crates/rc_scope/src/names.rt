@@ -1,9 +1,11 @@
 //! The names of variables.
 
 ghost use Rattle.std.specs.Prelude.{◌≡◌};
-ghost use Rattle.std.specs.List.{list_all};
+ghost use Rattle.std.specs.List.{list_all, list_any};
 ghost use Rattle.rc_model.specs.Run.Numbers.{is_digit};
-ghost use Rattle.rc_model.specs.Run.State.{is_name};
+ghost use Rattle.rc_model.specs.Run.State.{is_name, is_function_name, status_name};
+ghost use Rattle.std.specs.Str.{bytes_eq};
+ghost use Rattle.std.specs.Prelude.{◌||◌, ◌==◌};
 ghost use Rattle.rc_model.specs.Syntax.Tokens.{is_name_char};
 
 /// Whether the byte is a letter, a digit, `_` or `*`.
@@ -36,4 +38,31 @@ pub fn is_name(text: &str) -> bool
     ensures { result ≡ is_name text.now }
 {
     has_name_bytes(text) && !has_digits(text)
+}
+
+/// Whether a byte can't stand in the name of a function.
+fn is_sign(byte: u8) -> bool
+    ensures { result ≡ ((byte == 61) || (byte == 0)) }
+{
+    byte == b'=' || byte == 0
+}
+
+fn has_sign(text: &str) -> bool
+    ensures { result ≡ list_any (λ c. (c == 61) || (c == 0)) text.now }
+{
+    text.as_bytes().iter().any(|byte| is_sign(*byte))
+}
+
+/// Whether the text names a function.
+pub fn is_function_name(text: &str) -> bool
+    ensures { result ≡ is_function_name text.now }
+{
+    !text.is_empty() && !has_sign(text)
+}
+
+/// Whether the name is that of the status, which is no variable.
+pub fn is_status(name: &str) -> bool
+    ensures { result ≡ bytes_eq name.now status_name }
+{
+    name == "status"
 }

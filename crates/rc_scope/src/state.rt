@@ -1,21 +1,33 @@
 //! The state of a shell.
 
-ghost use Rattle.std.specs.Prelude.{◌≡◌, ◌↔◌, IfOk, OnOk, OnErr, IsTrue, false, map, string_bytes};
+ghost use Rattle.std.specs.Prelude.{◌≡◌, ◌↔◌, ◌∷◌, [], IfOk, OnOk, OnErr, false, not, length, ◌==◌, map, string_bytes, option_map};
+ghost use Rattle.std.specs.Option.{option_copied};
 ghost use Rattle.std.specs.Result.{IsErrOf};
-ghost use Rattle.std.specs.Str.{bytes_eq};
-ghost use Rattle.rc_model.specs.Syntax.Text.{spaced};
-ghost use Rattle.rc_model.specs.Run.State.{new_state, value_of, set_value, with_status, with_flag, is_name, status_name};
+ghost use Rattle.rc_model.specs.Run.State.{new_state, value_of, got, set_value, with_status, with_flag, is_name};
+ghost use Rattle.rc_model.specs.Run.State.{push_local, pop_local, is_function_name, define, undefine, function_of};
+ghost use Rattle.rc_model.specs.Run.State.{add_child, drop_child};
+ghost use Rattle.rc_tree_types.specs.View.{cmd_tree};
+ghost use Rattle.rc_scope.specs.Bindings.{bindings_of, visible_values};
+ghost use Rattle.rc_scope.specs.Stacks.{flat_names};
+ghost use Rattle.rc_scope.specs.States.{numbers};
 
-use crate::names::is_name;
+use crate::children::place_of;
+use crate::functions::{Function, names};
+use crate::names::{is_function_name, is_name, is_status};
+use crate::texts::{copy, join};
+use crate::variables::{Binding, Variables};
 use rc_model::ChildNo;
+use rc_tree_types::Cmd;
 use std::alloc::{AllocError, AllocFailed, Global};
 use std::collections::BTreeMap;
+use std::slice::from_ref;
 use thiserror::Error;
 
-/// Why an assignment was refused.
+/// Why an assignment or a definition was refused.
 #[derive(Debug, Drop, Error)]
 pub enum SetError {
-    /// Names are not empty, of ASCII letters, digits, `_` and `*`, and not all digits.
+    /// A variable's name is not empty, of ASCII letters, digits, `_` and `*`, and not all digits. A function's is not
+    /// empty, without `=` and byte 0.
     #[error("bad name")]
     BadName,
     #[error("no memory")]
@@ -42,49 +54,15 @@ impl<T: Drop> From<AllocFailed<T>> for SetError {
     }
 }
 
-/// The variables of a shell and its status.
+/// The variables of a shell with its open locals, its functions, its status and its children in the background.
 #[derive(Drop)]
 pub struct State {
-    pub variables: BTreeMap<String, Vec<String>>,
+    variables: Variables,
+    functions: BTreeMap<String, Function>,
     status: String,
     if_not: bool,
     strict: bool,
     background: Vec<ChildNo>,
-}
-
-/// The texts joined by spaces.
-#[tactic(auto, using(crate::proofs::Texts::spaced_strings))]
-fn join(alloc: Global, texts: &[String]) -> Result<String, AllocError>
-    ensures { IfOk result (λ joined. string_bytes joined ≡ spaced (map string_bytes texts.now)) }
-{
-    let mut joined = String::new(alloc);
-    let Some((first, others)) = texts.split_first() else {
-        return Ok(joined);
-    };
-    joined.push_str(first)?;
-    for text in others {
-        joined.push(' ')?;
-        joined.push_str(text)?;
-    }
-    Ok(joined)
-}
-
-/// A copy of the texts.
-fn copy(alloc: Global, texts: &[String]) -> Result<Vec<String>, AllocError>
-    ensures { IfOk result (λ copy. map string_bytes copy.items ≡ map string_bytes texts.now) }
-{
-    let mut copy = Vec::new(alloc);
-    for text in texts {
-        copy.push(text.clone()?)?;
-    }
-    Ok(copy)
-}
-
-/// Whether the name is that of the status, which is no variable.
-fn is_status(name: &str) -> bool
-    ensures { result ≡ bytes_eq name.now status_name }
-{
-    name == "status"
 }
 
 impl State {
@@ -96,7 +74,8 @@ impl State {
         ensures { state_of result ≡ new_state }
     {
         State {
-            variables: BTreeMap::new(alloc),
+            variables: Variables::new(alloc),
+            functions: BTreeMap::new(alloc),
             status: String::new(alloc),
             if_not: false,
             strict: false,
@@ -104,25 +83,26 @@ impl State {
         }
     }
 
+    /// The members of a variable, lent: none where it was never assigned.
+    #[tactic(auto, unfolding(crate::specs::States::state_of))]
+    pub fn value(&self, name: &str) -> &[String]
+        ensures { map string_bytes result.now ≡ value_of (state_of self.now) name.now }
+    {
+        if is_status(name) {
+            return from_ref(&self.status);
+        }
+        self.variables.get(name)
+    }
+
     /// The members of a variable: none where it was never assigned.
-    #[tactic(auto, using(crate::proofs::Variables::variables), unfolding(crate::specs::States::state_of))]
     pub fn get(&self, name: &str) -> Result<Vec<String>, AllocError>
         ensures { IfOk result (λ value. map string_bytes value.items ≡ value_of (state_of self.now) name.now) }
     {
-        let alloc = *self.status.allocator();
-        if is_status(name) {
-            let mut value = Vec::new(alloc);
-            value.push(self.status.clone()?)?;
-            return Ok(value);
-        }
-        match self.variables.get(name) {
-            Some(value) => Ok(copy(alloc, value)?),
-            None => Ok(Vec::new(alloc)),
-        }
+        copy(*self.status.allocator(), self.value(name))
     }
 
     /// Assigns to a variable. An `Err` changes nothing.
-    #[tactic(auto, using(crate::proofs::Variables::variables), unfolding(crate::specs::States::state_of))]
+    #[tactic(auto, unfolding(crate::specs::States::state_of))]
     pub fn set(&mut self, name: &str, value: Vec<String>) -> Result<(), SetError>
         ensures ok { OnOk result (state_of self.new ≡ set_value (state_of self.old) name.now (map string_bytes value.items)) }
         ensures bad_name { IsErrOf result SetError.BadName ↔ (is_name name.now ≡ false) }
@@ -136,9 +116,103 @@ impl State {
             self.status = join(alloc, value.as_slice())?;
             return Ok(());
         }
-        let name = String::from_str(alloc, name)?;
-        self.variables.insert(name, value)?;
+        self.variables.set(alloc, name, value)?;
         Ok(())
+    }
+
+    /// Opens a local with this value; one of the status sets it. An `Err` changes nothing.
+    #[tactic(auto, unfolding(crate::specs::States::state_of))]
+    pub fn push_local(&mut self, name: &str, value: Vec<String>) -> Result<(), SetError>
+        ensures ok { OnOk result (state_of self.new ≡ push_local (state_of self.old) name.now (map string_bytes value.items)) }
+        ensures bad_name { IsErrOf result SetError.BadName ↔ (is_name name.now ≡ false) }
+        ensures err { OnErr result (state_of self.new ≡ state_of self.old) }
+    {
+        if !is_name(name) {
+            return Err(SetError::BadName);
+        }
+        let alloc = *self.status.allocator();
+        if is_status(name) {
+            let status = join(alloc, value.as_slice())?;
+            self.variables.push_status(alloc)?;
+            self.status = status;
+            return Ok(());
+        }
+        self.variables.push(alloc, name, value)?;
+        Ok(())
+    }
+
+    /// The newest local ends; with none open nothing changes. One of the status leaves the status as it is.
+    #[tactic(auto, using(crate::proofs::Ends::ended), unfolding(crate::specs::States::state_of))]
+    pub fn pop_local(&mut self)
+        ensures { state_of self.new ≡ pop_local (state_of self.old) }
+    {
+        self.variables.pop();
+    }
+
+    /// The names of the variables that have members, in byte order.
+    #[tactic(auto, unfolding(crate::specs::States::state_of))]
+    pub fn variables(&self) -> Result<Vec<String>, AllocError>
+        ensures { IfOk result (λ names. map string_bytes names.items ≡ flat_names (state_of self.now).variables) }
+    {
+        self.variables.names(*self.status.allocator())
+    }
+
+    /// Each variable with its visible value, in byte order of the names.
+    #[tactic(auto, unfolding(crate::specs::States::state_of))]
+    pub fn bindings(&self) -> Result<Vec<Binding<'_>>, AllocError>
+        ensures { IfOk result (λ all. bindings_of all.items ≡ visible_values (state_of self.now).variables) }
+    {
+        self.variables.bindings(*self.status.allocator())
+    }
+
+    /// Defines a function. An `Err` changes nothing.
+    #[tactic(auto, using(crate::proofs::Bodies::bodies), unfolding(crate::specs::States::state_of))]
+    pub fn define(&mut self, name: &str, body: Cmd) -> Result<(), SetError>
+        ensures ok { OnOk result (state_of self.new ≡ define (state_of self.old) name.now (cmd_tree body)) }
+        ensures bad_name { IsErrOf result SetError.BadName ↔ (is_function_name name.now ≡ false) }
+        ensures err { OnErr result (state_of self.new ≡ state_of self.old) }
+    {
+        if !is_function_name(name) {
+            return Err(SetError::BadName);
+        }
+        let name = String::from_str(*self.status.allocator(), name)?;
+        self.functions.insert(name, Function { body })?;
+        Ok(())
+    }
+
+    /// Removes a function, where there is one of this name.
+    #[tactic(auto, using(crate::proofs::Bodies::bodies), unfolding(crate::specs::States::state_of))]
+    pub fn remove(&mut self, name: &str)
+        ensures { state_of self.new ≡ undefine (state_of self.old) (name.now ∷ []) }
+    {
+        let _ = self.functions.remove(name);
+    }
+
+    /// The body of a function.
+    #[tactic(auto, using(crate::proofs::Bodies::bodies), unfolding(crate::specs::States::state_of))]
+    pub fn function(&self, name: &str) -> Option<&Cmd>
+        ensures { option_map cmd_tree (option_copied result) ≡ function_of (state_of self.now) name.now }
+    {
+        match self.functions.get(name) {
+            Some(function) => Some(&function.body),
+            None => None,
+        }
+    }
+
+    /// The names of the functions, in byte order.
+    #[tactic(auto, unfolding(crate::specs::States::state_of))]
+    pub fn functions(&self) -> Result<Vec<String>, AllocError>
+        ensures { IfOk result (λ names. map string_bytes names.items ≡ map (λ f. f.0) (state_of self.now).functions) }
+    {
+        names(*self.status.allocator(), &self.functions)
+    }
+
+    /// Whether there are functions.
+    #[tactic(auto, using(crate::proofs::Bodies::length_functions), unfolding(crate::specs::States::state_of))]
+    pub fn has_functions(&self) -> bool
+        ensures { result ≡ not (length (state_of self.now).functions == 0) }
+    {
+        !self.functions.is_empty()
     }
 
     /// What the last command left: empty for the null status.
@@ -187,5 +261,34 @@ impl State {
         ensures { state_of self.new ≡ record (state_of self.old) { strict = strict } }
     {
         self.strict = strict;
+    }
+
+    /// The children that run in the background, in the order of their starts.
+    #[tactic(auto, unfolding(crate::specs::States::state_of))]
+    pub fn children(&self) -> &[ChildNo]
+        ensures { numbers result.now ≡ (state_of self.now).background }
+    {
+        self.background.as_slice()
+    }
+
+    /// Adds a child that runs in the background. An `Err` changes nothing.
+    #[tactic(auto, unfolding(crate::specs::States::state_of))]
+    pub fn add_child(&mut self, child: ChildNo) -> Result<(), AllocError>
+        ensures ok { OnOk result (state_of self.new ≡ add_child (state_of self.old) child.0) }
+        ensures err { OnErr result (state_of self.new ≡ state_of self.old) }
+    {
+        self.background.push(child)?;
+        Ok(())
+    }
+
+    /// Takes out the first child of this number, where there is one.
+    #[tactic(auto, unfolding(crate::specs::States::state_of))]
+    pub fn drop_child(&mut self, child: ChildNo)
+        ensures { state_of self.new ≡ drop_child (state_of self.old) child.0 }
+    {
+        let Some(place) = place_of(&self.background, child) else {
+            return;
+        };
+        let _ = self.background.remove(place);
     }
 }

@@ -1,4 +1,4 @@
-use Rattle.std.proofs.Common.{◌≡◌, true, false, map, rules, string_bytes, sym, ◌∙◌}
+use Rattle.std.proofs.Common.{◌≡◌, true, false, rules, string_bytes, sym, ◌∙◌}
 use Rattle.std.proofs.lemmas.List.Folds.{list_all-map}
 use Rattle.std.specs.List.{list_all}
 use Rattle.rc_model.specs.Handed.Image.{is_short}

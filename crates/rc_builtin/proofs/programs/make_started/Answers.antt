@@ -2,7 +2,7 @@ use Rattle.std.proofs.Common.{rules, ◌≡◌, true, false}
 use Rattle.rc_model.specs.Handed.Image.{is_fit}
 use Rattle.rc_world.specs.Views.{launch_of}
 use Rattle.rc_builtin.proofs.Fits.{not_fit, fit, begun_by, no_child}
-use Rattle.rc_world.proofs.Joins.{comes_as, left_asked, passed_up, ran_answered, ran_as}
+use Rattle.rc_world.proofs.Joins.{comes_as, passed_up, ran_as}
 use Rattle.law_plans.proofs.Runs.{ran_none}
 use Rattle.rc_builtin.proofs.programs.make_started.Goals as goal
 

@@ -11,27 +11,27 @@ use Rattle.rc_world.proofs.Shells.{left_next, left_under}
 use Rattle.law_plans.proofs.Runs.{ran_next, ran_none}
 use Rattle.rc_builtin.proofs.programs.refuse.Goals as goal
 
-pub returns-in_err-text : goal.returns-in_err-text
-returns-in_err-text g c = passed_up _ _ _ _ c.from_residual.result NoMemory c.from_residual.ensures.1 (left_here _ _ _ _ (ran_none _ _))
+pub returns-in_err-text-clause-does : goal.returns-in_err-text-clause-does
+returns-in_err-text-clause-does g c = passed_up _ _ _ _ c.from_residual.result NoMemory c.from_residual.ensures.1 (left_here _ _ _ _ (ran_none _ _))
 
-pub returns-in_err-report : goal.returns-in_err-report
-returns-in_err-report g c =
+pub returns-in_err-report-clause-does : goal.returns-in_err-report-clause-does
+returns-in_err-report-clause-does g c =
     let text : c.deref.result.now ≡ c.args.name.now ++ codes ": " ++ c.args.why.now = search rules in
     let s = state_of c.args.state.now in
     passed_up _ _ _ _ c.from_residual-in_err-report.result c.in_err-report.field-0.0 c.from_residual-in_err-report.ensures.1
     (left_under _ _ _ (report c.args.slots (c.args.name.now ++ codes ": " ++ c.args.why.now) s) (λ x t. done_with (Next tt (with_status t c.args.why.now))) leaves
     (rw text at c.in_err-report.ensures))
 
-pub returns-in_err-set_status : goal.returns-in_err-set_status
-returns-in_err-set_status g c =
+pub returns-in_err-set_status-clause-does : goal.returns-in_err-set_status-clause-does
+returns-in_err-set_status-clause-does g c =
     let text : c.deref.result.now ≡ c.args.name.now ++ codes ": " ++ c.args.why.now = search rules in
     let s = state_of c.args.state.now in
     passed_up _ _ _ _ c.from_residual-in_err-set_status.result NoMemory c.from_residual-in_err-set_status.ensures.1
     (left_next _ _ _ _ (report c.args.slots (c.args.name.now ++ codes ": " ++ c.args.why.now) s) tt s (λ x t. done_with (Next tt (with_status t c.args.why.now))) leaves
     (rw text at c.in_ok-report.ensures) (left_here _ _ _ _ (ran_none _ _)))
 
-pub returns : goal.returns
-returns g c =
+pub returns-clause-does : goal.returns-clause-does
+returns-clause-does g c =
     let text : c.deref.result.now ≡ c.args.name.now ++ codes ": " ++ c.args.why.now = search rules in
     let s = state_of c.args.state.now in
     ran_next _ _ _ (report c.args.slots (c.args.name.now ++ codes ": " ++ c.args.why.now) s) tt s (λ x t. done_with (Next tt (with_status t c.args.why.now))) leaves _

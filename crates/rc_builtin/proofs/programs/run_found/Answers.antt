@@ -1,27 +1,27 @@
-use Rattle.std.proofs.Common.{map, string_bytes, ap, sym}
-use Rattle.rc_model.specs.Handed.Image.{program_launch}
-use Rattle.rc_model.specs.Run.Acts.{started, wait_started}
-use Rattle.rc_model.specs.Run.Shell.{leaves}
-use Rattle.rc_world.specs.declared.types.Stop.TheVariants.{NoMemory}
+use Rattle.std.proofs.Common.{rules, ◌≡◌, None, Some, map, string_bytes, ap}
+use Rattle.rc_model.specs.Run.Acts.{run_found}
+use Rattle.rc_builtin.specs.Starts.{path_of}
 use Rattle.rc_scope.specs.States.{state_of}
-use Rattle.rc_world.proofs.Joins.{left_as, left_here, passed_up, ran_as}
-use Rattle.rc_world.proofs.Shells.{comes_next, left_under}
+use Rattle.rc_world.proofs.Joins.{left_as}
+use Rattle.rc_builtin.proofs.Runs.{runs_left}
 use Rattle.law_plans.proofs.Runs.{ran_none}
 use Rattle.rc_builtin.proofs.programs.run_found.Goals as goal
 
-pub returns-in_err-launch : goal.returns-in_err-launch
-returns-in_err-launch g c = passed_up _ _ _ _ c.from_residual.result NoMemory c.from_residual.ensures.1 (left_here _ _ _ _ (ran_none _ _))
-
-pub returns-in_err-child : goal.returns-in_err-child
-returns-in_err-child g c =
+pub returns-in_err-refuse-clause-runs : goal.returns-in_err-refuse-clause-runs
+returns-in_err-refuse-clause-runs g c =
     let s = state_of c.args.state.now in
-    let l = program_launch c.args.slots (string_bytes c.in-Some.path) (map string_bytes c.args.args.now) s in
-    rw c.in-Some.is (passed_up _ _ _ _ c.from_residual-in_err-child.result c.in_err-child.field-0.0 c.from_residual-in_err-child.ensures.1
-    (left_under _ _ _ (started l s) (λ x t. wait_started c.args.slots c.args.name.now x t) leaves (left_as _ _ _ _ _ (ap (λ x. started x s) (sym c.in_ok-launch.ensures)) (c.in_err-child.ensures s))))
+    let args = map string_bytes c.args.args.now in
+    let none : path_of c.args.path ≡ None = search rules in
+    runs_left _ _ (run_found c.args.slots c.args.name.now args (path_of c.args.path) s) _ c.from_residual.result c.in_err-refuse.field-0.0 c.from_residual.ensures.1
+    (left_as _ _ _ _ _ (ap (λ p. run_found c.args.slots c.args.name.now args p s) none) c.in_err-refuse.ensures.does)
 
-pub returns : goal.returns
-returns g c =
+pub returns-then-has_functions-clause-runs : goal.returns-then-has_functions-clause-runs
+returns-then-has_functions-clause-runs g c = (_, ran_none _ _)
+
+pub returns-in_err-run_at-clause-runs : goal.returns-in_err-run_at-clause-runs
+returns-in_err-run_at-clause-runs g c =
     let s = state_of c.args.state.now in
-    let l = program_launch c.args.slots (string_bytes c.in-Some.path) (map string_bytes c.args.args.now) s in
-    rw c.in-Some.is (comes_next _ _ _ (started l s) _ _ (λ x t. wait_started c.args.slots c.args.name.now x t) leaves _ c.wait_started.result
-    (ran_as _ _ _ _ _ (ap (λ x. started x s) (sym c.in_ok-launch.ensures)) (c.in_ok-child.ensures s)) c.wait_started.ensures)
+    let args = map string_bytes c.args.args.now in
+    let some : path_of c.args.path ≡ Some (string_bytes c.in-Some.path) = search rules in
+    runs_left _ _ (run_found c.args.slots c.args.name.now args (path_of c.args.path) s) _ c.from_residual-in_err-run_at.result c.in_err-run_at.field-0.0 c.from_residual-in_err-run_at.ensures.1
+    (left_as _ _ _ _ _ (ap (λ p. run_found c.args.slots c.args.name.now args p s) some) c.in_err-run_at.ensures.does)

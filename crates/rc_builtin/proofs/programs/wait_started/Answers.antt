@@ -1,4 +1,4 @@
-use Rattle.std.proofs.Common.{rules, ◌≡◌, option_map}
+use Rattle.std.proofs.Common.{rules, ◌≡◌}
 use Rattle.rc_model.specs.Run.Acts.{ending_status}
 use Rattle.rc_model.specs.Run.Calls.{wait, as_ending}
 use Rattle.rc_model.specs.Run.Plans.{done_with}
@@ -10,23 +10,23 @@ use Rattle.rc_world.proofs.Joins.{left_answered, left_asked, left_here, passed_u
 use Rattle.law_plans.proofs.Runs.{ran_none}
 use Rattle.rc_builtin.proofs.programs.wait_started.Goals as goal
 
-pub returns-in_err-ending : goal.returns-in_err-ending
-returns-in_err-ending g c =
+pub returns-in_err-ending-clause-does : goal.returns-in_err-ending-clause-does
+returns-in_err-ending-clause-does g c =
     rw c.in-Child.is (passed_up _ _ _ _ c.from_residual.result c.in_err-ending.field-0.0 c.from_residual.ensures.1
     (left_asked _ _ _ (wait c.in-Child.child.0) as_ending (λ e. done_with (Next tt (with_status (state_of c.args.state.now) (ending_status e)))) c.in_err-ending.ensures))
 
-pub returns-in_err-status : goal.returns-in_err-status
-returns-in_err-status g c =
+pub returns-in_err-status-clause-does : goal.returns-in_err-status-clause-does
+returns-in_err-status-clause-does g c =
     rw c.in-Child.is (passed_up _ _ _ _ c.from_residual-in_err-status.result NoMemory c.from_residual-in_err-status.ensures.1
     (left_answered _ _ _ _ (wait c.in-Child.child.0) as_ending _ (λ e. done_with (Next tt (with_status (state_of c.args.state.now) (ending_status e)))) c.in_ok-ending.ensures (left_here _ _ _ _ (ran_none _ _))))
 
-pub returns-in_err-set_status : goal.returns-in_err-set_status
-returns-in_err-set_status g c =
+pub returns-in_err-set_status-clause-does : goal.returns-in_err-set_status-clause-does
+returns-in_err-set_status-clause-does g c =
     rw c.in-Child.is (passed_up _ _ _ _ c.from_residual-in_err-set_status.result NoMemory c.from_residual-in_err-set_status.ensures.1
     (left_answered _ _ _ _ (wait c.in-Child.child.0) as_ending _ (λ e. done_with (Next tt (with_status (state_of c.args.state.now) (ending_status e)))) c.in_ok-ending.ensures (left_here _ _ _ _ (ran_none _ _))))
 
-pub returns : goal.returns
-returns g c =
+pub returns-clause-does : goal.returns-clause-does
+returns-clause-does g c =
     let text : c.deref.result.now ≡ ending_status (c.in_ok-ending.ending) = search rules in
     rw (c.in-Child.is, c.in_ok-set_status.ensures.ok, text)
     (ran_answered _ _ _ (wait c.in-Child.child.0) as_ending _ (λ e. done_with (Next tt (with_status (state_of c.args.state.now) (ending_status e)))) _ c.in_ok-ending.ensures (ran_none _ _))

@@ -17,7 +17,7 @@ returns-in_err-fault g c =
     let s = state_of m.state in
     step_left _ _ _ _ c.from_residual.result c.in_err-fault.field-0.0 c.from_residual.ensures.1
     (left_under _ _ _ (fails {A = Unit {0}} m.slots c.args.text.now s) (λ x t. goes (config_of m)) (unwind (config_of m).scopes)
-    (left_under _ _ _ (fault m.slots c.args.text.now s) (λ x. exits) leaves c.in_err-fault.ensures))
+    (left_under _ _ _ (fault m.slots c.args.text.now s) (λ x. exits) leaves c.in_err-fault.ensures.does))
 
 pub returns : goal.returns
 returns g c =
@@ -29,6 +29,6 @@ returns g c =
     let rest = unwind (config_of m).scopes t [] in
     steps_after before after after (failed (config_of m) c.args.text.now) rest (config_of c.unwind.new.self) (Ok c.unwind.result)
     (ran_exit before after after (fails {A = Unit {0}} m.slots c.args.text.now s) t [] (λ x t. goes (config_of m)) (unwind (config_of m).scopes) (unwind (config_of m).scopes t [])
-    (ran_next before after after (fault m.slots c.args.text.now s) tt t (λ x. exits) leaves _ c.in_ok-fault.ensures (ran_none after _))
+    (ran_next before after after (fault m.slots c.args.text.now s) tt t (λ x. exits) leaves _ c.in_ok-fault.ensures.does (ran_none after _))
     (ran_none after rest))
     (stepped after rest (config_of c.unwind.new.self) c.unwind.result c.unwind.ensures)

@@ -1,0 +1,273 @@
+-- The stacks of a map and a log, as values are looked up, put in and taken out.
+use Rattle.std.proofs.Common.{◌≡◌, ℕ, Bool, true, false, cond, not, ◌&&◌, if◌then◌else◌, List, [], ◌∷◌, ◌++◌, map, reverse, Option, Some, None, refl, sym, ap, ◌∙◌, string_bytes, unwrap_or, option_map, is_some, Result, Ok, Err, OnOk, OnErr, length, suc, append_assoc}
+use Rattle.std.specs.Cmp.Lexicographic.{slice_cmp, bytes_decides, nat_list_eq_equiv}
+use Rattle.std.specs.Cmp.{eq_by_cmp_equiv}
+use mathlib.Core.Bool.{true≢false}
+use Rattle.std.specs.declared.cmp.Ordering.{Ordering}
+use Rattle.std.specs.declared.cmp.Ordering.TheVariants.{Less, Equal, Greater}
+use Rattle.std.specs.Ordering.{nat_cmp, is_eq, match_ordering}
+use Rattle.std.specs.Map.{lookup, remove_entry, keys_of}
+use Rattle.std.specs.BTreeMap.{insert_entry, is_at}
+use Rattle.std.specs.Str.{bytes_eq}
+use Rattle.std.specs.String.{string_cmp, string_cmp_total}
+use Rattle.std.specs.List.Sorted.{IsStrictlySortedBy}
+use Rattle.std.specs.declared.alloc.Global.{Global}
+use Rattle.std.specs.declared.string.String.{String}
+use Rattle.std.proofs.lemmas.List.{reverse-append}
+use Rattle.std.proofs.lemmas.Map.{NonePasses, none_passes_from_lookup}
+use Rattle.std.proofs.lemmas.Map.Entries.{none_past_head, none_below_head}
+use Rattle.std.proofs.lemmas.Map.Keys.{sorted_tail, IsDistinct-from_sorted}
+use Rattle.std.proofs.lemmas.Map.Text.{is_eq-slice_cmp}
+use Rattle.rc_model.specs.Syntax.Text.{text_cmp}
+use Rattle.rc_model.specs.Run.State.{status_name, visible, covered, put_values}
+use Rattle.rc_scope.specs.Stacks.{texts_of, is_local_of, covered_in, stack_of, variable_of, stack_in, covers_in, stacks_of, locals_of, uncovered, without_newest, Uncovers, Replaces, is_listed, flat_names}
+use Rattle.rc_scope.specs.declared.variables.Variables.{Variables}
+use Rattle.rc_scope.specs.declared.variables.Value.{Value}
+use Rattle.rc_scope.specs.declared.variables.Local.{Local}
+
+abbrev Entries : Type 0
+Entries = List (String Global × Value)
+
+abbrev Stack : Type 0
+Stack = List (List (List ℕ))
+
+-- whether an entry is that of a name
+abbrev pub is_named : List ℕ → String Global → Bool
+is_named q = is_at (λ k. slice_cmp nat_cmp q (string_bytes k))
+
+-- ** what is found
+
+if_found : (ls : List Local) (q r : List ℕ) (b c : Bool) (v : Value) (o : Option Stack) (p : Option Value) → b ≡ c → (b ≡ true → q ≡ r) → o ≡ option_map (stack_of ls q) p
+    → cond b (Some (stack_of ls r v)) o ≡ option_map (stack_of ls q) (cond c (Some v) p)
+if_found ls q r true true v o p e same h = ap (λ n. Some (stack_of ls n v)) (sym (same refl))
+if_found ls q r false false v o p e same h = h
+if_found ls q r true false v o p e same h = cc
+if_found ls q r false true v o p e same h = cc
+
+pub lookup_variable : (ls : List Local) (q : List ℕ) (es : List (String Global × Value)) → lookup (bytes_eq q) (map (variable_of ls) es) ≡ option_map (stack_of ls q) (lookup (is_named q) es)
+lookup_variable ls q [] = refl
+lookup_variable ls q (e ∷ es) = if_found ls q (string_bytes e.0) _ _ e.1 _ _ (sym (is_eq-slice_cmp q (string_bytes e.0))) ((bytes_decides q (string_bytes e.0)).0) (lookup_variable ls q es)
+
+-- ** other names
+
+-- a log gives the same for each name but one
+abbrev pub Same : List Local → List Local → List ℕ → Type 0
+Same ls ms q = (n : List ℕ) (v : Value) → bytes_eq q n ≡ false → stack_of ms n v ≡ stack_of ls n v
+
+others : (ls ms : List Local) (q : List ℕ) (es : List (String Global × Value)) → Same ls ms q → NonePasses (is_named q) es → map (variable_of ms) es ≡ map (variable_of ls) es
+others ls ms q [] same h = refl
+others ls ms q (e ∷ es) same h = rw (same (string_bytes e.0) e.1 (sym (is_eq-slice_cmp q (string_bytes e.0)) ∙ h.0), others ls ms q es same h.1) refl
+
+past : (e : String Global × Value) (es : List (String Global × Value)) (q : List ℕ) → IsStrictlySortedBy string_cmp (keys_of (e ∷ es)) → bytes_eq q (string_bytes e.0) ≡ true → NonePasses (is_named q) es
+past e es q sorted h =
+    let same = (bytes_decides q (string_bytes e.0)).0 h in
+    rw same (none_past_head (eq_by_cmp_equiv string_cmp_total) e.0 e es (IsDistinct-from_sorted string_cmp (keys_of (e ∷ es)) sorted) (is_eq-slice_cmp (string_bytes e.0) (string_bytes e.0) ∙ (bytes_decides (string_bytes e.0) (string_bytes e.0)).1 refl))
+
+-- ** what is put in
+
+by_order : (ls ms : List Local) (k : String Global) (v : Value) (e : String Global × Value) (es : List (String Global × Value)) (o : Ordering) → string_cmp k e.0 ≡ o → IsStrictlySortedBy string_cmp (keys_of (e ∷ es)) → Same ls ms (string_bytes k)
+    → map (variable_of ms) (insert_entry string_cmp es k v) ≡ insert_entry text_cmp (map (variable_of ls) es) (string_bytes k) (stack_of ms (string_bytes k) v)
+    → map (variable_of ms) (match_ordering o ((k, v) ∷ e ∷ es) ((e.0, v) ∷ es) (e ∷ insert_entry string_cmp es k v))
+    ≡ match_ordering o ((string_bytes k, stack_of ms (string_bytes k) v) ∷ map (variable_of ls) (e ∷ es)) ((string_bytes e.0, stack_of ms (string_bytes k) v) ∷ map (variable_of ls) es)
+    (variable_of ls e ∷ insert_entry text_cmp (map (variable_of ls) es) (string_bytes k) (stack_of ms (string_bytes k) v))
+by_order ls ms k v e es Less h sorted same go =
+    ap (λ t. (string_bytes k, stack_of ms (string_bytes k) v) ∷ t) (others ls ms (string_bytes k) (e ∷ es) same (none_below_head string_cmp_total k e es sorted h))
+by_order ls ms k v e es Equal h sorted same go =
+    let found : bytes_eq (string_bytes k) (string_bytes e.0) ≡ true = sym (is_eq-slice_cmp (string_bytes k) (string_bytes e.0)) ∙ ap is_eq h in
+    let name : string_bytes k ≡ string_bytes e.0 = (bytes_decides (string_bytes k) (string_bytes e.0)).0 found in
+    rw (name, others ls ms (string_bytes k) es same (past e es (string_bytes k) sorted found)) refl
+by_order ls ms k v e es Greater h sorted same go =
+    let other : bytes_eq (string_bytes k) (string_bytes e.0) ≡ false = sym (is_eq-slice_cmp (string_bytes k) (string_bytes e.0)) ∙ ap is_eq h in
+    rw (same (string_bytes e.0) e.1 other, go) refl
+
+pub insert_variable : (ls ms : List Local) (k : String Global) (v : Value) (es : List (String Global × Value)) → IsStrictlySortedBy string_cmp (keys_of es) → Same ls ms (string_bytes k)
+    → map (variable_of ms) (insert_entry string_cmp es k v) ≡ insert_entry text_cmp (map (variable_of ls) es) (string_bytes k) (stack_of ms (string_bytes k) v)
+insert_variable ls ms k v [] sorted same = refl
+insert_variable ls ms k v (e ∷ es) sorted same = by_order ls ms k v e es (string_cmp k e.0) refl sorted same (insert_variable ls ms k v es (sorted_tail string_cmp e.0 (keys_of es) sorted) same)
+
+-- ** what is taken out
+
+if_removed : (ls : List Local) (e : String Global × Value) (es more : List (String Global × Value)) (rest : List (List ℕ × Stack)) (b c : Bool) → b ≡ c → map (variable_of ls) more ≡ rest
+    → map (variable_of ls) (cond b es (e ∷ more)) ≡ cond c (map (variable_of ls) es) (variable_of ls e ∷ rest)
+if_removed ls e es more rest true true h go = refl
+if_removed ls e es more rest false false h go = ap (λ l. variable_of ls e ∷ l) go
+if_removed ls e es more rest true false h go = cc
+if_removed ls e es more rest false true h go = cc
+
+pub remove_variable : (ls : List Local) (q : List ℕ) (es : List (String Global × Value)) → map (variable_of ls) (remove_entry (is_named q) es) ≡ remove_entry (bytes_eq q) (map (variable_of ls) es)
+remove_variable ls q [] = refl
+remove_variable ls q (e ∷ es) = if_removed ls e es _ _ _ _ (is_eq-slice_cmp q (string_bytes e.0)) (remove_variable ls q es)
+
+-- ** the values of a name
+
+abbrev Named : Type 0
+Named = Option Value
+
+visible_found : (ls : List Local) (q : List ℕ) (p : Option Stack) (o : Named) → p ≡ option_map (stack_of ls q) o → visible (unwrap_or p []) ≡ unwrap_or (option_map texts_of o) []
+visible_found ls q p None h = rw h refl
+visible_found ls q p (Some v) h = rw h refl
+
+pub visible_variable : (ls : List Local) (q : List ℕ) (es : List (String Global × Value)) → visible (stack_in (map (variable_of ls) es) q) ≡ unwrap_or (option_map texts_of (lookup (is_named q) es)) []
+visible_variable ls q es = visible_found ls q _ (lookup (is_named q) es) (lookup_variable ls q es)
+
+covered_found : (ls : List Local) (q : List ℕ) (p : Option Stack) (o : Named) → p ≡ option_map (stack_of ls q) o → covered (unwrap_or p []) ≡ (if unwrap_or (option_map (λ (v : Value). v.covers) o) false then covered_in ls q else [])
+covered_found ls q p None h = rw h refl
+covered_found ls q p (Some v) h = rw h refl
+
+pub covered_variable : (ls : List Local) (q : List ℕ) (es : List (String Global × Value)) → covered (stack_in (map (variable_of ls) es) q) ≡ (if covers_in q es then covered_in ls q else [])
+covered_variable ls q es = covered_found ls q _ (lookup (is_named q) es) (lookup_variable ls q es)
+
+-- ** assignments
+
+-- the visible value changes
+pub set_variable : (ls : List Local) (k : String Global) (v : Value) (es : List (String Global × Value)) → IsStrictlySortedBy string_cmp (keys_of es) → v.covers ≡ covers_in (string_bytes k) es
+    → map (variable_of ls) (insert_entry string_cmp es k v) ≡ put_values (map (variable_of ls) es) (string_bytes k) (texts_of v ∷ covered (stack_in (map (variable_of ls) es) (string_bytes k)))
+set_variable ls k v es sorted h =
+    insert_variable ls ls k v es sorted (λ n w e. refl)
+    ∙ ap (λ c. insert_entry text_cmp (map (variable_of ls) es) (string_bytes k) (texts_of v ∷ c)) (ap (λ b. if b then covered_in ls (string_bytes k) else []) h ∙ sym (covered_variable ls (string_bytes k) es))
+
+-- ** locals
+
+not_local : (l : Local) (ls : List Local) (n : List ℕ) (w : Value) → is_local_of n l ≡ false → stack_of (l ∷ ls) n w ≡ stack_of ls n w
+not_local l ls n w h = ap (λ b. texts_of w ∷ (if w.covers then (if b then texts_of l.covered ∷ (if l.covered.covers then covered_in ls n else []) else covered_in ls n) else [])) h
+
+own_local : (l : Local) (ls : List Local) (n : List ℕ) → is_local_of n l ≡ true → covered_in (l ∷ ls) n ≡ stack_of ls n l.covered
+own_local l ls n h = ap (λ b. if b then texts_of l.covered ∷ (if l.covered.covers then covered_in ls n else []) else covered_in ls n) h
+
+-- the log below a local is the same for other names
+other_name : (l : Local) (ls : List Local) (q n : List ℕ) (w : Value) → string_bytes l.name ≡ q → bytes_eq q n ≡ false → stack_of (l ∷ ls) n w ≡ stack_of ls n w
+other_name l ls q n w name h =
+    let other : bytes_eq n (string_bytes l.name) ≡ false = ap (bytes_eq n) name ∙ nat_list_eq_equiv.symm n q ∙ h in
+    not_local l ls n w (ap (λ b. b && not (bytes_eq n status_name)) other)
+
+is_own : (l : Local) (q : List ℕ) → string_bytes l.name ≡ q → bytes_eq q status_name ≡ false → is_local_of q l ≡ true
+is_own l q name h =
+    let same : bytes_eq q (string_bytes l.name) ≡ true = (bytes_decides q (string_bytes l.name)).1 (sym name) in
+    ap (λ b. b && not (bytes_eq q status_name)) same ∙ ap not h
+
+-- what a local of a name covers is what the name had
+push_found : (ls : List Local) (l : Local) (q : List ℕ) (covers : Bool) (p : Option Stack) (o : Named) → string_bytes l.name ≡ q → bytes_eq q status_name ≡ false → p ≡ option_map (stack_of ls q) o
+    → covers ≡ is_some o → l.covered ≡ unwrap_or o l.covered → (if covers then covered_in (l ∷ ls) q else []) ≡ unwrap_or p []
+push_found ls l q covers p None name h found is same = rw (found, is) refl
+push_found ls l q covers p (Some v) name h found is same = rw (found, is) (own_local l ls q (is_own l q name h) ∙ ap (stack_of ls q) same)
+
+pub push_variable : (ls : List Local) (l : Local) (k : String Global) (v : Value) (es : List (String Global × Value)) → IsStrictlySortedBy string_cmp (keys_of es) → string_bytes l.name ≡ string_bytes k → bytes_eq (string_bytes k) status_name ≡ false
+    → v.covers ≡ is_some (lookup (is_named (string_bytes k)) es) → l.covered ≡ unwrap_or (lookup (is_named (string_bytes k)) es) l.covered
+    → map (variable_of (l ∷ ls)) (insert_entry string_cmp es k v) ≡ put_values (map (variable_of ls) es) (string_bytes k) (texts_of v ∷ stack_in (map (variable_of ls) es) (string_bytes k))
+push_variable ls l k v es sorted name h is same =
+    insert_variable ls (l ∷ ls) k v es sorted (λ n w e. other_name l ls (string_bytes k) n w name e)
+    ∙ ap (λ c. insert_entry text_cmp (map (variable_of ls) es) (string_bytes k) (texts_of v ∷ c)) (push_found ls l (string_bytes k) v.covers _ (lookup (is_named (string_bytes k)) es) name h (lookup_variable ls (string_bytes k) es) is same)
+
+-- a local ends that covers a value
+pub pop_variable : (ls : List Local) (l : Local) (es : List (String Global × Value)) → IsStrictlySortedBy string_cmp (keys_of es) → bytes_eq (string_bytes l.name) status_name ≡ false → covers_in (string_bytes l.name) es ≡ true
+    → map (variable_of ls) (insert_entry string_cmp es l.name l.covered) ≡ put_values (map (variable_of (l ∷ ls)) es) (string_bytes l.name) (covered (stack_in (map (variable_of (l ∷ ls)) es) (string_bytes l.name)))
+pop_variable ls l es sorted h covers =
+    let q = string_bytes l.name in
+    let stack : covered (stack_in (map (variable_of (l ∷ ls)) es) q) ≡ stack_of ls q l.covered =
+    covered_variable (l ∷ ls) q es ∙ ap (λ b. if b then covered_in (l ∷ ls) q else []) covers ∙ own_local l ls q (is_own l q refl h) in
+    rw stack (insert_variable (l ∷ ls) ls l.name l.covered es sorted (λ n w e. sym (other_name l ls q n w refl e)))
+
+-- a local ends that covers none
+pub drop_variable : (ls : List Local) (l : Local) (es : List (String Global × Value)) → lookup (is_named (string_bytes l.name)) (remove_entry (is_named (string_bytes l.name)) es) ≡ None → covers_in (string_bytes l.name) es ≡ false
+    → map (variable_of ls) (remove_entry (is_named (string_bytes l.name)) es) ≡ put_values (map (variable_of (l ∷ ls)) es) (string_bytes l.name) (covered (stack_in (map (variable_of (l ∷ ls)) es) (string_bytes l.name)))
+drop_variable ls l es gone covers =
+    let q = string_bytes l.name in
+    let stack : covered (stack_in (map (variable_of (l ∷ ls)) es) q) ≡ [] =
+    covered_variable (l ∷ ls) q es ∙ ap (λ b. if b then covered_in (l ∷ ls) q else []) covers in
+    rw stack (others (l ∷ ls) ls q (remove_entry (is_named q) es) (λ n w e. sym (other_name l ls q n w refl e)) (none_passes_from_lookup (is_named q) (remove_entry (is_named q) es) gone)
+    ∙ remove_variable (l ∷ ls) q es)
+
+and_false : (b : Bool) → (b && false) ≡ false
+and_false true = refl
+and_false false = refl
+
+-- a local of the status covers nothing
+no_local : (l : Local) (n : List ℕ) (b : Bool) → string_bytes l.name ≡ status_name → bytes_eq n status_name ≡ b → is_local_of n l ≡ false
+no_local l n true name h = ap (λ c. bytes_eq n (string_bytes l.name) && not c) h ∙ and_false (bytes_eq n (string_bytes l.name))
+no_local l n false name h = ap (λ c. bytes_eq n c && not (bytes_eq n status_name)) name ∙ ap (λ c. c && not (bytes_eq n status_name)) h
+
+pub status_local : (ls : List Local) (l : Local) (es : List (String Global × Value)) → string_bytes l.name ≡ status_name → map (variable_of (l ∷ ls)) es ≡ map (variable_of ls) es
+status_local ls l [] name = refl
+status_local ls l (e ∷ es) name = rw (not_local l ls (string_bytes e.0) e.1 (no_local l (string_bytes e.0) _ name refl), status_local ls l es name) refl
+
+-- ** the log
+
+pub newest : (ls : List Local) (l : Local) → reverse (ls ++ l ∷ []) ≡ l ∷ reverse ls
+newest ls l = reverse-append ls (l ∷ [])
+
+pub ruleset variables = (visible_variable, newest)
+
+-- ** the map and the log together
+
+-- the newest local ends
+pub popped : (v w : Variables) (l : Local) → v.log.items ≡ w.log.items ++ l ∷ [] → Uncovers l v.values.entries w.values.entries → stacks_of w ≡ uncovered (locals_of v) (stacks_of v)
+unfolding stacks_of locals_of
+popped v w l h uncovers =
+    let rs = reverse w.log.items in
+    let log : reverse v.log.items ≡ l ∷ rs = ap reverse h ∙ newest w.log.items l in
+    uncovers rs ∙ ap (λ ls. uncovered (map (λ m. string_bytes m.name) ls) (map (variable_of ls) v.values.entries)) (sym log)
+
+pub popped_locals : (v w : Variables) (l : Local) → v.log.items ≡ w.log.items ++ l ∷ [] → locals_of w ≡ without_newest (locals_of v)
+unfolding locals_of
+popped_locals v w l h = ap (λ ls. without_newest (map (λ m. string_bytes m.name) ls)) (sym (ap reverse h ∙ newest w.log.items l))
+
+-- with none open
+pub none_open : (v : Variables) → v.log.items ≡ [] → stacks_of v ≡ uncovered (locals_of v) (stacks_of v)
+unfolding stacks_of locals_of
+none_open v h = ap (λ ls. uncovered (map (λ m. string_bytes m.name) (reverse ls)) (map (variable_of (reverse v.log.items)) v.values.entries)) (sym h)
+
+pub none_open_locals : (v : Variables) → v.log.items ≡ [] → locals_of v ≡ without_newest (locals_of v)
+unfolding locals_of
+none_open_locals v h = rw h refl
+
+-- a local is opened
+pub pushed : (v w : Variables) (l : Local) (k : String Global) (x : Value) → w.log.items ≡ v.log.items ++ l ∷ [] → Replaces k x v.values.entries w.values.entries l.covered
+    → string_bytes l.name ≡ string_bytes k → bytes_eq (string_bytes k) status_name ≡ false → x.covers ≡ is_some (lookup (is_named (string_bytes k)) v.values.entries)
+    → stacks_of w ≡ put_values (stacks_of v) (string_bytes k) (texts_of x ∷ stack_in (stacks_of v) (string_bytes k))
+unfolding stacks_of
+pushed v w l k x h r name other covers =
+    let rs = reverse v.log.items in
+    ap (λ ls. map (variable_of ls) w.values.entries) (ap reverse h ∙ newest v.log.items l)
+    ∙ ap (map (variable_of (l ∷ rs))) r.puts
+    ∙ push_variable rs l k x v.values.entries r.ordered name other covers r.found
+
+pub pushed_locals : (v w : Variables) (l : Local) → w.log.items ≡ v.log.items ++ l ∷ [] → locals_of w ≡ string_bytes l.name ∷ locals_of v
+unfolding locals_of
+pushed_locals v w l h = ap (map (λ m. string_bytes m.name)) (ap reverse h ∙ newest v.log.items l)
+
+pub pushed_status : (v w : Variables) (l : Local) → w.log.items ≡ v.log.items ++ l ∷ [] → w.values.entries ≡ v.values.entries → string_bytes l.name ≡ status_name → stacks_of w ≡ stacks_of v
+unfolding stacks_of
+pushed_status v w l h e name =
+    ap (λ ls. map (variable_of ls) w.values.entries) (ap reverse h ∙ newest v.log.items l)
+    ∙ ap (map (variable_of (l ∷ reverse v.log.items))) e
+    ∙ status_local (reverse v.log.items) l v.values.entries name
+
+-- ** what a local covers becomes visible
+
+pub uncover_status : (l : Local) (es : List (String Global × Value)) → bytes_eq (string_bytes l.name) status_name ≡ true → Uncovers l es es
+uncover_status l es h = λ ls. rw h (sym (status_local ls l es ((bytes_decides (string_bytes l.name) status_name).0 h)))
+
+pub uncover_value : {T E : Type 0} (l : Local) (es fs : List (String Global × Value)) (r : Result T E) → bytes_eq (string_bytes l.name) status_name ≡ false → covers_in (string_bytes l.name) es ≡ true → IsStrictlySortedBy string_cmp (keys_of es)
+    → OnOk r (fs ≡ insert_entry string_cmp es l.name l.covered) → OnErr r (lookup (is_named (string_bytes l.name)) es ≡ None) → Uncovers l es fs
+uncover_value l es fs (Ok x) h covers sorted puts absent = λ ls. rw (h, puts) (pop_variable ls l es sorted h covers)
+uncover_value l es fs (Err e) h covers sorted puts absent = λ ls. absurd (true≢false (sym covers ∙ ap (λ o. unwrap_or (option_map (λ (v : Value). v.covers) o) false) absent))
+
+pub uncover_none : (l : Local) (es fs : List (String Global × Value)) → bytes_eq (string_bytes l.name) status_name ≡ false → covers_in (string_bytes l.name) es ≡ false
+    → lookup (is_named (string_bytes l.name)) fs ≡ None → fs ≡ remove_entry (is_named (string_bytes l.name)) es → Uncovers l es fs
+uncover_none l es fs h covers gone takes = λ ls. rw (h, takes) (drop_variable ls l es (rw takes at gone) covers)
+
+-- ** lists of names and values
+
+pub length_texts : (xs : List (String Global)) → length (map string_bytes xs) ≡ length xs
+length_texts [] = refl
+length_texts (x ∷ xs) = ap suc (length_texts xs)
+
+pub name_on : (ls : List Local) (w all : List (List ℕ)) (e : String Global × Value) (es : List (String Global × Value)) → is_listed (string_bytes e.0) (texts_of e.1) ≡ true
+    → w ++ flat_names (map (variable_of ls) (e ∷ es)) ≡ all → (w ++ string_bytes e.0 ∷ []) ++ flat_names (map (variable_of ls) es) ≡ all
+name_on ls w all e es h inv = append_assoc w (string_bytes e.0 ∷ []) (flat_names (map (variable_of ls) es)) ∙ ap (λ b. w ++ (if b then string_bytes e.0 ∷ flat_names (map (variable_of ls) es) else flat_names (map (variable_of ls) es))) (sym h) ∙ inv
+
+pub name_off : (ls : List Local) (w all : List (List ℕ)) (e : String Global × Value) (es : List (String Global × Value)) → is_listed (string_bytes e.0) (texts_of e.1) ≡ false
+    → w ++ flat_names (map (variable_of ls) (e ∷ es)) ≡ all → w ++ flat_names (map (variable_of ls) es) ≡ all
+name_off ls w all e es h inv = ap (λ b. w ++ (if b then string_bytes e.0 ∷ flat_names (map (variable_of ls) es) else flat_names (map (variable_of ls) es))) (sym h) ∙ inv
+
+pub ruleset names = (name_on, name_off)

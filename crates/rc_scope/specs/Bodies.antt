@@ -1,0 +1,15 @@
+-- The functions that a map stands for.
+use Rattle.std.specs.Prelude.{ℕ, List, map, string_bytes}
+use Rattle.std.specs.declared.alloc.Global.{Global}
+use Rattle.std.specs.declared.string.String.{String}
+use Rattle.rc_model.specs.Syntax.Tree.{Node, cmd}
+use Rattle.rc_tree_types.specs.View.{cmd_tree}
+use Rattle.rc_scope.specs.declared.functions.Function.{Function}
+
+-- a name with its body
+abbrev pub function_of : String Global × Function → List ℕ × Node cmd
+function_of e = (string_bytes e.0, cmd_tree e.1.body)
+
+-- each name with its body
+abbrev pub functions_of : List (String Global × Function) → List (List ℕ × Node cmd)
+functions_of es = map function_of es
