@@ -1,4 +1,5 @@
 pub mod Reading
+pub mod DescentParts
 pub mod Descent
 pub mod Spelling
 pub mod TreeOfText

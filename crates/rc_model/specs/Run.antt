@@ -11,6 +11,7 @@ pub mod Patterns
 pub mod Matching
 pub mod FileNames
 pub mod PathNames
+pub mod Values
 pub mod Acts
 pub mod Builtins
 pub mod Meaning

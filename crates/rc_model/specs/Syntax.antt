@@ -1,8 +1,10 @@
 pub mod Text
 pub mod Words
+pub mod Lexemes
 pub mod Tokens
 pub mod Tree
 pub mod HereDocs
+pub mod Ahead
 pub mod Grammar
 pub mod WellFormed
 pub mod Printing

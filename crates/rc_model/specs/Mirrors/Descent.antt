@@ -1,224 +1,26 @@
 -- The descent: a script is read token by token, with one token in sight and so many levels of the tree at most.
 use Rattle.std.specs.Prelude.{ℕ, zero, suc, nat_le, nat_lt, Bool, true, false, not, ◌&&◌, if◌then◌else◌, List, [], ◌∷◌}
-use Rattle.std.specs.Prelude.{length, Option, Some, None, Result, Ok, Err}
-use Rattle.rc_model.specs.Syntax.Tokens.{Lexeme, Word, Quoted, Semicolon, Ampersand, Newline, AndAnd, OrOr, Bar, Equals}
-use Rattle.rc_model.specs.Syntax.Tokens.{LeftParen, RightParen, LeftBrace, RightBrace, Backquote, Redirection, CopyTo}
-use Rattle.rc_model.specs.Syntax.Tokens.{HereDoc}
-use Rattle.rc_model.specs.Syntax.Tokens.{Dollar, DollarCount, DollarFlat, Name, Subscript}
+use Rattle.std.specs.Prelude.{length, Result, Ok, Err}
+use Rattle.rc_model.specs.Syntax.Tokens.{Lexeme, Word, Semicolon, Ampersand, Newline, AndAnd, OrOr, Bar, Equals}
+use Rattle.rc_model.specs.Syntax.Tokens.{LeftParen, RightParen, LeftBrace}
 use Rattle.rc_model.specs.Syntax.Tree.{Node, Many, none, more, count, snoc}
 use Rattle.rc_model.specs.Syntax.Tree as t
-use Rattle.rc_model.specs.Syntax.HereDocs.{pieces_of}
 use Rattle.rc_model.specs.Syntax.WellFormed.{depth}
 use Rattle.rc_model.specs.Syntax.Grammar.{Keyword, ForWord, InWord, WhileWord, IfWord, NotWord, SwitchWord, FnWord}
-use Rattle.rc_model.specs.Syntax.Grammar.{MatchWord, BangWord, AtWord, NoKeyword, keyword, is_case}
-use Rattle.rc_model.specs.Syntax.Grammar.{begins_arg, begins_redir, begins_brace, begins_command, begins_link, closes}
-use Rattle.rc_model.specs.Syntax.Grammar.{ends, ends_case}
-use Rattle.rc_model.specs.Syntax.Grammar.{past_newlines, past_blanks, past_caret, after_caret, concat_of, redirect}
+use Rattle.rc_model.specs.Syntax.Grammar.{MatchWord, BangWord, AtWord, NoKeyword, keyword}
+use Rattle.rc_model.specs.Syntax.Grammar.{begins_redir, begins_command, begins_link, closes}
+use Rattle.rc_model.specs.Syntax.Grammar.{ends}
+use Rattle.rc_model.specs.Syntax.Grammar.{past_newlines, past_caret, redirect}
 use Rattle.rc_model.specs.Syntax.Grammar.{and_or, is_if}
-
--- why tokens aren't read to their end
-pub data Fault : Type 0 where
-  Unexpected : Fault
-  -- an `if not` that isn't after an `if`
-  IfNot : Fault
-  -- the tree has too many levels, or a pipeline in it too many stages
-  TooDeep : Fault
-  TooManyStages : Fault
-
--- what is read, with the tokens after it
-abbrev pub Read : Type 0 → Type 0
-Read A = Result (A × List Lexeme) Fault
-
-abbrev pub Reader : Type 0 → Type 0
-Reader A = List Lexeme → Read A
-
-infixl 10 ◌>>=◌
-abbrev pub ◌>>=◌ : {A B : Type 0} → Result A Fault → (A → Result B Fault) → Result B Fault
-(Ok x) >>= f = f x
-(Err e) >>= f = Err e
-
--- what is read one level deeper: a name, a part of an argument, an operand, what follows a bar, a command, the commands
--- of a list
-pub data Nested : Type 0 where
-  a_name : Nested
-  a_part : (inside : Bool) → Nested
-  an_operand : Nested
-  a_piped : Nested
-  a_command : (after_if : Bool) → Nested
-  a_list : (in_switch : Bool) → Nested
-
-abbrev pub Inner : Nested → Type 0
-Inner a_name = Node t.arg
-Inner (a_part inside) = Node t.arg
-Inner an_operand = Node t.cmd
-Inner a_piped = Node t.cmd × Bool
-Inner (a_command after_if) = Node t.cmd
-Inner (a_list in_switch) = Many t.item
-
-abbrev pub Readers : Type 0
-Readers = (n : Nested) → Reader (Inner n)
-
--- a name after a `$`
-unfoldable pub name_by : Readers → Reader (Node t.arg)
-name_by deeper (Name text ∷ ts) = Ok (t.Lit text false, ts)
-name_by deeper (Quoted text ∷ ts) = Ok (t.Lit text true, ts)
-name_by deeper (Dollar ∷ ts) = deeper a_name ts >>= λ n. Ok (t.Var n.0, n.1)
-name_by deeper _ = Err Unexpected
-
--- the parts after carets, after those that were read before
-abbrev pub parts_turn : Reader (Node t.arg) → (inside : Bool) → (Many t.arg → Reader (Many t.arg)) → Many t.arg →
-    List Lexeme → Option (List Lexeme) → Read (Many t.arg)
-parts_turn part inside go_on front ts None = Ok (front, ts)
-parts_turn part inside go_on front ts (Some next) = part (past_blanks inside next) >>= λ a. go_on (snoc front a.0) a.1
-
-unfoldable pub parts_from : Reader (Node t.arg) → (inside : Bool) → ℕ → Many t.arg → Reader (Many t.arg)
-parts_from part inside zero front ts = Ok (front, ts)
-parts_from part inside (suc turns) front ts =
-    parts_turn part inside (λ as' u. parts_from part inside turns as' u) front ts (after_caret (past_blanks inside ts))
-
-unfoldable pub parts_by : Reader (Node t.arg) → (inside : Bool) → Reader (Many t.arg)
-parts_by part inside ts = parts_from part inside (length ts) none ts
-
-unfoldable pub arg_by : Reader (Node t.arg) → (inside : Bool) → Reader (Node t.arg)
-arg_by part inside ts = do
-  a ← part ts
-  as' ← parts_by part inside a.1
-  Ok (concat_of a.0 as'.0, as'.1)
-
--- arguments up to a `)`, where newlines are blanks
-abbrev pub members_turn : Reader (Node t.arg) → (Many t.arg → Reader (Many t.arg)) → Many t.arg → Reader (Many t.arg)
-members_turn part go_on front (RightParen ∷ ts) = Ok (front, ts)
-members_turn part go_on front (Newline ∷ ts) = go_on front ts
-members_turn part go_on front ts = arg_by part true ts >>= λ a. go_on (snoc front a.0) a.1
-
-unfoldable pub members_from : Reader (Node t.arg) → ℕ → Many t.arg → Reader (Many t.arg)
-members_from part zero front ts = Err Unexpected
-members_from part (suc turns) front ts = members_turn part (λ as' u. members_from part turns as' u) front ts
-
-unfoldable pub members_by : Reader (Node t.arg) → Reader (Many t.arg)
-members_by part ts = members_from part (length ts) none ts
-
-unfoldable pub words_from : Reader (Node t.arg) → ℕ → Many t.arg → Reader (Many t.arg)
-words_from part zero front ts = Ok (front, ts)
-words_from part (suc turns) front ts =
-    if begins_arg ts then (arg_by part false ts >>= λ a. words_from part turns (snoc front a.0) a.1) else Ok (front, ts)
-
-unfoldable pub words_by : Reader (Node t.arg) → Reader (Many t.arg)
-words_by part ts = words_from part (length ts) none ts
-
--- a redirection, several, and words and redirections in any order
-unfoldable pub redir_by : Reader (Node t.arg) → Reader (Node t.redir)
-redir_by part (Redirection mode slot ∷ ts) = arg_by part false ts >>= λ a. Ok (t.Open mode slot a.0, a.1)
-redir_by part (CopyTo to from ∷ ts) = Ok (t.Copy to from, ts)
-redir_by part (HereDoc quoted text ∷ ts) = Ok (t.Here (pieces_of quoted text), ts)
-redir_by part _ = Err Unexpected
-
-unfoldable pub redirs_from : Reader (Node t.arg) → ℕ → Many t.redir → Reader (Many t.redir)
-redirs_from part zero front ts = Ok (front, ts)
-redirs_from part (suc turns) front ts =
-    if begins_redir ts then (redir_by part ts >>= λ r. redirs_from part turns (snoc front r.0) r.1) else Ok (front, ts)
-
-unfoldable pub redirs_by : Reader (Node t.arg) → Reader (Many t.redir)
-redirs_by part ts = redirs_from part (length ts) none ts
-
-unfoldable pub simple_from : Reader (Node t.arg) → ℕ → Many t.arg → Many t.redir → Reader (Many t.arg × Many t.redir)
-simple_from part zero words redirs ts = Ok ((words, redirs), ts)
-simple_from part (suc turns) words redirs ts =
-    if begins_arg ts then (arg_by part false ts >>= λ a. simple_from part turns (snoc words a.0) redirs a.1)
-    else if begins_redir ts then (redir_by part ts >>= λ r. simple_from part turns words (snoc redirs r.0) r.1)
-    else Ok ((words, redirs), ts)
-
-unfoldable pub simple_by : Reader (Node t.arg) → Reader (Many t.arg × Many t.redir)
-simple_by part ts = simple_from part (length ts) none none ts
-
--- a list in braces, and one in parentheses
-abbrev pub closed_by_brace : Read (Many t.item) → Read (Node t.cmd)
-closed_by_brace (Ok (is, RightBrace ∷ ts)) = Ok (t.Seq is, ts)
-closed_by_brace (Ok _) = Err Unexpected
-closed_by_brace (Err e) = Err e
-
-abbrev pub closed_by_paren : Read (Many t.item) → Read (Node t.cmd)
-closed_by_paren (Ok (is, RightParen ∷ ts)) = Ok (t.Seq is, ts)
-closed_by_paren (Ok _) = Err Unexpected
-closed_by_paren (Err e) = Err e
-
-unfoldable pub brace_by : Readers → Reader (Node t.cmd)
-brace_by deeper (LeftBrace ∷ ts) = closed_by_brace (deeper (a_list false) ts)
-brace_by deeper _ = Err Unexpected
-
-unfoldable pub paren_by : Readers → Reader (Node t.cmd)
-paren_by deeper (LeftParen ∷ ts) = closed_by_paren (deeper (a_list false) ts)
-paren_by deeper _ = Err Unexpected
-
--- a part of an argument
-abbrev pub value_by : Readers → Node t.arg → Reader (Node t.arg)
-value_by deeper n (Subscript ∷ ts) = members_by (deeper (a_part true)) ts >>= λ as'. Ok (t.Sub n as'.0, as'.1)
-value_by deeper n ts = Ok (t.Var n, ts)
-
-unfoldable pub dollar_by : Readers → Reader (Node t.arg)
-dollar_by deeper ts = deeper a_name ts >>= λ n. value_by deeper n.0 n.1
-
-unfoldable pub part_by : Readers → (inside : Bool) → Reader (Node t.arg)
-part_by deeper inside (Word text ∷ ts) = Ok (t.Lit text false, ts)
-part_by deeper inside (Quoted text ∷ ts) = Ok (t.Lit text true, ts)
-part_by deeper inside (LeftParen ∷ ts) = members_by (deeper (a_part true)) ts >>= λ as'. Ok (t.Paren as'.0, as'.1)
-part_by deeper inside (Backquote ∷ ts) = brace_by deeper (past_blanks inside ts) >>= λ c. Ok (t.Back c.0, c.1)
-part_by deeper inside (Dollar ∷ ts) = dollar_by deeper ts
-part_by deeper inside (DollarCount ∷ ts) = deeper a_name ts >>= λ n. Ok (t.Count n.0, n.1)
-part_by deeper inside (DollarFlat ∷ ts) = deeper a_name ts >>= λ n. Ok (t.Flat n.0, n.1)
-part_by deeper inside _ = Err Unexpected
-
--- what follows `switch`, `~` and `fn`
-unfoldable pub branch_by : Readers → Reader (Node t.branch)
-branch_by deeper ts = do
-  as' ← words_by (deeper (a_part false)) ts
-  is ← (if ends_case as'.1 then deeper (a_list true) as'.1 else Err Unexpected)
-  Ok (t.Branch as'.0 (t.Seq is.0), is.1)
-
-abbrev pub branches_turn : Readers → (Many t.branch → Reader (Many t.branch)) → Many t.branch → Reader (Many t.branch)
-branches_turn deeper go_on front (RightBrace ∷ ts) = Ok (front, ts)
-branches_turn deeper go_on front (Semicolon ∷ ts) = go_on front ts
-branches_turn deeper go_on front (Newline ∷ ts) = go_on front ts
-branches_turn deeper go_on front (Word text ∷ ts) =
-    if is_case text then (branch_by deeper (past_caret ts) >>= λ b. go_on (snoc front b.0) b.1) else Err Unexpected
-branches_turn deeper go_on front _ = Err Unexpected
-
-unfoldable pub branches_from : Readers → ℕ → Many t.branch → Reader (Many t.branch)
-branches_from deeper zero front ts = Err Unexpected
-branches_from deeper (suc turns) front ts = branches_turn deeper (λ bs u. branches_from deeper turns bs u) front ts
-
-unfoldable pub branches_by : Readers → Reader (Many t.branch)
-branches_by deeper (LeftBrace ∷ ts) = branches_from deeper (length ts) none ts
-branches_by deeper _ = Err Unexpected
-
-unfoldable pub switch_by : Readers → Reader (Node t.cmd)
-switch_by deeper ts = do
-  a ← arg_by (deeper (a_part false)) false ts
-  bs ← branches_by deeper (past_newlines a.1)
-  rs ← redirs_by (deeper (a_part false)) bs.1
-  Ok (redirect rs.0 (t.Switch a.0 bs.0), rs.1)
-
-unfoldable pub match_by : Readers → Reader (Node t.cmd)
-match_by deeper ts = do
-  a ← arg_by (deeper (a_part false)) false ts
-  as' ← words_by (deeper (a_part false)) a.1
-  Ok (t.Match a.0 as'.0, as'.1)
-
-abbrev pub defined_by : Readers → Many t.arg → Reader (Node t.cmd)
-defined_by deeper names ts =
-    if begins_brace ts then (brace_by deeper ts >>= λ c. Ok (t.Define names c.0, c.1)) else Ok (t.Undefine names, ts)
-
-unfoldable pub define_by : Readers → Reader (Node t.cmd)
-define_by deeper ts = do
-  a ← arg_by (deeper (a_part false)) false ts
-  as' ← words_by (deeper (a_part false)) a.1
-  defined_by deeper (more a.0 as'.0) as'.1
-
-unfoldable pub block_by : Readers → Reader (Node t.cmd)
-block_by deeper ts = do
-  c ← brace_by deeper ts
-  rs ← redirs_by (deeper (a_part false)) c.1
-  Ok (redirect rs.0 (t.Brace c.0), rs.1)
+pub use Rattle.rc_model.specs.Mirrors.DescentParts.{Fault, Unexpected, IfNot, TooDeep, TooManyStages, Read, Reader}
+pub use Rattle.rc_model.specs.Mirrors.DescentParts.{◌>>=◌, Nested, a_name, a_part, an_operand, a_piped, a_command}
+pub use Rattle.rc_model.specs.Mirrors.DescentParts.{a_list, Inner, Readers, name_by, parts_turn, parts_from, parts_by}
+pub use Rattle.rc_model.specs.Mirrors.DescentParts.{arg_by, members_turn, members_from, members_by, words_from}
+pub use Rattle.rc_model.specs.Mirrors.DescentParts.{words_by, redir_by, redirs_from, redirs_by, simple_from}
+pub use Rattle.rc_model.specs.Mirrors.DescentParts.{simple_by, closed_by_brace, closed_by_paren, brace_by, paren_by}
+pub use Rattle.rc_model.specs.Mirrors.DescentParts.{value_by, dollar_by, part_by, branch_by, branches_turn}
+pub use Rattle.rc_model.specs.Mirrors.DescentParts.{branches_from, branches_by, switch_by, match_by, defined_by}
+pub use Rattle.rc_model.specs.Mirrors.DescentParts.{define_by, block_by}
 
 -- a stage of a pipeline, or the name of an assignment with the `=` after it
 pub data Opening : Type 0 where

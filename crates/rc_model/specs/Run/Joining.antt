@@ -1,5 +1,5 @@
 -- How two lists are joined, as a relation.
-use Rattle.std.specs.Prelude.{◌≡◌, ◌≢◌, ◌⊎◌, ℕ, List, [], ◌∷◌, ◌++◌, map, length, Result, Ok, Err}
+use Rattle.std.specs.Prelude.{◌≡◌, ◌≢◌, List, [], ◌∷◌, ◌++◌, map, length, Result, Ok, Err}
 use Rattle.rc_model.specs.Syntax.Words.{Word}
 use Rattle.rc_model.specs.Run.Lists.{ListFault, EmptyConcat, CountMismatch}
 

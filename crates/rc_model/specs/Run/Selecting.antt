@@ -1,5 +1,5 @@
 -- What a subscript selects, by places.
-use Rattle.std.specs.Prelude.{◌≡◌, ◌≤◌, ℕ, zero, suc, nat_le, ◌&&◌, if◌then◌else◌, List, [], ◌∷◌, ◌++◌, length, Some}
+use Rattle.std.specs.Prelude.{◌≡◌, ℕ, suc, nat_le, ◌&&◌, if◌then◌else◌, List, [], ◌∷◌, ◌++◌, length, Some}
 use Rattle.rc_model.specs.Run.Numbers.{number_of}
 
 -- The places from the first to the last that a subscript names in a list with so many members. They are counted from 1.

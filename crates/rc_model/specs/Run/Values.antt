@@ -1,0 +1,109 @@
+-- Reports and runtime errors, names and values.
+use Rattle.std.specs.Prelude.{◌&&◌, ℕ, length, not, List, [], ◌∷◌, ◌++◌, Bool}
+use Rattle.std.specs.Prelude.{if◌then◌else◌, Option, Some, None, codes, Result, Ok, Err}
+use Rattle.std.specs.Fmt.{decimal}
+use Rattle.rc_model.specs.Syntax.Text.{spaced}
+use Rattle.rc_model.specs.Syntax.Words.{Word, word_texts, plain_words}
+use Rattle.rc_model.specs.Run.Lists.{ListFault, EmptyConcat, CountMismatch, concatenated, selected}
+use Rattle.rc_model.specs.Run.Patterns.{matched}
+use Rattle.rc_model.specs.Run.Calls.{Slots}
+use Rattle.rc_model.specs.Run.Calls.{close, write}
+use Rattle.rc_model.specs.Run.Plans.{Plan, ask, done_with}
+use Rattle.rc_model.specs.Syntax.Tree.{Node, cmd}
+use Rattle.rc_model.specs.Run.State.{is_true, got, is_name, is_readable, is_function_name}
+use Rattle.rc_model.specs.Run.State.{with_status, define}
+use Rattle.rc_model.specs.Run.Shell.{Shell, Next, ◌>>=◌, ◌>>◌, pure, skip, say, get, change, exits}
+
+-- the status becomes this
+abbrev pub set_status : List ℕ → Shell (Unit {0})
+set_status text = change (λ s. with_status s text)
+
+-- a report goes to descriptor 2 in one call
+abbrev pub report : Slots → List ℕ → Shell (Unit {0})
+report slots text = say (write slots.errors (codes "rc: " ++ text ++ 10 ∷ []))
+
+-- what a runtime error leaves: a report, and the status `error`
+abbrev pub fault : Slots → List ℕ → Shell (Unit {0})
+fault slots text = do
+  report slots text
+  set_status (codes "error")
+
+-- a runtime error ends the shell
+abbrev pub fails : {A : Type 0} → Slots → List ℕ → Shell A
+fails slots text = do
+  fault slots text
+  exits
+
+-- an open file that may be held is closed first
+abbrev pub closing : {X : Type 0} → Option ℕ → Plan X → Plan X
+closing None p = p
+closing (Some h) p = ask (close h) (λ a. p)
+
+abbrev pub close_end : Option ℕ → Shell (Unit {0})
+close_end h s = closing h (done_with (Next tt s))
+
+-- where the flag is set and the status isn't true, the shell ends
+abbrev pub check : Shell (Unit {0})
+check = λ s. if s.strict && not (is_true s.status) then exits s else skip s
+
+-- ** names and values
+
+-- the one name that a list of words is, if it is one
+abbrev pub one_name : Slots → (List ℕ → Bool) → List (List ℕ) → Shell (List ℕ)
+one_name slots fits [] = fails slots (codes "bad name")
+one_name slots fits (x ∷ []) = if fits x then pure x else fails slots (codes "bad name")
+one_name slots fits (x ∷ y ∷ ys) = fails slots (codes "bad name")
+
+-- a name that can be given a value
+abbrev pub variable : Slots → List Word → Shell (List ℕ)
+variable slots words = one_name slots is_name (word_texts words)
+
+-- what stands after `$`, with what it gives
+abbrev pub value : Slots → List Word → Shell (List (List ℕ))
+value slots words = do
+  x ← one_name slots is_readable (word_texts words)
+  s ← get
+  pure (got s x)
+
+-- `$x`, `$#x` and `$"x`
+abbrev pub value_words : Slots → List Word → Shell (List Word)
+value_words slots words = do
+  v ← value slots words
+  pure (plain_words v)
+
+abbrev pub count_words : Slots → List Word → Shell (List Word)
+count_words slots words = do
+  v ← value slots words
+  pure (plain_words (decimal (length v) ∷ []))
+
+abbrev pub flat_words : Slots → List Word → Shell (List Word)
+flat_words slots words = do
+  v ← value slots words
+  pure (plain_words (spaced v ∷ []))
+
+-- `$x(s ...)`
+abbrev pub selected_words : Slots → List Word → List Word → Shell (List Word)
+selected_words slots words subscripts = do
+  v ← value slots words
+  pure (plain_words (selected v (word_texts subscripts)))
+
+-- `a^b`
+abbrev pub joined_lists : Slots → Result (List Word) ListFault → Shell (List Word)
+joined_lists slots (Ok ws) = pure ws
+joined_lists slots (Err EmptyConcat) = fails slots (codes "empty list in concatenation")
+joined_lists slots (Err CountMismatch) = fails slots (codes "list lengths differ in concatenation")
+
+abbrev pub concat_words : Slots → List Word → List Word → Shell (List Word)
+concat_words slots a b = joined_lists slots (concatenated a b)
+
+-- the status of a match
+abbrev pub match_status : List Word → List Word → List ℕ
+match_status subject patterns = if matched subject patterns then [] else codes "no match"
+
+-- each name becomes a function with this body
+abbrev pub define_each : Slots → List (List ℕ) → Node cmd → Shell (Unit {0})
+define_each slots [] body = skip
+define_each slots (x ∷ xs) body = do
+  y ← one_name slots is_function_name (x ∷ [])
+  change (λ s. define s y body)
+  define_each slots xs body
