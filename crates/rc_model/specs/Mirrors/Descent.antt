@@ -14,13 +14,14 @@ use Rattle.rc_model.specs.Syntax.Grammar.{past_newlines, past_caret, redirect}
 use Rattle.rc_model.specs.Syntax.Grammar.{and_or, is_if}
 pub use Rattle.rc_model.specs.Mirrors.DescentParts.{Fault, Unexpected, IfNot, TooDeep, TooManyStages, Read, Reader}
 pub use Rattle.rc_model.specs.Mirrors.DescentParts.{◌>>=◌, Nested, a_name, a_part, an_operand, a_piped, a_command}
-pub use Rattle.rc_model.specs.Mirrors.DescentParts.{a_list, Inner, Readers, name_by, parts_turn, parts_from, parts_by}
-pub use Rattle.rc_model.specs.Mirrors.DescentParts.{arg_by, members_turn, members_from, members_by, words_from}
-pub use Rattle.rc_model.specs.Mirrors.DescentParts.{words_by, redir_by, redirs_from, redirs_by, simple_from}
-pub use Rattle.rc_model.specs.Mirrors.DescentParts.{simple_by, closed_by_brace, closed_by_paren, brace_by, paren_by}
-pub use Rattle.rc_model.specs.Mirrors.DescentParts.{value_by, dollar_by, part_by, branch_by, branches_turn}
-pub use Rattle.rc_model.specs.Mirrors.DescentParts.{branches_from, branches_by, switch_by, match_by, defined_by}
-pub use Rattle.rc_model.specs.Mirrors.DescentParts.{define_by, block_by}
+pub use Rattle.rc_model.specs.Mirrors.DescentParts.{a_list, Inner, Readers, parts_turn, members_turn, closed_by_brace}
+pub use Rattle.rc_model.specs.Mirrors.DescentParts.{closed_by_paren, value_by, branches_turn, defined_by}
+unfoldable pub use Rattle.rc_model.specs.Mirrors.DescentParts.{name_by, parts_from, parts_by, arg_by, members_from}
+unfoldable pub use Rattle.rc_model.specs.Mirrors.DescentParts.{members_by, words_from, words_by, redir_by}
+unfoldable pub use Rattle.rc_model.specs.Mirrors.DescentParts.{redirs_from, redirs_by, simple_from, simple_by}
+unfoldable pub use Rattle.rc_model.specs.Mirrors.DescentParts.{brace_by, paren_by, dollar_by, part_by, branch_by}
+unfoldable pub use Rattle.rc_model.specs.Mirrors.DescentParts.{branches_from, branches_by, switch_by, match_by}
+unfoldable pub use Rattle.rc_model.specs.Mirrors.DescentParts.{define_by, block_by}
 
 -- a stage of a pipeline, or the name of an assignment with the `=` after it
 pub data Opening : Type 0 where
