@@ -3,5 +3,6 @@ pub mod Left
 pub mod Names
 pub mod Places
 pub mod Runs
-pub mod Scopes
+pub mod Unwinding
 pub mod Stacks
+pub mod Subjects

@@ -15,7 +15,7 @@ impl Machine {
     ghost use Rattle.rc_machine.specs.Outcomes.{Leads, Steps, failed};
 
     /// The end of the shell: what is open ends, the innermost first.
-    #[tactic(auto, using(crate::proofs::Scopes::unwinding))]
+    #[tactic(auto, using(crate::proofs::Unwinding::unwinding))]
     pub(crate) fn unwind(&mut self) -> Move
         ensures { Leads (unwind (config_of self.old).scopes (config_of self.old).state []) (config_of self.new) result }
     {

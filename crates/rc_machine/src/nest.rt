@@ -45,7 +45,7 @@ impl<T: Drop> Nest<T> {
     }
 
     /// These are open, the first innermost.
-    #[tactic(auto, using(crate::proofs::Scopes::turned_twice))]
+    #[tactic(auto, using(crate::proofs::Unwinding::turned_twice))]
     pub fn of(mut items: Vec<T>) -> Nest<T>
         ensures { result ≡ items.items }
     {

@@ -27,8 +27,8 @@ returns-in_default g c =
     ran_as _ _ _ _ _ (ap (λ ws. run_words c.args.slots ws s) (no_texts c.args.words.now none))
     (ran_next _ _ _ (fault c.args.slots (codes "empty argument list") s) tt (state_of c.fault.new.state) (λ x. exits) leaves _ c.in_ok-fault.ensures.does (ran_none _ _))
 
-pub returns-then-is_not_yet : goal.returns-then-is_not_yet
-returns-then-is_not_yet g c = (_, ran_none _ _)
+pub returns-then-is_some : goal.returns-then-is_some
+returns-then-is_some g c = (_, ran_none _ _)
 
 pub returns-in_err-run_program : goal.returns-in_err-run_program
 returns-in_err-run_program g c =
@@ -53,8 +53,8 @@ returns-in-Finished g c =
     ran_as _ _ _ _ _ (ap (λ ws. run_words c.args.slots (map string_bytes ws) s) c.in-Some.ensures.cases.0 ∙ run_words_program c.args.slots name args s free program)
     (ran_next _ _ _ (run_program c.args.slots name args s) tt (state_of c.run_program.new.state) (λ x. pure Finished) leaves _ (rw (c.in-Finished.is, named) at c.in_ok-run_program.ensures.runs) (ran_none _ _))
 
-pub returns : goal.returns
-returns g c =
+pub returns-in-NotYet : goal.returns-in-NotYet
+returns-in-NotYet g c =
     let s = state_of c.args.state.now in
     let name = string_bytes c.in-Some.name.now in
     let args = map string_bytes c.in-Some.args.now in

@@ -3,11 +3,10 @@ use Rattle.rc_model.specs.Run.State.{is_name}
 use Rattle.rc_model.specs.Syntax.Words.{word_texts}
 use Rattle.rc_stack.specs.Lists.{two_of, below_two}
 use Rattle.rc_machine.specs.Configs.{config_of}
-use Rattle.rc_machine.specs.Names.{read, the_name}
+use Rattle.rc_machine.specs.Names.{the_name}
 use Rattle.rc_machine.proofs.Acts.{assigns_no_name}
 use Rattle.rc_machine.proofs.Left.{steps_as}
 use Rattle.rc_machine.proofs.Stacks.{two_topped}
-use Rattle.rc_scope.specs.States.{state_of}
 use Rattle.rc_machine.proofs.machine.Machine.assign.Goals as goal
 
 pub returns-in_default-2 : goal.returns-in_default-2

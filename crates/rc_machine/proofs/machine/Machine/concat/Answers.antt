@@ -1,4 +1,4 @@
-use Rattle.std.proofs.Common.{rules, ◌≡◌, ◌∷◌, ◌∙◌, Ok, Err, Some, ap, sym}
+use Rattle.std.proofs.Common.{rules, ◌≡◌, ◌∷◌, ◌∙◌, Ok, Err, Some, ap}
 use Rattle.rc_model.specs.Code.Machine.{goes, next}
 use Rattle.rc_model.specs.Run.Lists.{concatenated, EmptyConcat, CountMismatch}
 use Rattle.rc_stack.specs.Lists.{two_of, below_two}

@@ -1,7 +1,5 @@
 use Rattle.std.proofs.Common.{rules, ◌≡◌, ◌∷◌, [], None, Some, drop, length}
 use Rattle.std.specs.Fmt.{decimal}
-use Rattle.rc_model.specs.Run.State.{State}
-use Rattle.rc_model.specs.Syntax.Text.{spaced}
 use Rattle.rc_model.specs.Syntax.Words.{word_texts}
 use Rattle.rc_stack.specs.Lists.{top_of}
 use Rattle.rc_machine.specs.Configs.{config_of}

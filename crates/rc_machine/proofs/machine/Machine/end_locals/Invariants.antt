@@ -1,5 +1,5 @@
 use Rattle.rc_machine.specs.Configs.{config_of}
-use Rattle.rc_machine.proofs.Scopes.{EndedSoFar}
+use Rattle.rc_machine.proofs.Unwinding.{EndedSoFar}
 use Rattle.rc_machine.proofs.machine.Machine.end_locals.Given as goal
 
 -- so many locals ended

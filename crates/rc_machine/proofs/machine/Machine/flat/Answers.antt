@@ -1,6 +1,4 @@
-use Rattle.std.proofs.Common.{rules, ◌≡◌, ◌∷◌, [], None, Some, drop, length}
-use Rattle.std.specs.Fmt.{decimal}
-use Rattle.rc_model.specs.Run.State.{State}
+use Rattle.std.proofs.Common.{rules, ◌≡◌, ◌∷◌, [], None, Some, drop}
 use Rattle.rc_model.specs.Syntax.Text.{spaced}
 use Rattle.rc_model.specs.Syntax.Words.{word_texts}
 use Rattle.rc_stack.specs.Lists.{top_of}

@@ -1,10 +1,9 @@
-use Rattle.std.proofs.Common.{rules, ◌≡◌, [], Ok, Some, List, map, string_bytes, refl}
-use Rattle.std.specs.Prelude.{true}
+use Rattle.std.proofs.Common.{rules, ◌≡◌, [], Ok, Some, map, string_bytes, refl}
 use Rattle.rc_model.specs.Code.Layout as op
-use Rattle.rc_model.specs.Code.Machine.{Step, act, enter, next, unwind}
+use Rattle.rc_model.specs.Code.Machine.{act, enter, unwind}
 use Rattle.rc_model.specs.Run.Builtins.{Finished, run_words}
-use Rattle.rc_model.specs.Syntax.Words.{Word, word_texts}
-use Rattle.law_plans.proofs.Runs.{ran_next, ran_exit, ran_none, ran_join, ran_under}
+use Rattle.rc_model.specs.Syntax.Words.{word_texts}
+use Rattle.law_plans.proofs.Runs.{ran_next, ran_exit, ran_none}
 use Rattle.rc_stack.specs.Lists.{top_of}
 use Rattle.rc_world.specs.declared.types.Stop.TheVariants.{NoMemory}
 use Rattle.rc_world.proofs.Joins.{left_as, left_memory, ran_as}

@@ -1,9 +1,8 @@
 use Rattle.std.proofs.Common.{rules, ◌≡◌, None, Some}
-use Rattle.rc_model.specs.Run.State.{is_name}
 use Rattle.rc_model.specs.Syntax.Words.{word_texts}
 use Rattle.rc_stack.specs.Lists.{two_of, below_two}
 use Rattle.rc_machine.specs.Configs.{config_of}
-use Rattle.rc_machine.specs.Names.{read, the_name}
+use Rattle.rc_machine.specs.Names.{read}
 use Rattle.rc_machine.proofs.Acts.{selects_no_name}
 use Rattle.rc_machine.proofs.Left.{steps_as}
 use Rattle.rc_machine.proofs.Stacks.{two_topped}

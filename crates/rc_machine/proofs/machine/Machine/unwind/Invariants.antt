@@ -1,4 +1,4 @@
-use Rattle.std.proofs.Common.{◌≡◌, [], length, map}
+use Rattle.std.proofs.Common.{◌≡◌, [], length}
 use Rattle.rc_model.specs.Code.Machine.{unwind}
 use Rattle.rc_machine.specs.Configs.{config_of}
 use Rattle.rc_machine.proofs.machine.Machine.unwind.Given as goal
