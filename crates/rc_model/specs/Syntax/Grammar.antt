@@ -21,6 +21,7 @@ pub use Rattle.rc_model.specs.Syntax.Ahead.{begins_subscript, closes, ends, ends
 pub use Rattle.rc_model.specs.Syntax.Ahead.{past_caret, after_caret, concat_of, redirect, stages_of, last_of}
 pub use Rattle.rc_model.specs.Syntax.Ahead.{pipeline, and_or, is_if}
 
+-- what a production describes
 pub data Level : Type 0 where
   -- a name after a `$`; a part of an argument; an argument, also where newlines are blanks; the parts after carets
   name : Level
