@@ -130,7 +130,8 @@ Does script end old new (Err (Fault f)) x = x ≡ Err f
 Does script end old new (Err NoMemory) x = Unit {0}
 
 -- the lexer has read a lexeme between two places, and this stands after it
-pub record Spelled (script : List ℕ) (before after : Before) (l : model.Lexeme) (p q : Place) (old new : Lexer) : Type 0 where
+pub record Spelled (script : List ℕ) (before after : Before) (l : model.Lexeme) (p q : Place)
+    (old new : Lexer) : Type 0 where
   pub tokens : tokens_in script new ≡ tokens_in script old
       ++ model.tokens_of (before_of before) l (place_of p) (place_of q)
   pub due : due_in new ≡ model.due_after (before_of before) l (due_in old)

@@ -198,7 +198,8 @@ branches_listed : {m : _} (k : Row_of-Branch m) → branch_row k ≡ branches_tr
 unfolding branch_row
 branches_listed end_of-Branch = refl
 branches_listed (more_of-Branch s j p x k) =
-    ap (λ ps. more (t.Branch ps (cmd_tree x)) (branch_row k)) (args_listed j ∙ ap args_tree (sym (rows.items_shown-the_row-Arg-0 s j)))
+    ap (λ ps. more (t.Branch ps (cmd_tree x)) (branch_row k)) (args_listed j
+    ∙ ap args_tree (sym (rows.items_shown-the_row-Arg-0 s j)))
     ∙ ap (more (t.Branch (args_tree (rows.shown-the_row-Arg-0 s j).items) (cmd_tree x))) (branches_listed k)
 
 args_shown : (v : Vec Arg Global) → arg_row (rows.hidden-the_row-Arg-0 v) ≡ args_tree v.items

@@ -134,7 +134,8 @@ with_functions (f ∷ fs) others = insert_entry text_cmp (with_functions fs othe
 -- the entries of a launch, in byte order of their names: the variables, always the status, and the functions
 abbrev pub entries : State → List (List ℕ)
 entries s =
-    map entry (with_functions s.functions (insert_entry text_cmp (handed_values s.variables) status_name (value_text (s.status ∷ []))))
+    map entry (with_functions s.functions
+        (insert_entry text_cmp (handed_values s.variables) status_name (value_text (s.status ∷ []))))
 
 -- an argument or an entry is at most so long
 abbrev pub is_short : List ℕ → Bool
