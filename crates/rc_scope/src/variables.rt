@@ -167,7 +167,7 @@ impl Variables {
         Ok(())
     }
 
-    /// What a local covers becomes visible. It takes no memory: its name is in the map.
+    /// What a local covers becomes visible. It allocates nothing: its name is in the map.
     fn uncover(&mut self, local: Local)
         ensures values { Uncovers local self.old.values.entries self.new.values.entries }
         ensures log { self.new.log ≡ self.old.log }

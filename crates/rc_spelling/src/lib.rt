@@ -107,7 +107,7 @@ fn push_pieces(out: &mut String, pieces: &[Piece]) -> Result<(), AllocError>
     Ok(())
 }
 
-/// Writes the spelling of a command behind what stands there.
+/// Writes the spelling of a command after what stands there.
 #[cycle(spell)]
 #[tactic(auto, using(crate::proofs::Spelling::spelling))]
 pub fn push_spelling(out: &mut String, cmd: &Cmd) -> Result<(), AllocError>

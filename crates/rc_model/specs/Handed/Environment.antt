@@ -98,7 +98,7 @@ abbrev pub own_functions : Bool → Bindings → Result Functions ImageFault
 own_functions true bs = functions_in [] bs
 own_functions false bs = Ok []
 
--- the status is read only from a shell of the same kind, and is null else
+-- the status is read only from a shell of the same kind, and is otherwise null
 abbrev pub own_status : Bool → Bindings → List ℕ
 own_status true bs = status_in bs
 own_status false bs = []
