@@ -124,7 +124,19 @@ runs name args entries n c = runs_in plain name args entries n c
 
 -- the tree of a text, where it has one
 unfoldable pub tree : List ℕ → Option (Node cmd)
-unfolding chars encode is_utf8 digits utf8_lossy utf8_valid_len utf8_error_len Descent_arg_by Descent_assigned_by Descent_block_by Descent_body_by Descent_brace_by Descent_branch_by Descent_branches_by Descent_branches_from Descent_command_by Descent_control_by Descent_define_by Descent_dollar_by Descent_first_by Descent_for_by Descent_if_by Descent_item_end Descent_items_by Descent_items_from Descent_leading_by Descent_links_by Descent_links_from Descent_match_by Descent_members_by Descent_members_from Descent_name_by Descent_opening_by Descent_operand_by Descent_optional_by Descent_over_by Descent_paren_by Descent_part_by Descent_parts_by Descent_parts_from Descent_pipe_by Descent_pipe_from Descent_piped_by Descent_read Descent_read_by Descent_redir_by Descent_redirected_by Descent_redirs_by Descent_redirs_from Descent_script_tree Descent_simple_by Descent_simple_from Descent_switch_by Descent_values_by Descent_values_from Descent_while_by Descent_worded_by Descent_words_by Descent_words_from Printing_arg_text Printing_arg_texts Printing_branch_items Printing_branch_lines Printing_cmd_text Printing_item_lines Printing_links_text Printing_pair_texts Printing_redir_text Printing_redir_texts Printing_stages_text matches longest_output longest_file node_image many_image
+unfolding chars encode is_utf8 digits utf8_lossy utf8_valid_len utf8_error_len Descent_arg_by Descent_assigned_by
+    Descent_block_by Descent_body_by Descent_brace_by Descent_branch_by Descent_branches_by Descent_branches_from
+    Descent_command_by Descent_control_by Descent_define_by Descent_dollar_by Descent_first_by Descent_for_by
+    Descent_if_by Descent_item_end Descent_items_by Descent_items_from Descent_leading_by Descent_links_by
+    Descent_links_from Descent_match_by Descent_members_by Descent_members_from Descent_name_by Descent_opening_by
+    Descent_operand_by Descent_optional_by Descent_over_by Descent_paren_by Descent_part_by Descent_parts_by
+    Descent_parts_from Descent_pipe_by Descent_pipe_from Descent_piped_by Descent_read Descent_read_by
+    Descent_redir_by Descent_redirected_by Descent_redirs_by Descent_redirs_from Descent_script_tree Descent_simple_by
+    Descent_simple_from Descent_switch_by Descent_values_by Descent_values_from Descent_while_by Descent_worded_by
+    Descent_words_by Descent_words_from Printing_arg_text Printing_arg_texts Printing_branch_items
+    Printing_branch_lines Printing_cmd_text Printing_item_lines Printing_links_text Printing_pair_texts
+    Printing_redir_text Printing_redir_texts Printing_stages_text matches longest_output longest_file node_image
+    many_image
 tree text = tree_of text
 
 -- the calls, the final state and the answers that are left, where a script ends

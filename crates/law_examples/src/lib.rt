@@ -1,4 +1,4 @@
-//! Worked examples of the definitions: what scripts ask of the world and how they end, by their meaning and by their code.
+//! Worked examples of the definitions: what scripts ask of the world and how they end, by meaning and by code.
 //! The first is a contract, the others stand in `proofs/`, by their subjects.
 #![tactic(auto)]
 

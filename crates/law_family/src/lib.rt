@@ -1,7 +1,8 @@
 //! The laws of a family of shells, each with its own answers, over every order of them.
 #![tactic(auto)]
 
-ghost use Rattle.rc_model.specs.Family.Family.{FamiliesRead, Family, HasEnded, IsFamily, IsPending, OneAtATime, OnePerStart, Process, Sane, Step, ArePossible, family, first};
+ghost use Rattle.rc_model.specs.Family.Family.{FamiliesRead, Family, HasEnded, IsFamily, IsPending, OneAtATime};
+ghost use Rattle.rc_model.specs.Family.Family.{OnePerStart, Process, Sane, Step, ArePossible, family, first};
 ghost use Rattle.rc_model.specs.Run.Calls.{Call, Launch};
 ghost use Rattle.rc_model.specs.Run.State.{State};
 ghost use Rattle.rc_model.specs.Syntax.Tree.{Node, cmd};
@@ -14,15 +15,19 @@ pub fn one_at_a_time()
 
 /// There is one process for each shell that was started, in order, and process 0.
 pub fn one_per_start()
-    ensures { (reads : Launch → Node cmd × State) (c : Node cmd) (s : State) (es : List Step) → ArePossible reads (first reads c s) es → OnePerStart reads c s es }
+    ensures { (reads : Launch → Node cmd × State) (c : Node cmd) (s : State) (es : List Step) →
+        ArePossible reads (first reads c s) es → OnePerStart reads c s es }
 {}
 
-/// Each process began with what it was handed and loses nothing, the write ends are handed down, and no ring of waiting shells is closed.
+/// Each process began with what it was handed and loses nothing, the write ends are handed down, and no ring of
+/// waiting shells is closed.
 pub fn family_is_sane()
-    ensures { (reads : Launch → Node cmd × State) (c : Node cmd) (s : State) (es : List Step) → IsFamily reads c s es → Sane reads c s (family reads (first reads c s) es) }
+    ensures { (reads : Launch → Node cmd × State) (c : Node cmd) (s : State) (es : List Step) →
+        IsFamily reads c s es → Sane reads c s (family reads (first reads c s) es) }
 {}
 
-/// Shells that read the arguments and entries of their launches begin with the script, the variables and the functions that they were handed.
+/// Shells that read the arguments and entries of their launches begin with the script, the variables and the functions
+/// that they were handed.
 pub fn families_read()
     ensures { FamiliesRead }
 {}

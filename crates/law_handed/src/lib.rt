@@ -1,7 +1,8 @@
 //! What a script hands over: each shell that it starts reads back what it was handed.
 #![tactic(auto)]
 
-ghost use Rattle.rc_model.specs.Handed.HandedLaws.{AcceptedAreScripts, EndsAreProper, ScriptsReadBack, TracesEndProper, TracesReadBack};
+ghost use Rattle.rc_model.specs.Handed.HandedLaws.{AcceptedAreScripts, EndsAreProper, ScriptsReadBack};
+ghost use Rattle.rc_model.specs.Handed.HandedLaws.{TracesEndProper, TracesReadBack};
 
 /// The tree of an accepted text is one that a shell holds.
 pub fn accepted_are_scripts()

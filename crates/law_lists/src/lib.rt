@@ -10,7 +10,8 @@ ghost use Rattle.rc_model.specs.Run.Selecting.{Selects};
 
 /// Splitting gives the members of a text.
 pub fn split_by_rule()
-    ensures { (text separators : List ℕ) (texts : List (List ℕ)) → (texts ≡ split text separators) ↔ AreMembers text separators texts }
+    ensures { (text separators : List ℕ) (texts : List (List ℕ)) →
+        (texts ≡ split text separators) ↔ AreMembers text separators texts }
 {}
 
 /// A text has one list of members.
@@ -25,5 +26,6 @@ pub fn concat_by_rule()
 
 /// A subscript selects the members at the places that it names.
 pub fn select_by_rule()
-    ensures { (value : List (List ℕ)) (text : List ℕ) (r : List (List ℕ)) → (r ≡ selected_by value text) ↔ Selects value text r }
+    ensures { (value : List (List ℕ)) (text : List ℕ) (r : List (List ℕ)) →
+        (r ≡ selected_by value text) ↔ Selects value text r }
 {}

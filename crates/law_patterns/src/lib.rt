@@ -25,21 +25,26 @@ pub fn greedy_matches()
 
 /// The calls of expansion give the names that the word stands for by their answers.
 pub fn names_by_rule()
-    ensures { (w : Word) (s : State) (trace : List Event) (r : Result (List Word)) (tells : Call → Answer) → has_pattern w ≡ true → Goes (names_of w s) trace (done_with r) → Agreeing tells trace →
+    ensures { (w : Word) (s : State) (trace : List Event) (r : Result (List Word)) (tells : Call → Answer) →
+        has_pattern w ≡ true → Goes (names_of w s) trace (done_with r) → Agreeing tells trace →
         (ws : List Word) × (r ≡ Next ws s) × Expands tells w ws }
 {}
 
-/// Expansion makes no call twice: for each of its traces there is a world in which each call has one answer, that of the trace.
+/// Expansion makes no call twice: for each of its traces there is a world in which each call has one answer, that of
+/// the trace.
 pub fn names_ask_once()
-    ensures { (w : Word) (s : State) (trace : List Event) (q : Plan (Result (List Word))) → Goes (names_of w s) trace q → (tells : Call → Answer) × Agreeing tells trace }
+    ensures { (w : Word) (s : State) (trace : List Event) (q : Plan (Result (List Word))) →
+        Goes (names_of w s) trace q → (tells : Call → Answer) × Agreeing tells trace }
 {}
 
 /// Words are expanded from left to right, each to what it stands for by the answers to its own calls.
 pub fn expanded_by_rule()
-    ensures { (ws : List Word) (s : State) (trace : List Event) (r : Result (List Word)) → Goes (expanded ws s) trace (done_with r) → (vs : List Word) × (r ≡ Next vs s) × AllExpand ws trace vs }
+    ensures { (ws : List Word) (s : State) (trace : List Event) (r : Result (List Word)) →
+        Goes (expanded ws s) trace (done_with r) → (vs : List Word) × (r ≡ Next vs s) × AllExpand ws trace vs }
 {}
 
-/// The answers tell what a word becomes.
+/// The answers determine what a word becomes.
 pub fn one_expansion()
-    ensures { (tells : Call → Answer) (w : Word) (us vs : List Word) → Expands tells w us → Expands tells w vs → us ≡ vs }
+    ensures { (tells : Call → Answer) (w : Word) (us vs : List Word) →
+        Expands tells w us → Expands tells w vs → us ≡ vs }
 {}

@@ -16,6 +16,7 @@ use Rattle.rc_model.specs.Syntax.Tree.{is_empty}
 abbrev pub LexemeLine : Type 0
 LexemeLine = List Lexeme × Bool
 
+-- a line with an `&` after it, where it runs in the background
 abbrev pub ended : LexemeLine → List Lexeme
 ended line = if line.1 then line.0 ++ Ampersand ∷ [] else line.0
 
@@ -23,31 +24,38 @@ ended line = if line.1 then line.0 ++ Ampersand ∷ [] else line.0
 abbrev pub parting : LexemeLine → List Lexeme
 parting line = if line.1 then [] else Semicolon ∷ []
 
+-- the lines of a list, with what parts them
 abbrev pub listed : List LexemeLine → List Lexeme
 listed [] = []
 listed (line ∷ []) = ended line
 listed (line ∷ next ∷ lines) = ended line ++ (parting line ++ listed (next ∷ lines))
 
+-- the lexeme that joins two operands
 abbrev pub sign : Logic → Lexeme
 sign And = AndAnd
 sign Or = OrOr
 
+-- redirections, and the command that they surround
 abbrev pub redirected : Node t.cmd → (begins : Bool) → (redirs body : List Lexeme) → List Lexeme
 redirected c begins redirs body =
     if is_empty c then redirs else (if stands_first c begins then body ++ redirs else redirs ++ body)
 
+-- the lines of a branch's body: those of a list, else one
 abbrev pub body_lines : Node t.cmd → (items : List LexemeLine) → (body : List Lexeme) → List LexemeLine
 body_lines (t.Seq _) items body = items
 body_lines _ items body = (body, false) ∷ []
 
+-- a word, quoted or not
 abbrev pub word : List ℕ → (quoted : Bool) → Lexeme
 word text quoted = if quoted then Quoted text else Word text
 
+-- a name after a `$`, quoted or not
 abbrev pub name_word : List ℕ → (quoted : Bool) → Lexeme
 name_word text quoted = if quoted then Quoted text else Name text
 
 -- The lexemes of each form, as its text has them. `begins` says of a command that an item of a branch begins with it.
 unfoldable mutual
+  -- a command
   pub cmd_lexemes : Node t.cmd → (begins : Bool) → List Lexeme
   cmd_lexemes t.Empty begins = []
   cmd_lexemes (t.Seq items) begins = listed (item_lines items begins false)
@@ -77,6 +85,7 @@ unfoldable mutual
   cmd_lexemes (t.Undefine names) begins = Word (codes "fn") ∷ args_lexemes names
   cmd_lexemes (t.Brace body) begins = LeftBrace ∷ (cmd_lexemes body false ++ RightBrace ∷ [])
 
+  -- an argument
   pub arg_lexemes : Node t.arg → List Lexeme
   arg_lexemes (t.Lit text quoted) = word text quoted ∷ []
   arg_lexemes (t.Concat parts) = first_part parts
@@ -94,11 +103,13 @@ unfoldable mutual
   name_lexemes (t.Var name) = Dollar ∷ name_lexemes name
   name_lexemes _ = []
 
+  -- a redirection
   pub redir_lexemes : Node t.redir → List Lexeme
   redir_lexemes (t.Open mode slot path) = Redirection mode slot ∷ arg_lexemes path
   redir_lexemes (t.Copy to from) = CopyTo to from ∷ []
   redir_lexemes (t.Here pieces) = []
 
+  -- arguments, one after the other
   pub args_lexemes : Many t.arg → List Lexeme
   args_lexemes none = []
   args_lexemes (more word words) = arg_lexemes word ++ args_lexemes words
@@ -108,47 +119,57 @@ unfoldable mutual
   first_part none = []
   first_part (more part parts) = arg_lexemes part ++ further_parts parts
 
+  -- the parts after the first, each after a caret
   pub further_parts : Many t.arg → List Lexeme
   further_parts none = []
   further_parts (more part parts) = (Caret ∷ arg_lexemes part) ++ further_parts parts
 
+  -- assignments, one after the other
   pub pairs_lexemes : Many t.pair → List Lexeme
   pairs_lexemes none = []
   pairs_lexemes (more (t.Pair name value) pairs) =
       (arg_lexemes name ++ (Equals ∷ arg_lexemes value)) ++ pairs_lexemes pairs
 
+  -- redirections, one after the other
   pub redirs_lexemes : Many t.redir → List Lexeme
   redirs_lexemes none = []
   redirs_lexemes (more redir redirs) = redir_lexemes redir ++ redirs_lexemes redirs
 
+  -- the stages of a pipeline but the last, each with the bar after it
   pub stages_lexemes : Many t.stage → (begins : Bool) → List Lexeme
   stages_lexemes none begins = []
   stages_lexemes (more (t.Stage body slot) stages) begins =
       cmd_lexemes body begins ++ (Bar slot ∷ stages_lexemes stages false)
 
+  -- the operands after the first, each with its `&&` or `||` before it
   pub links_lexemes : Many t.link → List Lexeme
   links_lexemes none = []
   links_lexemes (more (t.Link logic body) links) = (sign logic ∷ cmd_lexemes body false) ++ links_lexemes links
 
+  -- each item is a line; the first one begins as said, and the others as said after it
   pub item_lines : Many t.item → (begins others : Bool) → List LexemeLine
   item_lines none begins others = []
   item_lines (more (t.Item body background) items) begins others =
       (cmd_lexemes body begins, background) ∷ item_lines items others others
 
+  -- each branch is a case line and the lines of its body
   pub branch_lines : Many t.branch → List LexemeLine
   branch_lines none = []
   branch_lines (more (t.Branch patterns body) branches) =
       (Word (codes "case") ∷ args_lexemes patterns, false)
       ∷ (body_lines body (branch_items body) (cmd_lexemes body true) ++ branch_lines branches)
 
+  -- the lines of a branch's body, where that is a list
   pub branch_items : Node t.cmd → List LexemeLine
   branch_items (t.Seq items) = item_lines items true true
   branch_items _ = []
 
+-- a text that can be written as a word, quoted or not
 abbrev pub IsLiteral : List ℕ → (quoted : Bool) → Type 0
 IsLiteral text true = IsText text
 IsLiteral text false = IsWord text
 
+-- a text that can be written as a name after a `$`, quoted or not
 abbrev pub IsNameLiteral : List ℕ → (quoted : Bool) → Type 0
 IsNameLiteral text true = IsText text
 IsNameLiteral text false = IsName text
@@ -156,6 +177,7 @@ IsNameLiteral text false = IsName text
 -- Trees that can be written: words are words, names are names, and descriptors are right. (A here document has no
 -- text.)
 unfoldable mutual
+  -- a node that can be written
   pub IsWritable : {s : t.Sort} → Node s → Type 0
   IsWritable t.Empty = Unit {0}
   IsWritable (t.Seq items) = AreWritable items
@@ -195,11 +217,13 @@ unfoldable mutual
   IsWritable (t.Text text) = Unit {0}
   IsWritable (t.Name text) = Unit {0}
 
+  -- a name after a `$` that can be written
   pub IsWritableName : Node t.arg → Type 0
   IsWritableName (t.Lit text quoted) = IsNameLiteral text quoted
   IsWritableName (t.Var name) = IsWritableName name
   IsWritableName _ = ⊥
 
+  -- nodes that can all be written
   pub AreWritable : {s : t.Sort} → Many s → Type 0
   AreWritable none = Unit {0}
   AreWritable (more n ns) = IsWritable n × AreWritable ns

@@ -11,15 +11,19 @@ ghost use Rattle.std.specs.Prelude.{List, ℕ, ◌↔◌};
 
 /// Whatever fresh answers come, each call of a script names what is held or owed.
 pub fn nothing_is_lost()
-    ensures { (c : Node cmd) (s : State) (trace : List Event) → IsBegunAsMeant c s trace → IsFresh s trace → NothingLost s trace }
+    ensures { (c : Node cmd) (s : State) (trace : List Event) →
+        IsBegunAsMeant c s trace → IsFresh s trace → NothingLost s trace }
 {}
 
 /// At its end nothing is held, and what is owed stands in the background list.
 pub fn nothing_is_left()
-    ensures { (c : Node cmd) (s : State) (trace : List Event) (t : State) → EndsAsMeant c s trace t → IsFresh s trace → NothingLeft s trace t }
+    ensures { (c : Node cmd) (s : State) (trace : List Event) (t : State) →
+        EndsAsMeant c s trace t → IsFresh s trace → NothingLeft s trace t }
 {}
 
 /// The answers of a trace are fresh exactly where they are fresh for the script.
 pub fn fresh_alike()
-    ensures { (n : ℕ) (c : Node cmd) (s : State) (trace : List Event) → IsPrefix (calls trace) (calls_made (script n c s (answers trace))) → AreFreshAnswers n c s (answers trace) ↔ IsFresh s trace }
+    ensures { (n : ℕ) (c : Node cmd) (s : State) (trace : List Event) →
+        IsPrefix (calls trace) (calls_made (script n c s (answers trace))) →
+        AreFreshAnswers n c s (answers trace) ↔ IsFresh s trace }
 {}

@@ -26,7 +26,8 @@ most_instructions = 2 ^ 62
 
 -- the number that the process ends with is that of the status with which the meaning ends
 abbrev pub EndsWith : Node cmd → List Event → ℕ → Type 0
-EndsWith t trace status = (end : State) × EndsWithin most_instructions t first_state trace end × IsProcessStatus end.status status
+EndsWith t trace status =
+    (end : State) × EndsWithin most_instructions t first_state trace end × IsProcessStatus end.status status
 
 -- a run by its result: what its world recorded of it, with the script that was read
 abbrev pub RunsAsMeant : Option (List Event) → Option (List Event) → List ℕ → Result ℕ RunFault → Type 0
@@ -34,9 +35,13 @@ RunsAsMeant before after script (Ok status) = ToldOf before after script (λ t t
 RunsAsMeant before after script (Err Usage) = after ≡ before
 RunsAsMeant before after script (Err CannotRead) = after ≡ before
 RunsAsMeant before after script (Err (Syntax fault)) = IsRefused script fault × (after ≡ before)
-RunsAsMeant before after script (Err Halted) = ToldOf before after script (λ t trace. HaltsWithin most_instructions t first_state trace)
-RunsAsMeant before after script (Err Limit) = ToldOf before after script (λ t trace. StopsAtLimit most_instructions t first_state trace)
-RunsAsMeant before after script (Err NotYet) = ToldOf before after script (λ t trace. IsBegunWithin most_instructions t first_state trace)
+RunsAsMeant before after script (Err Halted) =
+    ToldOf before after script (λ t trace. HaltsWithin most_instructions t first_state trace)
+RunsAsMeant before after script (Err Limit) =
+    ToldOf before after script (λ t trace. StopsAtLimit most_instructions t first_state trace)
+RunsAsMeant before after script (Err NotYet) =
+    ToldOf before after script (λ t trace. IsBegunWithin most_instructions t first_state trace)
 RunsAsMeant before after script (Err NoMemory) =
-    ((t : Node cmd) → IsAccepted script t → Told before after (λ trace. IsBegunWithin most_instructions t first_state trace))
+    ((t : Node cmd) → IsAccepted script t →
+        Told before after (λ trace. IsBegunWithin most_instructions t first_state trace))
     × ((fault : SyntaxFault) → IsRefused script fault → after ≡ before)

@@ -37,10 +37,11 @@ Writes old new part = code_of new ≡ with_part (code_of old) part
 abbrev pub list_code : Many arg → Part
 list_code words = Do Nil ⨾ args_code words
 
--- the list and the name of a loop
+-- the list and the name of a loop over `$*`
 abbrev pub star_code : (name : Node arg) → Part
 star_code name = Do (Word (codes "*") false) ⨾ Do Value ⨾ arg_code name
 
+-- the list and the name of a loop over words
 abbrev pub members_code : Many arg → (name : Node arg) → Part
 members_code words name = list_code words ⨾ Do Glob ⨾ arg_code name
 
@@ -48,10 +49,11 @@ members_code words name = list_code words ⨾ Do Glob ⨾ arg_code name
 abbrev pub turns_code : (body : Part) → Part
 turns_code body = Do For ⨾ Loop Nothing Next body
 
--- the condition of a `while`, and its body, which goes back to the condition
+-- the condition of a `while`
 abbrev pub test_code : (test : Node cmd) → Part
 test_code test = condition_code (has_no_items test) (cmd_code test true)
 
+-- the body of a `while`, which goes back to the condition
 abbrev pub repeat_code : (start : ℕ) → (body : Part) → Part
 repeat_code start body = Past IfFalse (body ⨾ Do (Jump start))
 
@@ -67,32 +69,38 @@ last_stage_code stages last = Past (Stages stages) (last ⨾ Do EndPipe)
 abbrev pub subject_code : Node arg → Part
 subject_code word = arg_code word ⨾ Do Subject
 
+-- a match
 abbrev pub match_code : Node arg → Many arg → Part
 match_code word patterns = cmd_code (tree.Match word patterns) false
 
+-- a definition of functions
 abbrev pub define_code : Many arg → Node cmd → Part
 define_code names body = cmd_code (tree.Define names body) false
 
+-- a removal of functions
 abbrev pub undefine_code : Many arg → Part
 undefine_code names = cmd_code (tree.Undefine names) false
 
+-- a subshell
 abbrev pub subshell_code : Node cmd → Part
 subshell_code body = cmd_code (tree.Subshell body) false
 
--- assignments, without what stands after them
+-- an assignment, without what stands after it
 abbrev pub pair_code : Node pair → (bare : Bool) → Part
 pair_code (Pair name value) bare = arg_code name ⨾ arg_code value ⨾ Do Glob ⨾ Do (assign_by bare)
 
+-- assignments, without what stands after them
 abbrev pub pairs_alone : Many pair → (bare : Bool) → Part
 pairs_alone none bare = Nothing
 pairs_alone (more x rest) bare = pair_code x bare ⨾ pairs_alone rest bare
 
--- redirections, without what stands after them
+-- a redirection, without what stands after it
 abbrev pub redir_code : Node redir → Part
 redir_code (tree.Open mode slot path) = arg_code path ⨾ Do Glob ⨾ Do (Open mode slot)
 redir_code (tree.Copy to from) = Do (Copy to from)
 redir_code (tree.Here pieces) = Keep Here (KeptPieces pieces)
 
+-- redirections, without what stands after them
 abbrev pub redirs_alone : Many redir → Part
 redirs_alone none = Nothing
 redirs_alone (more x rest) = redir_code x ⨾ redirs_alone rest
@@ -101,6 +109,7 @@ redirs_alone (more x rest) = redir_code x ⨾ redirs_alone rest
 abbrev pub branch_to : Node branch → (guarded : Bool) → (p : ℕ) → Part
 branch_to (Branch patterns body) g p = list_code patterns ⨾ Past Case (cmd_code body g ⨾ Do (Jump p))
 
+-- branches of a `switch` that are left for a known place
 abbrev pub branches_to : Many branch → (guarded : Bool) → (p : ℕ) → Part
 branches_to none g p = Nothing
 branches_to (more b rest) g p = branch_to b g p ⨾ branches_to rest g p

@@ -1,7 +1,8 @@
 //! Copies of trees.
 
 ghost use Rattle.std.specs.Prelude.{◌≡◌, IfOk};
-ghost use Rattle.rc_tree_types.specs.View.{cmd_tree, arg_tree, redir_tree, pieces_tree, args_tree, items_tree, pairs_tree};
+ghost use Rattle.rc_tree_types.specs.View.{cmd_tree, arg_tree, redir_tree, pieces_tree, args_tree, items_tree};
+ghost use Rattle.rc_tree_types.specs.View.{pairs_tree};
 ghost use Rattle.rc_tree_types.specs.View.{redirs_tree};
 ghost use Rattle.rc_tree_types.specs.View.{stages_tree, links_tree, branches_tree};
 

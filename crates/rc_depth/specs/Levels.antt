@@ -7,5 +7,6 @@ use Rattle.rc_model.specs.Syntax.WellFormed.{depth, depths}
 unfoldable pub within : {s : Sort} → Node s → ℕ → Bool
 within n left = nat_le (depth n) left
 
+-- nodes of at most so many levels each
 unfoldable pub within_all : {s : Sort} → Many s → ℕ → Bool
 within_all ns left = nat_le (depths ns) left

@@ -10,7 +10,8 @@ ghost use Rattle.rc_model.specs.Mirrors.Descent.{switch_by, match_by, define_by,
 ghost use Rattle.rc_model.specs.Mirrors.Descent.{body_by, optional_by, if_by, while_by, over_by, for_by, control_by};
 ghost use Rattle.rc_model.specs.Mirrors.Descent.{redirected_by, leading_by, pipe_by, pipeline_of, values_by};
 ghost use Rattle.rc_model.specs.Mirrors.Descent.{assigned_by, operand_by, links_by, item_end, items_by};
-ghost use Rattle.rc_tree_types.specs.View.{cmd_tree, arg_tree, redir_tree, args_tree, items_tree, pairs_tree, redirs_tree};
+ghost use Rattle.rc_tree_types.specs.View.{cmd_tree, arg_tree, redir_tree, args_tree, items_tree, pairs_tree};
+ghost use Rattle.rc_tree_types.specs.View.{redirs_tree};
 ghost use Rattle.rc_tree_types.specs.View.{stages_tree, links_tree, branches_tree, branch_tree};
 ghost use Rattle.rc_lexemes.specs.Lexemes.{lexemes_of};
 ghost use Rattle.rc_lexemes.specs.Reading.{Gives};
@@ -42,7 +43,11 @@ pub enum Opening {
 
 /// A name after a `$`.
 #[cycle(name)]
-#[tactic(auto, using(crate::proofs::Steps::levels, std::proofs::lemmas::Grind::common_steps), unfolding(rc_model::specs::Mirrors::Descent::name_by))]
+#[tactic(
+    auto,
+    using(crate::proofs::Steps::levels, std::proofs::lemmas::Grind::common_steps),
+    unfolding(rc_model::specs::Mirrors::Descent::name_by),
+)]
 fn name(alloc: Global, left: usize, lexemes: &[Lexeme]) -> Result<(Box<Arg>, &[Lexeme]), TokenError>
     ensures { Gives (λ x. (arg_tree x.0.value, lexemes_of x.1.now)) result (read left a_name (lexemes_of lexemes.now)) }
 {
@@ -62,7 +67,11 @@ fn name(alloc: Global, left: usize, lexemes: &[Lexeme]) -> Result<(Box<Arg>, &[L
 
 /// A part of an argument. Inside parentheses newlines are blanks.
 #[cycle(read)]
-#[tactic(auto, using(crate::proofs::Steps::levels, std::proofs::lemmas::Grind::common_steps), unfolding(rc_model::specs::Mirrors::Descent::part_by))]
+#[tactic(
+    auto,
+    using(crate::proofs::Steps::levels, std::proofs::lemmas::Grind::common_steps),
+    unfolding(rc_model::specs::Mirrors::Descent::part_by),
+)]
 fn part(
     alloc: Global,
     left: usize,
@@ -101,7 +110,11 @@ fn part(
 
 /// What follows a `$`: a name, perhaps with subscripts.
 #[cycle(read)]
-#[tactic(auto, using(std::proofs::lemmas::Grind::common_steps), unfolding(rc_model::specs::Mirrors::Descent::dollar_by))]
+#[tactic(
+    auto,
+    using(std::proofs::lemmas::Grind::common_steps),
+    unfolding(rc_model::specs::Mirrors::Descent::dollar_by),
+)]
 fn dollar(
     alloc: Global,
     below: usize,
@@ -338,7 +351,11 @@ fn paren(
 
 /// The words of a case line, and the commands that follow it.
 #[cycle(read)]
-#[tactic(auto, using(std::proofs::lemmas::Grind::common_steps), unfolding(rc_model::specs::Mirrors::Descent::branch_by))]
+#[tactic(
+    auto,
+    using(std::proofs::lemmas::Grind::common_steps),
+    unfolding(rc_model::specs::Mirrors::Descent::branch_by),
+)]
 fn branch(
     alloc: Global,
     below: usize,
@@ -391,7 +408,11 @@ fn branches(
 
 /// What follows `switch`.
 #[cycle(read)]
-#[tactic(auto, using(std::proofs::lemmas::Grind::common_steps), unfolding(rc_model::specs::Mirrors::Descent::switch_by))]
+#[tactic(
+    auto,
+    using(std::proofs::lemmas::Grind::common_steps),
+    unfolding(rc_model::specs::Mirrors::Descent::switch_by),
+)]
 fn switch(
     alloc: Global,
     below: usize,
@@ -425,7 +446,11 @@ fn matching(
 
 /// What follows `fn`.
 #[cycle(read)]
-#[tactic(auto, using(std::proofs::lemmas::Grind::common_steps), unfolding(rc_model::specs::Mirrors::Descent::define_by))]
+#[tactic(
+    auto,
+    using(std::proofs::lemmas::Grind::common_steps),
+    unfolding(rc_model::specs::Mirrors::Descent::define_by),
+)]
 fn define(
     alloc: Global,
     below: usize,
@@ -530,7 +555,11 @@ fn body(
 
 /// An operand that may be absent.
 #[cycle(read)]
-#[tactic(auto, using(std::proofs::lemmas::Grind::common_steps), unfolding(rc_model::specs::Mirrors::Descent::optional_by))]
+#[tactic(
+    auto,
+    using(std::proofs::lemmas::Grind::common_steps),
+    unfolding(rc_model::specs::Mirrors::Descent::optional_by),
+)]
 fn optional(
     alloc: Global,
     below: usize,
@@ -638,7 +667,11 @@ fn iterated(
 
 /// What follows `!`, `@` and the control words.
 #[cycle(read)]
-#[tactic(auto, using(std::proofs::lemmas::Grind::common_steps), unfolding(rc_model::specs::Mirrors::Descent::control_by))]
+#[tactic(
+    auto,
+    using(std::proofs::lemmas::Grind::common_steps),
+    unfolding(rc_model::specs::Mirrors::Descent::control_by),
+)]
 fn control(
     alloc: Global,
     below: usize,
@@ -668,7 +701,11 @@ fn control(
 
 /// Redirections with the operand after them.
 #[cycle(read)]
-#[tactic(auto, using(std::proofs::lemmas::Grind::common_steps), unfolding(rc_model::specs::Mirrors::Descent::redirected_by))]
+#[tactic(
+    auto,
+    using(std::proofs::lemmas::Grind::common_steps),
+    unfolding(rc_model::specs::Mirrors::Descent::redirected_by),
+)]
 fn redirected(
     alloc: Global,
     below: usize,
@@ -772,7 +809,11 @@ fn piped(
 
 /// The value after a `=`, further assignments and the command after them.
 #[cycle(read)]
-#[tactic(auto, using(rc_tree_types::specs::View::tree_lists), unfolding(rc_model::specs::Mirrors::Descent::assigned_by))]
+#[tactic(
+    auto,
+    using(rc_tree_types::specs::View::tree_lists),
+    unfolding(rc_model::specs::Mirrors::Descent::assigned_by),
+)]
 fn assigned(
     alloc: Global,
     below: usize,

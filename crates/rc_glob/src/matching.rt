@@ -177,8 +177,8 @@ pub(crate) fn is_match(word: &[Ch], text: &str, explicit: bool) -> bool
 }
 
 /// Whether the word matches the whole text. In explicit form no pattern character stands for `/`,
-/// and a word that holds one matches neither `.` nor `..`. It takes no memory, and at most as many
-/// steps as the word is long times the text.
+/// and a word that holds one matches neither `.` nor `..`. It allocates nothing, and takes at most
+/// as many steps as the word is long times the text.
 pub fn matches(word: &Word, text: &str, explicit: bool) -> bool
     ensures { result ≡ matches word.now (chars text.now) explicit }
 {

@@ -15,10 +15,11 @@ use Rattle.rc_host.specs.Plan.{Plan, plan_of}
 abbrev pub IsEntry : List ℕ → Type 0
 IsEntry entry = position_or_len (λ b. b == 61) entry < length entry
 
--- what stands before it, and what stands after it
+-- what stands before the equals sign of an entry
 abbrev pub entry_name : List ℕ → List ℕ
 entry_name entry = before_first (λ b. b == 61) entry
 
+-- what stands after the equals sign of an entry
 abbrev pub entry_value : List ℕ → List ℕ
 entry_value entry = after_first (λ b. b == 61) entry
 

@@ -13,15 +13,17 @@ options_of Read = with_read new_options true
 options_of Write = with_truncate (with_create (with_write new_options true) true) true
 options_of Append = with_create (with_append new_options true) true
 
--- a file, the end of a pipe to read from, or the end to write to
+-- a file, and no end of a pipe
 abbrev pub IsFile : OpenFile → Type 0
 IsFile (File file) = Unit {0}
 IsFile _ = ⊥
 
+-- the end of a pipe to read from
 abbrev pub IsReadEnd : OpenFile → Type 0
 IsReadEnd (ReadEnd end) = Unit {0}
 IsReadEnd _ = ⊥
 
+-- the end of a pipe to write to
 abbrev pub IsWriteEnd : OpenFile → Type 0
 IsWriteEnd (WriteEnd end) = Unit {0}
 IsWriteEnd _ = ⊥

@@ -38,13 +38,15 @@ pub record Copying : Type 0 where
 abbrev pub by_text : List ℕ → Slot → Slot → Copying
 by_text text output errors = record { text = text; output = output; errors = errors }
 
--- descriptor 2 becomes a copy of 1, or 1 of 2, or the two change places
+-- descriptor 2 becomes a copy of 1
 abbrev pub errors_to_output : List ℕ
 errors_to_output = codes "exec \"$@\" 2>&1"
 
+-- descriptor 1 becomes a copy of 2
 abbrev pub output_to_errors : List ℕ
 output_to_errors = codes "exec \"$@\" 1>&2"
 
+-- descriptors 1 and 2 change places
 abbrev pub exchanged : List ℕ
 exchanged = codes "exec \"$@\" 3>&1 1>&2 2>&3 3>&-"
 

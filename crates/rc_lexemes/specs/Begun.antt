@@ -4,6 +4,7 @@ use Rattle.rc_model.specs.Syntax.HereDocs as model
 use Rattle.rc_lexemes.specs.declared.here.Begun.{Begun}
 use Rattle.rc_lexemes.specs.declared.here.Begun.TheVariants.{Plain, Dollar, Naming}
 
+-- what has begun, as the definitions have it
 abbrev pub begun_of : Begun → model.Begun
 begun_of (Plain text) = model.Plain (string_bytes text)
 begun_of (Dollar text) = model.Dollar (string_bytes text)

@@ -4,6 +4,7 @@ use Rattle.rc_model.specs.Syntax.Tokens as model
 use Rattle.rc_lexemes.specs.declared.lexeme.Lexeme.{Lexeme}
 use Rattle.rc_lexemes.specs.declared.lexeme.Lexeme.TheVariants as l
 
+-- a lexeme, as the definitions have it
 abbrev pub lexeme_of : Lexeme → model.Lexeme
 lexeme_of (l.Word text) = model.Word (string_bytes text)
 lexeme_of (l.Quoted text) = model.Quoted (string_bytes text)
@@ -32,5 +33,6 @@ lexeme_of l.Subscript = model.Subscript
 lexeme_of l.BareDollar = model.BareDollar
 lexeme_of l.BareHere = model.BareHere
 
+-- several lexemes, as the definitions have them
 abbrev pub lexemes_of : List Lexeme → List model.Lexeme
 lexemes_of ls = map lexeme_of ls

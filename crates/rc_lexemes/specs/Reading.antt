@@ -7,6 +7,7 @@ use Rattle.rc_lexemes.specs.declared.fault.Fault.{Fault}
 use Rattle.rc_lexemes.specs.declared.fault.Fault.TheVariants as f
 use Rattle.rc_lexemes.specs.declared.fault.TokenFault.{TokenFault}
 
+-- a fault, as the definitions have it
 abbrev pub fault_of : Fault → d.Fault
 fault_of f.Unexpected = d.Unexpected
 fault_of f.IfNot = d.IfNot
@@ -17,11 +18,12 @@ fault_of f.TooManyStages = d.TooManyStages
 abbrev pub TokenError : Type 0
 TokenError = InputError TokenFault
 
--- What a function returned, seen by view, is what the descent gives, unless memory ran out.
+-- the descent has the fault that a function returned, unless memory ran out
 abbrev pub Fails : {Y : Type 0} → TokenError → Result Y d.Fault → Type 0
 Fails (error.Fault f) read = read ≡ Err (fault_of f.fault)
 Fails error.NoMemory read = Unit {0}
 
+-- what a function returned, seen by view, is what the descent gives, unless memory ran out
 abbrev pub Gives : {X Y : Type 0} → (X → Y) → Result X TokenError → Result Y d.Fault → Type 0
 Gives view (Ok x) read = read ≡ Ok (view x)
 Gives view (Err e) read = Fails e read

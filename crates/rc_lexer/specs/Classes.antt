@@ -4,6 +4,7 @@ use Rattle.rc_lexer.specs.declared.operators.Class.{Class}
 use Rattle.rc_lexer.specs.declared.operators.Class.TheVariants.{Operates, Blank, LineEnd, Hash, Quote, Backslash}
 use Rattle.rc_lexer.specs.declared.operators.Class.TheVariants.{Ordinary}
 
+-- a class of characters, as the definitions have it
 abbrev pub class_is : Class → model.Class
 class_is Operates = model.Operates
 class_is Blank = model.Blank

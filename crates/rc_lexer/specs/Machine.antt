@@ -20,9 +20,11 @@ use Rattle.rc_lexer.specs.declared.machine.Lexer.{Lexer}
 use Rattle.rc_lexer.specs.Views.{slice_at, tokens_of, lexeme_of}
 use Rattle.rc_lexer.specs.Classes.{class_is}
 
+-- a place in the script, as the definitions have it
 abbrev pub place_of : Place → model.Place
 place_of p = record { byte = p.byte; line = p.line }
 
+-- what stands before the next token, as the definitions have it
 abbrev pub before_of : Before → model.Before
 before_of before.Apart = model.Apart
 before_of before.Word = model.WordBefore
@@ -31,27 +33,32 @@ before_of before.Name = model.NameBefore
 before_of before.Dollar = model.DollarBefore
 before_of (before.Here p q) = model.HereBefore (place_of p) (place_of q)
 
+-- a here document that is due, as the definitions have it
 abbrev pub due_of : Due → model.Due
 due_of d = record { mark = d.mark.items; line = d.line }
 
--- the here documents that are due, the tokens and bodies so far, and the `$`s whose name is still to come
+-- the here documents that are due
 abbrev pub due_in : Lexer → List model.Due
 due_in l = map due_of l.due.items
 
+-- the tokens so far
 abbrev pub tokens_in : List ℕ → Lexer → List model.Token
 tokens_in script l = tokens_of script l.tokens.items
 
+-- the `$`s whose name is still to come
 abbrev pub dollars_in : List ℕ → Lexer → List model.Token
 dollars_in script l = tokens_of script l.dollars.items
 
+-- the bodies of here documents so far
 abbrev pub bodies_in : List ℕ → Lexer → List (List ℕ)
 bodies_in script l = map (slice_at script) l.bodies.items
 
--- the state of a lexer that has read this many bytes of the script
+-- the state in the body of the first here document that is due, after these bytes of it and of its last line
 abbrev pub body_of : List Due → List ℕ → List ℕ → reading.State
 body_of [] body line = reading.Between model.Apart
 body_of (d ∷ due) body line = reading.Body (due_of d) body line
 
+-- the state of a lexer that has read this many bytes of the script, by what else it holds
 abbrev pub state_of : List ℕ → ℕ → List model.Token → List Due → State → reading.State
 state_of script end dollars due (Between b) = reading.Between (before_of b)
 state_of script end dollars due Comment = reading.Comment
@@ -74,13 +81,16 @@ abbrev pub behind_first : List Due → List model.Due
 behind_first [] = []
 behind_first (d ∷ due) = map due_of due
 
+-- the here documents that are due besides the one whose body is read, if one is
 abbrev pub due_behind : List Due → State → List model.Due
 due_behind due (Body b l) = behind_first due
 due_behind due s = map due_of due
 
+-- the state of a lexer that has read this many bytes of the script
 abbrev pub state_in : List ℕ → ℕ → Lexer → State → reading.State
 state_in script end l s = state_of script end (dollars_in script l) l.due.items s
 
+-- the here documents that a lexer in this state has still to read after that one
 abbrev pub due_left : Lexer → State → List model.Due
 due_left l s = due_behind l.due.items s
 
@@ -120,7 +130,8 @@ Does script end old new (Err (Fault f)) x = x ≡ Err f
 Does script end old new (Err NoMemory) x = Unit {0}
 
 -- the lexer has read a lexeme between two places, and this stands after it
-pub record Spelled (script : List ℕ) (before after : Before) (l : model.Lexeme) (p q : Place) (old new : Lexer) : Type 0 where
+pub record Spelled (script : List ℕ) (before after : Before) (l : model.Lexeme) (p q : Place)
+    (old new : Lexer) : Type 0 where
   pub tokens : tokens_in script new ≡ tokens_in script old
       ++ model.tokens_of (before_of before) l (place_of p) (place_of q)
   pub due : due_in new ≡ model.due_after (before_of before) l (due_in old)
@@ -128,6 +139,7 @@ pub record Spelled (script : List ℕ) (before after : Before) (l : model.Lexeme
   pub dollars : new.dollars.items ≡ old.dollars.items
   pub bodies : new.bodies.items ≡ old.bodies.items
 
+-- the lexer has read this lexeme, unless memory ran out
 abbrev pub IfSpelled : List ℕ → Before → model.Lexeme → Place → Place → Lexer → Lexer → Result Before LexError → Type 0
 IfSpelled script before l p q old new (Ok after) = Spelled script before after l p q old new
 IfSpelled script before l p q old new (Err (Fault f)) = ⊥

@@ -49,6 +49,7 @@ lexeme_of script Subscript text = model.Subscript
 lexeme_of script BareDollar text = model.BareDollar
 lexeme_of script BareHere text = model.BareHere
 
+-- the token of a script that a value stands for
 abbrev pub token_of : List ℕ → Token → model.Token
 token_of script t =
     record {
@@ -58,5 +59,6 @@ token_of script t =
       line = t.line;
     }
 
+-- the tokens of a script that values stand for
 abbrev pub tokens_of : List ℕ → List Token → List model.Token
 tokens_of script ts = map (λ t. token_of script t) ts

@@ -81,7 +81,7 @@ const LONGEST: usize = isize::MAX as usize;
 pub fn lex(alloc: Global, script: &str) -> Result<Vec<Token>, LexError>
     ensures { Reads script.now result }
 {
-    // No memory holds a longer text. Shorter ones have fewer lines than a `usize` counts.
+    // No longer text fits in memory. Shorter ones have fewer lines than a `usize` counts.
     if script.len() > LONGEST {
         return Err(InputError::NoMemory);
     }

@@ -1,4 +1,4 @@
-//! Redirections: the descriptors of the shell, and the files that stand open behind them.
+//! Redirections: the descriptors of the shell, and the files that are open for them.
 #![tactic(auto)]
 
 ghost use Rattle.std.specs.Prelude.{◌≡◌, ◌++◌, ◌∷◌, ◌<◌, [], Some, None, OnOk, OnErr, map, string_bytes};

@@ -7,6 +7,7 @@ use Rattle.rc_scope.specs.declared.variables.Binding.{Binding}
 abbrev pub binding_of : Binding → List ℕ × List (List ℕ)
 binding_of b = (b.name.now, map string_bytes b.value.now)
 
+-- what bindings stand for
 abbrev pub bindings_of : List Binding → List (List ℕ × List (List ℕ))
 bindings_of bs = map binding_of bs
 

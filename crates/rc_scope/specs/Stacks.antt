@@ -1,5 +1,6 @@
 -- The values of each variable, and the open locals, that a map and a log stand for.
-use Rattle.std.specs.Prelude.{◌≡◌, ◌==◌, length, ℕ, List, [], ◌∷◌, Bool, not, ◌&&◌, if◌then◌else◌, map, reverse, string_bytes, unwrap_or, option_map, false}
+use Rattle.std.specs.Prelude.{◌≡◌, ◌==◌, length, ℕ, List, [], ◌∷◌, Bool, not, ◌&&◌, if◌then◌else◌, map, reverse}
+use Rattle.std.specs.Prelude.{string_bytes, unwrap_or, option_map, false}
 use Rattle.std.specs.Str.{bytes_eq}
 use Rattle.std.specs.Map.{lookup, keys_of}
 use Rattle.std.specs.BTreeMap.{is_at, insert_entry}

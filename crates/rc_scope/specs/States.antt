@@ -10,6 +10,7 @@ use Rattle.rc_scope.specs.declared.state.State.{State}
 abbrev pub numbers : List ChildNo → List ℕ
 numbers children = map (λ child. child.0) children
 
+-- the state that a value stands for
 unfoldable pub state_of : State → model.State
 state_of s = record {
   variables = stacks_of s.variables;

@@ -19,7 +19,8 @@ pub fn names(
     alloc: Global,
     functions: &BTreeMap<String, Function>,
 ) -> Result<Vec<String>, AllocError>
-    ensures { IfOk result (λ names. map string_bytes names.items ≡ map (λ f. f.0) (functions_of functions.now.entries)) }
+    ensures { IfOk result (λ names. map string_bytes names.items
+        ≡ map (λ f. f.0) (functions_of functions.now.entries)) }
 {
     let mut names = Vec::new(alloc);
     for (name, _) in functions {

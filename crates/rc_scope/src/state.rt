@@ -1,6 +1,7 @@
 //! The state of a shell.
 
-ghost use Rattle.std.specs.Prelude.{◌≡◌, ◌↔◌, ◌∷◌, [], IfOk, OnOk, OnErr, false, not, length, ◌==◌, map, string_bytes, option_map};
+ghost use Rattle.std.specs.Prelude.{◌≡◌, ◌↔◌, ◌∷◌, [], IfOk, OnOk, OnErr, false, not, length, ◌==◌, map};
+ghost use Rattle.std.specs.Prelude.{string_bytes, option_map};
 ghost use Rattle.std.specs.Option.{option_copied};
 ghost use Rattle.std.specs.Result.{IsErrOf};
 ghost use Rattle.rc_model.specs.Run.State.{new_state, value_of, got, set_value, with_status, with_flag, is_name};
@@ -104,7 +105,8 @@ impl State {
     /// Assigns to a variable. An `Err` changes nothing.
     #[tactic(auto, unfolding(crate::specs::States::state_of))]
     pub fn set(&mut self, name: &str, value: Vec<String>) -> Result<(), SetError>
-        ensures ok { OnOk result (state_of self.new ≡ set_value (state_of self.old) name.now (map string_bytes value.items)) }
+        ensures ok { OnOk result (state_of self.new
+            ≡ set_value (state_of self.old) name.now (map string_bytes value.items)) }
         ensures bad_name { IsErrOf result SetError.BadName ↔ (is_name name.now ≡ false) }
         ensures err { OnErr result (state_of self.new ≡ state_of self.old) }
     {
@@ -123,7 +125,8 @@ impl State {
     /// Opens a local with this value; one of the status sets it. An `Err` changes nothing.
     #[tactic(auto, unfolding(crate::specs::States::state_of))]
     pub fn push_local(&mut self, name: &str, value: Vec<String>) -> Result<(), SetError>
-        ensures ok { OnOk result (state_of self.new ≡ push_local (state_of self.old) name.now (map string_bytes value.items)) }
+        ensures ok { OnOk result (state_of self.new
+            ≡ push_local (state_of self.old) name.now (map string_bytes value.items)) }
         ensures bad_name { IsErrOf result SetError.BadName ↔ (is_name name.now ≡ false) }
         ensures err { OnErr result (state_of self.new ≡ state_of self.old) }
     {

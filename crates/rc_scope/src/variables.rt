@@ -87,9 +87,15 @@ impl Variables {
     }
 
     /// Changes the visible value. An `Err` changes nothing.
-    #[tactic(auto, using(crate::proofs::Stacks::variables), unfolding(crate::specs::Stacks::stacks_of, crate::specs::Stacks::locals_of))]
+    #[tactic(
+        auto,
+        using(crate::proofs::Stacks::variables),
+        unfolding(crate::specs::Stacks::stacks_of, crate::specs::Stacks::locals_of),
+    )]
     pub fn set(&mut self, alloc: Global, name: &str, texts: Vec<String>) -> Result<(), AllocError>
-        ensures ok { OnOk result (stacks_of self.new ≡ put_values (stacks_of self.old) name.now (map string_bytes texts.items ∷ covered (stack_in (stacks_of self.old) name.now))) }
+        ensures ok { OnOk result (stacks_of self.new
+            ≡ put_values (stacks_of self.old) name.now (map string_bytes texts.items
+            ∷ covered (stack_in (stacks_of self.old) name.now))) }
         ensures locals { locals_of self.new ≡ locals_of self.old }
         ensures err { OnErr result (stacks_of self.new ≡ stacks_of self.old) }
     {
@@ -115,10 +121,16 @@ impl Variables {
     }
 
     /// A new local with this value. An `Err` changes nothing.
-    #[tactic(auto, using(crate::proofs::Stacks::variables), unfolding(crate::specs::Stacks::stacks_of, crate::specs::Stacks::locals_of))]
+    #[tactic(
+        auto,
+        using(crate::proofs::Stacks::variables),
+        unfolding(crate::specs::Stacks::stacks_of, crate::specs::Stacks::locals_of),
+    )]
     pub fn push(&mut self, alloc: Global, name: &str, texts: Vec<String>) -> Result<(), AllocError>
         requires { bytes_eq name.now status_name ≡ false }
-        ensures ok { OnOk result (stacks_of self.new ≡ put_values (stacks_of self.old) name.now (map string_bytes texts.items ∷ stack_in (stacks_of self.old) name.now)) }
+        ensures ok { OnOk result (stacks_of self.new
+            ≡ put_values (stacks_of self.old) name.now (map string_bytes texts.items
+            ∷ stack_in (stacks_of self.old) name.now)) }
         ensures locals { OnOk result (locals_of self.new ≡ name.now ∷ locals_of self.old) }
         ensures err { OnErr result (stacks_of self.new ≡ stacks_of self.old) }
         ensures err_locals { OnErr result (locals_of self.new ≡ locals_of self.old) }
@@ -136,7 +148,11 @@ impl Variables {
     }
 
     /// A new local of the status, which covers nothing. An `Err` changes nothing.
-    #[tactic(auto, using(crate::proofs::Stacks::variables), unfolding(crate::specs::Stacks::stacks_of, crate::specs::Stacks::locals_of))]
+    #[tactic(
+        auto,
+        using(crate::proofs::Stacks::variables),
+        unfolding(crate::specs::Stacks::stacks_of, crate::specs::Stacks::locals_of),
+    )]
     pub fn push_status(&mut self, alloc: Global) -> Result<(), AllocError>
         ensures stacks { stacks_of self.new ≡ stacks_of self.old }
         ensures ok { OnOk result (locals_of self.new ≡ status_name ∷ locals_of self.old) }
@@ -151,7 +167,7 @@ impl Variables {
         Ok(())
     }
 
-    /// What a local covers becomes visible. It takes no memory: its name is in the map.
+    /// What a local covers becomes visible. It allocates nothing: its name is in the map.
     fn uncover(&mut self, local: Local)
         ensures values { Uncovers local self.old.values.entries self.new.values.entries }
         ensures log { self.new.log ≡ self.old.log }
@@ -167,7 +183,11 @@ impl Variables {
     }
 
     /// The newest local ends.
-    #[tactic(auto, using(crate::proofs::Stacks::variables), unfolding(crate::specs::Stacks::stacks_of, crate::specs::Stacks::locals_of))]
+    #[tactic(
+        auto,
+        using(crate::proofs::Stacks::variables),
+        unfolding(crate::specs::Stacks::stacks_of, crate::specs::Stacks::locals_of),
+    )]
     pub fn pop(&mut self)
         ensures stacks { stacks_of self.new ≡ uncovered (locals_of self.old) (stacks_of self.old) }
         ensures locals { locals_of self.new ≡ without_newest (locals_of self.old) }

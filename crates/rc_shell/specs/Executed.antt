@@ -17,7 +17,8 @@ use Rattle.rc_shell.specs.declared.script.ShellFault.{ShellFault}
 use Rattle.rc_shell.specs.declared.script.ShellFault.TheVariants.{Syntax, NoMemory}
 
 -- at most `limit` instructions end in this state, and so does the meaning
-pub record EndsWithin (limit : ℕ) (t : Node cmd) (s : model.State) (trace : List Event) (end : model.State) : Type 0 where
+pub record EndsWithin (limit : ℕ) (t : Node cmd) (s : model.State) (trace : List Event)
+    (end : model.State) : Type 0 where
   pub ran : run limit t s (answers trace) ≡ Ends (calls trace) end []
   pub meant : EndsAsMeant t s trace end
 

@@ -6,7 +6,8 @@ ghost use Rattle.rc_model.specs.Syntax.Accepted.{IsAccepted, IsRefused};
 ghost use Rattle.rc_model.specs.Run.Script.{Agrees, Told};
 ghost use Rattle.rc_model.specs.Syntax.Tree.{Node, cmd};
 ghost use Rattle.rc_scope.specs.States.{state_of};
-ghost use Rattle.rc_shell.specs.Executed.{EndsProper, HandsOver, IfAccepted, IfSyntax, LeavesNothing, LosesNothing, RunsAsMeant};
+ghost use Rattle.rc_shell.specs.Executed.{EndsProper, HandsOver, IfAccepted, IfSyntax, LeavesNothing, LosesNothing};
+ghost use Rattle.rc_shell.specs.Executed.{RunsAsMeant};
 ghost use Rattle.rc_tree_types.specs.View.{cmd_tree};
 
 use rc_code::compile;
@@ -88,9 +89,11 @@ pub fn execute<W: World>(
 
     // Over fresh answers nothing is lost at any moment, and where the script ended nothing is left.
     ensures lost { IfAccepted script.now (W.events world.old) (W.events world.new) (LosesNothing (state_of state)) }
-    ensures left { IfAccepted script.now (W.events world.old) (W.events world.new) (LeavesNothing (state_of state) result) }
+    ensures left { IfAccepted script.now (W.events world.old) (W.events world.new)
+        (LeavesNothing (state_of state) result) }
 
-    // From a proper state each shell that was started reads back what it was handed, and the state at the end is proper.
+    // From a proper state each shell that was started reads back what it was handed, and the state at the end is
+    // proper.
     ensures handed { IfAccepted script.now (W.events world.old) (W.events world.new) (HandsOver (state_of state)) }
     ensures proper { EndsProper (state_of state) result }
 

@@ -11,7 +11,7 @@ use rc_model::limits::{MOST_LEVELS, MOST_STAGES};
 use rc_model::{Logic, Mode};
 use rc_tree_types::{Arg, Branch, Cmd, Item, Piece, Redir, Stage};
 
-/// Whether the tree is well formed. It takes no memory.
+/// Whether the tree is well formed. It allocates nothing.
 #[tactic(auto, unfolding(crate::specs::Fits::fits))]
 pub fn well_formed(cmd: &Cmd) -> bool
     ensures { result ≡ well_formed (cmd_tree cmd.now) }

@@ -4,9 +4,11 @@
 ghost use Rattle.std.specs.Prelude.{◌≡◌, ◌++◌, [], OnOk, string_bytes};
 ghost use Rattle.std.specs.Fmt.{decimal};
 ghost use Rattle.rc_model.specs.Syntax.Tree.{count};
-ghost use Rattle.rc_model.specs.Handed.Image.{node_image, many_image, list_image, text_image, literal_mark, item_mark, logic_mark, opening_mark};
+ghost use Rattle.rc_model.specs.Handed.Image.{node_image, many_image, list_image, text_image, literal_mark};
+ghost use Rattle.rc_model.specs.Handed.Image.{item_mark, logic_mark, opening_mark};
 ghost use Rattle.rc_tree_types.specs.View.{cmd_tree, arg_tree, redir_tree, piece_tree, pieces_tree};
-ghost use Rattle.rc_tree_types.specs.View.{args_tree, items_tree, pairs_tree, redirs_tree, stages_tree, links_tree, branches_tree};
+ghost use Rattle.rc_tree_types.specs.View.{args_tree, items_tree, pairs_tree, redirs_tree, stages_tree, links_tree};
+ghost use Rattle.rc_tree_types.specs.View.{branches_tree};
 
 use rc_tree::{Arg, Branch, Cmd, Item, Logic, Mode, Piece, Redir, Stage};
 use std::alloc::AllocError;
@@ -95,7 +97,8 @@ fn push_piece(out: &mut String, piece: &Piece) -> Result<(), AllocError>
 
 #[tactic(auto, using(crate::proofs::Spelling::spelling))]
 fn push_pieces(out: &mut String, pieces: &[Piece]) -> Result<(), AllocError>
-    ensures { OnOk result (string_bytes out.new ≡ string_bytes out.old ++ list_image (count (pieces_tree pieces.now)) (many_image (pieces_tree pieces.now))) }
+    ensures { OnOk result (string_bytes out.new ≡ string_bytes out.old
+        ++ list_image (count (pieces_tree pieces.now)) (many_image (pieces_tree pieces.now))) }
 {
     push_count(out, pieces.len())?;
     for x in pieces {
@@ -104,7 +107,7 @@ fn push_pieces(out: &mut String, pieces: &[Piece]) -> Result<(), AllocError>
     Ok(())
 }
 
-/// Writes the spelling of a command behind what stands there.
+/// Writes the spelling of a command after what stands there.
 #[cycle(spell)]
 #[tactic(auto, using(crate::proofs::Spelling::spelling))]
 pub fn push_spelling(out: &mut String, cmd: &Cmd) -> Result<(), AllocError>
@@ -253,7 +256,8 @@ fn push_redir(out: &mut String, redir: &Redir) -> Result<(), AllocError>
 #[cycle(spell)]
 #[tactic(auto, using(crate::proofs::Spelling::spelling))]
 fn push_args(out: &mut String, args: &[Arg]) -> Result<(), AllocError>
-    ensures { OnOk result (string_bytes out.new ≡ string_bytes out.old ++ list_image (count (args_tree args.now)) (many_image (args_tree args.now))) }
+    ensures { OnOk result (string_bytes out.new ≡ string_bytes out.old
+        ++ list_image (count (args_tree args.now)) (many_image (args_tree args.now))) }
 {
     push_count(out, args.len())?;
     for x in args {
@@ -265,7 +269,8 @@ fn push_args(out: &mut String, args: &[Arg]) -> Result<(), AllocError>
 #[cycle(spell)]
 #[tactic(auto, using(crate::proofs::Spelling::spelling))]
 fn push_items(out: &mut String, items: &[Item]) -> Result<(), AllocError>
-    ensures { OnOk result (string_bytes out.new ≡ string_bytes out.old ++ list_image (count (items_tree items.now)) (many_image (items_tree items.now))) }
+    ensures { OnOk result (string_bytes out.new ≡ string_bytes out.old
+        ++ list_image (count (items_tree items.now)) (many_image (items_tree items.now))) }
 {
     push_count(out, items.len())?;
     for x in items {
@@ -278,7 +283,8 @@ fn push_items(out: &mut String, items: &[Item]) -> Result<(), AllocError>
 #[cycle(spell)]
 #[tactic(auto, using(crate::proofs::Spelling::spelling))]
 fn push_pairs(out: &mut String, pairs: &[(Arg, Arg)]) -> Result<(), AllocError>
-    ensures { OnOk result (string_bytes out.new ≡ string_bytes out.old ++ list_image (count (pairs_tree pairs.now)) (many_image (pairs_tree pairs.now))) }
+    ensures { OnOk result (string_bytes out.new ≡ string_bytes out.old
+        ++ list_image (count (pairs_tree pairs.now)) (many_image (pairs_tree pairs.now))) }
 {
     push_count(out, pairs.len())?;
     for x in pairs {
@@ -291,7 +297,8 @@ fn push_pairs(out: &mut String, pairs: &[(Arg, Arg)]) -> Result<(), AllocError>
 #[cycle(spell)]
 #[tactic(auto, using(crate::proofs::Spelling::spelling))]
 fn push_redirs(out: &mut String, redirs: &[Redir]) -> Result<(), AllocError>
-    ensures { OnOk result (string_bytes out.new ≡ string_bytes out.old ++ list_image (count (redirs_tree redirs.now)) (many_image (redirs_tree redirs.now))) }
+    ensures { OnOk result (string_bytes out.new ≡ string_bytes out.old
+        ++ list_image (count (redirs_tree redirs.now)) (many_image (redirs_tree redirs.now))) }
 {
     push_count(out, redirs.len())?;
     for x in redirs {
@@ -303,7 +310,8 @@ fn push_redirs(out: &mut String, redirs: &[Redir]) -> Result<(), AllocError>
 #[cycle(spell)]
 #[tactic(auto, using(crate::proofs::Spelling::spelling))]
 fn push_stages(out: &mut String, stages: &[Stage]) -> Result<(), AllocError>
-    ensures { OnOk result (string_bytes out.new ≡ string_bytes out.old ++ list_image (count (stages_tree stages.now)) (many_image (stages_tree stages.now))) }
+    ensures { OnOk result (string_bytes out.new ≡ string_bytes out.old
+        ++ list_image (count (stages_tree stages.now)) (many_image (stages_tree stages.now))) }
 {
     push_count(out, stages.len())?;
     for x in stages {
@@ -316,7 +324,8 @@ fn push_stages(out: &mut String, stages: &[Stage]) -> Result<(), AllocError>
 #[cycle(spell)]
 #[tactic(auto, using(crate::proofs::Spelling::spelling))]
 fn push_links(out: &mut String, links: &[(Logic, Cmd)]) -> Result<(), AllocError>
-    ensures { OnOk result (string_bytes out.new ≡ string_bytes out.old ++ list_image (count (links_tree links.now)) (many_image (links_tree links.now))) }
+    ensures { OnOk result (string_bytes out.new ≡ string_bytes out.old
+        ++ list_image (count (links_tree links.now)) (many_image (links_tree links.now))) }
 {
     push_count(out, links.len())?;
     for x in links {
@@ -329,7 +338,8 @@ fn push_links(out: &mut String, links: &[(Logic, Cmd)]) -> Result<(), AllocError
 #[cycle(spell)]
 #[tactic(auto, using(crate::proofs::Spelling::spelling))]
 fn push_branches(out: &mut String, branches: &[Branch]) -> Result<(), AllocError>
-    ensures { OnOk result (string_bytes out.new ≡ string_bytes out.old ++ list_image (count (branches_tree branches.now)) (many_image (branches_tree branches.now))) }
+    ensures { OnOk result (string_bytes out.new ≡ string_bytes out.old
+        ++ list_image (count (branches_tree branches.now)) (many_image (branches_tree branches.now))) }
 {
     push_count(out, branches.len())?;
     for x in branches {

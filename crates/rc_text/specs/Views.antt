@@ -6,5 +6,6 @@ use Rattle.rc_text.specs.declared.words.Ch.{Ch}
 abbrev pub mark_of : Ch → ℕ × Bool
 mark_of ch = (ch.c, ch.pat)
 
+-- the characters of a word, each with its mark
 abbrev pub marks : List Ch → List (ℕ × Bool)
 marks chs = map mark_of chs

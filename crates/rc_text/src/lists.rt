@@ -8,7 +8,7 @@ use smallvec::SmallVec;
 use std::alloc::{AllocError, Global};
 use std::marker::Model;
 
-/// A list of words. Up to eight of them take no memory beside their own.
+/// A list of words. Up to eight of them need no allocation of their own.
 #[derive(Drop)]
 pub struct List(SmallVec<Word, 8>);
 

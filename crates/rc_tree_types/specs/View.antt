@@ -30,14 +30,18 @@ use Rattle.rc_tree_types.specs.declared.Cmd.{Row_of-Cmd-AndOr-1-2, end_of-Cmd-An
 use Rattle.rc_tree_types.specs.declared.Cmd.{Row_of-Branch, end_of-Branch, more_of-Branch}
 use Rattle.rc_tree_types.specs.declared.Arg.TheBlock as rows
 
+-- a piece of a here document
 abbrev pub piece_tree : Piece → Node t.piece
 piece_tree (Text x) = t.Text (string_bytes x)
 piece_tree (Name x) = t.Name (string_bytes x)
 
+-- the pieces of a here document
 abbrev pub pieces_tree : List Piece → Many t.piece
 pieces_tree = nodes piece_tree
 
+-- the tree of each form
 unfoldable mutual
+  -- a command
   pub cmd_tree : Cmd → Node t.cmd
   cmd_tree c.Empty = t.Empty
   cmd_tree (c.Seq' s k) = t.Seq (item_row k)
@@ -59,6 +63,7 @@ unfoldable mutual
   cmd_tree (c.Undefine' s k) = t.Undefine (arg_row k)
   cmd_tree (c.Brace' p x) = t.Brace (cmd_tree x)
 
+  -- an argument
   pub arg_tree : Arg → Node t.arg
   arg_tree (a.Lit x q) = t.Lit (string_bytes x) q
   arg_tree (a.Concat' s k) = t.Concat (arg_row k)
@@ -69,73 +74,92 @@ unfoldable mutual
   arg_tree (a.Sub' p x s k) = t.Sub (arg_tree x) (arg_row k)
   arg_tree (a.Back' p x) = t.Back (cmd_tree x)
 
+  -- a redirection
   pub redir_tree : Redir → Node t.redir
   redir_tree (r.Open m s x) = t.Open m s (arg_tree x)
   redir_tree (r.Copy x y) = t.Copy x y
   redir_tree (r.Here ps) = t.Here (pieces_tree ps.items)
 
+  -- arguments, in the order in which they lie in memory
   arg_row : {m : _} → Row_of-Arg m → Many t.arg
   arg_row end_of-Arg = none
   arg_row (more_of-Arg x k) = more (arg_tree x) (arg_row k)
 
+  -- items of a sequence
   item_row : {m : _} → Row_of-Item m → Many t.item
   item_row end_of-Item = none
   item_row (more_of-Item x b k) = more (t.Item (cmd_tree x) b) (item_row k)
 
+  -- assignments
   pair_row : {m : _} → Row_of-Cmd-Assign-0-2 m → Many t.pair
   pair_row end_of-Cmd-Assign-0-2 = none
   pair_row (more_of-Cmd-Assign-0-2 x y k) = more (t.Pair (arg_tree x) (arg_tree y)) (pair_row k)
 
+  -- redirections
   redir_row : {m : _} → Row_of-Redir m → Many t.redir
   redir_row end_of-Redir = none
   redir_row (more_of-Redir x k) = more (redir_tree x) (redir_row k)
 
+  -- stages of a pipeline
   stage_row : {m : _} → Row_of-Stage m → Many t.stage
   stage_row end_of-Stage = none
   stage_row (more_of-Stage x n k) = more (t.Stage (cmd_tree x) n) (stage_row k)
 
+  -- operands after the first
   link_row : {m : _} → Row_of-Cmd-AndOr-1-2 m → Many t.link
   link_row end_of-Cmd-AndOr-1-2 = none
   link_row (more_of-Cmd-AndOr-1-2 l x k) = more (t.Link l (cmd_tree x)) (link_row k)
 
+  -- branches of a switch
   branch_row : {m : _} → Row_of-Branch m → Many t.branch
   branch_row end_of-Branch = none
   branch_row (more_of-Branch s j p x k) = more (t.Branch (arg_row j) (cmd_tree x)) (branch_row k)
 
--- the same over lists, as loops meet them
+-- a list of arguments, as loops meet it; so are the lists of other things below
 abbrev pub args_tree : List Arg → Many t.arg
 args_tree = nodes arg_tree
 
+-- an item of a sequence
 abbrev pub item_tree : Item → Node t.item
 item_tree i = t.Item (cmd_tree i.cmd) i.background
 
+-- a list of items
 abbrev pub items_tree : List Item → Many t.item
 items_tree = nodes item_tree
 
+-- an assignment
 abbrev pub pair_tree : Arg × Arg → Node t.pair
 pair_tree x = t.Pair (arg_tree x.0) (arg_tree x.1)
 
+-- a list of assignments
 abbrev pub pairs_tree : List (Arg × Arg) → Many t.pair
 pairs_tree = nodes pair_tree
 
+-- a list of redirections
 abbrev pub redirs_tree : List Redir → Many t.redir
 redirs_tree = nodes redir_tree
 
+-- a stage of a pipeline
 abbrev pub stage_tree : Stage → Node t.stage
 stage_tree x = t.Stage (cmd_tree x.cmd) x.slot
 
+-- a list of stages
 abbrev pub stages_tree : List Stage → Many t.stage
 stages_tree = nodes stage_tree
 
+-- an operand after the first
 abbrev pub link_tree : Logic × Cmd → Node t.link
 link_tree x = t.Link x.0 (cmd_tree x.1)
 
+-- a list of operands after the first
 abbrev pub links_tree : List (Logic × Cmd) → Many t.link
 links_tree = nodes link_tree
 
+-- a branch of a switch
 abbrev pub branch_tree : Branch → Node t.branch
 branch_tree x = t.Branch (args_tree x.patterns.items) (cmd_tree x.body.value)
 
+-- a list of branches
 abbrev pub branches_tree : List Branch → Many t.branch
 branches_tree = nodes branch_tree
 
@@ -174,7 +198,8 @@ branches_listed : {m : _} (k : Row_of-Branch m) → branch_row k ≡ branches_tr
 unfolding branch_row
 branches_listed end_of-Branch = refl
 branches_listed (more_of-Branch s j p x k) =
-    ap (λ ps. more (t.Branch ps (cmd_tree x)) (branch_row k)) (args_listed j ∙ ap args_tree (sym (rows.items_shown-the_row-Arg-0 s j)))
+    ap (λ ps. more (t.Branch ps (cmd_tree x)) (branch_row k)) (args_listed j
+    ∙ ap args_tree (sym (rows.items_shown-the_row-Arg-0 s j)))
     ∙ ap (more (t.Branch (args_tree (rows.shown-the_row-Arg-0 s j).items) (cmd_tree x))) (branches_listed k)
 
 args_shown : (v : Vec Arg Global) → arg_row (rows.hidden-the_row-Arg-0 v) ≡ args_tree v.items

@@ -61,27 +61,34 @@ abbrev pub answer_or_refused : {T : Type 0} → (T → calls.Answer) → Result 
 answer_or_refused good (Ok x) = good x
 answer_or_refused good (Err fault) = calls.refused fault
 
--- the answers, each by what its calls give
+-- the answer of a call that gives an open file
 abbrev pub file_answer : Result Handle Fault → calls.Answer
 file_answer result = answer_or_refused (λ handle. calls.file handle.0) result
 
+-- the answer of a call that gives the two ends of a pipe
 abbrev pub pair_answer : Result (Handle × Handle) Fault → calls.Answer
 pair_answer result = answer_or_refused (λ ends. calls.pair ends.0.0 ends.1.0) result
 
+-- the answer of a call that gives nothing
 abbrev pub done_answer : Result (Unit {0}) Fault → calls.Answer
 done_answer result = answer_or_refused (λ x. calls.done) result
 
+-- the answer of a call that gives bytes
 abbrev pub bytes_answer : Result (Vec ℕ) Fault → calls.Answer
 bytes_answer result = answer_or_refused (λ bytes. calls.bytes bytes.items) result
 
+-- the answer of a call that gives a child
 abbrev pub child_answer : Result ChildNo Fault → calls.Answer
 child_answer result = answer_or_refused (λ child. calls.child child.0) result
 
+-- the answer of a call that gives how a child ended
 abbrev pub ending_answer : Result Ending Fault → calls.Answer
 ending_answer result = answer_or_refused calls.ended result
 
+-- the answer of a call that gives the names in a directory
 abbrev pub names_answer : Result (Vec (String Global)) Fault → calls.Answer
 names_answer result = answer_or_refused (λ names. calls.names (map string_bytes names.items)) result
 
+-- the answer of a call that gives what stands at a path
 abbrev pub kind_answer : Result Kind Fault → calls.Answer
 kind_answer result = answer_or_refused calls.found result

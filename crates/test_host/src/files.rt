@@ -138,9 +138,10 @@ fn finds_names_and_kinds(rt: HostRuntime) -> Result<(), Fail> {
     let mut host = host(rt)?;
     let directory = enter_fresh_directory(rt, &mut host)?;
     assert!(rt; is_listed(&mut host, ".", &[])?);
-    let text =
-        "mkdir d; : >plain >.h; : >\"$(printf 'x\\377')\"; cp /bin/sh run; chmod 0100 run; ln -s run link; ln -s none lost";
-    assert!(rt; run_script(alloc, &mut host, text)? == Ending::Code(0));
+    let files = "mkdir d; : >plain >.h; : >\"$(printf 'x\\377')\"; cp /bin/sh run; chmod 0100 run";
+    assert!(rt; run_script(alloc, &mut host, files)? == Ending::Code(0));
+    let links = "ln -s run link; ln -s none lost";
+    assert!(rt; run_script(alloc, &mut host, links)? == Ending::Code(0));
     let all = [".h", "d", "link", "lost", "plain", "run"];
     assert!(rt; is_listed(&mut host, ".", &all)?);
     assert!(rt; is_listed(&mut host, "d/", &[])?);

@@ -1,6 +1,6 @@
 //! How rows are written: a script, an arrow and what is wanted, or one of several things that are. After a backslash
-//! stand `n` for a newline, `t` for a tab, `0` for a byte 0, `f` and `e` for the bytes 0xff and 0xe2, and `\` for itself;
-//! and `(20 a\)` after one is 20 times `a`.
+//! stand `n` for a newline, `t` for a tab, `0` for a byte 0, `f` and `e` for the bytes 0xff and 0xe2, and `\` for
+//! itself; and `(20 a\)` after one is 20 times `a`.
 
 use anyhow::{Result, anyhow};
 use std::alloc::{AllocError, Global};

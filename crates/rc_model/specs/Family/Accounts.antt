@@ -50,7 +50,7 @@ abbrev pub counts : List ℕ → ℕ → ℕ
 counts [] k = 0
 counts (c ∷ cs) k = one c k + counts cs k
 
--- by a call
+-- where a shell stands with its newest pipe after a call
 abbrev pub next_due : Due → Call → Due
 next_due (made p w) (start l) = used p w l.slots.input
 next_due (used p w i) (close h) = passed p i
@@ -80,10 +80,12 @@ called (close h) a =
 called (wait c) a = record a { owed = λ k. a.owed k - one c k; due = next_due a.due (wait c) }
 called c a = record a { due = next_due a.due c }
 
+-- a file that was opened is held once more
 abbrev pub add_file : Option ℕ → Account → Account
 add_file (Some h) a = record a { files = λ k. a.files k + one h k; things = put a.things h a_file }
 add_file None a = a
 
+-- the two ends of a new pipe are held once more, and the write end is due
 abbrev pub add_pair : Option (ℕ × ℕ) → Account → Account
 add_pair (Some (r, w)) a = record a {
   files = λ k. a.files k + (one r k + one w k);
@@ -98,11 +100,12 @@ abbrev pub fed : Due → Option ℕ
 fed (used p w i) = Some p
 fed _ = None
 
+-- a child that was started is owed once more, for the newest pipe where that was just made
 abbrev pub add_child : Option ℕ → Account → Account
 add_child (Some c) a = record a { owed = λ k. a.owed k + one c k; feeds = put a.feeds c (fed a.due) }
 add_child None a = a
 
--- by its answer
+-- what an answer adds to the account
 abbrev pub answered : Call → Answer → Account → Account
 answered (open_file p m) x a = add_file (as_file x) a
 answered (here t) x a = add_file (as_file x) a
@@ -114,6 +117,7 @@ answered _ x a = a
 abbrev pub past : Account → Account
 past a = record a { place = suc a.place }
 
+-- the account after one more event, by its call and then by its answer
 abbrev pub after : Account → Call → Answer → Account
 after a c x = past (answered c x (called c a))
 
@@ -131,23 +135,27 @@ at_start s =
       due = free;
     }
 
+-- the account after these events
 abbrev pub account : Account → List Event → Account
 account a [] = a
 account a (e ∷ es) = account (after a e.call e.answer) es
 
--- no number is given while it is held or owed, and the two of a pair differ
+-- a new file is not held already
 abbrev pub NewFile : Option ℕ → Account → Type 0
 NewFile (Some h) a = a.files h ≡ 0
 NewFile None a = Unit {0}
 
+-- neither end of a new pipe is held already, and the two differ
 abbrev pub NewPair : Option (ℕ × ℕ) → Account → Type 0
 NewPair (Some (r, w)) a = (a.files r ≡ 0) × (a.files w ≡ 0) × (r ≢ w)
 NewPair None a = Unit {0}
 
+-- a new child is not owed already
 abbrev pub NewChild : Option ℕ → Account → Type 0
 NewChild (Some c) a = a.owed c ≡ 0
 NewChild None a = Unit {0}
 
+-- no number is given while it is held or owed, and the two of a pair differ
 abbrev pub Fresh : Account → Call → Answer → Type 0
 Fresh a (open_file p m) x = NewFile (as_file x) a
 Fresh a (here t) x = NewFile (as_file x) a
@@ -155,6 +163,7 @@ Fresh a make_pipe x = NewPair (as_pair x) a
 Fresh a (start l) x = NewChild (as_child x) a
 Fresh a _ x = Unit {0}
 
+-- that holds of each of these events
 abbrev pub FreshFrom : Account → List Event → Type 0
 FreshFrom a [] = Unit {0}
 FreshFrom a (e ∷ es) = Fresh a e.call e.answer × FreshFrom (after a e.call e.answer) es
@@ -173,6 +182,7 @@ abbrev pub HoldsSlot : Account → Slot → Type 0
 HoldsSlot a (Own n) = Unit {0}
 HoldsSlot a (To h) = 1 ≤ a.files h.0
 
+-- what each of the three descriptors stands for is held
 pub record HoldsSlots (a : Account) (slots : Slots) : Type 0 where
   pub input : HoldsSlot a slots.input
   pub output : HoldsSlot a slots.output
@@ -216,6 +226,7 @@ abbrev pub NoneHeld : Account → Option ℕ → Type 0
 NoneHeld a None = Unit {0}
 NoneHeld a (Some p) = (h : ℕ) → 1 ≤ a.files h → Elsewhere a (a.line p) (a.things h)
 
+-- a child is waited for when no end is held of the pipes of its pipeline or backquote
 abbrev pub Apart : Account → Call → Type 0
 Apart a (wait c) = NoneHeld a (a.feeds c)
 Apart a _ = Unit {0}
@@ -248,6 +259,7 @@ pub record OneWriteEnd (a : Account) : Type 0 where
   pub only : (h p : ℕ) → 1 ≤ a.files h → a.things h ≡ write_end p → IsDue p h a.due
   pub once : (h : ℕ) → a.files h ≤ 1
 
+-- that holds before each event of a trace, and at its end
 abbrev pub AllOneWriteEnd : Account → List Event → Type 0
 AllOneWriteEnd a [] = OneWriteEnd a
 AllOneWriteEnd a (e ∷ es) = OneWriteEnd a × AllOneWriteEnd (after a e.call e.answer) es
@@ -264,12 +276,13 @@ pub record NothingLost (s : State) (trace : List Event) : Type 0 where
 abbrev pub NothingLeft : State → List Event → State → Type 0
 NothingLeft s trace t = Settled (account (at_start s) trace) t
 
--- A list of answers is fresh for a plan where no number is given while it is held or owed, and the two of a pair
--- differ.
+-- a condition that is asked only where the test is false
 abbrev pub Unless : Bool → Type 0 → Type 0
 Unless true X = Unit {0}
 Unless false X = X
 
+-- a list of answers is fresh for a plan where no number is given while it is held or owed, and the two of a pair
+-- differ
 abbrev pub FreshAnswers : {X : Type 0} → Account → Plan X → List Answer → Type 0
 FreshAnswers a (ask c go) (x ∷ given) =
     Unless (is_halt x) (Fresh a c x × FreshAnswers (after a c x) (go (fitting c x)) given)

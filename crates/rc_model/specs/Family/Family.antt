@@ -71,6 +71,7 @@ abbrev pub shell_of : Option (List ℕ) → Launch → ℕ → Option (Launch ×
 shell_of None l n = Some (l, n)
 shell_of (Some path) l n = None
 
+-- the shell that a call started, where it was answered by a child
 abbrev pub shell_started : Call → Answer → Option (Launch × ℕ)
 shell_started (start l) (child n) = shell_of l.program l n
 shell_started _ _ = None
@@ -79,14 +80,16 @@ shell_started _ _ = None
 abbrev pub told : Process → Call → Answer → Process
 told p c x = record p { trace = p.trace ++ event c x ∷ [] }
 
+-- a step is added to the trace of its process
 abbrev pub with_trace : Family → Step → Family
 with_trace f e = record f { at = put f.at e.at (told (f.at e.at) e.call e.answer) }
 
--- who was started by whom, in order
+-- the process of a step and the number of the shell that it started, if it did
 abbrev pub born : Step → Option (Launch × ℕ) → List (ℕ × ℕ)
 born e None = []
 born e (Some (l, n)) = (e.at, n) ∷ []
 
+-- who was started by whom, in order
 abbrev pub starts : List Step → List (ℕ × ℕ)
 starts [] = []
 starts (e ∷ es) = born e (shell_started e.call e.answer) ++ starts es
@@ -110,6 +113,7 @@ module _ (reads : Launch → Node cmd × State) where
         trace = [];
       }
 
+  -- the shell that was started, if one was, becomes the last process of the family
   abbrev pub with_child : Family → ℕ → Process → Option (Launch × ℕ) → Family
   with_child f k p None = f
   with_child f k p (Some (l, n)) = record { count = suc f.count; at = put f.at f.count (child_process k p l n) }
@@ -118,22 +122,26 @@ module _ (reads : Launch → Node cmd × State) where
   abbrev pub stepped : Family → Step → Family
   stepped f e = with_child (with_trace f e) e.at (f.at e.at) (shell_started e.call e.answer)
 
+  -- what becomes of a family by these steps
   abbrev pub family : Family → List Step → Family
   family f [] = f
   family f (e ∷ es) = family (stepped f e) es
 
-  -- process 0
+  -- a family of process 0 alone
   abbrev pub first : Node cmd → State → Family
   first c s =
       record { count = 1; at = λ k. record { origin = None; stands = λ i. elsewhere; tree = c; state = s; trace = [] } }
 
+  -- each of these steps answers a pending call of the family that came about before it
   abbrev pub ArePossible : Family → List Step → Type 0
   ArePossible f [] = Unit {0}
   ArePossible f (e ∷ es) = IsPossible f e × ArePossible (stepped f e) es
 
+-- it holds of each process of a family
 abbrev pub EachOf : (Process → Type 0) → Family → Type 0
 EachOf P f = (j : ℕ) → j < f.count → P (f.at j)
 
+-- the answers of each process are fresh
 abbrev pub AreFresh : Family → Type 0
 AreFresh f = EachOf (λ p. IsFresh p.state p.trace) f
 
@@ -190,6 +198,7 @@ pub data WaitsLong (f : Family) : ℕ → ℕ → Type 0 where
   directly : {k j : ℕ} → WaitsFor f k j → WaitsLong f k j
   through : {k j m : ℕ} → WaitsFor f k j → WaitsLong f j m → WaitsLong f k m
 
+-- no shells wait for each other in a ring
 pub record NoRing (f : Family) : Type 0 where
   -- a shell waits for greater numbers alone
   pub for_greater : (k j : ℕ) → WaitsFor f k j → k < j
@@ -220,8 +229,7 @@ module _ (reads : Launch → Node cmd × State) where
       ((family reads (first reads c s) es).at 0).origin ≡ None ×
       StandFrom (family reads (first reads c s) es) 1 (starts es)
 
-  -- what a process was handed: process 0 the first script and state, any other what its launch is read as, which stands
-  -- in its parent's trace
+  -- a process was started by an earlier one, in whose trace its launch stands, and was handed what that is read as
   pub record WasStarted (f : Family) (j k : ℕ) : Type 0 where
     pub earlier : k < j
     pub launch : Launch
@@ -234,6 +242,7 @@ module _ (reads : Launch → Node cmd × State) where
     pub tree : (f.at j).tree ≡ (reads launch).0
     pub state : (f.at j).state ≡ (reads launch).1
 
+  -- process 0 was handed the first script and state, any other what its launch is read as
   abbrev pub HandedSo : Node cmd → State → Family → ℕ → Type 0
   HandedSo c s f zero = ((f.at 0).tree ≡ c) × ((f.at 0).state ≡ s)
   HandedSo c s f (suc j) = (k : ℕ) × WasStarted f (suc j) k
@@ -244,6 +253,7 @@ module _ (reads : Launch → Node cmd × State) where
     pub as_meant : EachOf GoesAsMeant (family reads (first reads c s) es)
     pub fresh : AreFresh (family reads (first reads c s) es)
 
+  -- each process began with what it was handed, none loses anything, and no ring of waiting shells is closed
   pub record Sane (c : Node cmd) (s : State) (f : Family) : Type 0 where
     pub handed : (j : ℕ) → j < f.count → HandedSo c s f j
     pub launched : (j k : ℕ) → j < f.count → (w : WasStarted f j k) → IsHanded w.launch
@@ -267,6 +277,7 @@ pub record BeganAsHanded (f : Family) (j k : ℕ) : Type 0 where
   pub tree : (f.at j).tree ≡ handed.tree
   pub state : (f.at j).state ≡ entry_state handed.state
 
+-- any process but process 0 began with what the process that started it handed over
 abbrev pub BeganSo : Family → ℕ → Type 0
 BeganSo f zero = Unit {0}
 BeganSo f (suc j) = (k : ℕ) × BeganAsHanded f (suc j) k
@@ -275,6 +286,7 @@ BeganSo f (suc j) = (k : ℕ) × BeganAsHanded f (suc j) k
 abbrev pub AllRead : Family → Type 0
 AllRead f = (j : ℕ) → j < f.count → IsScript (f.at j).tree × IsProper (f.at j).state × BeganSo f j
 
+-- so it is in every family of shells that read what they are handed
 abbrev pub FamiliesRead : Type 0
 FamiliesRead = (c : Node cmd) (s : State) (es : List Step) → IsScript c → IsProper s → IsFamily read_launch c s es →
     AllRead (family read_launch (first read_launch c s) es)

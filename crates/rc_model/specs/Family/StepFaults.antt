@@ -7,6 +7,7 @@ use Rattle.rc_model.specs.Run.State.{State}
 use Rattle.rc_model.specs.Family.Family.{Process, Family, IsPending, HasEnded, GoesAsMeant, EachOf, shell_started}
 use Rattle.rc_model.specs.Family.Family.{child_process, told, stepped}
 
+-- why a step is refused
 pub data StepFault : Type 0 where
   NoProcess : StepFault
   AtEnd : StepFault

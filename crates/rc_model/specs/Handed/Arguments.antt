@@ -16,14 +16,16 @@ use Rattle.rc_model.specs.Handed.Environment.{Variables, fresh_state, read_state
 abbrev pub fit : Launch → Option (List (List ℕ) × List (List ℕ))
 fit l = if is_fit l then Some (l.args, l.entries) else None
 
+-- the arguments and entries by which a command and a state are handed over, where they fit
 abbrev pub handed : Node cmd → State → Option (List (List ℕ) × List (List ℕ))
 handed c s = fit (shell_launch plain c s)
 
--- each name with its visible value, where that isn't empty
+-- a name with its visible value, where that isn't empty, before the others
 abbrev pub with_top : List ℕ → List (List ℕ) → Variables → Variables
 with_top name [] others = others
 with_top name (m ∷ ms) others = (name, (m ∷ ms) ∷ []) ∷ others
 
+-- each name with its visible value alone, where that isn't empty
 abbrev pub flat : Variables → Variables
 flat [] = []
 flat (b ∷ bs) = with_top b.0 (visible b.1) (flat bs)
@@ -41,19 +43,22 @@ read_image strict words entries =
     read_state true (drop image.1 words) entries >>= λ s.
     Ok (image.0, record s { strict = strict })
 
--- `-e` may stand before `-S`, and the words of the image follow
+-- `-S`, and the words after it
 abbrev pub after_mark : (strict : Bool) → List (List ℕ) → Option (Bool × List (List ℕ))
 after_mark strict [] = None
 after_mark strict (word ∷ words) = if bytes_eq word (codes "-S") then Some (strict, words) else None
 
+-- `-e` may stand before `-S`, and the words of the image follow
 abbrev pub options : List (List ℕ) → Option (Bool × List (List ℕ))
 options [] = None
 options (word ∷ words) = if bytes_eq word (codes "-e") then after_mark true words else after_mark false (word ∷ words)
 
+-- what was read, where there was no fault
 abbrev pub as_option : {A : Type 0} → Result A ImageFault → Option A
 as_option (Ok x) = Some x
 as_option (Err e) = None
 
+-- the tree and the state by these options, if there are any, and entries
 abbrev pub reads_by : Option (Bool × List (List ℕ)) → List (List ℕ) → Option (Node cmd × State)
 reads_by None entries = None
 reads_by (Some o) entries = as_option (read_image o.0 o.1 entries)

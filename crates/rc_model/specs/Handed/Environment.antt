@@ -11,13 +11,15 @@ use Rattle.rc_model.specs.Run.State.{State, status_name, is_name, is_function_na
 use Rattle.rc_model.specs.Handed.Image.{is_kept}
 use Rattle.rc_model.specs.Handed.TreeReading.{ImageFault, ◌>>=◌, read_tree}
 
--- names with texts, with values, and with bodies
+-- names with texts
 abbrev pub Bindings : Type 0
 Bindings = List (List ℕ × List ℕ)
 
+-- names with their values, the visible one first
 abbrev pub Variables : Type 0
 Variables = List (List ℕ × List (List (List ℕ)))
 
+-- names with the bodies of functions
 abbrev pub Functions : Type 0
 Functions = List (List ℕ × Node cmd)
 
@@ -34,19 +36,22 @@ unescaped (b ∷ c ∷ rest) =
 abbrev pub members_of : List ℕ → List (List ℕ)
 members_of text = map unescaped (slice_split (λ b. b == 1) text)
 
--- NAME=TEXT is cut at the first `=`; an entry with none is ignored
+-- a cut entry whose name has one more byte in front
 abbrev pub with_first : ℕ → Option (List ℕ × List ℕ) → Option (List ℕ × List ℕ)
 with_first b None = None
 with_first b (Some x) = Some (b ∷ x.0, x.1)
 
+-- NAME=TEXT is cut at the first `=`, if there is one
 abbrev pub cut_entry : List ℕ → Option (List ℕ × List ℕ)
 cut_entry [] = None
 cut_entry (b ∷ bs) = if b == 61 then Some ([], bs) else with_first b (cut_entry bs)
 
+-- an entry that could be cut comes before the others
 abbrev pub with_cut : Option (List ℕ × List ℕ) → Bindings → Bindings
 with_cut None others = others
 with_cut (Some b) others = b ∷ others
 
+-- the names and texts of these entries; one without `=` is ignored
 abbrev pub bindings : List (List ℕ) → Bindings
 bindings [] = []
 bindings (e ∷ es) = with_cut (cut_entry e) (bindings es)
@@ -88,11 +93,12 @@ abbrev pub with_args : List (List ℕ) → Variables → Variables
 with_args [] variables = variables
 with_args (a ∷ args) variables = insert_entry text_cmp variables (codes "*") ((a ∷ args) ∷ [])
 
--- functions and the status are read only from a shell of the same kind
+-- functions are read only from a shell of the same kind
 abbrev pub own_functions : Bool → Bindings → Result Functions ImageFault
 own_functions true bs = functions_in [] bs
 own_functions false bs = Ok []
 
+-- the status is read only from a shell of the same kind, and is otherwise null
 abbrev pub own_status : Bool → Bindings → List ℕ
 own_status true bs = status_in bs
 own_status false bs = []

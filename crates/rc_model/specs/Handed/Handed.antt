@@ -12,6 +12,7 @@ pub record IsHanded (l : Launch) : Type 0 where
   pub is : l ≡ shell_launch l.slots tree state
   pub fits : is_fit l ≡ true
 
+-- a shell is handed such an image; nothing is said of a program
 abbrev pub HandedTo : Option (List ℕ) → Launch → Type 0
 HandedTo None l = IsHanded l
 HandedTo (Some path) l = Unit {0}

@@ -11,7 +11,7 @@ use Rattle.rc_model.specs.Handed.Arguments.{handed, entry_state, read_image, rea
 use Rattle.rc_model.specs.Handed.Proper.{IsScript, IsProper}
 use Rattle.rc_model.specs.Handed.Handed.{IsHanded}
 
--- what is handed over reads back
+-- the arguments and entries that are handed over read back as the tree and the state of the subshell
 abbrev pub HandedReadsBack : Type 0
 HandedReadsBack = (c : Node cmd) (s : State) (h : List (List ℕ) × List (List ℕ)) → IsScript c → IsProper s →
     handed c s ≡ Some h → reads h.0 h.1 ≡ Some (c, entry_state s)
@@ -36,6 +36,7 @@ pub record IsReadBack (l : Launch) : Type 0 where
   pub state : IsProper handed.state
   pub back : reads l.args l.entries ≡ Some (handed.tree, entry_state handed.state)
 
+-- the launch of a shell reads back so; nothing is said of that of a program
 abbrev pub ReadBackBy : Option (List ℕ) → Launch → Type 0
 ReadBackBy None l = IsReadBack l
 ReadBackBy (Some path) l = Unit {0}
@@ -45,6 +46,7 @@ abbrev pub ReadsBack : Call → Type 0
 ReadsBack (start l) = ReadBackBy l.program l
 ReadsBack _ = Unit {0}
 
+-- each shell that is started by these calls reads back what it is handed
 abbrev pub AllReadBack : List Call → Type 0
 AllReadBack [] = Unit {0}
 AllReadBack (c ∷ cs) = ReadsBack c × AllReadBack cs
@@ -65,12 +67,13 @@ EndsAreProper =
     (n : ℕ) (c : Node cmd) (s t : State) (given left : List Answer) (made : List Call) → IsScript c → IsProper s →
     script n c s given ≡ Ends made t left → IsProper t
 
--- the same of a trace that is begun as the script means, or ends as it means
+-- the shells started in a trace that is begun as the script means read back what they are handed
 abbrev pub TracesReadBack : Type 0
 TracesReadBack =
     (c : Node cmd) (s : State) (trace : List Event) → IsScript c → IsProper s → IsBegunAsMeant c s trace →
     AllReadBack (calls trace)
 
+-- where a trace ends as the script means, the state at its end is proper
 abbrev pub TracesEndProper : Type 0
 TracesEndProper =
     (c : Node cmd) (s t : State) (trace : List Event) → IsScript c → IsProper s → EndsAsMeant c s trace t → IsProper t

@@ -20,27 +20,30 @@ text_image text = decimal (length text) ++ 58 ∷ text
 abbrev pub list_image : ℕ → List ℕ → List ℕ
 list_image n items = decimal n ++ 44 ∷ items
 
--- how a word is written
+-- `q` for a quoted word, and `w` for an unquoted one
 abbrev pub literal_mark : Bool → List ℕ
 literal_mark true = codes "q"
 literal_mark false = codes "w"
 
--- `&` and `;` after an item
+-- `&` for an item in the background, and `;` for any other
 abbrev pub item_mark : Bool → List ℕ
 item_mark true = codes "&"
 item_mark false = codes ";"
 
+-- `<`, or `>` or `+` with its descriptor, before the path of a file
 abbrev pub opening_mark : Mode → ℕ → List ℕ
 opening_mark Read slot = codes "<"
 opening_mark Write slot = codes ">" ++ decimal slot
 opening_mark Append slot = codes "+" ++ decimal slot
 
+-- `&` for `&&`, and `|` for `||`
 abbrev pub logic_mark : t.Logic → List ℕ
 logic_mark And = codes "&"
 logic_mark Or = codes "|"
 
 -- the spelling of a tree
 unfoldable mutual
+  -- the spelling of a node
   pub node_image : {s : Sort} → Node s → List ℕ
   node_image t.Empty = codes "e"
   node_image (t.Seq items) = codes "s" ++ list_image (count items) (many_image items)
@@ -84,6 +87,7 @@ unfoldable mutual
   node_image (t.Text text) = codes "t" ++ text_image text
   node_image (t.Name name) = codes "v" ++ text_image name
 
+  -- the spellings of several nodes, one after the other
   pub many_image : {s : Sort} → Many s → List ℕ
   many_image none = []
   many_image (more n ns) = node_image n ++ many_image ns
@@ -130,7 +134,8 @@ with_functions (f ∷ fs) others = insert_entry text_cmp (with_functions fs othe
 -- the entries of a launch, in byte order of their names: the variables, always the status, and the functions
 abbrev pub entries : State → List (List ℕ)
 entries s =
-    map entry (with_functions s.functions (insert_entry text_cmp (handed_values s.variables) status_name (value_text (s.status ∷ []))))
+    map entry (with_functions s.functions
+        (insert_entry text_cmp (handed_values s.variables) status_name (value_text (s.status ∷ []))))
 
 -- an argument or an entry is at most so long
 abbrev pub is_short : List ℕ → Bool

@@ -4,10 +4,11 @@ use Rattle.std.specs.Prelude.{◌≡◌, Bool, true, ◌&&◌, ◌||◌, if◌th
 use Rattle.std.specs.Str.{IsCharBoundary}
 use Rattle.std.specs.Fmt.{decimal}
 
--- a word of a launch has at most so many bytes, and an image so many pieces
+-- a word of a launch has at most so many bytes
 abbrev pub longest_word : ℕ
 longest_word = 100000
 
+-- an image has at most so many pieces
 abbrev pub most_pieces : ℕ
 most_pieces = 16
 
@@ -26,10 +27,11 @@ pub data ArePieces (limit : ℕ) : List ℕ → List (List ℕ) → Type 0 where
       IsLongest limit text piece →
       ArePieces limit rest pieces → ArePieces limit text (piece ∷ pieces)
 
--- in one word, and in several
+-- a spelling in one word
 abbrev pub one_word : List ℕ → List (List ℕ)
 one_word text = (codes "rc1;" ++ text) ∷ []
 
+-- the pieces of a spelling, after a word with their number
 abbrev pub several_words : List (List ℕ) → List (List ℕ)
 several_words pieces = (codes "rc2;" ++ decimal (length pieces)) ∷ pieces
 

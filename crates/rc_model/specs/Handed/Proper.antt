@@ -9,11 +9,12 @@ use Rattle.rc_model.specs.Syntax.WellFormed.{well_formed}
 use Rattle.rc_model.specs.Run.State.{State, status_name, is_name, is_function_name}
 use Rattle.rc_model.specs.Handed.TreeSpelling.{has_characters}
 
--- the names of a map are in byte order, and differ
+-- a name comes before all these names in byte order
 abbrev pub Above : {X : Type 0} → List ℕ → List (List ℕ × X) → Type 0
 Above k [] = Unit {0}
 Above k (e ∷ es) = (text_cmp k e.0 ≡ Less) × Above k es
 
+-- the names of a map are in byte order, and differ
 abbrev pub Ordered : {X : Type 0} → List (List ℕ × X) → Type 0
 Ordered [] = Unit {0}
 Ordered (e ∷ es) = Above e.0 es × Ordered es
@@ -23,6 +24,7 @@ pub record IsScript (c : Node cmd) : Type 0 where
   pub sound : IsTrue (well_formed c)
   pub characters : IsTrue (has_characters c)
 
+-- the bodies of all functions are trees that a shell holds
 abbrev pub AllScripts : List (List ℕ × Node cmd) → Type 0
 AllScripts [] = Unit {0}
 AllScripts (f ∷ fs) = IsScript f.1 × AllScripts fs

@@ -22,6 +22,7 @@ pub data ImageFault : Type 0 where
 abbrev pub Reader : Type 0 → Type 0
 Reader X = List ℕ → Result (X × List ℕ) ImageFault
 
+-- reading goes on with what was read, unless there was a fault
 infixl 10 ◌>>=◌
 abbrev pub ◌>>=◌ : {A B : Type 0} → Result A ImageFault → (A → Result B ImageFault) → Result B ImageFault
 (Ok x) >>= f = f x
@@ -53,11 +54,12 @@ tagged rows (b ∷ rest) = chosen rows b rest
 abbrev pub given : {X : Type 0} → X → Reader X
 given x bytes = Ok (x, bytes)
 
--- the digits at the front, and what stands after them
+-- the digits at the front
 abbrev pub digit_run : List ℕ → List ℕ
 digit_run [] = []
 digit_run (b ∷ bs) = if is_digit b then b ∷ digit_run bs else []
 
+-- what stands after the digits at the front
 abbrev pub past_digits : List ℕ → List ℕ
 past_digits [] = []
 past_digits (b ∷ bs) = if is_digit b then past_digits bs else b ∷ bs
@@ -95,16 +97,19 @@ nodes_at r (suc n) bytes = r bytes >>= λ x. nodes_at r n x.1 >>= λ y. Ok (more
 abbrev pub listed : {s : Sort} → (ℕ → Bool) → Reader (Node s) → Reader (Many s)
 listed test r bytes = tested test (count_at 44) bytes >>= λ n. nodes_at r n.0 n.1
 
--- `1` or `2`; `12` or `21`
+-- the numbers of the two outputs
 abbrev pub output_rows : List (ℕ × Reader ℕ)
 output_rows = (49, given 1) ∷ (50, given 2) ∷ []
 
+-- `1` or `2`
 abbrev pub output_at : Reader ℕ
 output_at = tagged output_rows
 
+-- `1` with a `2` after it, and `2` with a `1` after it
 abbrev pub crossing_rows : List (ℕ × Reader (ℕ × ℕ))
 crossing_rows = (49, tagged ((50, given (1, 2)) ∷ [])) ∷ (50, tagged ((49, given (2, 1)) ∷ [])) ∷ []
 
+-- `12` or `21`
 abbrev pub crossing_at : Reader (ℕ × ℕ)
 crossing_at = tagged crossing_rows
 
@@ -113,47 +118,59 @@ abbrev pub need : Bool → Bool → Bool
 need true test = test
 need false test = true
 
--- how many nodes a list may have
+-- a list has any number of nodes
 abbrev pub any : ℕ → Bool
 any n = true
 
+-- a list has one node at least
 abbrev pub some : Bool → ℕ → Bool
 some k n = need k (nat_lt 0 n)
 
+-- a list has two nodes at least
 abbrev pub several : Bool → ℕ → Bool
 several k n = need k (nat_lt 1 n)
 
+-- a list has 1 to 63 nodes
 abbrev pub few : Bool → ℕ → Bool
 few k n = need k (nat_lt 0 n && nat_lt n 64)
 
--- the nodes of a list, given the readers of commands and arguments
+-- an item of a sequence, by its mark, given the reader of commands
 abbrev pub item_rows : Reader (Node cmd) → List (ℕ × Reader (Node item))
 item_rows c = (59, made (λ x. t.Item x false) c) ∷ (38, made (λ x. t.Item x true) c) ∷ []
 
+-- an item of a sequence
 abbrev pub item_at : Reader (Node cmd) → Reader (Node item)
 item_at c = tagged (item_rows c)
 
+-- an assignment
 abbrev pub pair_at : Reader (Node arg) → Reader (Node pair)
 pair_at a = made (λ x. t.Pair x.0 x.1) (both a a)
 
+-- a stage, with the descriptor that goes into the pipe before it
 abbrev pub stage_at : Reader (Node cmd) → Reader (Node stage)
 stage_at c = made (λ x. t.Stage x.1 x.0) (both output_at c)
 
+-- an operand after `&&` or `||`, by its mark
 abbrev pub link_rows : Reader (Node cmd) → List (ℕ × Reader (Node link))
 link_rows c = (38, made (t.Link And) c) ∷ (124, made (t.Link Or) c) ∷ []
 
+-- an operand after `&&` or `||`
 abbrev pub link_at : Reader (Node cmd) → Reader (Node link)
 link_at c = tagged (link_rows c)
 
+-- a branch: its patterns and its body
 abbrev pub branch_at : Reader (Node cmd) → Reader (Node arg) → Reader (Node branch)
 branch_at c a = made (λ x. t.Branch x.0 x.1) (both (listed any a) c)
 
+-- a piece of a here document, by its mark
 abbrev pub piece_rows : List (ℕ × Reader (Node piece))
 piece_rows = (116, made t.Text text_at) ∷ (118, made t.Name text_at) ∷ []
 
+-- a piece of a here document
 abbrev pub piece_at : Reader (Node piece)
 piece_at = tagged piece_rows
 
+-- a redirection, by its mark
 abbrev pub redir_rows : Reader (Node arg) → List (ℕ × Reader (Node redir))
 redir_rows a =
     (60, made (t.Open Read 0) a)
@@ -163,6 +180,7 @@ redir_rows a =
     ∷ (104, made t.Here (listed any piece_at))
     ∷ []
 
+-- a redirection
 abbrev pub redir_at : Reader (Node arg) → Reader (Node redir)
 redir_at a = tagged (redir_rows a)
 
@@ -206,10 +224,12 @@ arg_rows k c a =
 
 -- a node with at most so many commands and arguments on one way from it
 unfoldable mutual
+  -- a command of at most this depth
   pub cmd_at : Bool → ℕ → Reader (Node cmd)
   cmd_at k zero bytes = Err TooDeep
   cmd_at k (suc d) bytes = tagged (cmd_rows k (cmd_at k d) (arg_at k d)) bytes
 
+  -- an argument of at most this depth
   pub arg_at : Bool → ℕ → Reader (Node arg)
   arg_at k zero bytes = Err TooDeep
   arg_at k (suc d) bytes = tagged (arg_rows k (cmd_at k d) (arg_at k d)) bytes

@@ -18,6 +18,7 @@ pub record Joined (P Q : List ℕ → Type 0) (text : List ℕ) : Type 0 where
   pub first : P front
   pub second : Q back
 
+-- texts of one kind, each with one of another kind after it
 infixr 30 ◌⨾◌
 abbrev pub ◌⨾◌ : (List ℕ → Type 0) → (List ℕ → Type 0) → List ℕ → Type 0
 (P ⨾ Q) text = Joined P Q text
@@ -67,6 +68,7 @@ pub record Plainly (slot : ℕ) (path : List ℕ → Type 0) (text : List ℕ) :
   pub input : slot ≡ 0
   pub rest : path text
 
+-- a file that is opened so, at a descriptor
 abbrev pub Opened : Mode → ℕ → (List ℕ → Type 0) → List ℕ → Type 0
 Opened Read slot path = Is (codes "<") ⨾ Plainly slot path
 Opened Write slot path = Is (codes ">") ⨾ Output slot ⨾ path
@@ -74,6 +76,7 @@ Opened Append slot path = Is (codes "+") ⨾ Output slot ⨾ path
 
 -- the spellings of a tree
 abbrev mutual
+  -- the spellings of a node
   pub Spells : {s : Sort} → Node s → List ℕ → Type 0
   Spells t.Empty = Is (codes "e")
   Spells (t.Seq items) = Is (codes "s") ⨾ Listed (count items) (SpellsAll items)
@@ -113,6 +116,7 @@ abbrev mutual
   Spells (t.Text text) = Is (codes "t") ⨾ Texted text
   Spells (t.Name text) = Is (codes "v") ⨾ Texted text
 
+  -- those of several nodes, one after the other
   pub SpellsAll : {s : Sort} → Many s → List ℕ → Type 0
   SpellsAll none = Is []
   SpellsAll (more n ns) = Spells n ⨾ SpellsAll ns
@@ -123,6 +127,7 @@ SpellsImage c = Is (codes "rc1;") ⨾ Spells c
 
 -- whether each text of a tree passes one test, and the count of each list another
 abbrev mutual
+  -- the texts and lists of a node pass these tests
   pub all_in : (List ℕ → Bool) → (ℕ → Bool) → {s : Sort} → Node s → Bool
   all_in word size t.Empty = true
   all_in word size (t.Seq items) = (size (count items) && all_in_many word size items)
@@ -169,6 +174,7 @@ abbrev mutual
   all_in word size (t.Text text) = word text
   all_in word size (t.Name text) = word text
 
+  -- those of several nodes do
   pub all_in_many : (List ℕ → Bool) → (ℕ → Bool) → {s : Sort} → Many s → Bool
   all_in_many word size none = true
   all_in_many word size (more n ns) = all_in word size n && all_in_many word size ns

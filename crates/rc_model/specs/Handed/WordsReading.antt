@@ -16,6 +16,7 @@ use Rattle.rc_model.specs.Handed.TreeReading.{beginning_fault}
 abbrev pub Taken : Type 0
 Taken = Result (Node cmd × ℕ) ImageFault
 
+-- a tree that was read from so many words
 abbrev pub counted : ℕ → Result (Node cmd) ImageFault → Taken
 counted n tree = tree >>= λ c. Ok (c, n)
 
@@ -43,5 +44,6 @@ read_words limit (first ∷ rest) =
     else if begins_with (codes "rc2;") first then from_pieces limit first (take (digits_value 0 (drop 4 first)) rest)
     else Err (beginning_fault first)
 
+-- the tree in words that are no longer than those of a launch
 abbrev pub read_pieces : List (List ℕ) → Taken
 read_pieces words = read_words longest_word words

@@ -28,17 +28,21 @@ pub data Opening : Type 0 where
   Staged : Node t.cmd → Opening
   Named : Node t.arg → Opening
 
+-- a command that was read as a stage
 abbrev pub staged : Read (Node t.cmd) → Read Opening
 staged read = read >>= λ c. Ok (Staged c.0, c.1)
 
+-- after a first argument: with a `=` it is a name, else its other words and redirections follow
 abbrev pub behind_first : Readers → Node t.arg → Reader Opening
 behind_first deeper a (Equals ∷ ts) = Ok (Named a, ts)
 behind_first deeper a ts =
     simple_by (deeper (a_part false)) ts >>= λ x. Ok (Staged (redirect x.0.1 (t.Simple (more a x.0.0))), x.1)
 
+-- a simple command, or the name of an assignment
 unfoldable pub first_by : Readers → Reader Opening
 first_by deeper ts = arg_by (deeper (a_part false)) false ts >>= λ a. behind_first deeper a.0 a.1
 
+-- a stage, or the name of an assignment, that begins with this word
 unfoldable pub worded_by : Readers → Keyword → (word : Lexeme) → Reader Opening
 worded_by deeper SwitchWord word ts = staged (switch_by deeper (past_caret ts))
 worded_by deeper MatchWord word ts = staged (match_by deeper (past_caret ts))
@@ -46,43 +50,49 @@ worded_by deeper FnWord word ts = staged (define_by deeper (past_caret ts))
 worded_by deeper NoKeyword word ts = first_by deeper (word ∷ ts)
 worded_by deeper _ word ts = Err Unexpected
 
+-- a stage, or the name of an assignment with the `=` after it, by the next token
 unfoldable pub opening_by : Readers → Reader Opening
 opening_by deeper (Word text ∷ ts) = worded_by deeper (keyword text) (Word text) ts
 opening_by deeper (LeftBrace ∷ ts) = staged (block_by deeper (LeftBrace ∷ ts))
 opening_by deeper ts = first_by deeper ts
 
--- the body of a control form, and an operand that may be absent
+-- the body of a control form, which may be absent
 unfoldable pub body_by : Readers → Reader (Node t.cmd)
 body_by deeper ts =
     if begins_command (past_newlines ts) then deeper (a_command false) (past_newlines ts)
     else if begins_link (past_newlines ts) then Err Unexpected
     else Ok (t.Empty, past_newlines ts)
 
+-- an operand that may be absent
 unfoldable pub optional_by : Readers → Reader (Node t.cmd)
 optional_by deeper ts = if begins_command ts then deeper an_operand ts else Ok (t.Empty, ts)
 
--- what follows `if`, `while` and `for`
+-- what follows `if` where that is a word: it is `not`, and an `if` comes before
 abbrev pub not_by : Readers → (after_if : Bool) → Keyword → Reader (Node t.cmd)
 not_by deeper true NotWord ts = body_by deeper (past_caret ts) >>= λ d. Ok (t.IfNot d.0, d.1)
 not_by deeper false NotWord ts = Err IfNot
 not_by deeper after_if _ ts = Err Unexpected
 
+-- what follows `if` where that is a condition: it, and a body
 abbrev pub condition_by : Readers → Reader (Node t.cmd)
 condition_by deeper ts = do
   c ← paren_by deeper ts
   d ← body_by deeper c.1
   Ok (t.If c.0 d.0, d.1)
 
+-- what follows `if`: `not` or a condition
 unfoldable pub if_by : Readers → (after_if : Bool) → Reader (Node t.cmd)
 if_by deeper after_if (Word text ∷ ts) = not_by deeper after_if (keyword text) ts
 if_by deeper after_if ts = condition_by deeper ts
 
+-- what follows `while`: a condition and a body
 unfoldable pub while_by : Readers → Reader (Node t.cmd)
 while_by deeper ts = do
   c ← paren_by deeper ts
   d ← body_by deeper c.1
   Ok (t.While c.0 d.0, d.1)
 
+-- what follows the name of a `for` where that is a word: `in`, a list and the body
 abbrev pub in_by : Readers → Node t.arg → Keyword → Reader (Node t.cmd)
 in_by deeper a InWord ts = do
   as' ← members_by (deeper (a_part true)) (past_caret ts)
@@ -90,17 +100,19 @@ in_by deeper a InWord ts = do
   Ok (t.For a as'.0 d.0, d.1)
 in_by deeper a _ ts = Err Unexpected
 
+-- what follows the name of a `for`: the `)`, or `in` with a list
 unfoldable pub over_by : Readers → Node t.arg → Reader (Node t.cmd)
 over_by deeper a (RightParen ∷ ts) = body_by deeper ts >>= λ d. Ok (t.ForAll a d.0, d.1)
 over_by deeper a (Word text ∷ ts) = in_by deeper a (keyword text) ts
 over_by deeper a _ = Err Unexpected
 
+-- what follows `for`: a name, perhaps a list, and a body
 unfoldable pub for_by : Readers → Reader (Node t.cmd)
 for_by deeper (LeftParen ∷ ts) =
     arg_by (deeper (a_part true)) true (past_newlines ts) >>= λ a. over_by deeper a.0 (past_newlines a.1)
 for_by deeper _ = Err Unexpected
 
--- an operand that begins with `!`, `@`, a control word or a redirection
+-- `!`, `@` and the control words with which an operand begins
 abbrev pub is_leading : Keyword → Bool
 is_leading ForWord = true
 is_leading WhileWord = true
@@ -109,10 +121,12 @@ is_leading BangWord = true
 is_leading AtWord = true
 is_leading _ = false
 
+-- whether the next token begins an operand with `!`, `@`, a control word or a redirection
 abbrev pub begins_leading : List Lexeme → Bool
 begins_leading (Word text ∷ ts) = is_leading (keyword text)
 begins_leading ts = begins_redir ts
 
+-- what follows `!`, `@` or a control word
 unfoldable pub control_by : Readers → (after_if : Bool) → Keyword → Reader (Node t.cmd)
 control_by deeper after_if BangWord ts = deeper an_operand (past_caret ts) >>= λ c. Ok (t.Not c.0, c.1)
 control_by deeper after_if AtWord ts = deeper an_operand (past_caret ts) >>= λ c. Ok (t.Subshell c.0, c.1)
@@ -121,6 +135,7 @@ control_by deeper after_if WhileWord ts = while_by deeper (past_caret ts)
 control_by deeper after_if ForWord ts = for_by deeper (past_caret ts)
 control_by deeper after_if _ ts = Err Unexpected
 
+-- redirections, and the operand after them, which may be absent
 unfoldable pub redirected_by : Readers → Reader (Node t.cmd)
 redirected_by deeper ts = do
   r ← redir_by (deeper (a_part false)) ts
@@ -128,12 +143,12 @@ redirected_by deeper ts = do
   c ← optional_by deeper rs.1
   Ok (t.Redirect (more r.0 rs.0) c.0, c.1)
 
+-- an operand that begins with `!`, `@`, a control word or a redirection
 unfoldable pub leading_by : Readers → (after_if : Bool) → Reader (Node t.cmd)
 leading_by deeper after_if (Word text ∷ ts) = control_by deeper after_if (keyword text) ts
 leading_by deeper after_if ts = redirected_by deeper ts
 
--- pipelines and assignments: a pipeline with these stages and a last one so far, and an assignment with these pairs so
--- far
+-- a pipeline of these stages and a last one, which stands alone where there are no others
 abbrev pub pipeline_of : Many t.stage → Node t.cmd → Node t.cmd
 pipeline_of none last = last
 pipeline_of (more s ss) last = t.Pipeline (more s ss) last
@@ -148,18 +163,22 @@ pipe_turn deeper go_on stages last (Bar slot ∷ ts) =
     else Err TooManyStages
 pipe_turn deeper go_on stages last ts = Ok (pipeline_of stages last, ts)
 
+-- the stages of a pipeline after those so far, in at most so many turns
 unfoldable pub pipe_from : Readers → ℕ → Many t.stage → Node t.cmd → Reader (Node t.cmd)
 pipe_from deeper zero stages last ts = Ok (pipeline_of stages last, ts)
 pipe_from deeper (suc turns) stages last ts = pipe_turn deeper (λ ss c u. pipe_from deeper turns ss c u) stages last ts
 
+-- the pipeline whose first stage was read
 unfoldable pub pipe_by : Readers → Node t.cmd → Reader (Node t.cmd)
 pipe_by deeper first ts = pipe_from deeper (length ts) none first ts
 
+-- a further assignment goes on after its value, and a stage begins the command that the assignments are for
 abbrev pub value_turn : Readers → (Many t.pair → Reader (Node t.cmd)) → Many t.pair → Opening → Reader (Node t.cmd)
 value_turn deeper go_on pairs (Named a) ts =
     arg_by (deeper (a_part false)) false ts >>= λ v. go_on (snoc pairs (t.Pair a v.0)) v.1
 value_turn deeper go_on pairs (Staged c) ts = pipe_by deeper c ts >>= λ p. Ok (t.Assign pairs p.0, p.1)
 
+-- what follows the assignments so far, in at most so many turns
 unfoldable pub values_from : Readers → ℕ → Many t.pair → Reader (Node t.cmd)
 values_from deeper zero pairs ts = Ok (t.Assign pairs t.Empty, ts)
 values_from deeper (suc turns) pairs ts =
@@ -168,36 +187,42 @@ values_from deeper (suc turns) pairs ts =
     values_from deeper turns ps u) pairs o.0 o.1)
     else Ok (t.Assign pairs t.Empty, ts)
 
+-- what follows these assignments: more of them, and the command that they are for, which may be absent
 unfoldable pub values_by : Readers → Many t.pair → Reader (Node t.cmd)
 values_by deeper pairs ts = values_from deeper (length ts) pairs ts
 
+-- an operand that begins with an assignment to this name
 unfoldable pub assigned_by : Readers → Node t.arg → Reader (Node t.cmd)
 assigned_by deeper a ts =
     arg_by (deeper (a_part false)) false ts >>= λ v. values_by deeper (more (t.Pair a v.0) none) v.1
 
--- an operand; what follows a bar, and whether it is a stage, after which there may be a further bar
+-- an operand that begins with this stage or assignment
 abbrev pub opened_by : Readers → Opening → Reader (Node t.cmd)
 opened_by deeper (Named a) ts = assigned_by deeper a ts
 opened_by deeper (Staged c) ts = pipe_by deeper c ts
 
+-- an operand of `&&` and `||`
 unfoldable pub operand_by : Readers → (after_if : Bool) → Reader (Node t.cmd)
 operand_by deeper after_if ts =
     if begins_leading ts then leading_by deeper after_if ts
     else (opening_by deeper ts >>= λ o. opened_by deeper o.0 o.1)
 
+-- what ends a pipeline because it is no stage
 abbrev pub last_stage : Read (Node t.cmd) → Read (Node t.cmd × Bool)
 last_stage read = read >>= λ c. Ok ((c.0, false), c.1)
 
+-- what follows a bar and begins with a stage or an assignment
 abbrev pub piped_open : Readers → Opening → Reader (Node t.cmd × Bool)
 piped_open deeper (Named a) ts = last_stage (assigned_by deeper a ts)
 piped_open deeper (Staged c) ts = Ok ((c, true), ts)
 
+-- what follows a bar, and whether it is a stage, after which there may be a further bar
 unfoldable pub piped_by : Readers → Reader (Node t.cmd × Bool)
 piped_by deeper ts =
     if begins_leading ts then last_stage (leading_by deeper false ts)
     else (opening_by deeper ts >>= λ o. piped_open deeper o.0 o.1)
 
--- a command, and the commands of a list
+-- a `&&` or `||` reads what follows it, and goes on
 abbrev pub links_turn : Readers → (Many t.link → Reader (Many t.link)) → Many t.link → Reader (Many t.link)
 links_turn deeper go_on front (AndAnd ∷ ts) =
     operand_by deeper false (past_newlines ts) >>= λ c. go_on (snoc front (t.Link t.And c.0)) c.1
@@ -205,13 +230,16 @@ links_turn deeper go_on front (OrOr ∷ ts) =
     operand_by deeper false (past_newlines ts) >>= λ c. go_on (snoc front (t.Link t.Or c.0)) c.1
 links_turn deeper go_on front ts = Ok (front, ts)
 
+-- the operands after those so far, in at most so many turns
 unfoldable pub links_from : Readers → ℕ → Many t.link → Reader (Many t.link)
 links_from deeper zero front ts = Ok (front, ts)
 links_from deeper (suc turns) front ts = links_turn deeper (λ ls u. links_from deeper turns ls u) front ts
 
+-- the operands after the first, each with its `&&` or `||`
 unfoldable pub links_by : Readers → Reader (Many t.link)
 links_by deeper ts = links_from deeper (length ts) none ts
 
+-- a command: an operand, and those that `&&` and `||` join to it
 unfoldable pub command_by : Readers → (after_if : Bool) → Reader (Node t.cmd)
 command_by deeper after_if ts = do
   c ← operand_by deeper after_if ts
@@ -225,6 +253,7 @@ item_end (Newline ∷ ts) = Ok (false, ts)
 item_end (Ampersand ∷ ts) = Ok (true, ts)
 item_end ts = if closes ts then Ok (false, ts) else Err Unexpected
 
+-- a separator is passed over, and a command is an item, after which it goes on
 abbrev pub item_turn : Readers → (Bool → Many t.item → Reader (Many t.item)) → Bool → Many t.item → Reader (Many t.item)
 item_turn deeper go_on after_if front (Semicolon ∷ ts) = go_on after_if front ts
 item_turn deeper go_on after_if front (Newline ∷ ts) = go_on after_if front ts
@@ -233,16 +262,18 @@ item_turn deeper go_on after_if front ts = do
   b ← item_end c.1
   go_on (not b.0 && is_if c.0) (snoc front (t.Item c.0 b.0)) b.1
 
+-- the items after those so far, in at most so many turns
 unfoldable pub items_from : Readers → (in_switch : Bool) → ℕ → (after_if : Bool) → Many t.item → Reader (Many t.item)
 items_from deeper in_switch zero after_if front ts = Ok (front, ts)
 items_from deeper in_switch (suc turns) after_if front ts =
     if ends in_switch ts then Ok (front, ts)
     else item_turn deeper (λ b is u. items_from deeper in_switch turns b is u) after_if front ts
 
+-- the items of a list, or those of a branch of a switch
 unfoldable pub items_by : Readers → (in_switch : Bool) → Reader (Many t.item)
 items_by deeper in_switch ts = items_from deeper in_switch (length ts) false none ts
 
--- Reading with so many levels left.
+-- each kind of thing, given how one level deeper is read
 unfoldable pub read_by : Readers → Readers
 read_by deeper a_name ts = name_by deeper ts
 read_by deeper (a_part inside) ts = part_by deeper inside ts
@@ -251,15 +282,17 @@ read_by deeper a_piped ts = piped_by deeper ts
 read_by deeper (a_command after_if) ts = command_by deeper after_if ts
 read_by deeper (a_list in_switch) ts = items_by deeper in_switch ts
 
+-- reading with so many levels left
 unfoldable pub read : ℕ → Readers
 read zero n ts = Err TooDeep
 read (suc left) n ts = read_by (λ m u. read left m u) n ts
 
--- The tree of a script, or why it has none. Reading goes so many levels deep at most.
+-- a list is a script where no token is left and it isn't too deep
 abbrev pub whole : Read (Many t.item) → Result (Node t.cmd) Fault
 whole (Ok (is, [])) = if nat_le (depth (t.Seq is)) 200 then Ok (t.Seq is) else Err TooDeep
 whole (Ok _) = Err Unexpected
 whole (Err e) = Err e
 
+-- the tree of a script, or why it has none; reading goes so many levels deep at most
 unfoldable pub script_tree : ℕ → List Lexeme → Result (Node t.cmd) Fault
 script_tree levels ts = whole (read levels (a_list false) ts)

@@ -10,35 +10,39 @@ abbrev pub class_holds : Word → ℕ → Bool
 class_holds [] c = false
 class_holds (m ∷ ms) c = if is_marked 126 m then not (holds ms c) else holds (m ∷ ms) c
 
--- the members of a class and what follows its `]`
+-- a class with one more member in front
 abbrev pub class_with : ℕ × Bool → Option (Word × Word) → Option (Word × Word)
 class_with m None = None
 class_with m (Some p) = Some (m ∷ p.0, p.1)
 
+-- the members of a class and what follows its `]`, if it has one
 abbrev pub class_end : Word → Option (Word × Word)
 class_end [] = None
 class_end (m ∷ w) = if is_close m then Some ([], w) else class_with m (class_end w)
 
+-- what follows a class that is closed and stands for c
 abbrev pub class_after : Bool → Option (Word × Word) → ℕ → Option Word
 class_after e None c = None
 class_after e (Some p) c = if class_holds p.0 c then (if stands_for e c then Some p.1 else None) else None
 
--- what is left of the word after its first character or class, if that is no star and stands for c
+-- what is left of a word, by the kind of its first character and by what follows that
 abbrev pub one_by : Bool → Kind → ℕ → Word → ℕ → Option Word
 one_by e Star x w c = None
 one_by e Question x w c = if stands_for e c then Some w else None
 one_by e Open x w c = class_after e (class_end w) c
 one_by e Plain x w c = if x == c then Some w else None
 
+-- what is left of a word after its first character or class, if that is no star and stands for c
 abbrev pub after_one : Bool → Word → ℕ → Option Word
 after_one e [] c = None
 after_one e (m ∷ w) c = one_by e (kind m) m.0 w c
 
--- what follows a star in front
+-- what follows a first character, if that is a star
 abbrev pub star_by : Kind → Word → Option Word
 star_by Star w = Some w
 star_by _ w = None
 
+-- what follows the star with which a word begins, if it does
 abbrev pub after_star : Word → Option Word
 after_star [] = None
 after_star (m ∷ w) = star_by (kind m) w
@@ -50,19 +54,23 @@ pub data Move : Type 0 where
   AtEnd : Move
   Miss : Move
 
+-- one character is matched, or none can be
 abbrev pub past_one : ℕ → List ℕ → Option Word → Move
 past_one c t None = Miss
 past_one c t (Some v) = PastOne c v t
 
+-- what comes next where no star stands in front
 abbrev pub one_move : Bool → Word → List ℕ → Move
 one_move e [] [] = AtEnd
 one_move e (m ∷ w) [] = Miss
 one_move e w (c ∷ t) = past_one c t (after_one e w c)
 
+-- what comes next: a star in front is passed, or else one character
 abbrev pub move_by : Bool → Option Word → Word → List ℕ → Move
 move_by e None w t = one_move e w t
 move_by e (Some v) w t = PastStar v
 
+-- what comes next of a word and a text
 abbrev pub move : Bool → Word → List ℕ → Move
 move e w t = move_by e (after_star w) w t
 
@@ -71,11 +79,13 @@ move e w t = move_by e (after_star w) w t
 abbrev pub Matcher : Type 0
 Matcher = Word → List ℕ → Bool → Word → List ℕ → Option Bool
 
+-- after a mismatch the last star, if there is one, stands for one character more
 abbrev pub goes_back : Matcher → Bool → Bool → Word → List ℕ → Option Bool
 goes_back go e false bw bt = Some false
 goes_back go e true bw [] = Some false
 goes_back go e true bw (c ∷ bt) = if stands_for e c then go bw bt true bw bt else Some false
 
+-- what a match does after this move
 abbrev pub after_move : Matcher → Bool → Move → List ℕ → Bool → Word → List ℕ → Option Bool
 after_move go e (PastStar v) t s bw bt = go v t true v t
 after_move go e (PastOne c v u) t s bw bt = go v u (s && stands_for e c) bw bt

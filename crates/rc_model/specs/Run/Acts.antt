@@ -41,6 +41,7 @@ here_text s none = []
 here_text s (more (Text text) pieces) = text ++ here_text s pieces
 here_text s (more (Name name) pieces) = spaced (if is_readable name then got s name else []) ++ here_text s pieces
 
+-- a here document is handed over as a file, with the values of its names
 abbrev pub open_here : Slots → Many piece → Shell ℕ
 open_here slots pieces = do
   s ← get
@@ -106,10 +107,12 @@ pub data Started : Type 0 where
   Child : ℕ → Started
   NoChild : (why : List ℕ) → Started
 
+-- what a start gives, by the number that answered it
 abbrev pub child_of : Option ℕ → Started
 child_of (Some n) = Child n
 child_of None = NoChild (codes "cannot start")
 
+-- the world is asked to start this
 abbrev pub begun : Launch → Shell Started
 begun l = do
   a ← call (start l)
@@ -152,23 +155,25 @@ run_program slots name args = do
   path ← find_program name
   run_found slots name args path
 
--- `@ cmd`
+-- a subshell that was started is waited for, and its status is taken over
 abbrev pub wait_subshell : Started → Shell (Unit {0})
 wait_subshell (NoChild why) = set_status why
 wait_subshell (Child n) = do
   status ← waited n
   set_status status
 
+-- `@ cmd`
 abbrev pub subshell : Slots → Node cmd → Shell (Unit {0})
 subshell slots body = do
   child ← start_shell slots body
   wait_subshell child
 
--- `cmd &`
+-- a child that was started is put on the list, and `$apid` is its number
 abbrev pub kept_child : Started → Shell (Unit {0})
 kept_child (NoChild why) = set_status why
 kept_child (Child n) = change (λ s. set_value (add_child s n) (codes "apid") (decimal n ∷ []))
 
+-- a command is started with this open file as its input
 abbrev pub background_with : Slots → Node cmd → Option ℕ → Shell (Unit {0})
 background_with slots body None = set_status (codes "cannot open")
 background_with slots body (Some h) = do
@@ -176,6 +181,7 @@ background_with slots body (Some h) = do
   say (close h)
   kept_child child
 
+-- `cmd &`
 abbrev pub background : Slots → Node cmd → Shell (Unit {0})
 background slots body = do
   a ← call (open_file (codes "/dev/null") Read)
@@ -205,6 +211,7 @@ abbrev pub from_pipe : Option ℕ → Slots → Slots
 from_pipe None slots = slots
 from_pipe (Some h) slots = with_slot slots 0 (to_file h)
 
+-- after the start of a stage its write end and the read end before it are closed; a refusal ends the pipeline
 abbrev pub next_stage : (Option ℕ → List ℕ → Shell StartedStages) → Option ℕ → List ℕ → ℕ → ℕ → Started →
     Shell StartedStages
 next_stage go before children read_end write_end (Child n) = do
@@ -216,6 +223,7 @@ next_stage go before children read_end write_end (NoChild why) = do
   say (close read_end)
   no_stages before children why
 
+-- a stage is started with a new pipe after it
 abbrev pub stage_with : (Option ℕ → List ℕ → Shell StartedStages) → Slots → Node cmd → ℕ → Option ℕ → List ℕ →
     Option (ℕ × ℕ) → Shell StartedStages
 stage_with go slots body slot before children None = no_stages before children (codes "cannot pipe")
@@ -223,12 +231,14 @@ stage_with go slots body slot before children (Some (read_end, write_end)) = do
   child ← start_shell (with_slot (from_pipe before slots) slot (to_file write_end)) body
   next_stage go before children read_end write_end child
 
+-- these stages are started, with the read end before them and the children so far
 abbrev pub stages_from : Slots → Many stage → Option ℕ → List ℕ → Shell StartedStages
 stages_from slots none before children = pure (Running before children)
 stages_from slots (more (Stage body slot) stages) before children = do
   a ← call make_pipe
   stage_with (stages_from slots stages) slots body slot before children (as_pair a)
 
+-- the stages of a pipeline but the last are started
 abbrev pub start_stages : Slots → Many stage → Shell StartedStages
 start_stages slots stages = stages_from slots stages None []
 
@@ -241,14 +251,16 @@ end_stages read_end children = do
 
 -- ** reading
 
--- what reading up to the end gives, with why it stopped before
+-- what reading up to the end gives, with why it stopped if it did before the end
 pub record Got : Type 0 where
   pub text : List ℕ
   pub why : Option (List ℕ)
 
+-- such a result of reading
 abbrev pub got_all : List ℕ → Option (List ℕ) → Got
 got_all text why = record { text = text; why = why }
 
+-- what a read gave is added, and reading goes on, unless this was the end, a refusal or too much
 abbrev pub read_on : (List ℕ → Shell Got) → ℕ → List ℕ → Option (List ℕ) → Shell Got
 read_on again most text None = pure (got_all text (Some (codes "cannot read")))
 read_on again most text (Some []) = pure (got_all text None)
@@ -263,13 +275,15 @@ reading (suc n) most h text = do
   a ← call (read h)
   read_on (reading n most h) most text (as_bytes a)
 
--- the most that a backquote and a file give
+-- the most bytes that a backquote gives
 unfoldable pub longest_output : ℕ
 longest_output = 16777216
 
+-- the most bytes that a file of commands has
 unfoldable pub longest_file : ℕ
 longest_file = 1048576
 
+-- reads an open file to its end, unless there are more bytes than this
 abbrev pub read_all : ℕ → ℕ → Shell Got
 read_all most h = reading (suc most) most h []
 
@@ -279,6 +293,7 @@ read_all most h = reading (suc most) most h []
 abbrev pub text_of : List ℕ → List ℕ
 text_of bytes = utf8_lossy (filter (λ b. not (b == 0)) bytes)
 
+-- output as members, which the characters of `$ifs` part
 abbrev pub members_of : State → List ℕ → List (List ℕ)
 members_of s bytes = split (text_of bytes) (concat (value_of s (codes "ifs")))
 
@@ -287,6 +302,7 @@ abbrev pub back_status : Option (List ℕ) → List ℕ → List ℕ
 back_status None status = status
 back_status (Some why) status = why
 
+-- the output of a backquote is read, and its child is waited for
 abbrev pub back_child : ℕ → ℕ → Started → Shell (List (List ℕ))
 back_child read_end write_end (NoChild why) = do
   say (close write_end)
@@ -302,6 +318,7 @@ back_child read_end write_end (Child n) = do
   s ← get
   pure (members_of s out.text)
 
+-- the child of a backquote is started with a pipe for its output
 abbrev pub back_pipe : Slots → Node cmd → Option (ℕ × ℕ) → Shell (List (List ℕ))
 back_pipe slots body None = do
   set_status (codes "cannot pipe")
@@ -310,11 +327,13 @@ back_pipe slots body (Some (read_end, write_end)) = do
   child ← start_shell (with_slot slots 1 (to_file write_end)) body
   back_child read_end write_end child
 
+-- `` `{list} ``: the members of the output
 abbrev pub backquote : Slots → Node cmd → Shell (List (List ℕ))
 backquote slots body = do
   a ← call make_pipe
   back_pipe slots body (as_pair a)
 
+-- the same as words without marks
 abbrev pub back_words : Slots → Node cmd → Shell (List Word)
 back_words slots body = do
   members ← backquote slots body

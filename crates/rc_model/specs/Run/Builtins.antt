@@ -28,6 +28,7 @@ pub data Builtin : Type 0 where
   Wait : Builtin
   Whatis : Builtin
 
+-- the built-in command of this name, if there is one
 abbrev pub builtin_named : List ℕ → Option Builtin
 builtin_named name =
     if bytes_eq name (codes ".") then Some Dot
@@ -53,6 +54,7 @@ finished m = do
   m
   pure Finished
 
+-- a built-in command with the wrong words sets the status, and does nothing else
 abbrev pub usage : Shell Called
 usage = finished (set_status (codes "usage"))
 
@@ -61,25 +63,29 @@ abbrev pub as_body : Option (Node cmd) → Shell Called
 as_body (Some c) = pure (Body c)
 as_body None = finished (set_status (codes "syntax error"))
 
+-- a text that is run as a script, with `$*` of its own
 abbrev pub as_body_with : List (List ℕ) → Option (Node cmd) → Shell Called
 as_body_with args (Some c) = pure (BodyWith args c)
 as_body_with args None = finished (set_status (codes "syntax error"))
 
--- `. file arg ...`: the first path that opens
+-- a file that was opened, or else one of the others
 abbrev pub opened_or : Shell (Option ℕ) → Option ℕ → Shell (Option ℕ)
 opened_or others (Some h) = pure (Some h)
 opened_or others None = others
 
+-- the first of these paths that opens, if one does
 abbrev pub open_first : List (List ℕ) → Shell (Option ℕ)
 open_first [] = pure None
 open_first (path ∷ paths) = do
   a ← call (open_file path Read)
   opened_or (open_first paths) (as_file a)
 
+-- a text that was read from a file is run, or the status says why it was not read to the end
 abbrev pub whole_file : List (List ℕ) → List ℕ → Option (List ℕ) → Shell Called
 whole_file args text None = as_body_with args (tree_of text)
 whole_file args text (Some why) = finished (set_status why)
 
+-- a file that was opened is read, closed and run
 abbrev pub run_file : List (List ℕ) → Option ℕ → Shell Called
 run_file args None = finished (set_status (codes "cannot open"))
 run_file args (Some h) = do
@@ -87,6 +93,7 @@ run_file args (Some h) = do
   say (close h)
   whole_file args out.text out.why
 
+-- `. file arg ...`
 abbrev pub dot : List (List ℕ) → Shell Called
 dot [] = usage
 dot (file ∷ args) = do
@@ -94,31 +101,37 @@ dot (file ∷ args) = do
   h ← open_first (candidates s file)
   run_file args h
 
--- `cd [dir]`
+-- the first of these directories that can be changed to becomes the current one
 abbrev pub first_dir : List (List ℕ) → Shell (Unit {0})
 first_dir [] = set_status (codes "cannot cd")
 first_dir (d ∷ ds) = do
   a ← call (change_dir d)
   if as_done a then set_status [] else first_dir ds
 
+-- a directory that is tried as it is
 abbrev pub is_own_dir : List ℕ → Bool
 is_own_dir dir = is_path dir || (bytes_eq dir (codes ".") || bytes_eq dir (codes ".."))
 
+-- a directory under a member of `$cdpath`
 abbrev pub under_dir : List ℕ → List ℕ → List ℕ
 under_dir dir member = if (length member == 0) || bytes_eq member (codes ".") then dir else member ++ 47 ∷ dir
 
+-- the paths that are tried for a directory, given the value of `$cdpath`
 abbrev pub dirs_by : List ℕ → List (List ℕ) → List (List ℕ)
 dirs_by dir [] = dir ∷ []
 dirs_by dir (m ∷ ms) = if is_own_dir dir then dir ∷ [] else map (under_dir dir) (m ∷ ms)
 
+-- the first member of a value, if it has one
 abbrev pub first_member : List (List ℕ) → List (List ℕ)
 first_member [] = []
 first_member (m ∷ ms) = m ∷ []
 
+-- the paths that are tried for a directory, if one is given
 abbrev pub dirs_of : State → List (List ℕ) → List (List ℕ)
 dirs_of s [] = []
 dirs_of s (dir ∷ others) = dirs_by dir (value_of s (codes "cdpath"))
 
+-- `cd [dir]`
 abbrev pub cd : List (List ℕ) → Shell Called
 cd [] = do
   s ← get
@@ -133,39 +146,44 @@ abbrev pub exit_status : List (List ℕ) → Shell (Unit {0})
 exit_status [] = skip
 exit_status (w ∷ ws) = set_status (spaced (w ∷ ws))
 
--- `shift [n]`
+-- the first n members of `$*` are dropped
 abbrev pub shifted : Option ℕ → Shell Called
 shifted None = usage
 shifted (Some n) =
     finished (change (λ s. record (set_value s (codes "*") (drop n (value_of s (codes "*")))) { status = [] }))
 
+-- `shift [n]`
 abbrev pub shift : List (List ℕ) → Shell Called
 shift [] = shifted (Some 1)
 shift (n ∷ []) = shifted (number_of n)
 shift (n ∷ m ∷ ms) = usage
 
--- `wait [n]`: each child is taken out of the list as its wait is called
+-- a child is waited for, and is taken out of the list as its wait is called
 abbrev pub wait_child : ℕ → Shell (Unit {0})
 wait_child n = do
   change (λ s. drop_child s n)
   status ← waited n
   set_status status
 
+-- all these children are waited for, in order
 abbrev pub wait_all : List ℕ → Shell (Unit {0})
 wait_all [] = skip
 wait_all (n ∷ ns) = do
   wait_child n
   wait_all ns
 
+-- a child of this number is waited for, where the list has one
 abbrev pub wait_one : ℕ → State → Shell (Unit {0})
 wait_one n s = if list_any (λ m. m == n) s.background then wait_child n else set_status (codes "no such child")
 
+-- the same where the word is a number
 abbrev pub wait_numbered : Option ℕ → Shell Called
 wait_numbered None = usage
 wait_numbered (Some n) = do
   s ← get
   finished (wait_one n s)
 
+-- `wait [n]`
 abbrev pub wait_for : List (List ℕ) → Shell Called
 wait_for [] = do
   set_status []
@@ -174,17 +192,19 @@ wait_for [] = do
 wait_for (n ∷ []) = wait_numbered (number_of n)
 wait_for (n ∷ m ∷ ms) = usage
 
--- `whatis name ...`: a member is quoted unless all its characters are plain and it is no keyword
+-- a character of a member that needs no quotes
 abbrev pub is_plain_char : ℕ → Bool
 is_plain_char c =
     is_digit c || (nat_le 65 c && nat_le c 90) || (nat_le 97 c && nat_le c 122) || list_any (λ d.
     d == c) (codes "_./-+,:%")
 
+-- a member is quoted unless it is plain, not empty and no keyword
 abbrev pub shown : List ℕ → List ℕ
 shown text =
     if not (length text == 0) && (list_all is_plain_char text && is_plain (keyword text)) then text
     else quoted_text text
 
+-- a value as it is shown: its one member, or its members in parentheses
 abbrev pub shown_value : List (List ℕ) → List ℕ
 shown_value [] = codes "()"
 shown_value (m ∷ []) = shown m
@@ -194,18 +214,22 @@ shown_value (m ∷ n ∷ ms) = codes "(" ++ (joined (codes " ") (map shown (m �
 abbrev pub Known : Type 0
 Known = List ℕ × Option (List ℕ)
 
+-- a text with a newline after it
 abbrev pub line : List ℕ → List ℕ
 line text = text ++ 10 ∷ []
 
+-- the line of a variable, if its value isn't empty
 abbrev pub value_line : List ℕ → List (List ℕ) → List ℕ
 value_line name [] = []
 value_line name (m ∷ ms) = if is_name name then line (name ++ 61 ∷ shown_value (m ∷ ms)) else []
 
+-- the line of a function, unless there is a here document in its body
 abbrev pub function_line : List ℕ → Node cmd → Known
 function_line name body =
     if has_here body then ([], Some (codes "here document"))
     else (line (codes "fn " ++ (name ++ (codes " {" ++ (printed body ++ codes "}")))), None)
 
+-- the line of a program: its path, where it was found
 abbrev pub program_line : Option (List ℕ) → Known
 program_line None = ([], Some (codes "not found"))
 program_line (Some path) = (line path, None)
@@ -217,11 +241,13 @@ other_line name [] = do
   pure (program_line path)
 other_line name (b ∷ bs) = pure ([], None)
 
+-- the line of a function, a built-in command or a program
 abbrev pub command_line : List ℕ → List ℕ → Option (Node cmd) → Option Builtin → Shell Known
 command_line name shown (Some body) b = pure (function_line name body)
 command_line name shown None (Some b) = pure (line (codes "builtin " ++ name), None)
 command_line name shown None None = other_line name shown
 
+-- all that is known of a name
 abbrev pub known_of : List ℕ → Shell Known
 known_of name = do
   s ← get
@@ -233,6 +259,7 @@ abbrev pub later : Option (List ℕ) → Option (List ℕ) → Option (List ℕ)
 later before None = before
 later before (Some status) = Some status
 
+-- all that is known of these names
 abbrev pub known_each : List (List ℕ) → Shell Known
 known_each [] = pure ([], None)
 known_each (name ∷ names) = do
@@ -240,6 +267,7 @@ known_each (name ∷ names) = do
   others ← known_each names
   pure (first.0 ++ others.0, later first.1 others.1)
 
+-- a status that was met, else null
 abbrev pub met : Option (List ℕ) → List ℕ
 met None = []
 met (Some status) = status
@@ -251,6 +279,7 @@ write_lines slots (b ∷ bs) status = do
   a ← call (write slots.output (b ∷ bs))
   set_status (if as_done a then met status else codes "cannot write")
 
+-- `whatis name ...`
 abbrev pub whatis : Slots → List (List ℕ) → Shell Called
 whatis slots names = do
   k ← known_each names
@@ -263,6 +292,7 @@ exec slots (name ∷ args) = do
   run_program slots name args
   exits
 
+-- a built-in command with these words; those after `builtin` are run by the first argument
 abbrev pub run_builtin : Shell Called → Slots → Builtin → List (List ℕ) → Shell Called
 run_builtin again slots Dot args = dot args
 run_builtin again slots BuiltinWord args = again
@@ -286,6 +316,7 @@ abbrev pub without_functions : Slots → List (List ℕ) → Shell Called
 without_functions slots [] = usage
 without_functions slots (name ∷ args) = run_command (without_functions slots args) slots name args (builtin_named name)
 
+-- a function of this name is called, else the words are run as if there were none
 abbrev pub run_named : Slots → List ℕ → List (List ℕ) → Option (Node cmd) → Shell Called
 run_named slots name args (Some body) = pure (BodyWith args body)
 run_named slots name args None = without_functions slots (name ∷ args)

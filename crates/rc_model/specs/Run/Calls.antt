@@ -23,12 +23,13 @@ to_file h = To (record { 0 = h })
 abbrev pub plain : Slots
 plain = record { input = Own 0; output = Own 1; errors = Own 2 }
 
--- what a descriptor stands for, and another in its place
+-- what a descriptor stands for
 abbrev pub slot_of : Slots → ℕ → Slot
 slot_of slots zero = slots.input
 slot_of slots (suc zero) = slots.output
 slot_of slots (suc (suc n)) = slots.errors
 
+-- another thing in the place of this descriptor
 abbrev pub with_slot : Slots → ℕ → Slot → Slots
 with_slot slots zero s = record slots { input = s }
 with_slot slots (suc zero) s = record slots { output = s }

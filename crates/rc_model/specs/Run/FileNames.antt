@@ -20,11 +20,12 @@ is_no_name name =
     (length name == 0) || (bytes_eq name (codes ".") || (bytes_eq name (codes "..") || list_any (λ c.
     (c == 47) || (c == 0)) name))
 
--- texts in byte order, each once
+-- texts as the names of a map, which are in byte order and differ
 abbrev pub in_order : List (List ℕ) → List (List ℕ × Unit {0})
 in_order [] = []
 in_order (n ∷ ns) = insert_entry text_cmp (in_order ns) n tt
 
+-- texts in byte order, each once
 abbrev pub ordered : List (List ℕ) → List (List ℕ)
 ordered names = map (λ n. n.0) (in_order names)
 
@@ -50,12 +51,13 @@ if_there path = do
   a ← call (probe path)
   pure (if is_some (as_kind a) then path ∷ [] else [])
 
--- one component, in the directory with this path
+-- a component with a pattern character, in the directory with this path
 abbrev pub listed : Word → (List ℕ → Shell (List (List ℕ))) → List ℕ → Shell (List (List ℕ))
 listed c next path = do
   a ← call (list_names (folder path))
   each_name next path (fitting_names c (as_names a))
 
+-- one component after this path: the directory is listed only where it has a pattern character
 abbrev pub step : Word → (List ℕ → Shell (List (List ℕ))) → List ℕ → Shell (List (List ℕ))
 step c next path = if has_pattern c then listed c next path else next (path ++ word_text c)
 
@@ -82,6 +84,7 @@ names_of w = do
   paths ← paths_of (components w)
   pure (or_itself w paths)
 
+-- what one word stands for: itself, if it has no pattern character
 abbrev pub expanded_word : Word → Shell (List Word)
 expanded_word w = if has_pattern w then names_of w else pure (w ∷ [])
 

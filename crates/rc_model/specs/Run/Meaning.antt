@@ -54,10 +54,11 @@ called call slots (BodyWith args c) = do
   change (λ s. push_local s (codes "*") args)
   local_end (call slots c)
 
--- by the status
+-- the first where the status is true, and the second where it isn't
 abbrev pub if_true : {A : Type 0} → Shell A → Shell A → Shell A
 if_true m o = λ s. if is_true s.status then m s else o s
 
+-- what follows `&&` runs where the status is true, and what follows `||` where it isn't
 abbrev pub linked : Logic → Runner → Runner
 linked And m = if_true m skip
 linked Or m = if_true skip m
@@ -66,6 +67,7 @@ linked Or m = if_true skip m
 abbrev pub if_means : Runner → Runner
 if_means body = if_true (do body; change (λ s. with_flag s false)) (change (λ s. with_flag s true))
 
+-- the body of `if not` runs where the flag is set
 abbrev pub if_not_means : Runner → Runner
 if_not_means body = λ s. if s.flag then body s else skip s
 
@@ -81,7 +83,7 @@ turns (suc n) test body = do
   test
   if_true (do body; turns n test body) skip
 
--- the name gets each member in turn; the first is bound as a local
+-- the name gets each further member in turn
 abbrev pub each_more : List ℕ → List (List ℕ) → Runner → Runner
 each_more x [] body = skip
 each_more x (v ∷ vs) body = do
@@ -89,6 +91,7 @@ each_more x (v ∷ vs) body = do
   body
   each_more x vs body
 
+-- the name gets each member in turn; the first is bound as a local
 abbrev pub each : List ℕ → List (List ℕ) → Runner → Runner
 each x [] body = skip
 each x (v ∷ vs) body = do
@@ -123,7 +126,9 @@ checked false m = do
   m
   check
 
+-- what each form does, in guarded places or others, with these descriptors
 abbrev mutual
+  -- a command, each of whose loops makes at most n turns
   pub cmd_means : Node cmd → (guarded : Bool) → Caller → ℕ → Slots → Runner
   cmd_means Empty g call n slots = skip
   cmd_means (Seq items) g call n slots = items_mean items g call n slots
@@ -176,6 +181,7 @@ abbrev mutual
     change (λ s. undefine s (word_texts v))
   cmd_means (Brace body) g call n slots = cmd_means body g call n slots
 
+  -- an argument, which gives words
   pub arg_means : Node arg → Caller → ℕ → Slots → Shell (List Word)
   arg_means (Lit text quoted) call n slots = pure (written text quoted ∷ [])
   arg_means (Concat parts) call n slots = parts_mean parts call n slots
@@ -209,6 +215,7 @@ abbrev mutual
     v ← arg_means a call n slots
     more_parts_mean rest call n slots v
 
+  -- what was joined so far is joined with each further part
   pub more_parts_mean : Many arg → Caller → ℕ → Slots → List Word → Shell (List Word)
   more_parts_mean none call n slots before = pure before
   more_parts_mean (more a rest) call n slots before = do
@@ -226,7 +233,7 @@ abbrev mutual
     cmd_means c g call n slots
     items_mean rest g call n slots
 
-  -- each around those after it, and the body within
+  -- assignments, each around those after it, and the body within
   pub pairs_mean : Many pair → (bare : Bool) → Runner → Caller → ℕ → Slots → Runner
   pairs_mean none bare body call n slots = body
   pairs_mean (more (Pair name value) rest) bare body call n slots = do
@@ -236,6 +243,7 @@ abbrev mutual
     y ← variable slots x
     bound bare y (word_texts w) (pairs_mean rest bare body call n slots)
 
+  -- redirections, each around those after it, and the body within
   pub redirs_mean : Many redir → (Slots → Runner) → Caller → ℕ → Slots → Runner
   redirs_mean none body call n slots = body slots
   redirs_mean (more (Open mode slot path) rest) body call n slots = do
@@ -249,6 +257,7 @@ abbrev mutual
     h ← open_here slots pieces
     file_end h (redirs_mean rest body call n (with_slot slots 0 (to_file h)))
 
+  -- the further operands of `&&` and `||`, in order
   pub links_mean : Many link → (guarded : Bool) → Caller → ℕ → Slots → Runner
   links_mean none g call n slots = skip
   links_mean (more (Link logic c) rest) g call n slots = do

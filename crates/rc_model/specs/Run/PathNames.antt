@@ -26,10 +26,11 @@ abbrev pub IsIn : {X : Type 0} → X → List X → Type 0
 IsIn x [] = ⊥
 IsIn x (y ∷ ys) = (y ≡ x) ⊎ IsIn x ys
 
--- the names in a directory, none where they are refused; and whether something stands at a path
+-- the names in a directory, none where they are refused
 abbrev pub names_in : (Call → Answer) → List ℕ → List (List ℕ)
 names_in tells path = unwrap_or (as_names (tells (list_names (folder path)))) []
 
+-- whether something stands at a path
 abbrev pub is_there : (Call → Answer) → List ℕ → Bool
 is_there tells path = is_some (as_kind (tells (probe path)))
 

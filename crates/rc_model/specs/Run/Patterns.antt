@@ -42,19 +42,21 @@ pub data Begun : Type 0 where
   Outside : Begun
   Inside : (members : Word) → Begun
 
--- one character outside of classes: what it stands for, and what it begins
+-- what one character outside of classes stands for
 abbrev pub outside : ℕ × Bool → List Pattern
 outside m =
     if is_marked 42 m then AnyRun ∷ []
     else (if is_marked 63 m then AnyOne ∷ [] else (if is_marked 91 m then [] else This m.0 ∷ []))
 
+-- whether it begins a class
 abbrev pub begun_by : ℕ × Bool → Begun
 begun_by m = if is_marked 91 m then Inside [] else Outside
 
--- the same inside of one
+-- the class that one character inside of it ends, if it does
 abbrev pub inside : Word → ℕ × Bool → List Pattern
 inside members m = if is_marked 93 m then class_of members ∷ [] else []
 
+-- whether the class goes on after it
 abbrev pub goes_on : Word → ℕ × Bool → Begun
 goes_on members m = if is_marked 93 m then Outside else Inside (members ++ m ∷ [])
 

@@ -24,10 +24,12 @@ under cut go leave = cut
 abbrev pub leaves : {A : Type 0} → State → List ℕ → Plan (Result A)
 leaves s owed = done_with (Exit s owed)
 
+-- one thing, and then another that is given its value
 infixl 10 ◌>>=◌
 abbrev pub ◌>>=◌ : {A B : Type 0} → Shell A → (A → Shell B) → Shell B
 m >>= f = λ s. under (m s) f leaves
 
+-- one thing, and then another
 infixl 10 ◌>>◌
 abbrev pub ◌>>◌ : {B : Type 0} → Shell (Unit {0}) → Shell B → Shell B
 m >> f = λ s. under (m s) (λ a. f) leaves

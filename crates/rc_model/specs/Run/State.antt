@@ -123,10 +123,11 @@ inverted s = with_status s (if is_true s.status then codes "false" else [])
 abbrev pub function_of : State → List ℕ → Option (Node cmd)
 function_of s name = lookup (bytes_eq name) s.functions
 
--- a function is defined, and functions are removed
+-- a function is defined
 abbrev pub define : State → List ℕ → Node cmd → State
 define s name body = record s { functions = insert_entry text_cmp s.functions name body }
 
+-- these functions are removed
 abbrev pub undefine : State → List (List ℕ) → State
 undefine s [] = s
 undefine s (name ∷ names) = undefine (record s { functions = remove_entry (bytes_eq name) s.functions }) names
@@ -140,5 +141,6 @@ abbrev pub without_child : ℕ → List ℕ → List ℕ
 without_child n [] = []
 without_child n (m ∷ ms) = if m == n then ms else m ∷ without_child n ms
 
+-- the first child of this number leaves the background list
 abbrev pub drop_child : State → ℕ → State
 drop_child s n = record s { background = without_child n s.background }

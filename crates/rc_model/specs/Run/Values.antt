@@ -39,6 +39,7 @@ abbrev pub closing : {X : Type 0} → Option ℕ → Plan X → Plan X
 closing None p = p
 closing (Some h) p = ask (close h) (λ a. p)
 
+-- the end of a pipe that may be held is closed
 abbrev pub close_end : Option ℕ → Shell (Unit {0})
 close_end h s = closing h (done_with (Next tt s))
 
@@ -65,17 +66,19 @@ value slots words = do
   s ← get
   pure (got s x)
 
--- `$x`, `$#x` and `$"x`
+-- `$x`: the members of the value
 abbrev pub value_words : Slots → List Word → Shell (List Word)
 value_words slots words = do
   v ← value slots words
   pure (plain_words v)
 
+-- `$#x`: how many members the value has
 abbrev pub count_words : Slots → List Word → Shell (List Word)
 count_words slots words = do
   v ← value slots words
   pure (plain_words (decimal (length v) ∷ []))
 
+-- `$"x`: the members of the value, joined by spaces to one word
 abbrev pub flat_words : Slots → List Word → Shell (List Word)
 flat_words slots words = do
   v ← value slots words
@@ -87,12 +90,13 @@ selected_words slots words subscripts = do
   v ← value slots words
   pure (plain_words (selected v (word_texts subscripts)))
 
--- `a^b`
+-- the words of a concatenation, or the runtime error that it is
 abbrev pub joined_lists : Slots → Result (List Word) ListFault → Shell (List Word)
 joined_lists slots (Ok ws) = pure ws
 joined_lists slots (Err EmptyConcat) = fails slots (codes "empty list in concatenation")
 joined_lists slots (Err CountMismatch) = fails slots (codes "list lengths differ in concatenation")
 
+-- `a^b`
 abbrev pub concat_words : Slots → List Word → List Word → Shell (List Word)
 concat_words slots a b = joined_lists slots (concatenated a b)
 

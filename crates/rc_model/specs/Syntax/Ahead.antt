@@ -29,14 +29,16 @@ keyword text =
     else if bytes_eq text (codes "@") then AtWord
     else NoKeyword
 
+-- a word that is no keyword
 abbrev pub is_plain : Keyword → Bool
 is_plain NoKeyword = true
 is_plain _ = false
 
+-- the word with which a case line begins
 abbrev pub is_case : List ℕ → Bool
 is_case text = bytes_eq text (codes "case")
 
--- whether the next token begins an argument; one that isn't a keyword; a redirection; a command
+-- whether the next token begins an argument
 abbrev pub begins_arg : List Lexeme → Bool
 begins_arg (Word text ∷ ts) = true
 begins_arg (Quoted text ∷ ts) = true
@@ -47,48 +49,56 @@ begins_arg (DollarCount ∷ ts) = true
 begins_arg (DollarFlat ∷ ts) = true
 begins_arg _ = false
 
+-- whether it begins an argument that is no keyword
 abbrev pub begins_first : List Lexeme → Bool
 begins_first (Word text ∷ ts) = is_plain (keyword text)
 begins_first ts = begins_arg ts
 
+-- whether it begins a redirection
 abbrev pub begins_redir : List Lexeme → Bool
 begins_redir (Redirection mode slot ∷ ts) = true
 begins_redir (CopyTo to from ∷ ts) = true
 begins_redir (HereDoc quoted body ∷ ts) = true
 begins_redir _ = false
 
+-- whether it begins a list in braces
 abbrev pub begins_brace : List Lexeme → Bool
 begins_brace (LeftBrace ∷ ts) = true
 begins_brace _ = false
 
+-- whether it begins a command
 abbrev pub begins_command : List Lexeme → Bool
 begins_command ts = begins_arg ts || (begins_redir ts || begins_brace ts)
 
--- whether the next token is `&&` or `||`; `|`; `=`; the `(` of a subscript
+-- whether the next token is `&&` or `||`
 abbrev pub begins_link : List Lexeme → Bool
 begins_link (AndAnd ∷ ts) = true
 begins_link (OrOr ∷ ts) = true
 begins_link _ = false
 
+-- whether it is `|`
 abbrev pub begins_bar : List Lexeme → Bool
 begins_bar (Bar slot ∷ ts) = true
 begins_bar _ = false
 
+-- whether it is `=`
 abbrev pub begins_value : List Lexeme → Bool
 begins_value (Equals ∷ ts) = true
 begins_value _ = false
 
+-- whether it is the `(` of a subscript
 abbrev pub begins_subscript : List Lexeme → Bool
 begins_subscript (Subscript ∷ ts) = true
 begins_subscript _ = false
 
--- whether a list ends here: at `)`, `}` or the end of the text; in a switch also where a case line begins
+-- whether a list ends here: at `)`, `}` or the end of the text
 abbrev pub closes : List Lexeme → Bool
 closes [] = true
 closes (RightParen ∷ ts) = true
 closes (RightBrace ∷ ts) = true
 closes _ = false
 
+-- the same, but in a switch a list ends also where a case line begins
 abbrev pub ends : (in_switch : Bool) → List Lexeme → Bool
 ends true (Word text ∷ ts) = is_case text
 ends _ ts = closes ts
@@ -100,11 +110,12 @@ ends_case (Newline ∷ ts) = true
 ends_case (RightBrace ∷ ts) = true
 ends_case _ = false
 
--- newlines are passed over; inside parentheses they are blanks
+-- newlines are passed over
 abbrev pub past_newlines : List Lexeme → List Lexeme
 past_newlines (Newline ∷ ts) = past_newlines ts
 past_newlines ts = ts
 
+-- inside parentheses newlines are blanks, which are passed over
 abbrev pub past_blanks : (inside : Bool) → List Lexeme → List Lexeme
 past_blanks true ts = past_newlines ts
 past_blanks false ts = ts
@@ -130,12 +141,12 @@ abbrev pub redirect : Many t.redir → Node t.cmd → Node t.cmd
 redirect none body = body
 redirect (more r rs) body = t.Redirect (more r rs) body
 
--- The stages that follow a first one, each with the bar before it: those before the last with the bar after them, and
--- the last.
+-- of a first stage and of those that follow, each with the bar before it: all but the last, each with the bar after it
 abbrev pub stages_of : Node t.cmd → Many t.stage → Many t.stage
 stages_of first none = none
 stages_of first (more (t.Stage second slot) rest) = more (t.Stage first slot) (stages_of second rest)
 
+-- the last of the stages that follow a first one
 abbrev pub last_of : Node t.cmd → Many t.stage → Node t.cmd
 last_of first none = first
 last_of first (more (t.Stage second slot) rest) = last_of second rest

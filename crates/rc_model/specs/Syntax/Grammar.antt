@@ -21,6 +21,7 @@ pub use Rattle.rc_model.specs.Syntax.Ahead.{begins_subscript, closes, ends, ends
 pub use Rattle.rc_model.specs.Syntax.Ahead.{past_caret, after_caret, concat_of, redirect, stages_of, last_of}
 pub use Rattle.rc_model.specs.Syntax.Ahead.{pipeline, and_or, is_if}
 
+-- what a production describes
 pub data Level : Type 0 where
   -- a name after a `$`; a part of an argument; an argument, also where newlines are blanks; the parts after carets
   name : Level
@@ -164,7 +165,8 @@ pub data Phrase : (l : Level) → List Lexeme → Out l → List Lexeme → Type
       Phrase simple mid x rest → Phrase stage ts (redirect x.1 (t.Simple (more a x.0))) rest
   brace_stage : {ts mid rest : List Lexeme} {c : Node t.cmd} {rs : Many t.redir} → Phrase brace ts c mid →
       Phrase redirs mid rs rest → Phrase stage ts (redirect rs (t.Brace c)) rest
-  switch_stage : {text : List ℕ} {ts mid inner next rest : List Lexeme} {a : Node t.arg} {bs : Many t.branch} {rs : Many t.redir} → keyword text ≡ SwitchWord →
+  switch_stage : {text : List ℕ} {ts mid inner next rest : List Lexeme} {a : Node t.arg} {bs : Many t.branch}
+      {rs : Many t.redir} → keyword text ≡ SwitchWord →
       Phrase (arg false) (past_caret ts) a mid → past_newlines mid ≡ LeftBrace ∷ inner →
       Phrase branches inner bs (RightBrace ∷ next) → Phrase redirs next rs rest →
       Phrase stage (Word text ∷ ts) (redirect rs (t.Switch a bs)) rest
@@ -198,7 +200,8 @@ pub data Phrase : (l : Level) → List Lexeme → Out l → List Lexeme → Type
   subshell_leading : {after_if : Bool} {text : List ℕ} {ts rest : List Lexeme} {c : Node t.cmd} → keyword text
       ≡ AtWord → Phrase (operand false) (past_caret ts) c rest →
       Phrase (leading after_if) (Word text ∷ ts) (t.Subshell c) rest
-  redir_leading : {after_if : Bool} {ts mid next rest : List Lexeme} {r : Node t.redir} {rs : Many t.redir} {c : Node t.cmd} → Phrase redir ts r mid → Phrase redirs mid rs next →
+  redir_leading : {after_if : Bool} {ts mid next rest : List Lexeme} {r : Node t.redir} {rs : Many t.redir}
+      {c : Node t.cmd} → Phrase redir ts r mid → Phrase redirs mid rs next →
       Phrase optional next c rest → Phrase (leading after_if) ts (t.Redirect (more r rs) c) rest
   -- "if" paren {NL} [cmd] | "while" paren {NL} [cmd]
   if_leading : {after_if : Bool} {text : List ℕ} {ts mid rest : List Lexeme} {c d : Node t.cmd} → keyword text
@@ -213,11 +216,13 @@ pub data Phrase : (l : Level) → List Lexeme → Out l → List Lexeme → Type
       keyword next_text ≡ NotWord → Phrase body (past_caret next) d rest →
       Phrase (leading true) (Word text ∷ ts) (t.IfNot d) rest
   -- "for" "(" arg [ "in" {arg} ] ")" {NL} [cmd], where newlines are blanks up to the `)`
-  for_all_leading : {after_if : Bool} {text : List ℕ} {ts head mid next rest : List Lexeme} {a : Node t.arg} {d : Node t.cmd} → keyword text ≡ ForWord →
+  for_all_leading : {after_if : Bool} {text : List ℕ} {ts head mid next rest : List Lexeme} {a : Node t.arg}
+      {d : Node t.cmd} → keyword text ≡ ForWord →
       past_caret ts ≡ LeftParen ∷ head → Phrase (arg true) (past_newlines head) a mid → past_newlines mid ≡ RightParen
       ∷ next → Phrase body next d rest →
       Phrase (leading after_if) (Word text ∷ ts) (t.ForAll a d) rest
-  for_leading : {after_if : Bool} {text next_text : List ℕ} {ts head mid list next rest : List Lexeme} {a : Node t.arg} {as' : Many t.arg} {d : Node t.cmd} → keyword text ≡ ForWord →
+  for_leading : {after_if : Bool} {text next_text : List ℕ} {ts head mid list next rest : List Lexeme} {a : Node t.arg}
+      {as' : Many t.arg} {d : Node t.cmd} → keyword text ≡ ForWord →
       past_caret ts ≡ LeftParen ∷ head → Phrase (arg true) (past_newlines head) a mid → past_newlines mid
       ≡ Word next_text ∷ list → keyword next_text ≡ InWord →
       Phrase members (past_caret list) as' next → Phrase body next d rest →
@@ -290,7 +295,8 @@ pub data Phrase : (l : Level) → List Lexeme → Out l → List Lexeme → Type
       Phrase branches (Semicolon ∷ ts) bs rest
   newline_branch : {ts rest : List Lexeme} {bs : Many t.branch} → Phrase branches ts bs rest →
       Phrase branches (Newline ∷ ts) bs rest
-  one_branch : {text : List ℕ} {ts mid next rest : List Lexeme} {as' : Many t.arg} {is : Many t.item} {bs : Many t.branch} → is_case text ≡ true → Phrase words (past_caret ts) as' mid →
+  one_branch : {text : List ℕ} {ts mid next rest : List Lexeme} {as' : Many t.arg} {is : Many t.item}
+      {bs : Many t.branch} → is_case text ≡ true → Phrase words (past_caret ts) as' mid →
       ends_case mid ≡ true → Phrase (items true false) mid is next → Phrase branches next bs rest →
       Phrase branches (Word text ∷ ts) (more (t.Branch as' (t.Seq is)) bs) rest
 

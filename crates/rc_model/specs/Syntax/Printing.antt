@@ -53,13 +53,15 @@ opening Append slot = if slot == 2 then codes ">>[2] " else codes ">> "
 abbrev pub copying : (to from : ℕ) → List ℕ
 copying to from = if to == 2 then codes ">[2=1]" else codes ">[1=2]"
 
--- the text of an argument, and that of a list of them, begins with the unquoted word `case`
+-- whether a text begins with the unquoted word `case`
 abbrev mutual
+  -- the text of an argument does
   pub begins_with_case : Node t.arg → Bool
   begins_with_case (t.Lit text quoted) = not quoted && bytes_eq text (codes "case")
   begins_with_case (t.Concat parts) = begin_with_case parts
   begins_with_case _ = false
 
+  -- the text of a list of arguments does
   pub begin_with_case : Many t.arg → Bool
   begin_with_case none = false
   begin_with_case (more word words) = begins_with_case word
@@ -92,6 +94,7 @@ body_lines _ items text = (text, false) ∷ []
 
 -- The text of each form. `begins` says of a command that an item of a branch begins with it.
 unfoldable mutual
+  -- a command
   pub cmd_text : Node t.cmd → (begins : Bool) → List ℕ
   cmd_text t.Empty begins = []
   cmd_text (t.Seq items) begins = listed (item_lines items begins false)
@@ -119,6 +122,7 @@ unfoldable mutual
   cmd_text (t.Undefine names) begins = codes "fn " ++ joined (codes " ") (arg_texts names)
   cmd_text (t.Brace body) begins = codes "{" ++ (cmd_text body false ++ codes "}")
 
+  -- an argument
   pub arg_text : Node t.arg → List ℕ
   arg_text (t.Lit text quoted) = literal text quoted
   arg_text (t.Concat parts) = joined (codes "^") (arg_texts parts)
@@ -130,28 +134,34 @@ unfoldable mutual
       codes "$" ++ (arg_text name ++ (codes "(" ++ (joined (codes " ") (arg_texts subscripts) ++ codes ")")))
   arg_text (t.Back body) = codes "`{" ++ (cmd_text body false ++ codes "}")
 
+  -- a redirection
   pub redir_text : Node t.redir → List ℕ
   redir_text (t.Open mode slot path) = opening mode slot ++ arg_text path
   redir_text (t.Copy to from) = copying to from
   -- (no tree with a here document has a text)
   redir_text (t.Here pieces) = []
 
+  -- the text of each argument
   pub arg_texts : Many t.arg → List (List ℕ)
   arg_texts none = []
   arg_texts (more word words) = arg_text word ∷ arg_texts words
 
+  -- the text of each assignment
   pub pair_texts : Many t.pair → List (List ℕ)
   pair_texts none = []
   pair_texts (more (t.Pair name value) pairs) = (arg_text name ++ (codes "=" ++ arg_text value)) ∷ pair_texts pairs
 
+  -- the text of each redirection
   pub redir_texts : Many t.redir → List (List ℕ)
   redir_texts none = []
   redir_texts (more redir redirs) = redir_text redir ∷ redir_texts redirs
 
+  -- the stages of a pipeline but the last, each with the bar after it
   pub stages_text : Many t.stage → (begins : Bool) → List ℕ
   stages_text none begins = []
   stages_text (more (t.Stage body slot) stages) begins = cmd_text body begins ++ (bar slot ++ stages_text stages false)
 
+  -- the operands after the first, each with its `&&` or `||` before it
   pub links_text : Many t.link → List ℕ
   links_text none = []
   links_text (more (t.Link logic body) links) = sign logic ++ (cmd_text body false ++ links_text links)
@@ -169,12 +179,14 @@ unfoldable mutual
       (joined (codes " ") (codes "case" ∷ arg_texts patterns), false)
       ∷ (body_lines body (branch_items body) (cmd_text body true) ++ branch_lines branches)
 
+  -- the lines of a branch's body, where that is a list
   pub branch_items : Node t.cmd → List Line
   branch_items (t.Seq items) = item_lines items true true
   branch_items _ = []
 
 -- a here document is inside
 abbrev mutual
+  -- one is inside this node
   pub has_here : {s : Sort} → Node s → Bool
   has_here (t.Seq items) = have_here items
   has_here (t.Simple words) = have_here words
@@ -210,6 +222,7 @@ abbrev mutual
   has_here (t.Here pieces) = true
   has_here _ = false
 
+  -- one is inside one of these nodes
   pub have_here : {s : Sort} → Many s → Bool
   have_here none = false
   have_here (more n ns) = has_here n || have_here ns

@@ -16,7 +16,9 @@ pub data Sort : Type 0 where
   branch : Sort
   piece : Sort
 
+-- trees, and the lists of trees inside them
 mutual
+  -- a node of a sort, with all that is below it
   pub data Node : Sort → Type 0 where
     -- commands
     Empty : Node cmd
@@ -64,6 +66,7 @@ mutual
     Text : List ℕ → Node piece
     Name : List ℕ → Node piece
 
+  -- a list of nodes of one sort
   pub data Many : Sort → Type 0 where
     none : {s : Sort} → Many s
     more : {s : Sort} → Node s → Many s → Many s

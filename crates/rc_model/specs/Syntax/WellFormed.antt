@@ -6,6 +6,7 @@ use Rattle.rc_model.specs.Syntax.Tree as t
 
 -- the greatest number of commands and arguments on one way from the root
 abbrev mutual
+  -- the number at a node
   pub depth : {s : Sort} → Node s → ℕ
   depth t.Empty = 1
   depth (t.Seq items) = suc (depths items)
@@ -45,12 +46,14 @@ abbrev mutual
   depth (t.Text text) = 0
   depth (t.Name text) = 0
 
+  -- the greatest one at several nodes
   pub depths : {s : Sort} → Many s → ℕ
   depths none = 0
   depths (more n ns) = max (depth n) (depths ns)
 
 -- the greatest number of stages of one pipeline
 abbrev mutual
+  -- the number inside a node
   pub most_stages : {s : Sort} → Node s → ℕ
   most_stages t.Empty = 0
   most_stages (t.Seq items) = most_stages_in items
@@ -90,11 +93,12 @@ abbrev mutual
   most_stages (t.Text text) = 0
   most_stages (t.Name text) = 0
 
+  -- the greatest one inside several nodes
   pub most_stages_in : {s : Sort} → Many s → ℕ
   most_stages_in none = 0
   most_stages_in (more n ns) = max (most_stages n) (most_stages_in ns)
 
--- a list has a member; it has two; it has 1 to 63
+-- a list of one or more
 abbrev pub has_some : {s : Sort} → Many s → Bool
 has_some ns = nat_lt 0 (count ns)
 
@@ -132,6 +136,7 @@ copies to from = ((to == 1) && (from == 2)) || ((to == 2) && (from == 1))
 
 -- sizes of lists, texts and descriptors are right in the whole tree
 abbrev mutual
+  -- they are right in a node
   pub is_sound : {s : Sort} → Node s → Bool
   is_sound t.Empty = true
   is_sound (t.Seq items) = are_sound items
@@ -171,6 +176,7 @@ abbrev mutual
   is_sound (t.Text text) = without_zero text
   is_sound (t.Name text) = without_zero text
 
+  -- they are right in each of these nodes
   pub are_sound : {s : Sort} → Many s → Bool
   are_sound none = true
   are_sound (more n ns) = is_sound n && are_sound ns
