@@ -1,4 +1,5 @@
 pub mod Acts
+pub mod Changes
 pub mod Entries
 pub mod Escapes
 pub mod Fits
