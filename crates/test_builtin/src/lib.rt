@@ -6,4 +6,6 @@ mod arguments;
 #[cfg(test)]
 mod directories;
 #[cfg(test)]
+mod names;
+#[cfg(test)]
 mod support;

@@ -1,7 +1,7 @@
 //! What the tests of the built-in commands share.
 
 use rc_scope::State;
-use rc_world::{Call, Tape};
+use rc_world::{Call, Slot, Tape};
 use std::alloc::{AllocError, Global};
 
 pub fn list(alloc: Global, members: &[&str]) -> Result<Vec<String>, AllocError> {
@@ -19,6 +19,13 @@ pub fn calls(alloc: Global, tape: &Tape) -> Result<String, AllocError> {
         match call {
             Call::Chdir(path) => write!(text, "chdir {path}\n")?,
             Call::Probe(path) => write!(text, "probe {path}\n")?,
+            Call::Write(Slot::Own(slot), bytes) => {
+                write!(
+                    text,
+                    "write {slot}: {}\n",
+                    str::from_utf8(bytes).unwrap_or("?")
+                )?
+            }
             _ => text.push_str("another call\n")?,
         }
     }
