@@ -15,7 +15,9 @@ use Rattle.rc_model.specs.Run.Calls.{to_file, with_slot, open_file, make_pipe, c
 use Rattle.rc_model.specs.Run.State.{State, value_of, set_value, with_status, function_of, drop_child}
 use Rattle.rc_model.specs.Run.Shell.{Shell, ◌>>=◌, pure, call, say, change, exits}
 use Rattle.rc_model.specs.Run.Acts.{set_status, close_end, candidates, run_program, waited, wait_each, read_all, longest_file, Started, Child, NoChild, start_shell, StartedStages, Running, Refused, stages_status, no_stages, from_pipe, next_stage, stage_with, stages_from, start_stages, end_stages, find_program}
-use Rattle.rc_model.specs.Run.Builtins.{Builtin, Dot, BuiltinWord, Cd, Eval, Exec, Exit as ExitWord, Shift, Wait, Whatis, builtin_named, Called, Finished, Body, BodyWith, finished, usage, as_body, as_body_with, opened_or, open_first, whole_file, run_file, dot, first_dir, dirs_of, first_member, cd, exit_status, shifted, shift, wait_child, wait_all, wait_one, wait_numbered, wait_for, Known, value_line, function_line, program_line, other_line, command_line, known_of, known_each, met, write_lines, whatis, exec, run_builtin, run_command, without_functions, run_named, run_words}
+use Rattle.rc_model.specs.declared.builtin.Builtin.{Builtin}
+use Rattle.rc_model.specs.declared.builtin.Builtin.TheVariants.{Dot, BuiltinWord, Cd, Eval, Exec, Exit as ExitWord, Shift, Wait, Whatis}
+use Rattle.rc_model.specs.Run.Builtins.{builtin_named, Called, Finished, Body, BodyWith, finished, usage, as_body, as_body_with, opened_or, open_first, whole_file, run_file, dot, first_dir, dirs_of, first_member, cd, exit_status, shifted, shift, wait_child, wait_all, wait_one, wait_numbered, wait_for, Known, value_line, function_line, program_line, other_line, command_line, known_of, known_each, met, write_lines, whatis, exec, run_builtin, run_command, without_functions, run_named, run_words}
 use Rattle.rc_model.specs.Handed.Proper.{IsScript, AllScripts}
 use Rattle.law_image.proofs.Proper.{proper_set, proper_same}
 use Rattle.law_acceptance.proofs.Found.{finds_the_tree}

@@ -15,7 +15,9 @@ use Rattle.rc_model.specs.Run.State.{State, value_of, set_value, function_of, wi
 use Rattle.rc_model.specs.Run.Shell.{Shell, Result, Next, Exit, ◌>>◌, pure, call, say, exits}
 use Rattle.rc_model.specs.Handed.Image.{is_fit, program_launch}
 use Rattle.rc_model.specs.Run.Acts.{set_status, report, refuse, is_path, candidates, is_program, first_program, find_program, Started, Child, NoChild, started, wait_started, run_found, run_program, read_all, longest_file}
-use Rattle.rc_model.specs.Run.Builtins.{Builtin, Dot, BuiltinWord, Cd, Eval, Exec, Exit as ExitWord, Shift, Wait, Whatis, builtin_named, Called, Finished, Body, BodyWith, finished, usage, as_body, as_body_with, opened_or, open_first, whole_file, run_file, dot, first_dir, dirs_of, first_member, cd, exit_status, shifted, shift, wait_child, wait_all, wait_one, wait_numbered, wait_for, value_line, function_line, program_line, other_line, command_line, known_of, known_each, met, write_lines, whatis, exec, run_builtin, run_command, without_functions, run_named, run_words}
+use Rattle.rc_model.specs.declared.builtin.Builtin.{Builtin}
+use Rattle.rc_model.specs.declared.builtin.Builtin.TheVariants.{Dot, BuiltinWord, Cd, Eval, Exec, Exit as ExitWord, Shift, Wait, Whatis}
+use Rattle.rc_model.specs.Run.Builtins.{builtin_named, Called, Finished, Body, BodyWith, finished, usage, as_body, as_body_with, opened_or, open_first, whole_file, run_file, dot, first_dir, dirs_of, first_member, cd, exit_status, shifted, shift, wait_child, wait_all, wait_one, wait_numbered, wait_for, value_line, function_line, program_line, other_line, command_line, known_of, known_each, met, write_lines, whatis, exec, run_builtin, run_command, without_functions, run_named, run_words}
 use Rattle.rc_model.specs.Family.Accounts.{a_file, Account, one, counts, called, past, after}
 use Rattle.law_traces.proofs.Keep.{Keeps, keeps_mono, one_self, Held, held, alone, Kid, kid_of, Rest}
 use Rattle.law_traces.proofs.Steps.{one_other, may_call, may_close, rest_close, rest_wait, may_wait_alone}

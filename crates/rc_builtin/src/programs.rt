@@ -13,6 +13,7 @@ ghost use Rattle.rc_builtin.specs.Starts.{path_of, paths_in, started_of};
 ghost use Rattle.rc_scope.specs.States.{state_of};
 
 use crate::environment::entries;
+use crate::texts::copy;
 use rc_model::limits::LONGEST_ARGUMENT;
 use rc_scope::State;
 use rc_world::{ChildNo, Ending, Kind, Launch, Program, Slots, Stop, World, calls};
@@ -41,7 +42,7 @@ pub fn report<W: World>(
 }
 
 /// Whether a program's name is its path.
-fn is_path(name: &str) -> bool
+pub(crate) fn is_path(name: &str) -> bool
     ensures { result ≡ is_path name.now }
 {
     name.starts_with("/") || name.starts_with("./") || name.starts_with("../")
@@ -221,14 +222,11 @@ fn launch(
     ensures { IfOk result (λ launch. launch_of launch
         ≡ program_launch slots (string_bytes path) (map string_bytes args.now) (state_of state.now)) }
 {
-    let mut copy = Vec::new(alloc);
-    for arg in args {
-        copy.push(arg.clone()?)?;
-    }
+    let args = copy(alloc, args)?;
     let env = entries(alloc, state)?;
     Ok(Launch {
         program: Program::Path(path),
-        args: copy,
+        args,
         env,
         slots,
     })

@@ -236,6 +236,14 @@ impl State {
         Ok(())
     }
 
+    /// Sets the null status, which needs no memory.
+    #[tactic(auto, unfolding(crate::specs::States::state_of))]
+    pub fn clear_status(&mut self)
+        ensures { state_of self.new ≡ with_status (state_of self.old) [] }
+    {
+        self.status = String::new(*self.status.allocator());
+    }
+
     /// What `if not` looks at.
     #[tactic(auto, unfolding(crate::specs::States::state_of))]
     pub fn if_not(&self) -> bool

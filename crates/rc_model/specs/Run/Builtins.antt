@@ -15,18 +15,9 @@ use Rattle.rc_model.specs.Run.State.{State, value_of, set_value, is_name, functi
 use Rattle.rc_model.specs.Run.Shell.{Shell, ◌>>=◌, ◌>>◌, pure, skip, call, say, get, change, exits}
 use Rattle.rc_model.specs.Run.Acts.{set_status, fails, is_path, candidates, find_program, run_program, waited, read_all}
 use Rattle.rc_model.specs.Run.Acts.{longest_file}
-
--- the built-in commands
-pub data Builtin : Type 0 where
-  Dot : Builtin
-  BuiltinWord : Builtin
-  Cd : Builtin
-  Eval : Builtin
-  Exec : Builtin
-  Exit : Builtin
-  Shift : Builtin
-  Wait : Builtin
-  Whatis : Builtin
+pub use Rattle.rc_model.specs.declared.builtin.Builtin.{Builtin}
+pub use Rattle.rc_model.specs.declared.builtin.Builtin.TheVariants.{Dot, BuiltinWord, Cd, Eval, Exec, Exit, Shift}
+pub use Rattle.rc_model.specs.declared.builtin.Builtin.TheVariants.{Wait, Whatis}
 
 -- the built-in command of this name, if there is one
 abbrev pub builtin_named : List ℕ → Option Builtin

@@ -1,0 +1,24 @@
+//! The status of `exit`.
+
+ghost use Rattle.std.specs.Prelude.{◌≡◌, OnOk, OnErr, map, string_bytes};
+ghost use Rattle.rc_model.specs.Run.Builtins.{exit_status};
+ghost use Rattle.rc_model.specs.Run.Plans.{done_with};
+ghost use Rattle.rc_model.specs.Run.Shell.{Next};
+ghost use Rattle.rc_scope.specs.States.{state_of};
+
+use rc_scope::State;
+use rc_text::flat;
+use std::alloc::{AllocError, Global};
+
+/// The status with which `exit` ends the shell: the words joined by spaces, and the last one without words.
+pub fn exit_status(alloc: Global, state: &mut State, words: &[String]) -> Result<(), AllocError>
+    ensures ok { OnOk result (exit_status (map string_bytes words.now) (state_of state.old)
+        ≡ done_with (Next tt (state_of state.new))) }
+    ensures err { OnErr result (state_of state.new ≡ state_of state.old) }
+{
+    if words.is_empty() {
+        return Ok(());
+    }
+    let status = flat(alloc, words)?;
+    state.set_status(&status)
+}

@@ -1,0 +1,87 @@
+//! How names and values are shown.
+
+ghost use Rattle.std.specs.Prelude.{◌≡◌, ◌++◌, ◌∷◌, ◌&&◌, ◌==◌, not, length, OnOk, IfOk, map, string_bytes, codes};
+ghost use Rattle.std.specs.List.{list_all};
+ghost use Rattle.rc_model.specs.Syntax.Grammar.{keyword, is_plain};
+ghost use Rattle.rc_model.specs.Syntax.Printing.{joined};
+ghost use Rattle.rc_model.specs.Run.Builtins.{is_plain_char, shown, shown_value, value_line};
+
+use rc_lexemes::keyword_named;
+use rc_model::Keyword;
+use rc_scope::is_name;
+use rc_text::push_quoted;
+use std::alloc::{AllocError, Global};
+
+fn is_plain_byte(byte: u8) -> bool
+    ensures { result ≡ is_plain_char byte }
+{
+    byte.is_ascii_alphanumeric()
+        || matches!(byte, b'_' | b'.' | b'/' | b'-' | b'+' | b',' | b':' | b'%')
+}
+
+fn has_plain_bytes(text: &str) -> bool
+    ensures { result ≡ list_all is_plain_char text.now }
+{
+    text.bytes().all(|byte| is_plain_byte(byte))
+}
+
+/// Whether the text is a word without quotes.
+fn is_bare(text: &str) -> bool
+    ensures { result ≡ (not (length text.now == 0) && (list_all is_plain_char text.now && is_plain (keyword text.now))) }
+{
+    !text.is_empty() && has_plain_bytes(text) && matches!(keyword_named(text), Keyword::Plain)
+}
+
+/// Writes a member, in quotes where it needs them.
+fn push_shown(out: &mut String, text: &str) -> Result<(), AllocError>
+    ensures { OnOk result (string_bytes out.new ≡ string_bytes out.old ++ shown text.now) }
+{
+    if is_bare(text) {
+        out.push_str(text)
+    } else {
+        push_quoted(out, text)
+    }
+}
+
+/// Writes members with a space between each two.
+fn push_members(out: &mut String, first: &str, others: &[String]) -> Result<(), AllocError>
+    ensures { OnOk result (string_bytes out.new
+        ≡ string_bytes out.old ++ joined (codes " ") (map shown (first.now ∷ map string_bytes others.now))) }
+{
+    push_shown(out, first)?;
+    for member in others {
+        out.push(' ')?;
+        push_shown(out, member)?;
+    }
+    Ok(())
+}
+
+/// Writes a value: its one member, or its members in parentheses.
+fn push_value(out: &mut String, value: &[String]) -> Result<(), AllocError>
+    ensures { OnOk result (string_bytes out.new ≡ string_bytes out.old ++ shown_value (map string_bytes value.now)) }
+{
+    let Some((first, others)) = value.split_first() else {
+        return out.push_str("()");
+    };
+    if others.is_empty() {
+        return push_shown(out, first);
+    }
+    out.push('(')?;
+    push_members(out, first, others)?;
+    out.push(')')
+}
+
+/// The line of a variable; nothing where there is none of this name, or no member.
+pub fn value_line(alloc: Global, name: &str, value: &[String]) -> Result<String, AllocError>
+    ensures { IfOk result (λ line. string_bytes line ≡ value_line name.now (map string_bytes value.now)) }
+{
+    let mut line = String::new(alloc);
+    if value.is_empty() || !is_name(name) {
+        return Ok(line);
+    }
+    line.push_str(name)?;
+    line.push('=')?;
+    push_value(&mut line, value)?;
+    line.push('\n')?;
+    Ok(line)
+}
