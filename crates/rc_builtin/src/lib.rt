@@ -1,7 +1,7 @@
 //! Programs and built-in commands.
 #![tactic(auto)]
 
-mod environment;
+pub mod environment;
 mod programs;
 
-pub use programs::{Outcome, fault, find_program, report, run_program};
+pub use programs::{Outcome, Started, ending_status, fault, find_program, make_started, report, run_program};

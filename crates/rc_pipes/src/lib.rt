@@ -1,0 +1,10 @@
+//! Pipelines, subshells and children in the background, and the pipes between them.
+#![tactic(auto)]
+
+mod children;
+mod launches;
+mod reading;
+
+pub use children::{end_refused, end_stages, wait_child, wait_stages};
+pub use launches::{Attempt, subshell};
+pub use reading::{ReadBytes, read_all};
