@@ -2,7 +2,7 @@
 #![tactic(auto)]
 
 mod directories;
-mod environment;
+pub mod environment;
 mod exits;
 mod names;
 mod programs;
@@ -13,6 +13,8 @@ mod texts;
 pub use directories::change_dir;
 pub use exits::exit_status;
 pub use names::whatis;
-pub use programs::{Outcome, fault, find_program, report, run_program};
+pub use programs::{
+    Outcome, Started, ending_status, fault, find_program, make_started, report, run_program,
+};
 pub use rc_model::Builtin;
 pub use shifts::shift;

@@ -106,7 +106,7 @@ pub fn find_program<W: World>(
 }
 
 /// The status by which a child ended; `None` where it could not be waited for.
-fn ending_status(alloc: Global, ending: Option<Ending>) -> Result<String, AllocError>
+pub fn ending_status(alloc: Global, ending: Option<Ending>) -> Result<String, AllocError>
     ensures { IfOk result (λ status. string_bytes status ≡ ending_status ending) }
 {
     match ending {

@@ -1,0 +1,4 @@
+pub mod Attempts
+pub mod Launches
+pub mod Readings
+pub mod Stages

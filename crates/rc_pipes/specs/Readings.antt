@@ -1,0 +1,7 @@
+-- What was read, as the definitions have it.
+use Rattle.std.specs.Prelude.{option_map}
+use Rattle.rc_model.specs.Run.Acts.{Got}
+use Rattle.rc_pipes.specs.declared.reading.ReadBytes.{ReadBytes}
+
+abbrev pub got_of : ReadBytes → Got
+got_of r = record { text = r.bytes.items; why = option_map (λ why. why.now) r.why }

@@ -1,0 +1,12 @@
+//! Pipelines, subshells and children in the background, and the pipes between them.
+#![tactic(auto)]
+
+mod children;
+mod launches;
+mod reading;
+mod stages;
+
+pub use children::{end_refused, end_stages, wait_child, wait_stages};
+pub use launches::{Attempt, subshell};
+pub use reading::{ReadBytes, read_all};
+pub use stages::{StageWords, StartedStages, start_stages};

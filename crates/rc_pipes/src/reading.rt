@@ -1,0 +1,53 @@
+//! Reading to the end.
+
+ghost use Rattle.std.specs.Prelude.{◌≡◌};
+ghost use Rattle.rc_model.specs.Run.Acts.{read_all, longest_output};
+ghost use Rattle.rc_model.specs.Run.State as model;
+ghost use Rattle.rc_world.specs.Comes.{Reads};
+ghost use Rattle.rc_pipes.specs.Readings.{got_of};
+
+use rc_world::{Handle, Stop, World, calls};
+use std::alloc::Global;
+
+/// What was read up to the end, with why it stopped before.
+#[derive(Drop)]
+pub struct ReadBytes {
+    pub bytes: Vec<u8>,
+    pub why: Option<&'static str>,
+}
+
+/// The most bytes that a backquote takes.
+#[tactic(auto, unfolding(rc_model::specs::Run::Acts::longest_output))]
+pub fn longest_output() -> usize
+    ensures { result ≡ longest_output }
+{
+    16_777_216
+}
+
+/// Reads up to the empty answer, and until there are more than so many bytes.
+pub fn read_all<W: World>(
+    alloc: Global,
+    world: &mut W,
+    handle: Handle,
+    most: usize,
+) -> Result<ReadBytes, Stop>
+    ensures { (s : model.State) → Reads W.events world.old world.new s (read_all most handle.0) got_of result }
+{
+    let mut bytes = Vec::new(alloc);
+    while bytes.len() <= most {
+        let Some(more) = calls::read(world, handle)? else {
+            return Ok(ReadBytes {
+                bytes,
+                why: Some("cannot read"),
+            });
+        };
+        if more.is_empty() {
+            return Ok(ReadBytes { bytes, why: None });
+        }
+        bytes.extend_from_slice(&more)?;
+    }
+    Ok(ReadBytes {
+        bytes,
+        why: Some("too large"),
+    })
+}
