@@ -1,0 +1,3 @@
+pub mod Beginnings
+pub mod Faults
+pub mod Lengths

@@ -1,0 +1,52 @@
+-- What the calls for images answer.
+use Rattle.std.specs.Prelude.{◌≡◌, ℕ, List, Bool, ◌&&◌, if◌then◌else◌, Option, Some, None, Result, Ok, Err}
+use Rattle.rc_model.specs.Syntax.Tree.{Node, cmd}
+use Rattle.rc_model.specs.Syntax.Text.{begins_with}
+use Rattle.rc_model.specs.Handed.Image.{image, is_short}
+use Rattle.rc_model.specs.Handed.TreeReading as m
+use Rattle.rc_model.specs.Handed.TreeReading.{digit_run, past_digits, is_count, other_version}
+use Rattle.rc_image.specs.declared.fault.ImageFault.{ImageFault}
+use Rattle.rc_image.specs.declared.fault.ImageFault.TheVariants as f
+
+-- a text that an argument or an entry can be
+unfoldable pub where_short : List ℕ → Option (List ℕ)
+where_short text = if is_short text then Some text else None
+
+abbrev pub short_image : Node cmd → Option (List ℕ)
+short_image c = where_short (image c)
+
+-- what was written, seen by view; where there is nothing to write it is too large; with no memory nothing is said
+abbrev pub Refuses : {Y : Type 0} → ImageFault → Option Y → Type 0
+Refuses f.TooLarge written = written ≡ None
+Refuses f.NoMemory written = Unit {0}
+Refuses _ written = ⊥
+
+abbrev pub Writes : {X Y : Type 0} → (X → Y) → Result X ImageFault → Option Y → Type 0
+Writes view (Ok x) written = written ≡ Some (view x)
+Writes view (Err e) written = Refuses e written
+
+-- what was read, or its first fault; with no memory nothing is said
+abbrev pub Fails : {Y : Type 0} → ImageFault → Result Y m.ImageFault → Type 0
+Fails f.BadTag read = read ≡ Err m.BadTag
+Fails f.BadLength read = read ≡ Err m.BadLength
+Fails f.Trailing read = read ≡ Err m.Trailing
+Fails f.TooDeep read = read ≡ Err m.TooDeep
+Fails f.Version read = read ≡ Err m.Version
+Fails f.TooLarge read = ⊥
+Fails f.NoMemory read = Unit {0}
+
+abbrev pub Gives : {X Y : Type 0} → (X → Y) → Result X ImageFault → Result Y m.ImageFault → Type 0
+Gives view (Ok x) read = read ≡ Ok (view x)
+Gives view (Err e) read = Fails e read
+
+-- whether the number of a version and a `;` stand here
+unfoldable pub version_here : List ℕ → Bool
+version_here bytes = is_count (digit_run bytes) && other_version (past_digits bytes)
+
+-- whether a text begins with another
+unfoldable pub begun : List ℕ → List ℕ → Bool
+begun mark text = begins_with mark text
+
+-- the fault of another beginning than that of an image
+unfoldable pub fault_here : List ℕ → m.ImageFault
+fault_here bytes = m.beginning_fault bytes

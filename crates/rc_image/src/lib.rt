@@ -1,0 +1,44 @@
+//! Trees as text: the image that a shell hands to another.
+#![tactic(auto)]
+
+ghost use Rattle.std.specs.Prelude.{◌≡◌, string_bytes};
+ghost use Rattle.rc_model.specs.Handed.TreeReading.{read_tree};
+ghost use Rattle.rc_tree_types.specs.View.{cmd_tree};
+ghost use Rattle.rc_image.specs.Images.{Gives, Writes, short_image};
+
+mod beginning;
+mod fault;
+
+use beginning::{beginning_fault, begins};
+pub use fault::ImageFault;
+use rc_model::limits::LONGEST_ARGUMENT;
+use rc_reading::read_spelling;
+use rc_spelling::push_spelling;
+use rc_tree::Cmd;
+use std::alloc::Global;
+
+/// The image of a tree. It is too large where an argument or an entry of a launch can't be so long.
+#[tactic(auto, using(crate::proofs::Lengths::lengths))]
+pub fn write_tree(alloc: Global, cmd: &Cmd) -> Result<String, ImageFault>
+    ensures { Writes (λ text. string_bytes text) result (short_image (cmd_tree cmd.now)) }
+{
+    let mut text = String::from_str(alloc, "rc1;")?;
+    push_spelling(&mut text, cmd)?;
+    if text.len() > LONGEST_ARGUMENT {
+        return Err(ImageFault::TooLarge);
+    }
+    Ok(text)
+}
+
+/// The tree of an image.
+#[tactic(auto, using(crate::proofs::Beginnings::images))]
+pub fn read_tree(alloc: Global, text: &str) -> Result<Cmd, ImageFault>
+    ensures { Gives (λ c. cmd_tree c) result (read_tree text.now) }
+{
+    let bytes = text.as_bytes();
+    if !begins("rc1;".as_bytes(), bytes) {
+        return Err(ImageFault::from(beginning_fault(bytes)));
+    }
+    let (_, spelling) = bytes.split_at(4);
+    Ok(read_spelling(alloc, spelling)?)
+}

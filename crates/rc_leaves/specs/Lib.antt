@@ -1,0 +1,4 @@
+pub mod Faults
+pub mod Nodes
+pub mod Shapes
+pub mod Steps

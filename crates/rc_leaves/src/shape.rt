@@ -1,0 +1,105 @@
+//! What follows the mark of a node.
+
+use rc_model::Mode;
+
+/// What follows the mark of a command.
+#[derive(Clone, Copy)]
+pub enum CmdShape {
+    /// Nothing.
+    Empty,
+    /// Items.
+    Seq,
+    /// A command and the operands that are joined to it.
+    AndOr,
+    /// A command.
+    Body(BodyShape),
+    /// Two commands.
+    Bodies(BodiesShape),
+    /// Arguments, one at least.
+    Words(WordsShape),
+    /// A list and a command.
+    Front(FrontShape),
+    /// An argument and more.
+    Subject(SubjectShape),
+}
+
+/// A node that is made of one command.
+#[derive(Clone, Copy)]
+pub enum BodyShape {
+    Not,
+    Subshell,
+    IfNot,
+    Brace,
+}
+
+/// A node that is made of two commands.
+#[derive(Clone, Copy)]
+pub enum BodiesShape {
+    If,
+    While,
+}
+
+/// A node that is made of arguments.
+#[derive(Clone, Copy)]
+pub enum WordsShape {
+    Simple,
+    Undefine,
+}
+
+/// A node that is made of a list and a command.
+#[derive(Clone, Copy)]
+pub enum FrontShape {
+    Assign,
+    Redirect,
+    Pipeline,
+    Define,
+}
+
+/// A node that begins with an argument.
+#[derive(Clone, Copy)]
+pub enum SubjectShape {
+    ForAll,
+    For,
+    Switch,
+    Match,
+}
+
+/// What follows the mark of an argument.
+#[derive(Clone, Copy)]
+pub enum ArgShape {
+    /// The text of a word.
+    Word,
+    /// The text of a quoted word.
+    Quoted,
+    /// Two parts at least.
+    Concat,
+    /// Arguments.
+    Paren,
+    /// An argument.
+    Name(NameShape),
+    /// An argument and arguments.
+    Sub,
+    /// A command.
+    Back,
+}
+
+/// A node that is made of the name of a variable.
+#[derive(Clone, Copy)]
+pub enum NameShape {
+    Var,
+    Count,
+    Flat,
+}
+
+/// What follows the mark of a redirection.
+#[derive(Clone, Copy)]
+pub enum RedirShape {
+    /// The file that is read.
+    Input,
+    /// The descriptor, and the file that is written.
+    Output(Mode),
+    /// Two descriptors.
+    Copy,
+    /// Pieces.
+    Here,
+}
