@@ -1,4 +1,5 @@
 pub mod Acts
+pub mod Defining
 pub mod Left
 pub mod Names
 pub mod Places

@@ -1,25 +1,28 @@
 //! What the words of a simple command run.
 
-ghost use Rattle.std.specs.Prelude.{◌≡◌, ◌<◌, ◌^◌, false, None, Some, map, string_bytes};
+ghost use Rattle.std.specs.Prelude.{◌≡◌, ◌<◌, ◌^◌, ◌∷◌, IfOk, false, None, Some, map, string_bytes};
 ghost use Rattle.rc_model.specs.Code.Machine.{act};
 ghost use Rattle.rc_model.specs.Code.Layout as op;
-ghost use Rattle.rc_model.specs.Run.Builtins.{builtin_named, run_words};
+ghost use Rattle.rc_model.specs.Run.Builtins.{builtin_named, run_words, without_functions};
 ghost use Rattle.rc_machine.specs.Outcomes.{RunsWords};
 ghost use Rattle.rc_scope.specs.States.{state_of};
 
 use crate::machine::{Machine, Move};
 use crate::values::texts;
 use rc_builtin::{Outcome as Program, fault, run_program};
+use rc_code::{Code, compile};
 use rc_scope::State;
 use rc_text::is_true;
 use rc_world::{Slots, Stop, World};
 use std::alloc::{AllocError, Global};
 
 /// What became of the words of a simple command.
-#[derive(Clone, Copy)]
+#[derive(Drop)]
 pub enum Outcome {
     /// They ran, and the shell goes on.
     Finished,
+    /// A body is to be run with these arguments as its `$*`.
+    Call { args: Vec<String>, body: Code },
     /// The shell ends.
     Exit,
     /// What they run can't be run yet.
@@ -36,7 +39,19 @@ fn is_not_yet(name: &str) -> bool
     )
 }
 
+/// Texts as a list of their own.
+fn copy(alloc: Global, texts: &[String]) -> Result<Vec<String>, AllocError>
+    ensures { IfOk result (λ copies. map string_bytes copies.items ≡ map string_bytes texts.now) }
+{
+    let mut copies = Vec::new(alloc);
+    for text in texts {
+        copies.push(text.clone()?)?;
+    }
+    Ok(copies)
+}
+
 /// Runs the words of a simple command.
+#[tactic(auto, using(crate::proofs::Left::words_refused))]
 fn run_words<W: World>(
     alloc: Global,
     world: &mut W,
@@ -44,13 +59,36 @@ fn run_words<W: World>(
     slots: Slots,
     words: &[String],
 ) -> Result<Outcome, Stop>
-    ensures { RunsWords (W.events world.old) (W.events world.new) (run_words slots (map string_bytes words.now) (state_of state.old)) (state_of state.new) result }
+    ensures { RunsWords (W.events world.old) (W.events world.new)
+        (run_words slots (map string_bytes words.now) (state_of state.old)) (state_of state.new) result }
 {
     let Some((name, args)) = words.split_first() else {
         fault(alloc, world, state, slots, "empty argument list")?;
         return Ok(Outcome::Exit);
     };
-    if state.function(name).is_some() || is_not_yet(name) {
+    if let Some(body) = state.function(name) {
+        let body = compile(alloc, body)?;
+        return Ok(Outcome::Call {
+            args: copy(alloc, args)?,
+            body,
+        });
+    }
+    run_unnamed(alloc, world, state, slots, name, args)
+}
+
+/// Runs the words of a simple command whose first is no name of a function.
+fn run_unnamed<W: World>(
+    alloc: Global,
+    world: &mut W,
+    state: &mut State,
+    slots: Slots,
+    name: &str,
+    args: &[String],
+) -> Result<Outcome, Stop>
+    ensures { RunsWords (W.events world.old) (W.events world.new)
+        (without_functions slots (name.now ∷ map string_bytes args.now) (state_of state.old)) (state_of state.new) result }
+{
+    if is_not_yet(name) {
         return Ok(Outcome::NotYet);
     }
     match run_program(alloc, world, state, slots, name, args)? {
@@ -70,7 +108,8 @@ impl Machine {
         world: &mut W,
     ) -> Result<Move, Stop>
         requires { self.old.place < 2 ^ 63 }
-        ensures { Steps (W.events world.old) (W.events world.new) (act (Some op.Run) (config_of self.old)) (config_of self.new) result }
+        ensures { Steps (W.events world.old) (W.events world.new)
+            (act (Some op.Run) (config_of self.old)) (config_of self.new) result }
     {
         let Some(words) = self.words.top() else {
             return Ok(Move::Ended);
@@ -80,6 +119,10 @@ impl Machine {
         match run_words(alloc, world, &mut self.state, self.slots, &texts)? {
             Outcome::Finished => {
                 self.place += 1;
+                Ok(Move::On)
+            }
+            Outcome::Call { args, body } => {
+                self.call(args, body)?;
                 Ok(Move::On)
             }
             Outcome::Exit => Ok(self.unwind()),

@@ -1,11 +1,9 @@
-//! The end of a body, and the end of the shell.
+//! The end of the shell.
 
-ghost use Rattle.std.specs.Prelude.{◌≡◌, [], Some};
-ghost use Rattle.rc_model.specs.Code.Machine.{act, unwind};
-ghost use Rattle.rc_model.specs.Code.Layout as op;
+ghost use Rattle.std.specs.Prelude.{◌≡◌, []};
+ghost use Rattle.rc_model.specs.Code.Machine.{unwind};
 
 use crate::machine::{Machine, Move};
-use crate::parts::Frame;
 use rc_builtin::fault;
 use rc_world::{Stop, World};
 use std::alloc::Global;
@@ -38,27 +36,5 @@ impl Machine {
     {
         fault(alloc, world, &mut self.state, self.slots, text)?;
         Ok(self.unwind())
-    }
-
-    /// The end of a body, which in the last frame is that of the script.
-    pub(crate) fn leave(&mut self) -> Move
-        ensures { Leads (act (Some op.Return) (config_of self.old)) (config_of self.new) result }
-    {
-        let Some(
-            Frame {
-                caller,
-                place,
-                binds,
-            },
-        ) = self.frames.close()
-        else {
-            return Move::Ended;
-        };
-        if binds {
-            return Move::NotYet;
-        }
-        self.code = caller;
-        self.place = place;
-        Move::On
     }
 }

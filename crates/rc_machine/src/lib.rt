@@ -3,6 +3,7 @@
 
 mod commands;
 mod endings;
+mod functions;
 mod jumps;
 mod machine;
 mod matching;

@@ -17,7 +17,7 @@ impl Machine {
     ghost use Rattle.rc_machine.specs.Outcomes.{Leads, Steps};
 
     /// Ends the innermost scope, where it is a local.
-    fn end_local(&mut self) -> bool
+    pub(crate) fn end_local(&mut self) -> bool
         ensures { LocalEnds (config_of self.old).scopes (config_of self.old) (config_of self.new) result }
     {
         let Some(Scope::Local) = self.scopes.innermost() else {

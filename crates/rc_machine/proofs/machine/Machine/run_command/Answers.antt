@@ -1,7 +1,12 @@
-use Rattle.std.proofs.Common.{rules, ◌≡◌, [], Ok, Some, map, string_bytes, refl}
+use Rattle.std.proofs.Common.{rules, ◌≡◌, [], Ok, Some, map, string_bytes, refl, ap, sym, subst, ◌∙◌}
 use Rattle.rc_model.specs.Code.Layout as op
-use Rattle.rc_model.specs.Code.Machine.{act, enter, unwind}
-use Rattle.rc_model.specs.Run.Builtins.{Finished, run_words}
+use Rattle.rc_model.specs.Code.Machine.{On, act, enter, unwind}
+use Rattle.rc_model.specs.Code.Layout.{code}
+use Rattle.rc_model.specs.Run.Plans.{Ran, done_with}
+use Rattle.rc_code.specs.Views.{code_of}
+use Rattle.rc_machine.specs.Calls.{called}
+use Rattle.rc_world.specs.Comes.{for_memory}
+use Rattle.rc_model.specs.Run.Builtins.{BodyWith, Finished, run_words}
 use Rattle.rc_model.specs.Syntax.Words.{word_texts}
 use Rattle.law_plans.proofs.Runs.{ran_next, ran_exit, ran_none}
 use Rattle.rc_stack.specs.Lists.{top_of}
@@ -57,6 +62,39 @@ returns-in-Exit g c =
     (ran_exit before after after (run_words m.slots (word_texts v) (state_of m.state)) t [] (λ d s. enter (config_of m) rest d s) (unwind (config_of m).scopes) (unwind (config_of m).scopes t [])
     (rw (c.in-Exit.is, texts) at c.in_ok-run_words.ensures) (ran_none after left)))
     (stepped after left (config_of c.unwind.new.self) c.unwind.result c.unwind.ensures)
+
+pub returns-in-Call : goal.returns-in-Call
+returns-in-Call g c =
+    let m = c.args.self.now in
+    let v = c.in-Some.words.now in
+    let rest = c.drop_top.new.self in
+    let top : top_of m.words ≡ Some v = search rules in
+    let texts : map string_bytes c.deref.result.now ≡ word_texts v = search rules in
+    let f = rw (c.in-Call.is, texts) at c.in_ok-run_words.ensures in
+    let t = state_of c.run_words.new.state in
+    let args = map string_bytes c.in-Call.args.items in
+    let d = record (config_of m) { words = rest; state = t } in
+    let now : config_of c.call.new.self ≡ called d args (code_of c.in-Call.body) = search rules in
+    let to : done_with (On (called d args (code f.0))) ≡ done_with (On (config_of c.call.new.self)) =
+    ap (λ x. done_with (On (called d args x))) (sym f.1) ∙ ap (λ x. done_with (On x)) (sym now) in
+    subst (λ p. Ran (g.W.World.events c.args.world.now) (g.W.World.events c.run_words.new.world) (act (Some op.Run) (config_of m)) p) to
+    (ran_as _ _ _ _ _ (runs_top (config_of m) m.words v refl top rest _ c.drop_top.ensures)
+    (ran_next _ _ _ (run_words m.slots (word_texts v) (state_of m.state)) (BodyWith args f.0) t (λ x s. enter (config_of m) rest x s) (unwind (config_of m).scopes) _
+    f.2 (ran_none _ _)))
+
+pub returns-in_err-call-in-Call : goal.returns-in_err-call-in-Call
+returns-in_err-call-in-Call g c =
+    let m = c.args.self.now in
+    let v = c.in-Some.words.now in
+    let rest = c.drop_top.new.self in
+    let top : top_of m.words ≡ Some v = search rules in
+    let texts : map string_bytes c.deref.result.now ≡ word_texts v = search rules in
+    let f = rw (c.in-Call.is, texts) at c.in_ok-run_words.ensures in
+    let args = map string_bytes c.in-Call.args.items in
+    step_left _ _ _ _ c.from_residual-in_err-call-in-Call.result NoMemory c.from_residual-in_err-call-in-Call.ensures.1
+    (for_memory _ (ran_as _ _ _ _ _ (runs_top (config_of m) m.words v refl top rest _ c.drop_top.ensures)
+    (ran_next _ _ _ (run_words m.slots (word_texts v) (state_of m.state)) (BodyWith args f.0) (state_of c.run_words.new.state) (λ x s. enter (config_of m) rest x s)
+    (unwind (config_of m).scopes) _ f.2 (ran_none _ _))))
 
 pub returns : goal.returns
 returns g c =
