@@ -1,5 +1,7 @@
 pub mod Acts
+pub mod InOrder
 pub mod Joined
+pub mod Outputs
 pub mod Pipelines
 pub mod Readings
 pub mod StageSteps
