@@ -1,6 +1,5 @@
 pub mod Acts
 pub mod InOrder
-pub mod Joined
 pub mod Outputs
 pub mod Pipelines
 pub mod Readings

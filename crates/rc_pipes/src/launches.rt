@@ -50,7 +50,12 @@ fn shell_args(alloc: Global, state: &State, words: &[String]) -> Result<Vec<Stri
 }
 
 /// What is asked for a shell that is handed its command in these words, where there are no functions.
-fn shell_launch(alloc: Global, state: &State, slots: Slots, words: &[String]) -> Result<Launch, AllocError>
+fn shell_launch(
+    alloc: Global,
+    state: &State,
+    slots: Slots,
+    words: &[String],
+) -> Result<Launch, AllocError>
     requires { (state_of state.now).functions ≡ [] }
     ensures { IfOk result (λ launch. launch_of launch
         ≡ launch_with slots (map string_bytes words.now) (state_of state.now)) }
