@@ -1,5 +1,5 @@
 -- Waits for children in the background, one after the other.
-use Rattle.std.proofs.Common.{◌≡◌, ℕ, zero, suc, ◌+◌, ◌<◌, ◌≤◌, List, [], ◌∷◌, length, drop, get_or, Option, Ok, Err, refl, sym, ap, ◌∙◌, subst, arith, drop-cons, add-one}
+use Rattle.std.proofs.Common.{◌≡◌, ℕ, ◌+◌, ◌<◌, ◌≤◌, List, [], ◌∷◌, length, drop, get_or, Option, Ok, Err, refl, ap, subst}
 use Rattle.std.specs.Prelude.{◌==◌, ◌||◌, Result as Outcome}
 use Rattle.std.specs.List.{list_any}
 use Rattle.rc_model.specs.declared.call.ChildNo.{ChildNo}
@@ -15,6 +15,7 @@ use Rattle.rc_world.specs.declared.types.Stop.{Stop}
 use Rattle.rc_world.proofs.Joins.{left_join}
 use Rattle.rc_world.proofs.Shells.{left_under}
 use Rattle.rc_pipes.proofs.Steps.{ran_both, left_first}
+use Rattle.rc_pipes.proofs.Rows.{past, at_place}
 
 -- the child of this number is among these
 pub any_number : (n : ℕ) (xs : List ChildNo) → list_any (λ child. child.0 == n) xs ≡ list_any (λ m. m == n) (numbers xs)
@@ -27,12 +28,6 @@ pub finishes : (a b : Option (List Event)) (s t : State) (m : Shell (Unit {0})) 
 finishes a b s t m (Ok v) f = ran_next a b b (m s) v t (λ x. pure Finished) leaves _ f (ran_none b _)
 finishes a b s t m (Err stop) f = left_under a b stop (m s) (λ x. pure Finished) leaves f
 
-past : (xs : List ChildNo) (i : ℕ) → length xs ≤ i → drop i xs ≡ []
-past [] zero h = refl
-past [] (suc i) h = refl
-past (x ∷ xs) zero h = absurd (omega (arith, h))
-past (x ∷ xs) (suc i) h = past xs i (omega (arith, h))
-
 module _ (s t : State) (a b : Option (List Event)) (all : List ℕ) (xs : List ChildNo) (i : ℕ)
     (h : Ran a b (wait_all all s) (wait_all (numbers (drop i xs)) t)) where
   module _ (d : ChildNo) (c : Option (List Event)) (lt : i < length xs) where
@@ -40,7 +35,7 @@ module _ (s t : State) (a b : Option (List Event)) (all : List ℕ) (xs : List C
     x = get_or xs i d
 
     left_is : drop i xs ≡ x ∷ drop (i + 1) xs
-    left_is = drop-cons xs i d lt ∙ ap (λ n. get_or xs i d ∷ drop n xs) (sym (add-one i))
+    left_is = at_place xs i d lt
 
     here : Ran a b (wait_all all s) (wait_all (x.0 ∷ numbers (drop (i + 1) xs)) t)
     here =

@@ -3,6 +3,7 @@ pub mod InOrder
 pub mod Outputs
 pub mod Pipelines
 pub mod Readings
+pub mod Rows
 pub mod StageSteps
 pub mod Steps
 pub mod Waits

@@ -49,7 +49,8 @@ fn back_child<W: World>(
     started: Started,
 ) -> Result<Vec<String>, Stop>
     ensures { let act = back_child read_end.0 write_end.0 (started_of started) in
-        Does W.events world.old world.new state_of state.old state.new act (λ members. map string_bytes members.items) result }
+        Does W.events world.old world.new state_of state.old state.new act
+        (λ members. map string_bytes members.items) result }
 {
     calls::close(world, write_end)?;
     let child = match started {
