@@ -71,7 +71,12 @@ fn function_text(alloc: Global, body: &Cmd) -> Result<String, AllocError>
 }
 
 /// Puts a function among the others.
-pub fn insert_function(alloc: Global, all: &mut Vec<Named>, name: &str, body: &Cmd) -> Result<(), AllocError>
+pub fn insert_function(
+    alloc: Global,
+    all: &mut Vec<Named>,
+    name: &str,
+    body: &Cmd,
+) -> Result<(), AllocError>
     ensures { OnOk result (named_of all.new.items
         ≡ insert_entry text_cmp (named_of all.old.items) (codes "fn#" ++ name.now) (image (cmd_tree body.now))) }
 {
@@ -81,7 +86,8 @@ pub fn insert_function(alloc: Global, all: &mut Vec<Named>, name: &str, body: &C
 
 /// An entry of a launch: NAME=TEXT.
 fn entry(alloc: Global, named: &Named) -> Result<String, AllocError>
-    ensures { IfOk result (λ text. string_bytes text ≡ entry (string_bytes named.now.name, string_bytes named.now.text)) }
+    ensures { IfOk result (λ text. string_bytes text
+        ≡ entry (string_bytes named.now.name, string_bytes named.now.text)) }
 {
     let Named { name, text } = named;
     format!(in alloc; "{name}={text}")
