@@ -27,7 +27,8 @@ fn has_plain_bytes(text: &str) -> bool
 
 /// Whether the text is a word without quotes.
 fn is_bare(text: &str) -> bool
-    ensures { result ≡ (not (length text.now == 0) && (list_all is_plain_char text.now && is_plain (keyword text.now))) }
+    ensures { result ≡ (not (length text.now == 0)
+        && (list_all is_plain_char text.now && is_plain (keyword text.now))) }
 {
     !text.is_empty() && has_plain_bytes(text) && matches!(keyword_named(text), Keyword::Plain)
 }
