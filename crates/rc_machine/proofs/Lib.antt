@@ -1,5 +1,6 @@
 pub mod Acts
 pub mod Defining
+pub mod Evals
 pub mod Left
 pub mod Names
 pub mod Places

@@ -1,6 +1,7 @@
 //! The machine, which runs compiled code over a world.
 #![tactic(auto)]
 
+mod builtins;
 mod commands;
 mod endings;
 mod functions;

@@ -117,7 +117,7 @@ fn with_path(alloc: Global) -> Result<State, SetError> {
 }
 
 /// Fails unless a script, from `path=(/bin)`, makes these calls and ends so.
-fn check<const N: usize>(
+pub fn check<const N: usize>(
     rt: &(impl Abort + AllocGlobal),
     script: &[u8],
     answers: [Answer; N],
@@ -177,22 +177,15 @@ wait 7
 }
 
 /// Scripts of forms that do not run yet.
-const OTHER_FORMS: [&str; 15] = [
-    "a *",
+const OTHER_FORMS: [&str; 8] = [
     "a `{b}",
     "a &",
     "a | b",
     "@ a",
     "a >f",
-    "for(i) a",
-    "switch a {}",
-    "~ a a",
-    "fn f {a}",
-    "fn f",
-    "cd /",
-    "'cd' /",
-    "x=1 a",
     "a <<E\nE\n",
+    ". f",
+    "wait",
 ];
 
 /// A form that does not run yet stops the run when it is reached, and no sooner.
@@ -203,7 +196,7 @@ fn other_forms_are_not_yet(rt: HostRuntime) -> Result<(), Fail> {
     }
     check(
         &rt,
-        b"{'echo' hello}; ~ a a",
+        b"{'echo' hello}; a | b",
         [FOUND, CHILD, ENDED],
         100,
         ECHO_HELLO,
