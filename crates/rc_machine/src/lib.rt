@@ -8,6 +8,7 @@ mod machine;
 mod matching;
 mod nest;
 mod parts;
+mod redirections;
 mod scopes;
 mod values;
 mod variables;

@@ -1,4 +1,4 @@
-use Rattle.std.proofs.Common.{rules, ◌≡◌, [], Ok, Some, map, string_bytes, refl}
+use Rattle.std.proofs.Common.{rules, ◌≡◌, [], Some, map, string_bytes, refl}
 use Rattle.rc_model.specs.Code.Layout as op
 use Rattle.rc_model.specs.Code.Machine.{act, enter, unwind}
 use Rattle.rc_model.specs.Run.Builtins.{Finished, run_words}
@@ -11,7 +11,7 @@ use Rattle.rc_world.proofs.Shells.{left_under}
 use Rattle.rc_machine.specs.Configs.{config_of}
 use Rattle.rc_machine.proofs.Acts.{runs_top}
 use Rattle.rc_machine.proofs.Left.{step_left}
-use Rattle.rc_machine.proofs.Runs.{begun_as, begun_under, stepped, steps_after}
+use Rattle.rc_machine.proofs.Runs.{begun_as, begun_under, steps_after}
 use Rattle.rc_scope.specs.States.{state_of}
 use Rattle.rc_machine.proofs.machine.Machine.run_command.Goals as goal
 
@@ -25,10 +25,11 @@ returns-in_err-run_words g c =
     let rest = c.drop_top.new.self in
     let top : top_of m.words ≡ Some v = search rules in
     let texts : map string_bytes c.deref.result.now ≡ word_texts v = search rules in
+    let own : c.slots.result ≡ m.redirs.slots = search rules in
     step_left _ _ _ _ c.from_residual-in_err-run_words.result c.in_err-run_words.field-0.0 c.from_residual-in_err-run_words.ensures.1
     (left_as _ _ _ _ _ (runs_top (config_of m) m.words v refl top rest _ c.drop_top.ensures)
-    (left_under _ _ _ (run_words m.slots (word_texts v) (state_of m.state)) (λ d s. enter (config_of m) rest d s) (unwind (config_of m).scopes)
-    (rw texts at c.in_err-run_words.ensures)))
+    (left_under _ _ _ (run_words m.redirs.slots (word_texts v) (state_of m.state)) (λ d s. enter (config_of m) rest d s) (unwind (config_of m).scopes)
+    (rw (texts, own) at c.in_err-run_words.ensures)))
 
 pub returns-in-Finished : goal.returns-in-Finished
 returns-in-Finished g c =
@@ -37,9 +38,10 @@ returns-in-Finished g c =
     let rest = c.drop_top.new.self in
     let top : top_of m.words ≡ Some v = search rules in
     let texts : map string_bytes c.deref.result.now ≡ word_texts v = search rules in
+    let own : c.slots.result ≡ m.redirs.slots = search rules in
     ran_as _ _ _ _ _ (runs_top (config_of m) m.words v refl top rest _ c.drop_top.ensures)
-    (ran_next _ _ _ (run_words m.slots (word_texts v) (state_of m.state)) Finished (state_of c.run_words.new.state) (λ d s. enter (config_of m) rest d s) (unwind (config_of m).scopes) _
-    (rw (c.in-Finished.is, texts) at c.in_ok-run_words.ensures) (ran_none _ _))
+    (ran_next _ _ _ (run_words m.redirs.slots (word_texts v) (state_of m.state)) Finished (state_of c.run_words.new.state) (λ d s. enter (config_of m) rest d s) (unwind (config_of m).scopes) _
+    (rw (c.in-Finished.is, texts, own) at c.in_ok-run_words.ensures) (ran_none _ _))
 
 pub returns-in-Exit : goal.returns-in-Exit
 returns-in-Exit g c =
@@ -48,15 +50,16 @@ returns-in-Exit g c =
     let rest = c.drop_top.new.self in
     let top : top_of m.words ≡ Some v = search rules in
     let texts : map string_bytes c.deref.result.now ≡ word_texts v = search rules in
+    let own : c.slots.result ≡ m.redirs.slots = search rules in
     let t = state_of c.run_words.new.state in
     let before = g.W.World.events c.args.world.now in
     let after = g.W.World.events c.run_words.new.world in
     let left = unwind (config_of m).scopes t [] in
-    steps_after before after after (act (Some op.Run) (config_of m)) left (config_of c.unwind.new.self) (Ok c.unwind.result)
+    steps_after before after (g.W.World.events c.unwind.new.world) (act (Some op.Run) (config_of m)) left (config_of c.unwind.new.self) c.unwind.result
     (ran_as before after _ _ _ (runs_top (config_of m) m.words v refl top rest _ c.drop_top.ensures)
-    (ran_exit before after after (run_words m.slots (word_texts v) (state_of m.state)) t [] (λ d s. enter (config_of m) rest d s) (unwind (config_of m).scopes) (unwind (config_of m).scopes t [])
-    (rw (c.in-Exit.is, texts) at c.in_ok-run_words.ensures) (ran_none after left)))
-    (stepped after left (config_of c.unwind.new.self) c.unwind.result c.unwind.ensures)
+    (ran_exit before after after (run_words m.redirs.slots (word_texts v) (state_of m.state)) t [] (λ d s. enter (config_of m) rest d s) (unwind (config_of m).scopes) (unwind (config_of m).scopes t [])
+    (rw (c.in-Exit.is, texts, own) at c.in_ok-run_words.ensures) (ran_none after left)))
+    c.unwind.ensures
 
 pub returns : goal.returns
 returns g c =
@@ -65,6 +68,7 @@ returns g c =
     let rest = c.drop_top.new.self in
     let top : top_of m.words ≡ Some v = search rules in
     let texts : map string_bytes c.deref.result.now ≡ word_texts v = search rules in
-    let f = rw (c.in-NotYet.is, texts) at c.in_ok-run_words.ensures in
+    let own : c.slots.result ≡ m.redirs.slots = search rules in
+    let f = rw (c.in-NotYet.is, texts, own) at c.in_ok-run_words.ensures in
     begun_as (runs_top (config_of m) m.words v refl top rest _ c.drop_top.ensures)
-    (begun_under (run_words m.slots (word_texts v) (state_of m.state)) (λ d s. enter (config_of m) rest d s) (unwind (config_of m).scopes) f)
+    (begun_under (run_words m.redirs.slots (word_texts v) (state_of m.state)) (λ d s. enter (config_of m) rest d s) (unwind (config_of m).scopes) f)
