@@ -13,7 +13,6 @@ use crate::values::texts;
 use rc_builtin::fault;
 use rc_code::{Code, compile};
 use rc_scope::State;
-use rc_text::is_true;
 use rc_world::{Slots, Stop, World};
 use std::alloc::{AllocError, Global};
 
@@ -71,7 +70,7 @@ fn run_words<W: World>(
 
 impl Machine {
     ghost use Rattle.rc_machine.specs.Configs.{config_of};
-    ghost use Rattle.rc_machine.specs.Outcomes.{Leads, Steps};
+    ghost use Rattle.rc_machine.specs.Outcomes.{Steps};
 
     /// Runs a simple command.
     pub(crate) fn run_command<W: World>(
@@ -88,7 +87,7 @@ impl Machine {
         };
         let texts = texts(alloc, words)?;
         self.words.drop_top();
-        match run_words(alloc, world, &mut self.state, self.slots, &texts)? {
+        match run_words(alloc, world, &mut self.state, self.redirs.slots(), &texts)? {
             Outcome::Finished => {
                 self.place += 1;
                 Ok(Move::On)
@@ -101,20 +100,8 @@ impl Machine {
                 self.call(args, body)?;
                 Ok(Move::On)
             }
-            Outcome::Exit => Ok(self.unwind()),
+            Outcome::Exit => self.unwind(alloc, world),
             Outcome::NotYet => Ok(Move::NotYet),
         }
-    }
-
-    /// Ends a strict shell where the status is not true.
-    pub(crate) fn check(&mut self) -> Move
-        requires { self.old.place < 2 ^ 63 }
-        ensures { Leads (act (Some op.Check) (config_of self.old)) (config_of self.new) result }
-    {
-        if self.state.strict() && !is_true(self.state.status()) {
-            return self.unwind();
-        }
-        self.place += 1;
-        Move::On
     }
 }

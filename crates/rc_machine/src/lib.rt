@@ -10,6 +10,7 @@ mod machine;
 mod matching;
 mod nest;
 mod parts;
+mod redirections;
 mod scopes;
 mod values;
 mod variables;
