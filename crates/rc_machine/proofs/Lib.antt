@@ -1,9 +1,13 @@
 pub mod Acts
 pub mod Defining
+pub mod Evals
+pub mod Heres
 pub mod Left
 pub mod Names
+pub mod Opened
 pub mod Places
+pub mod Redirected
 pub mod Runs
-pub mod Unwinding
 pub mod Stacks
-pub mod Subjects
+pub mod Unwinding
+pub mod Waits

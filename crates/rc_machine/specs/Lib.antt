@@ -3,3 +3,4 @@ pub mod Configs
 pub mod Names
 pub mod Endings
 pub mod Calls
+pub mod Standings

@@ -1,18 +1,18 @@
 //! What the words of a simple command run.
 
-ghost use Rattle.std.specs.Prelude.{◌≡◌, ◌<◌, ◌^◌, ◌∷◌, IfOk, false, None, Some, map, string_bytes};
+ghost use Rattle.std.specs.Prelude.{◌≡◌, ◌<◌, ◌^◌, IfOk, Some, map, string_bytes};
 ghost use Rattle.rc_model.specs.Code.Machine.{act};
 ghost use Rattle.rc_model.specs.Code.Layout as op;
-ghost use Rattle.rc_model.specs.Run.Builtins.{builtin_named, run_words, without_functions};
+ghost use Rattle.rc_model.specs.Run.Builtins.{run_words};
 ghost use Rattle.rc_machine.specs.Outcomes.{RunsWords};
 ghost use Rattle.rc_scope.specs.States.{state_of};
 
+use crate::builtins::run_unnamed;
 use crate::machine::{Machine, Move};
 use crate::values::texts;
-use rc_builtin::{Outcome as Program, fault, run_program};
+use rc_builtin::fault;
 use rc_code::{Code, compile};
 use rc_scope::State;
-use rc_text::is_true;
 use rc_world::{Slots, Stop, World};
 use std::alloc::{AllocError, Global};
 
@@ -21,22 +21,14 @@ use std::alloc::{AllocError, Global};
 pub enum Outcome {
     /// They ran, and the shell goes on.
     Finished,
+    /// A body is to be run.
+    Body(Code),
     /// A body is to be run with these arguments as its `$*`.
     Call { args: Vec<String>, body: Code },
     /// The shell ends.
     Exit,
     /// What they run can't be run yet.
     NotYet,
-}
-
-/// Whether the shell has a command of this name that can't be run yet.
-fn is_not_yet(name: &str) -> bool
-    ensures { result ≡ false → builtin_named name.now ≡ None }
-{
-    matches!(
-        name,
-        "." | "builtin" | "cd" | "eval" | "exec" | "exit" | "shift" | "wait" | "whatis"
-    )
 }
 
 /// Texts as a list of their own.
@@ -73,33 +65,12 @@ fn run_words<W: World>(
             body,
         });
     }
-    run_unnamed(alloc, world, state, slots, name, args)
-}
-
-/// Runs the words of a simple command whose first is no name of a function.
-fn run_unnamed<W: World>(
-    alloc: Global,
-    world: &mut W,
-    state: &mut State,
-    slots: Slots,
-    name: &str,
-    args: &[String],
-) -> Result<Outcome, Stop>
-    ensures { RunsWords (W.events world.old) (W.events world.new)
-        (without_functions slots (name.now ∷ map string_bytes args.now) (state_of state.old)) (state_of state.new) result }
-{
-    if is_not_yet(name) {
-        return Ok(Outcome::NotYet);
-    }
-    match run_program(alloc, world, state, slots, name, args)? {
-        Program::Finished => Ok(Outcome::Finished),
-        Program::NotYet => Ok(Outcome::NotYet),
-    }
+    run_unnamed(alloc, world, state, slots, words)
 }
 
 impl Machine {
     ghost use Rattle.rc_machine.specs.Configs.{config_of};
-    ghost use Rattle.rc_machine.specs.Outcomes.{Leads, Steps};
+    ghost use Rattle.rc_machine.specs.Outcomes.{Steps};
 
     /// Runs a simple command.
     pub(crate) fn run_command<W: World>(
@@ -116,29 +87,21 @@ impl Machine {
         };
         let texts = texts(alloc, words)?;
         self.words.drop_top();
-        match run_words(alloc, world, &mut self.state, self.slots, &texts)? {
+        match run_words(alloc, world, &mut self.state, self.redirs.slots(), &texts)? {
             Outcome::Finished => {
                 self.place += 1;
+                Ok(Move::On)
+            }
+            Outcome::Body(body) => {
+                self.enter(body, false)?;
                 Ok(Move::On)
             }
             Outcome::Call { args, body } => {
                 self.call(args, body)?;
                 Ok(Move::On)
             }
-            Outcome::Exit => Ok(self.unwind()),
+            Outcome::Exit => self.unwind(alloc, world),
             Outcome::NotYet => Ok(Move::NotYet),
         }
-    }
-
-    /// Ends a strict shell where the status is not true.
-    pub(crate) fn check(&mut self) -> Move
-        requires { self.old.place < 2 ^ 63 }
-        ensures { Leads (act (Some op.Check) (config_of self.old)) (config_of self.new) result }
-    {
-        if self.state.strict() && !is_true(self.state.status()) {
-            return self.unwind();
-        }
-        self.place += 1;
-        Move::On
     }
 }

@@ -7,7 +7,7 @@ ghost use Rattle.rc_model.specs.Run.State.{undefine};
 ghost use Rattle.rc_code.specs.Views.{code_of};
 ghost use Rattle.rc_scope.specs.States.{state_of};
 ghost use Rattle.rc_tree_types.specs.View.{cmd_tree};
-ghost use Rattle.rc_machine.specs.Calls.{Defines, called};
+ghost use Rattle.rc_machine.specs.Calls.{Defines, called, entered};
 
 use crate::machine::{Machine, Move};
 use crate::parts::{Frame, Scope};
@@ -52,7 +52,22 @@ impl Machine {
     ghost use Rattle.rc_machine.specs.Configs.{config_of};
     ghost use Rattle.rc_machine.specs.Outcomes.{Leads, Steps};
 
-    /// Goes into a body, for which `$*` are these arguments. It returns to the next instruction.
+    /// Goes into a body, from which the machine returns to the next instruction.
+    pub(crate) fn enter(&mut self, body: Code, binds: bool) -> Result<(), AllocError>
+        requires { self.old.place < 2 ^ 63 }
+        ensures { OnOk result (config_of self.new ≡ entered (config_of self.old) binds (code_of body)) }
+    {
+        let caller = replace(&mut self.code, body);
+        self.frames.open(Frame {
+            caller,
+            place: self.place + 1,
+            binds,
+        })?;
+        self.place = 0;
+        Ok(())
+    }
+
+    /// Goes into a body, for which `$*` are these arguments.
     pub(crate) fn call(&mut self, args: Vec<String>, body: Code) -> Result<(), AllocError>
         requires { self.old.place < 2 ^ 63 }
         ensures { OnOk result (config_of self.new
@@ -60,14 +75,7 @@ impl Machine {
     {
         self.state.push_local("*", args).map_err(|_| AllocError)?;
         self.scopes.open(Scope::Local)?;
-        let caller = replace(&mut self.code, body);
-        self.frames.open(Frame {
-            caller,
-            place: self.place + 1,
-            binds: true,
-        })?;
-        self.place = 0;
-        Ok(())
+        self.enter(body, true)
     }
 
     /// The end of a body, which in the last frame is that of the script.

@@ -1,6 +1,7 @@
 //! The machine, which runs compiled code over a world.
 #![tactic(auto)]
 
+mod builtins;
 mod commands;
 mod endings;
 mod functions;
@@ -9,6 +10,7 @@ mod machine;
 mod matching;
 mod nest;
 mod parts;
+mod redirections;
 mod scopes;
 mod values;
 mod variables;

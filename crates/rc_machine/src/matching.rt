@@ -1,44 +1,13 @@
 //! Instructions that hold a list against patterns.
 
-ghost use Rattle.std.specs.Prelude.{◌≡◌, ◌<◌, ◌^◌, ◌∷◌, ◌++◌, [], Some, IfOk, OnOk};
+ghost use Rattle.std.specs.Prelude.{◌<◌, ◌^◌, Some, IfOk};
 ghost use Rattle.rc_model.specs.Code.Machine.{act};
 ghost use Rattle.rc_model.specs.Code.Layout as op;
-ghost use Rattle.rc_model.specs.Syntax.Words.{subject, unmarked};
-ghost use Rattle.rc_text.specs.Views.{marks};
 
 use crate::machine::{Machine, Move};
 use rc_glob::matched;
-use rc_text::{Ch, Word};
+use rc_text::spaced_unmarked;
 use std::alloc::{AllocError, Global};
-
-/// Adds characters without their marks.
-fn push_plain(word: &mut Word, chars: &[Ch]) -> Result<(), AllocError>
-    ensures { OnOk result (word.new ≡ word.old ++ unmarked (marks chars.now)) }
-{
-    for ch in chars {
-        word.push(Ch {
-            c: ch.c,
-            pat: false,
-        })?;
-    }
-    Ok(())
-}
-
-/// The words joined by spaces, as one word with no marks.
-fn subject(alloc: Global, words: &[Word]) -> Result<Word, AllocError>
-    ensures { IfOk result (λ word. word ∷ [] ≡ subject words.now) }
-{
-    let mut joined = Word::new(alloc);
-    let Some((first, others)) = words.split_first() else {
-        return Ok(joined);
-    };
-    push_plain(&mut joined, first.chars())?;
-    for word in others {
-        joined.push(Ch { c: ' ', pat: false })?;
-        push_plain(&mut joined, word.chars())?;
-    }
-    Ok(joined)
-}
 
 impl Machine {
     ghost use Rattle.rc_machine.specs.Configs.{config_of};
@@ -53,7 +22,7 @@ impl Machine {
         let Some(words) = self.words.top() else {
             return Ok(Move::Ended);
         };
-        let subject = subject(alloc, words)?;
+        let subject = spaced_unmarked(alloc, words)?;
         self.words.drop_top();
         self.words.begin()?;
         self.words.push(subject)?;

@@ -1,9 +1,8 @@
 //! What a machine holds beside its code: the frames of calls, and what ends later.
 
-ghost use Rattle.std.specs.Prelude.{◌≡◌};
-
 use crate::nest::Nest;
 use rc_code::Code;
+use rc_world::ChildNo;
 
 /// Where a body was called.
 #[derive(Drop)]
@@ -24,18 +23,10 @@ pub enum Scope {
         rest: Nest<String>,
         bound: bool,
     },
-}
-
-impl Scope {
-    ghost use Rattle.rc_machine.specs.Configs.{binds, scope_of};
-
-    /// Whether a variable is bound until it ends.
-    pub fn binds(&self) -> bool
-        ensures { result ≡ binds (scope_of self.now) }
-    {
-        match self {
-            Scope::Local => true,
-            Scope::Loop { bound, .. } => *bound,
-        }
-    }
+    /// The newest redirection.
+    Redirection,
+    /// A pipeline before its last stage, whose read end is the newest redirection.
+    Pipeline {
+        children: Vec<ChildNo>,
+    },
 }

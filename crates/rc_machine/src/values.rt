@@ -86,7 +86,7 @@ fn has_name_bytes(text: &str) -> bool
 }
 
 /// Whether the text can stand behind `$`.
-fn is_readable(text: &str) -> bool
+pub fn is_readable(text: &str) -> bool
     ensures { result ≡ is_readable text.now }
 {
     has_name_bytes(text) && !text.is_empty()
@@ -130,7 +130,7 @@ fn member<'a>(value: &'a [String], digits: &str) -> &'a [String]
 }
 
 /// What `$` and a name give: for digits a member of `$*`.
-fn got<'a>(state: &'a State, name: &str) -> &'a [String]
+pub fn got<'a>(state: &'a State, name: &str) -> &'a [String]
     ensures { map string_bytes result.now ≡ got (state_of state.now) name.now }
 {
     if !has_digits(name) || name.is_empty() {

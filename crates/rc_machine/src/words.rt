@@ -8,6 +8,7 @@ ghost use Rattle.std.specs.List.{list_any};
 
 use crate::machine::{Machine, Move};
 use crate::values::{list_of, put_words};
+use rc_glob::expand_all;
 use rc_text::{ConcatError, Word, concat};
 use rc_world::{Stop, World};
 use std::alloc::{AllocError, Global};
@@ -80,18 +81,25 @@ impl Machine {
         }
     }
 
-    pub(crate) fn glob(&mut self) -> Move
+    /// Patterns become the names of files that they stand for.
+    #[tactic(auto, using(crate::proofs::Left::step_refused))]
+    pub(crate) fn glob<W: World>(&mut self, alloc: Global, world: &mut W) -> Result<Move, Stop>
         requires { self.old.place < 2 ^ 63 }
-        ensures { Leads (act (Some op.Glob) (config_of self.old)) (config_of self.new) result }
+        ensures { Steps (W.events world.old) (W.events world.new)
+            (act (Some op.Glob) (config_of self.old)) (config_of self.new) result }
     {
         let Some(words) = self.words.top() else {
-            return Move::Ended;
+            return Ok(Move::Ended);
         };
-        if have_pattern(words) {
-            return Move::NotYet;
+        if !have_pattern(words) {
+            self.place += 1;
+            return Ok(Move::On);
         }
+        let names = expand_all(alloc, world, words)?;
+        self.words.drop_top();
+        put_words(&mut self.words, names.words())?;
         self.place += 1;
-        Move::On
+        Ok(Move::On)
     }
 
     pub(crate) fn drop_words(&mut self) -> Move

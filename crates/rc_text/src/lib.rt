@@ -13,7 +13,7 @@ mod words;
 
 pub use characters::{first_char, is_name_char};
 pub use concatenation::{ConcatError, concat};
-pub use lists::{List, count};
+pub use lists::{List, count, spaced_unmarked};
 pub use numbers::number_of;
 pub use output::{lossy, split};
 pub use quoting::{push_quoted, quote, unquote};

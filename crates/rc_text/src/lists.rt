@@ -86,7 +86,7 @@ impl List {
 }
 
 /// The words joined by spaces, with no marks.
-fn spaced_unmarked(alloc: Global, words: &[Word]) -> Result<Word, AllocError>
+pub fn spaced_unmarked(alloc: Global, words: &[Word]) -> Result<Word, AllocError>
     ensures { IfOk result (λ joined. joined ≡ unmarked (spaced_words words.now)) }
 {
     let mut joined = Word::new(alloc);

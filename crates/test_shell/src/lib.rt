@@ -2,6 +2,8 @@
 #![tactic(auto)]
 
 #[cfg(test)]
+mod flow;
+#[cfg(test)]
 mod program;
 #[cfg(test)]
 mod shell;

@@ -2,7 +2,9 @@
 
 use rc_scope::{SetError, State};
 use rc_shell::{Ran, ShellFault, execute};
-use rc_world::{Answer, Call, ChildNo, Ending, Fault, Kind, Launch, Program, Slot, Slots, Tape};
+use rc_world::{
+    Answer, Call, ChildNo, Ending, Fault, Handle, Kind, Launch, Mode, Program, Slot, Slots, Tape,
+};
 use std::alloc::{AllocError, Global};
 use std::process::Abort;
 use std::test::Fail;
@@ -10,6 +12,8 @@ use std::test::Fail;
 const FOUND: Answer = Answer::Found(Kind::Program);
 
 const REFUSED: Answer = Answer::Refused(Fault::Denied);
+
+const FILE: Answer = Answer::File(Handle(4));
 
 const CHILD: Answer = Answer::Child(ChildNo(7));
 
@@ -55,8 +59,22 @@ fn write_report(out: &mut String, slot: Slot, text: &[u8]) -> Result<(), AllocEr
     }
 }
 
+fn mode_name(mode: Mode) -> &'static str {
+    match mode {
+        Mode::Read => "read",
+        Mode::Write => "write",
+        Mode::Append => "append",
+    }
+}
+
 fn write_call(out: &mut String, call: &Call) -> Result<(), AllocError> {
     match call {
+        Call::Open(path, mode) => {
+            let mode = mode_name(*mode);
+            write!(out, "open {path} to {mode}")?;
+        }
+        Call::Here(text) => write!(out, "here {text:?}")?,
+        Call::Close(file) => write!(out, "close {}", file.0)?,
         Call::Probe(path) => write!(out, "probe {path}")?,
         Call::Start(launch) => {
             out.push_str("start ")?;
@@ -117,7 +135,7 @@ fn with_path(alloc: Global) -> Result<State, SetError> {
 }
 
 /// Fails unless a script, from `path=(/bin)`, makes these calls and ends so.
-fn check<const N: usize>(
+pub fn check<const N: usize>(
     rt: &(impl Abort + AllocGlobal),
     script: &[u8],
     answers: [Answer; N],
@@ -177,23 +195,7 @@ wait 7
 }
 
 /// Scripts of forms that do not run yet.
-const OTHER_FORMS: [&str; 15] = [
-    "a *",
-    "a `{b}",
-    "a &",
-    "a | b",
-    "@ a",
-    "a >f",
-    "for(i) a",
-    "switch a {}",
-    "~ a a",
-    "fn f {a}",
-    "fn f",
-    "cd /",
-    "'cd' /",
-    "x=1 a",
-    "a <<E\nE\n",
-];
+const OTHER_FORMS: [&str; 6] = ["a `{b}", "a &", "a | b", "@ a", ". f", "wait"];
 
 /// A form that does not run yet stops the run when it is reached, and no sooner.
 #[test]
@@ -203,12 +205,149 @@ fn other_forms_are_not_yet(rt: HostRuntime) -> Result<(), Fail> {
     }
     check(
         &rt,
-        b"{'echo' hello}; ~ a a",
+        b"{'echo' hello}; a | b",
         [FOUND, CHILD, ENDED],
         100,
         ECHO_HELLO,
         "not yet",
     )
+}
+
+/// A redirection surrounds its command, and a copy stands for what a descriptor is then.
+#[test]
+fn redirections_surround_their_command(rt: HostRuntime) -> Result<(), Fail> {
+    check(
+        &rt,
+        b"c >f >[2=1]",
+        [FILE, FOUND, CHILD, ENDED, Answer::Done],
+        100,
+        r#"open f to write
+probe /bin/c
+start /bin/c [] ["path=/bin", "status="] 0 file 4 file 4
+wait 7
+close 4
+"#,
+        "ended, ",
+    )?;
+    check(
+        &rt,
+        b"c >[2=1] >>f",
+        [FILE, FOUND, CHILD, ENDED, REFUSED],
+        100,
+        r#"open f to append
+probe /bin/c
+start /bin/c [] ["path=/bin", "status="] 0 file 4 1
+wait 7
+close 4
+"#,
+        "ended, ",
+    )
+}
+
+/// The innermost redirection ends first, and what follows has the descriptors before.
+#[test]
+fn redirections_are_nested(rt: HostRuntime) -> Result<(), Fail> {
+    let inner = Answer::File(Handle(5));
+    check(
+        &rt,
+        b"{c <a} >f; /d",
+        [
+            FILE,
+            inner,
+            FOUND,
+            CHILD,
+            ENDED,
+            Answer::Done,
+            Answer::Done,
+            CHILD,
+            ENDED,
+        ],
+        100,
+        r#"open f to write
+open a to read
+probe /bin/c
+start /bin/c [] ["path=/bin", "status="] file 5 file 4 2
+wait 7
+close 5
+close 4
+start /d [] ["path=/bin", "status="] 0 1 2
+wait 7
+"#,
+        "ended, ",
+    )
+}
+
+/// A here document is the text of descriptor 0.
+#[test]
+fn here_documents_are_handed_over(rt: HostRuntime) -> Result<(), Fail> {
+    check(
+        &rt,
+        b"x=(1 2)\nc <<E\n$x^y $$ $z\nE\n",
+        [FILE, FOUND, CHILD, ENDED, Answer::Done],
+        100,
+        r#"here "1 2y $ \n"
+probe /bin/c
+start /bin/c [] ["path=/bin", "status=", "x=1\u{1}2"] file 4 1 2
+wait 7
+close 4
+"#,
+        "ended, ",
+    )?;
+    check(
+        &rt,
+        b"c <<'E'\n$x^y $$ $z\nE\n",
+        [REFUSED, Answer::Done],
+        100,
+        r#"here "$x^y $$ $z\n"
+write 2 "rc: cannot open here document\n"
+"#,
+        "ended, error",
+    )?;
+    check(&rt, b"c <<E\n$x\n", [], 100, "", "OpenHere in line 1")
+}
+
+/// What is open is closed at a runtime error, which is reported to descriptor 2 as it is then.
+#[test]
+fn redirections_end_with_the_shell(rt: HostRuntime) -> Result<(), Fail> {
+    let inner = Answer::File(Handle(5));
+    check(
+        &rt,
+        b"{c >g >h} >f >[2=1]; d",
+        [FILE, inner, REFUSED, Answer::Done, REFUSED, Answer::Done],
+        100,
+        r#"open f to write
+open g to write
+open h to write
+write file 4 "rc: cannot open h\n"
+close 5
+close 4
+"#,
+        "ended, error",
+    )?;
+    check(
+        &rt,
+        b"{$y} >f",
+        [FILE, Answer::Done, Answer::Done],
+        100,
+        "open f to write\nwrite 2 \"rc: empty argument list\\n\"\nclose 4\n",
+        "ended, error",
+    )
+}
+
+/// The words of a file are one word.
+#[test]
+fn a_file_is_one_word(rt: HostRuntime) -> Result<(), Fail> {
+    for script in ["c >(f g)", "c >()", "c >$y"] {
+        check(
+            &rt,
+            script.as_bytes(),
+            [Answer::Done],
+            100,
+            "write 2 \"rc: redirection needs one word\\n\"\n",
+            "ended, error",
+        )?;
+    }
+    Ok(())
 }
 
 /// The value of each member in a list of arguments.

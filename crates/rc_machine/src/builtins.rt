@@ -1,0 +1,128 @@
+//! The built-in commands, and programs.
+
+ghost use Rattle.std.specs.Prelude.{IfOk, List, Ok, Option, map, string_bytes};
+ghost use Rattle.rc_model.specs.Mirrors.TreeOfText.{tree_of};
+ghost use Rattle.rc_model.specs.Run.Builtins.{Called, as_body, exec, finished, run_builtin, without_functions};
+ghost use Rattle.rc_model.specs.Run.Acts.{run_program};
+ghost use Rattle.rc_model.specs.Run.Calls.{Event};
+ghost use Rattle.rc_model.specs.Run.Shell.{Shell};
+ghost use Rattle.rc_model.specs.Syntax.Text.{spaced};
+ghost use Rattle.rc_machine.specs.Outcomes.{RunsWords};
+ghost use Rattle.rc_scope.specs.States.{state_of};
+
+use crate::commands::Outcome;
+use rc_builtin::{Builtin, Outcome as Program, change_dir, exit_status, run_program, shift, whatis};
+use rc_code::compile;
+use rc_parser::{InputError, parse};
+use rc_scope::State;
+use rc_text::flat;
+use rc_world::{Slots, Stop, World};
+use std::alloc::{AllocError, Global};
+
+/// `eval`: the words, joined by spaces, are a script that is run.
+fn eval(alloc: Global, state: &mut State, words: &[String]) -> Result<Outcome, AllocError>
+    ensures { IfOk result (λ outcome. (told : Option (List Event)) → RunsWords told told
+        (as_body (tree_of (spaced (map string_bytes words.now))) (state_of state.old)) (state_of state.new) (Ok outcome)) }
+{
+    let text = flat(alloc, words)?;
+    match parse(alloc, text.as_bytes()) {
+        Ok(cmd) => Ok(Outcome::Body(compile(alloc, &cmd)?)),
+        Err(InputError::Fault(_)) => {
+            state.set_status("syntax error")?;
+            Ok(Outcome::Finished)
+        }
+        Err(InputError::NoMemory) => Err(AllocError),
+    }
+}
+
+/// `exec`: the shell ends with the status of a program.
+#[tactic(auto, using(crate::proofs::Left::words_refused))]
+fn exec<W: World>(
+    alloc: Global,
+    world: &mut W,
+    state: &mut State,
+    slots: Slots,
+    words: &[String],
+) -> Result<Outcome, Stop>
+    ensures { RunsWords (W.events world.old) (W.events world.new)
+        (exec slots (map string_bytes words.now) (state_of state.old)) (state_of state.new) result }
+{
+    let Some((name, args)) = words.split_first() else {
+        state.set_status("usage")?;
+        return Ok(Outcome::Finished);
+    };
+    match run_program(alloc, world, state, slots, name, args)? {
+        Program::Finished => Ok(Outcome::Exit),
+        Program::NotYet => Ok(Outcome::NotYet),
+    }
+}
+
+/// Runs a built-in command other than `builtin`.
+#[tactic(auto, using(crate::proofs::Left::words_refused))]
+fn run_builtin<W: World>(
+    alloc: Global,
+    world: &mut W,
+    state: &mut State,
+    slots: Slots,
+    builtin: Builtin,
+    args: &[String],
+) -> Result<Outcome, Stop>
+    ensures { (again : Shell Called) → RunsWords (W.events world.old) (W.events world.new)
+        (run_builtin again slots builtin (map string_bytes args.now) (state_of state.old)) (state_of state.new) result }
+{
+    match builtin {
+        Builtin::Eval => return Ok(eval(alloc, state, args)?),
+        Builtin::Exec => return exec(alloc, world, state, slots, args),
+        Builtin::Exit => {
+            exit_status(alloc, state, args)?;
+            return Ok(Outcome::Exit);
+        }
+        Builtin::Cd => change_dir(alloc, world, state, args)?,
+        Builtin::Shift => shift(alloc, state, args)?,
+        Builtin::Whatis => whatis(alloc, world, state, slots, args)?,
+        Builtin::BuiltinWord | Builtin::Dot | Builtin::Wait => return Ok(Outcome::NotYet),
+    }
+    Ok(Outcome::Finished)
+}
+
+/// Runs a program by its name.
+#[tactic(auto, using(crate::proofs::Left::words_refused))]
+fn run_other<W: World>(
+    alloc: Global,
+    world: &mut W,
+    state: &mut State,
+    slots: Slots,
+    name: &str,
+    args: &[String],
+) -> Result<Outcome, Stop>
+    ensures { RunsWords (W.events world.old) (W.events world.new)
+        (finished (run_program slots name.now (map string_bytes args.now)) (state_of state.old)) (state_of state.new) result }
+{
+    match run_program(alloc, world, state, slots, name, args)? {
+        Program::Finished => Ok(Outcome::Finished),
+        Program::NotYet => Ok(Outcome::NotYet),
+    }
+}
+
+/// Runs words for which functions are ignored.
+#[tactic(auto, using(crate::proofs::Left::words_refused))]
+pub fn run_unnamed<W: World>(
+    alloc: Global,
+    world: &mut W,
+    state: &mut State,
+    slots: Slots,
+    words: &[String],
+) -> Result<Outcome, Stop>
+    ensures { RunsWords (W.events world.old) (W.events world.new)
+        (without_functions slots (map string_bytes words.now) (state_of state.old)) (state_of state.new) result }
+{
+    let Some((name, args)) = words.split_first() else {
+        state.set_status("usage")?;
+        return Ok(Outcome::Finished);
+    };
+    match Builtin::named(name) {
+        Some(Builtin::BuiltinWord) => run_unnamed(alloc, world, state, slots, args),
+        Some(builtin) => run_builtin(alloc, world, state, slots, builtin, args),
+        None => run_other(alloc, world, state, slots, name, args),
+    }
+}
