@@ -43,5 +43,5 @@ RunsAsMeant before after script (Err NotYet) =
     ToldOf before after script (λ t trace. IsBegunWithin most_instructions t first_state trace)
 RunsAsMeant before after script (Err NoMemory) =
     ((t : Node cmd) → IsAccepted script t →
-        Told before after (λ trace. IsBegunWithin most_instructions t first_state trace))
+    Told before after (λ trace. IsBegunWithin most_instructions t first_state trace))
     × ((fault : SyntaxFault) → IsRefused script fault → after ≡ before)

@@ -43,11 +43,7 @@ pub enum Opening {
 
 /// A name after a `$`.
 #[cycle(name)]
-#[tactic(
-    auto,
-    using(crate::proofs::Steps::levels, std::proofs::lemmas::Grind::common_steps),
-    unfolding(rc_model::specs::Mirrors::Descent::name_by),
-)]
+#[tactic(auto, using(crate::proofs::Steps::levels, std::proofs::lemmas::Grind::common_steps), unfolding(rc_model::specs::Mirrors::Descent::name_by))]
 fn name(alloc: Global, left: usize, lexemes: &[Lexeme]) -> Result<(Box<Arg>, &[Lexeme]), TokenError>
     ensures { Gives (λ x. (arg_tree x.0.value, lexemes_of x.1.now)) result (read left a_name (lexemes_of lexemes.now)) }
 {
@@ -67,11 +63,7 @@ fn name(alloc: Global, left: usize, lexemes: &[Lexeme]) -> Result<(Box<Arg>, &[L
 
 /// A part of an argument. Inside parentheses newlines are blanks.
 #[cycle(read)]
-#[tactic(
-    auto,
-    using(crate::proofs::Steps::levels, std::proofs::lemmas::Grind::common_steps),
-    unfolding(rc_model::specs::Mirrors::Descent::part_by),
-)]
+#[tactic(auto, using(crate::proofs::Steps::levels, std::proofs::lemmas::Grind::common_steps), unfolding(rc_model::specs::Mirrors::Descent::part_by))]
 fn part(
     alloc: Global,
     left: usize,
@@ -110,11 +102,7 @@ fn part(
 
 /// What follows a `$`: a name, perhaps with subscripts.
 #[cycle(read)]
-#[tactic(
-    auto,
-    using(std::proofs::lemmas::Grind::common_steps),
-    unfolding(rc_model::specs::Mirrors::Descent::dollar_by),
-)]
+#[tactic(auto, using(std::proofs::lemmas::Grind::common_steps), unfolding(rc_model::specs::Mirrors::Descent::dollar_by))]
 fn dollar(
     alloc: Global,
     below: usize,
@@ -351,11 +339,7 @@ fn paren(
 
 /// The words of a case line, and the commands that follow it.
 #[cycle(read)]
-#[tactic(
-    auto,
-    using(std::proofs::lemmas::Grind::common_steps),
-    unfolding(rc_model::specs::Mirrors::Descent::branch_by),
-)]
+#[tactic(auto, using(std::proofs::lemmas::Grind::common_steps), unfolding(rc_model::specs::Mirrors::Descent::branch_by))]
 fn branch(
     alloc: Global,
     below: usize,
@@ -408,11 +392,7 @@ fn branches(
 
 /// What follows `switch`.
 #[cycle(read)]
-#[tactic(
-    auto,
-    using(std::proofs::lemmas::Grind::common_steps),
-    unfolding(rc_model::specs::Mirrors::Descent::switch_by),
-)]
+#[tactic(auto, using(std::proofs::lemmas::Grind::common_steps), unfolding(rc_model::specs::Mirrors::Descent::switch_by))]
 fn switch(
     alloc: Global,
     below: usize,
@@ -446,11 +426,7 @@ fn matching(
 
 /// What follows `fn`.
 #[cycle(read)]
-#[tactic(
-    auto,
-    using(std::proofs::lemmas::Grind::common_steps),
-    unfolding(rc_model::specs::Mirrors::Descent::define_by),
-)]
+#[tactic(auto, using(std::proofs::lemmas::Grind::common_steps), unfolding(rc_model::specs::Mirrors::Descent::define_by))]
 fn define(
     alloc: Global,
     below: usize,
@@ -555,11 +531,7 @@ fn body(
 
 /// An operand that may be absent.
 #[cycle(read)]
-#[tactic(
-    auto,
-    using(std::proofs::lemmas::Grind::common_steps),
-    unfolding(rc_model::specs::Mirrors::Descent::optional_by),
-)]
+#[tactic(auto, using(std::proofs::lemmas::Grind::common_steps), unfolding(rc_model::specs::Mirrors::Descent::optional_by))]
 fn optional(
     alloc: Global,
     below: usize,
@@ -667,11 +639,7 @@ fn iterated(
 
 /// What follows `!`, `@` and the control words.
 #[cycle(read)]
-#[tactic(
-    auto,
-    using(std::proofs::lemmas::Grind::common_steps),
-    unfolding(rc_model::specs::Mirrors::Descent::control_by),
-)]
+#[tactic(auto, using(std::proofs::lemmas::Grind::common_steps), unfolding(rc_model::specs::Mirrors::Descent::control_by))]
 fn control(
     alloc: Global,
     below: usize,
@@ -701,11 +669,7 @@ fn control(
 
 /// Redirections with the operand after them.
 #[cycle(read)]
-#[tactic(
-    auto,
-    using(std::proofs::lemmas::Grind::common_steps),
-    unfolding(rc_model::specs::Mirrors::Descent::redirected_by),
-)]
+#[tactic(auto, using(std::proofs::lemmas::Grind::common_steps), unfolding(rc_model::specs::Mirrors::Descent::redirected_by))]
 fn redirected(
     alloc: Global,
     below: usize,
@@ -809,11 +773,7 @@ fn piped(
 
 /// The value after a `=`, further assignments and the command after them.
 #[cycle(read)]
-#[tactic(
-    auto,
-    using(rc_tree_types::specs::View::tree_lists),
-    unfolding(rc_model::specs::Mirrors::Descent::assigned_by),
-)]
+#[tactic(auto, using(rc_tree_types::specs::View::tree_lists), unfolding(rc_model::specs::Mirrors::Descent::assigned_by))]
 fn assigned(
     alloc: Global,
     below: usize,

@@ -276,15 +276,7 @@ pub fn here_doc(alloc: Global, quoted: bool, body: &str) -> Result<Box<Redir>, A
 }
 
 /// One part stands alone, and several are joined.
-#[tactic(
-    auto,
-    using(
-        crate::proofs::Parts::concat_one,
-        crate::proofs::Parts::concat_several,
-        rc_tree_types::specs::View::tree_Concat,
-        std::proofs::lemmas::Grind::common_steps,
-    ),
-)]
+#[tactic(auto, using(crate::proofs::Parts::concat_one, crate::proofs::Parts::concat_several, rc_tree_types::specs::View::tree_Concat, std::proofs::lemmas::Grind::common_steps))]
 pub fn concat(alloc: Global, first: Box<Arg>, mut others: Vec<Arg>) -> Result<Box<Arg>, AllocError>
     ensures { IfOk result (λ b. arg_tree b.value ≡ concat_of (arg_tree first.value) (args_tree others.items)) }
 {
@@ -296,15 +288,7 @@ pub fn concat(alloc: Global, first: Box<Arg>, mut others: Vec<Arg>) -> Result<Bo
 }
 
 /// A command with the redirections after it.
-#[tactic(
-    auto,
-    using(
-        crate::proofs::Parts::redirect_none,
-        crate::proofs::Parts::redirect_some,
-        rc_tree_types::specs::View::tree_Redirect,
-        std::proofs::lemmas::Grind::common_steps,
-    ),
-)]
+#[tactic(auto, using(crate::proofs::Parts::redirect_none, crate::proofs::Parts::redirect_some, rc_tree_types::specs::View::tree_Redirect, std::proofs::lemmas::Grind::common_steps))]
 pub fn redirect(alloc: Global, redirs: Vec<Redir>, body: Box<Cmd>) -> Result<Box<Cmd>, AllocError>
     ensures { IfOk result (λ b. cmd_tree b.value ≡ redirect (redirs_tree redirs.items) (cmd_tree body.value)) }
 {
@@ -315,15 +299,7 @@ pub fn redirect(alloc: Global, redirs: Vec<Redir>, body: Box<Cmd>) -> Result<Box
 }
 
 /// A pipeline of stages before a last one.
-#[tactic(
-    auto,
-    using(
-        crate::proofs::Parts::pipeline_none,
-        crate::proofs::Parts::pipeline_some,
-        rc_tree_types::specs::View::tree_Pipeline,
-        std::proofs::lemmas::Grind::common_steps,
-    ),
-)]
+#[tactic(auto, using(crate::proofs::Parts::pipeline_none, crate::proofs::Parts::pipeline_some, rc_tree_types::specs::View::tree_Pipeline, std::proofs::lemmas::Grind::common_steps))]
 pub fn pipeline(alloc: Global, stages: Vec<Stage>, last: Box<Cmd>) -> Result<Box<Cmd>, AllocError>
     ensures { IfOk result (λ b. cmd_tree b.value ≡ pipeline_of (stages_tree stages.items) (cmd_tree last.value)) }
 {
@@ -334,15 +310,7 @@ pub fn pipeline(alloc: Global, stages: Vec<Stage>, last: Box<Cmd>) -> Result<Box
 }
 
 /// A command of one operand or several.
-#[tactic(
-    auto,
-    using(
-        crate::proofs::Parts::and_or_none,
-        crate::proofs::Parts::and_or_some,
-        rc_tree_types::specs::View::tree_AndOr,
-        std::proofs::lemmas::Grind::common_steps,
-    ),
-)]
+#[tactic(auto, using(crate::proofs::Parts::and_or_none, crate::proofs::Parts::and_or_some, rc_tree_types::specs::View::tree_AndOr, std::proofs::lemmas::Grind::common_steps))]
 pub fn and_or(
     alloc: Global,
     first: Box<Cmd>,

@@ -11,7 +11,9 @@ ghost use Rattle.rc_machine.specs.Outcomes.{RunsWords};
 ghost use Rattle.rc_scope.specs.States.{state_of};
 
 use crate::commands::Outcome;
-use rc_builtin::{Builtin, Outcome as Program, change_dir, exit_status, run_program, shift, whatis};
+use rc_builtin::{
+    Builtin, Outcome as Program, change_dir, exit_status, run_program, shift, whatis,
+};
 use rc_code::compile;
 use rc_parser::{InputError, parse};
 use rc_scope::State;

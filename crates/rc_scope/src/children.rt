@@ -17,7 +17,7 @@ fn is_same(other: ChildNo, child: ChildNo) -> bool
 pub fn place_of(children: &[ChildNo], child: ChildNo) -> Option<usize>
     ensures { MatchOption result (without_child child.0 (numbers children.now) ≡ numbers children.now)
         (λ place. (place < length children.now) ×
-            (numbers (remove children.now place) ≡ without_child child.0 (numbers children.now))) }
+        (numbers (remove children.now place) ≡ without_child child.0 (numbers children.now))) }
 {
     let mut place = 0;
     for other in children {

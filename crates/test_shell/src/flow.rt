@@ -18,8 +18,14 @@ const LOOPS: [(&str, &str); 11] = [
     ("for(i in a b c) x=($x $i); exit $x", "a b c"),
     ("for(i in ()) x=($x $i); exit $#x", "0"),
     ("i=0; for(i in a b) x=$i; exit $i $x", "0 b"),
-    ("for(i in a b) for(j in 1 2) x=($x $i^$j); exit $x", "a1 a2 b1 b2"),
-    ("for(i in a b) for(i in 1 2) x=($x $i); exit $x $#i", "1 2 1 2 0"),
+    (
+        "for(i in a b) for(j in 1 2) x=($x $i^$j); exit $x",
+        "a1 a2 b1 b2",
+    ),
+    (
+        "for(i in a b) for(i in 1 2) x=($x $i); exit $x $#i",
+        "1 2 1 2 0",
+    ),
     ("l=(a b); for(i in $l) l=(c d e); exit $l", "c d e"),
     ("for(i in a b) {i=c; x=($x $i)}; exit $x", "c c"),
     ("*=(p q); for(i) x=($x $i); exit $x", "p q"),
@@ -35,7 +41,10 @@ fn loops_run(rt: HostRuntime) -> Result<(), Fail> {
 
 /// The first case with a pattern that matches runs, and no other; patterns see the members joined by spaces.
 const CHOICES: [(&str, &str); 14] = [
-    ("switch abc {case a\nexit 1\ncase a*\nexit 2\ncase *\nexit 3}", "2"),
+    (
+        "switch abc {case a\nexit 1\ncase a*\nexit 2\ncase *\nexit 3}",
+        "2",
+    ),
     ("switch abc {case b c\nexit 1\ncase d abc\nexit 2}", "2"),
     ("switch a {case b\nexit 1}; exit none", "none"),
     ("switch (a b) {case 'a b'\nexit joined}", "joined"),
@@ -46,7 +55,10 @@ const CHOICES: [(&str, &str); 14] = [
     ("~ () a; exit", "no match"),
     ("if(~ a b) exit 1\nif not exit 2", "2"),
     ("if(~ a a) x=1\nif not x=2\nexit $x", "1"),
-    ("if(~ a b) x=1\nif not if(~ a a) x=2\nif not x=3\nexit $x", "2"),
+    (
+        "if(~ a b) x=1\nif not if(~ a a) x=2\nif not x=3\nexit $x",
+        "2",
+    ),
     ("! ~ a b && exit inverted", "inverted"),
     ("~ a b || ~ a a && exit from the left", "from the left"),
 ];

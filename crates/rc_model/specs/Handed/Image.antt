@@ -135,7 +135,7 @@ with_functions (f ∷ fs) others = insert_entry text_cmp (with_functions fs othe
 abbrev pub entries : State → List (List ℕ)
 entries s =
     map entry (with_functions s.functions
-        (insert_entry text_cmp (handed_values s.variables) status_name (value_text (s.status ∷ []))))
+    (insert_entry text_cmp (handed_values s.variables) status_name (value_text (s.status ∷ []))))
 
 -- an argument or an entry is at most so long
 abbrev pub is_short : List ℕ → Bool
