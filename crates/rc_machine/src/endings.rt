@@ -84,7 +84,8 @@ impl Machine {
         world: &mut W,
         text: &str,
     ) -> Result<Move, Stop>
-        ensures { Steps (W.events world.old) (W.events world.new) (failed (config_of self.old) text.now) (config_of self.new) result }
+        ensures { Steps (W.events world.old) (W.events world.new)
+            (failed (config_of self.old) text.now) (config_of self.new) result }
     {
         let slots = self.redirs.slots();
         fault(alloc, world, &mut self.state, slots, text)?;
