@@ -1,7 +1,7 @@
 //! What names stand for.
 
-ghost use Rattle.std.specs.Prelude.{◌≡◌, ◌++◌, None, true, false, IfOk, IfSome, OnErr, if◌then◌else◌, codes, map};
-ghost use Rattle.std.specs.Prelude.{string_bytes, option_map};
+ghost use Rattle.std.specs.Prelude.{◌≡◌, ◌++◌, None, true, false, IfOk, IfSome, OnErr, if◌then◌else◌};
+ghost use Rattle.std.specs.Prelude.{codes, map, string_bytes};
 ghost use Rattle.std.specs.Option.{MatchOption};
 ghost use Rattle.rc_model.specs.Syntax.Printing.{printed, has_here};
 ghost use Rattle.rc_model.specs.Run.Builtins.{Finished, builtin_named, command_line, function_line, known_each};

@@ -1,3 +1,5 @@
 pub mod Beginnings
+pub mod Claims
+pub mod Cuts
 pub mod Faults
 pub mod Lengths

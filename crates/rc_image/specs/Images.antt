@@ -3,6 +3,8 @@ use Rattle.std.specs.Prelude.{◌≡◌, ℕ, List, Bool, ◌&&◌, if◌then◌
 use Rattle.rc_model.specs.Syntax.Tree.{Node, cmd}
 use Rattle.rc_model.specs.Syntax.Text.{begins_with}
 use Rattle.rc_model.specs.Handed.Image.{image, is_short}
+use Rattle.rc_model.specs.Handed.Pieces.{longest_word, words_of}
+use Rattle.rc_model.specs.Handed.WordsReading.{Taken, from_one, from_pieces}
 use Rattle.rc_model.specs.Handed.TreeReading as m
 use Rattle.rc_model.specs.Handed.TreeReading.{digit_run, past_digits, is_count, other_version}
 use Rattle.rc_image.specs.declared.fault.ImageFault.{ImageFault}
@@ -50,3 +52,15 @@ begun mark text = begins_with mark text
 -- the fault of another beginning than that of an image
 unfoldable pub fault_here : List ℕ → m.ImageFault
 fault_here bytes = m.beginning_fault bytes
+
+-- the words of a spelling
+unfoldable pub written : List ℕ → Option (List (List ℕ))
+written text = words_of longest_word text
+
+-- the tree in one word
+unfoldable pub in_one : List ℕ → Taken
+in_one word = from_one longest_word word
+
+-- the tree in pieces after a first word
+unfoldable pub in_pieces : List ℕ → List (List ℕ) → Taken
+in_pieces first pieces = from_pieces longest_word first pieces

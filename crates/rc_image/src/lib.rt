@@ -8,14 +8,18 @@ ghost use Rattle.rc_image.specs.Images.{Gives, Writes, short_image};
 
 mod beginning;
 mod fault;
+mod pieces;
+mod words;
 
 use beginning::{beginning_fault, begins};
 pub use fault::ImageFault;
+pub use pieces::write_pieces;
 use rc_model::limits::LONGEST_ARGUMENT;
 use rc_reading::read_spelling;
 use rc_spelling::push_spelling;
 use rc_tree::Cmd;
 use std::alloc::Global;
+pub use words::read_pieces;
 
 /// The image of a tree. It is too large where an argument or an entry of a launch can't be so long.
 #[tactic(auto, using(crate::proofs::Lengths::lengths))]

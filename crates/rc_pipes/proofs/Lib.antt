@@ -1,7 +1,9 @@
 pub mod Acts
-pub mod Joined
+pub mod InOrder
+pub mod Outputs
 pub mod Pipelines
 pub mod Readings
+pub mod Rows
 pub mod StageSteps
 pub mod Steps
 pub mod Waits

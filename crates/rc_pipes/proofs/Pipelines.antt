@@ -1,5 +1,5 @@
 -- The stages of a pipeline, one after the other.
-use Rattle.std.proofs.Common.{◌≡◌, ℕ, zero, suc, ◌+◌, ◌<◌, ◌≤◌, List, [], ◌∷◌, ◌++◌, length, drop, get_or, Option, Some, None, sym, ap, ◌∙◌, subst, arith, drop-cons, add-one, refl}
+use Rattle.std.proofs.Common.{◌≡◌, ℕ, ◌+◌, ◌<◌, ◌≤◌, List, [], ◌∷◌, ◌++◌, length, drop, get_or, Option, Some, None, sym, ap, ◌∙◌, subst}
 use Rattle.rc_model.specs.declared.call.Slots.{Slots}
 use Rattle.rc_model.specs.Run.Acts.{Running, stages_from, start_stages, no_stages}
 use Rattle.rc_model.specs.Run.Calls.{Event}
@@ -14,6 +14,8 @@ use Rattle.rc_world.proofs.Joins.{left_join}
 use Rattle.rc_pipes.specs.Launches.{IsImage}
 use Rattle.rc_pipes.specs.Stages.{AreStages}
 use Rattle.rc_pipes.specs.declared.stages.StageWords.{StageWords}
+use Rattle.rc_pipes.proofs.Rows
+use Rattle.rc_pipes.proofs.Rows.{past}
 
 -- the stages so far were started, and these are left
 pub record HasStarted (slots : Slots) (s : State) (a b : Option (List Event)) (all : Many stage) (left : List StageWords)
@@ -71,13 +73,7 @@ module _ (slots : Slots) (s : State) (a b : Option (List Event)) (all : Many sta
 
 left_at_place : (xs : List StageWords) (i : ℕ) (x : StageWords) → i < length xs → x ≡ get_or xs i x → drop i xs ≡ x ∷ drop (i + 1) xs
 left_at_place xs i x lt is =
-    drop-cons xs i x lt ∙ ap (λ n. get_or xs i x ∷ drop n xs) (sym (add-one i)) ∙ ap (λ y. y ∷ drop (i + 1) xs) (sym is)
-
-past : (xs : List StageWords) (i : ℕ) → length xs ≤ i → drop i xs ≡ []
-past [] zero h = refl
-past [] (suc i) h = refl
-past (x ∷ xs) zero h = absurd (omega (arith, h))
-past (x ∷ xs) (suc i) h = past xs i (omega (arith, h))
+    Rows.at_place xs i x lt ∙ ap (λ y. y ∷ drop (i + 1) xs) (sym is)
 
 module _ (slots : Slots) (s : State) (a b : Option (List Event)) (all : Many stage) (before : Option ℕ) (children : List ℕ)
     (xs : List StageWords) (i : ℕ) where

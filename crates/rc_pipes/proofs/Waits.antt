@@ -1,5 +1,5 @@
 -- Waits for several children, one after the other.
-use Rattle.std.proofs.Common.{◌≡◌, ℕ, zero, suc, ◌+◌, ◌<◌, ◌≤◌, List, [], ◌∷◌, ◌++◌, length, map, drop, get_or, Option, refl, sym, ap, ◌∙◌, subst, arith, append_assoc, drop-cons, add-one}
+use Rattle.std.proofs.Common.{◌≡◌, ℕ, ◌+◌, ◌<◌, ◌≤◌, List, [], ◌∷◌, ◌++◌, length, map, drop, get_or, Option, sym, ap, subst, append_assoc}
 use Rattle.std.proofs.lemmas.List.{append-nil}
 use Rattle.rc_model.specs.declared.call.ChildNo.{ChildNo}
 use Rattle.rc_model.specs.Run.Calls.{Event}
@@ -13,6 +13,8 @@ use Rattle.rc_world.specs.declared.types.Stop.{Stop}
 use Rattle.rc_world.specs.declared.types.Stop.TheVariants.{NoMemory}
 use Rattle.rc_world.proofs.Joins.{left_memory}
 use Rattle.rc_world.proofs.Shells.{ran_do, left_do, left_done}
+use Rattle.rc_pipes.proofs.Rows
+use Rattle.rc_pipes.proofs.Rows.{past}
 
 -- after the waits so far, what the waits that are left come to is what all of them come to
 pub record HasWaited (s : State) (a b : Option (List Event)) (all left : List ℕ) (statuses : List (List ℕ)) : Type 0 where
@@ -60,13 +62,7 @@ number child = child.0
 
 left_at_place : (xs : List ChildNo) (i : ℕ) (d : ChildNo) → i < length xs →
     map number (drop i xs) ≡ number (get_or xs i d) ∷ map number (drop (i + 1) xs)
-left_at_place xs i d lt = ap (map number) (drop-cons xs i d lt) ∙ ap (λ n. number (get_or xs i d) ∷ map number (drop n xs)) (sym (add-one i))
-
-past : (xs : List ChildNo) (i : ℕ) → length xs ≤ i → drop i xs ≡ []
-past [] zero h = refl
-past [] (suc i) h = refl
-past (x ∷ xs) zero h = absurd (omega (arith, h))
-past (x ∷ xs) (suc i) h = past xs i (omega (arith, h))
+left_at_place xs i d lt = ap (map number) (Rows.at_place xs i d lt)
 
 module _ (s : State) (a b : Option (List Event)) (all : List ℕ) (xs : List ChildNo) (i : ℕ) (statuses : List (List ℕ)) where
   at_place : (d : ChildNo) → i < length xs → HasWaited s a b all (map number (drop i xs)) statuses →

@@ -1,4 +1,5 @@
 pub mod Attempts
+pub mod Jobs
 pub mod Launches
 pub mod Readings
 pub mod Stages

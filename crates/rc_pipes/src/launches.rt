@@ -27,7 +27,8 @@ pub enum Attempt<T> {
 
 /// Adds copies of these texts.
 fn push_copies(out: &mut Vec<String>, texts: &[String]) -> Result<(), AllocError>
-    ensures { OnOk result (map string_bytes out.new.items ≡ map string_bytes out.old.items ++ map string_bytes texts.now) }
+    ensures { OnOk result
+        (map string_bytes out.new.items ≡ map string_bytes out.old.items ++ map string_bytes texts.now) }
 {
     for text in texts {
         out.push(text.clone()?)?;
@@ -37,7 +38,8 @@ fn push_copies(out: &mut Vec<String>, texts: &[String]) -> Result<(), AllocError
 
 /// The arguments of a shell that is handed its command in these words.
 fn shell_args(alloc: Global, state: &State, words: &[String]) -> Result<Vec<String>, AllocError>
-    ensures { IfOk result (λ args. map string_bytes args.items ≡ args_with (map string_bytes words.now) (state_of state.now)) }
+    ensures { IfOk result (λ args. map string_bytes args.items
+        ≡ args_with (map string_bytes words.now) (state_of state.now)) }
 {
     let mut args = Vec::new(alloc);
     if state.strict() {
@@ -50,7 +52,12 @@ fn shell_args(alloc: Global, state: &State, words: &[String]) -> Result<Vec<Stri
 }
 
 /// What is asked for a shell that is handed its command in these words, where there are no functions.
-fn shell_launch(alloc: Global, state: &State, slots: Slots, words: &[String]) -> Result<Launch, AllocError>
+fn shell_launch(
+    alloc: Global,
+    state: &State,
+    slots: Slots,
+    words: &[String],
+) -> Result<Launch, AllocError>
     requires { (state_of state.now).functions ≡ [] }
     ensures { IfOk result (λ launch. launch_of launch
         ≡ launch_with slots (map string_bytes words.now) (state_of state.now)) }

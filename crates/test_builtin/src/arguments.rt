@@ -71,6 +71,23 @@ fn shift_by_no_number_takes_nothing(rt: HostRuntime) -> Result<(), Fail> {
 }
 
 #[test]
+fn out_of_memory_takes_nothing(rt: HostRuntime) -> Result<(), Fail> {
+    let alloc = rt.alloc();
+    let mut state = State::new(alloc);
+    state.set("*", list(alloc, &["a", "b"])?)?;
+    state.set_status("before")?;
+    let ended = shift(alloc, &mut state, &[]);
+    let wanted = if ended.is_ok() {
+        "[b] "
+    } else {
+        "[a][b] before"
+    };
+    assert_eq!(rt; args_and_status(alloc, &state)?.as_str(), wanted);
+    ended?;
+    Ok(())
+}
+
+#[test]
 fn exit_joins_its_words(rt: HostRuntime) -> Result<(), Fail> {
     let alloc = rt.alloc();
     let mut state = State::new(alloc);

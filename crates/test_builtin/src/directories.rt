@@ -121,6 +121,18 @@ fn other_names_are_looked_for(rt: HostRuntime) -> Result<(), Fail> {
 }
 
 #[test]
+fn out_of_memory_is_reported(rt: HostRuntime) -> Result<(), Fail> {
+    let alloc = rt.alloc();
+    let state = state_with(alloc, &[], &["/x", "/y"])?;
+    let answers = vec![in alloc; REFUSED, REFUSED]?;
+    shows(
+        &rt,
+        run(alloc, state, &["d"], answers),
+        "chdir /x/d\nchdir /y/d\nstatus cannot cd",
+    )
+}
+
+#[test]
 fn two_words_are_too_many(rt: HostRuntime) -> Result<(), Fail> {
     let alloc = rt.alloc();
     let state = state_with(alloc, &["/home"], &[])?;

@@ -180,6 +180,20 @@ fn no_program_is_looked_for_beside_a_variable(rt: HostRuntime) -> Result<(), Fai
 }
 
 #[test]
+fn out_of_memory_is_reported(rt: HostRuntime) -> Result<(), Fail> {
+    let alloc = rt.alloc();
+    let mut state = with_path(alloc)?;
+    state.set("x", list(alloc, &["a b", "c"])?)?;
+    state.define("f", Cmd::Simple(vec![in alloc; word(alloc, "a")?]?))?;
+    let answers = vec![in alloc; FOUND, Answer::Done]?;
+    shows(
+        &rt,
+        run(alloc, &mut state, &["x", "f", "cd", "ls"], answers),
+        "probe /bin/ls\nwrite 1: x=('a b' c)\nfn f {a}\nbuiltin cd\n/bin/ls\n\nstatus ",
+    )
+}
+
+#[test]
 fn the_last_status_stays(rt: HostRuntime) -> Result<(), Fail> {
     let alloc = rt.alloc();
     let mut state = with_path(alloc)?;

@@ -1,0 +1,81 @@
+use Rattle.std.proofs.Common.{rules, ◌≡◌, string_bytes}
+use Rattle.rc_builtin.specs.Starts.{started_of}
+use Rattle.rc_model.specs.Run.Acts.{back_status}
+use Rattle.rc_scope.specs.States.{state_of}
+use Rattle.rc_world.specs.declared.types.Stop.TheVariants.{NoMemory}
+use Rattle.rc_world.proofs.Joins.{left_here, passed_up}
+use Rattle.rc_pipes.specs.Readings.{got_of}
+use Rattle.rc_pipes.proofs.Outputs.{left_closing, left_unread, ran_unread, left_reading, left_closing_read, left_waiting, ran_finished, why_or}
+use Rattle.rc_pipes.proofs.backquotes.back_child.Goals as goal
+
+pub returns-in_err-close : goal.returns-in_err-close
+returns-in_err-close g c =
+    passed_up _ _ _ _ c.from_residual.result c.in_err-close.field-0.0 c.from_residual.ensures.1
+    (left_closing c.args.read_end.0 c.args.write_end.0 (state_of c.args.state.now) _ _ _ (started_of c.args.started) c.in_err-close.ensures)
+
+pub returns-in_err-close-in-NoChild : goal.returns-in_err-close-in-NoChild
+returns-in_err-close-in-NoChild g c =
+    rw c.in-NoChild.is
+    (passed_up _ _ _ _ c.from_residual-in_err-close-in-NoChild.result c.in_err-close-in-NoChild.field-0.0 c.from_residual-in_err-close-in-NoChild.ensures.1
+    (left_unread c.args.read_end.0 c.args.write_end.0 (state_of c.args.state.now) c.in-NoChild.why.now _ _ _ c.in_ok-close.ensures _ _ c.in_err-close-in-NoChild.ensures))
+
+pub returns-in_err-set_status-in-NoChild : goal.returns-in_err-set_status-in-NoChild
+returns-in_err-set_status-in-NoChild g c =
+    rw c.in-NoChild.is
+    (passed_up _ _ _ _ c.from_residual-in_err-set_status-in-NoChild.result NoMemory c.from_residual-in_err-set_status-in-NoChild.ensures.1
+    (left_here _ _ _ _ (ran_unread c.args.read_end.0 c.args.write_end.0 (state_of c.args.state.now) c.in-NoChild.why.now _ _ _ c.in_ok-close.ensures _ _ c.in_ok-close-in-NoChild.ensures)))
+
+pub returns-in-NoChild : goal.returns-in-NoChild
+returns-in-NoChild g c =
+    rw (c.in-NoChild.is, c.new.ensures.items, c.in_ok-set_status-in-NoChild.ensures.ok)
+    (ran_unread c.args.read_end.0 c.args.write_end.0 (state_of c.args.state.now) c.in-NoChild.why.now _ _ _ c.in_ok-close.ensures _ _ c.in_ok-close-in-NoChild.ensures)
+
+pub returns-in_err-output : goal.returns-in_err-output
+returns-in_err-output g c =
+    rw c.in-Child.is
+    (passed_up _ _ _ _ c.from_residual-in_err-output.result c.in_err-output.field-0.0 c.from_residual-in_err-output.ensures.1
+    (left_reading c.args.read_end.0 c.args.write_end.0 (state_of c.args.state.now) c.in-Child.child.0 _ _ _ c.in_ok-close.ensures _ _
+    (rw c.longest_output.ensures at (c.in_err-output.ensures (state_of c.args.state.now)))))
+
+pub returns-in_err-close-2 : goal.returns-in_err-close-2
+returns-in_err-close-2 g c =
+    rw c.in-Child.is
+    (passed_up _ _ _ _ c.from_residual-in_err-close-2.result c.in_err-close-2.field-0.0 c.from_residual-in_err-close-2.ensures.1
+    (left_closing_read c.args.read_end.0 c.args.write_end.0 (state_of c.args.state.now) c.in-Child.child.0 _ _ _ c.in_ok-close.ensures
+    (got_of c.in_ok-output.output) _ (rw c.longest_output.ensures at (c.in_ok-output.ensures (state_of c.args.state.now)))
+    _ _ c.in_err-close-2.ensures))
+
+pub returns-in_err-status : goal.returns-in_err-status
+returns-in_err-status g c =
+    rw c.in-Child.is
+    (passed_up _ _ _ _ c.from_residual-in_err-status.result c.in_err-status.field-0.0 c.from_residual-in_err-status.ensures.1
+    (left_waiting c.args.read_end.0 c.args.write_end.0 (state_of c.args.state.now) c.in-Child.child.0 _ _ _ c.in_ok-close.ensures
+    (got_of c.in_ok-output.output) _ (rw c.longest_output.ensures at (c.in_ok-output.ensures (state_of c.args.state.now)))
+    _ _ c.in_ok-close-2.ensures _ _ (c.in_err-status.ensures (state_of c.args.state.now))))
+
+pub returns-in_err-set_status : goal.returns-in_err-set_status
+returns-in_err-set_status g c =
+    rw c.in-Child.is
+    (passed_up _ _ _ _ c.from_residual-in_err-set_status.result NoMemory c.from_residual-in_err-set_status.ensures.1
+    (left_here _ _ _ _ (ran_finished c.args.read_end.0 c.args.write_end.0 (state_of c.args.state.now) c.in-Child.child.0 _ _ _ c.in_ok-close.ensures
+    (got_of c.in_ok-output.output) _ (rw c.longest_output.ensures at (c.in_ok-output.ensures (state_of c.args.state.now)))
+    _ _ c.in_ok-close-2.ensures _ _ (c.in_ok-status.ensures (state_of c.args.state.now)))))
+
+pub returns-in_err-members : goal.returns-in_err-members
+returns-in_err-members g c =
+    rw c.in-Child.is
+    (passed_up _ _ _ _ c.from_residual-in_err-members.result NoMemory c.from_residual-in_err-members.ensures.1
+    (left_here _ _ _ _ (ran_finished c.args.read_end.0 c.args.write_end.0 (state_of c.args.state.now) c.in-Child.child.0 _ _ _ c.in_ok-close.ensures
+    (got_of c.in_ok-output.output) _ (rw c.longest_output.ensures at (c.in_ok-output.ensures (state_of c.args.state.now)))
+    _ _ c.in_ok-close-2.ensures _ _ (c.in_ok-status.ensures (state_of c.args.state.now)))))
+
+pub returns : goal.returns
+returns g c =
+    let out = c.in_ok-output.output in
+    let status : c.deref.result.now ≡ string_bytes c.in_ok-status.status = search rules in
+    let why : c.unwrap_or.result.now ≡ back_status (got_of out).why c.deref.result.now = why_or out.why c.deref.result c.unwrap_or.result c.unwrap_or.ensures in
+    let bytes : c.deref-2.result.now ≡ out.bytes.items = search rules in
+    rw (c.in-Child.is, c.in_ok-members.ensures, c.in_ok-set_status.ensures.ok, why, status, bytes)
+    (ran_finished c.args.read_end.0 c.args.write_end.0 (state_of c.args.state.now) c.in-Child.child.0 _ _ _ c.in_ok-close.ensures
+    (got_of out) _ (rw c.longest_output.ensures at (c.in_ok-output.ensures (state_of c.args.state.now)))
+    _ _ c.in_ok-close-2.ensures _ _ (c.in_ok-status.ensures (state_of c.args.state.now)))

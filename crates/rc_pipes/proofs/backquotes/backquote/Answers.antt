@@ -1,0 +1,5 @@
+use Rattle.law_plans.proofs.Runs.{ran_none}
+use Rattle.rc_pipes.proofs.backquotes.backquote.Goals as goal
+
+pub returns-then-has_functions : goal.returns-then-has_functions
+returns-then-has_functions g c = λ body h. (_, ran_none _ _)

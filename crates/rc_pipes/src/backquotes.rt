@@ -1,0 +1,113 @@
+//! Backquotes: what a command writes becomes words.
+
+ghost use Rattle.std.specs.Prelude.{◌≡◌, [], IfOk, map, string_bytes};
+ghost use Rattle.std.specs.List.{concat};
+ghost use Rattle.rc_model.specs.Run.Acts.{backquote, back_child, members_of};
+ghost use Rattle.rc_model.specs.Syntax.Tree.{Node, cmd};
+ghost use Rattle.rc_world.specs.Comes.{Does};
+ghost use Rattle.rc_builtin.specs.Starts.{started_of};
+ghost use Rattle.rc_scope.specs.States.{state_of};
+ghost use Rattle.rc_pipes.specs.Attempts.{Tries};
+ghost use Rattle.rc_pipes.specs.Launches.{IsImage};
+
+use crate::children::wait_child;
+use crate::launches::{Attempt, start_shell};
+use crate::reading::{longest_output, read_all};
+use rc_builtin::Started;
+use rc_scope::State;
+use rc_text::{lossy, split};
+use rc_world::{Handle, Slot, Slots, Stop, World, calls};
+use std::alloc::{AllocError, Global};
+
+/// The texts one after the other.
+fn concat(alloc: Global, texts: &[String]) -> Result<String, AllocError>
+    ensures { IfOk result (λ all. string_bytes all ≡ concat (map string_bytes texts.now)) }
+{
+    let mut all = String::new(alloc);
+    for text in texts {
+        all.push_str(text)?;
+    }
+    Ok(all)
+}
+
+/// The members of what was read, by `$ifs`.
+fn members_of(alloc: Global, state: &State, bytes: &[u8]) -> Result<Vec<String>, AllocError>
+    ensures { IfOk result (λ members. map string_bytes members.items ≡ members_of (state_of state.now) bytes.now) }
+{
+    let separators = concat(alloc, state.value("ifs"))?;
+    let text = lossy(alloc, bytes)?;
+    split(alloc, &text, &separators)
+}
+
+/// What a backquote gives once its shell is started, and the status that it leaves.
+fn back_child<W: World>(
+    alloc: Global,
+    world: &mut W,
+    state: &mut State,
+    read_end: Handle,
+    write_end: Handle,
+    started: Started,
+) -> Result<Vec<String>, Stop>
+    ensures { let act = back_child read_end.0 write_end.0 (started_of started) in
+        Does W.events world.old world.new state_of state.old state.new act
+        (λ members. map string_bytes members.items) result }
+{
+    calls::close(world, write_end)?;
+    let child = match started {
+        Started::Child(child) => child,
+        Started::NoChild(why) => {
+            calls::close(world, read_end)?;
+            state.set_status(why)?;
+            return Ok(Vec::new(alloc));
+        }
+    };
+    let output = read_all(alloc, world, read_end, longest_output())?;
+    calls::close(world, read_end)?;
+    let status = wait_child(alloc, world, child)?;
+    state.set_status(output.why.unwrap_or(&status))?;
+    let members = members_of(alloc, state, &output.bytes)?;
+    Ok(members)
+}
+
+/// What a command writes, as words, where there are no functions.
+fn run_backquote<W: World>(
+    alloc: Global,
+    world: &mut W,
+    state: &mut State,
+    slots: Slots,
+    words: Option<&[String]>,
+) -> Result<Vec<String>, Stop>
+    requires { (state_of state.old).functions ≡ [] }
+    ensures { (body : Node cmd) → IsImage words.entry body →
+        Does W.events world.old world.new state_of state.old state.new (backquote slots body)
+        (λ members. map string_bytes members.items) result }
+{
+    let Some((read_end, write_end)) = calls::pipe(world)? else {
+        state.set_status("cannot pipe")?;
+        return Ok(Vec::new(alloc));
+    };
+    let inner = Slots {
+        output: Slot::To(write_end),
+        ..slots
+    };
+    let started = start_shell(alloc, world, state, inner, words)?;
+    back_child(alloc, world, state, read_end, write_end, started)
+}
+
+/// What a command writes, as words, by the words of its image: `None` where they are too many.
+pub fn backquote<W: World>(
+    alloc: Global,
+    world: &mut W,
+    state: &mut State,
+    slots: Slots,
+    words: Option<&[String]>,
+) -> Result<Attempt<Vec<String>>, Stop>
+    ensures { (body : Node cmd) → IsImage words.entry body →
+        Tries W.events world.old world.new state_of state.old state.new (backquote slots body)
+        (λ members. map string_bytes members.items) result }
+{
+    if state.has_functions() {
+        return Ok(Attempt::NotYet);
+    }
+    Ok(Attempt::Done(run_backquote(alloc, world, state, slots, words)?))
+}

@@ -1,0 +1,210 @@
+//! Commands in the background: they are started, and waited for.
+
+ghost use Rattle.std.specs.Prelude.{◌≡◌, ◌==◌, [], Some, IfErr, OnOk};
+ghost use Rattle.std.specs.List.{list_any};
+ghost use Rattle.rc_model.specs.Run.Acts.{background, background_with, kept_child};
+ghost use Rattle.rc_model.specs.Run.Builtins.{Finished, wait_child, wait_all, wait_one, wait_for};
+ghost use Rattle.rc_model.specs.Run.State as model;
+ghost use Rattle.rc_model.specs.Run.Plans.{done_with};
+ghost use Rattle.rc_model.specs.Run.Shell.{Next};
+ghost use Rattle.rc_model.specs.Syntax.Tree.{Node, cmd};
+ghost use Rattle.rc_world.specs.Comes.{Does};
+ghost use Rattle.rc_world.specs.declared.types.Stop.TheVariants.{NoMemory};
+ghost use Rattle.rc_builtin.specs.Starts.{started_of};
+ghost use Rattle.rc_scope.specs.States.{numbers, state_of};
+ghost use Rattle.rc_pipes.specs.Attempts.{Tries};
+ghost use Rattle.rc_pipes.specs.Launches.{IsImage};
+ghost use Rattle.rc_pipes.specs.Jobs.{arguments_of};
+
+use crate::children::wait_child as waited;
+use crate::launches::{Attempt, start_shell};
+use rc_builtin::Started;
+use rc_scope::State;
+use rc_text::number_of;
+use rc_world::{ChildNo, Handle, Mode, Slot, Slots, Stop, World, calls};
+use std::alloc::Global;
+
+/// A child that was started is kept among those in the background, and `$apid` is its number; else the
+/// status is why there is none.
+fn keep_child(alloc: Global, state: &mut State, started: Started) -> Result<(), Stop>
+    ensures ok { OnOk result
+        (kept_child (started_of started) (state_of state.old) ≡ done_with (Next tt (state_of state.new))) }
+    ensures err { IfErr result (λ stop. stop ≡ NoMemory) }
+{
+    let child = match started {
+        Started::Child(child) => child,
+        Started::NoChild(why) => {
+            state.set_status(why)?;
+            return Ok(());
+        }
+    };
+    let mut value = Vec::new(alloc);
+    value.push(child.0.to_string(alloc)?)?;
+    state.add_child(child)?;
+    match state.set("apid", value) {
+        Ok(()) => Ok(()),
+        Err(_) => Err(Stop::NoMemory),
+    }
+}
+
+/// Starts a command in the background that reads from this file, where there are no functions.
+#[tactic(auto, using(crate::proofs::Acts::acting))]
+fn background_with<W: World>(
+    alloc: Global,
+    world: &mut W,
+    state: &mut State,
+    slots: Slots,
+    file: Handle,
+    words: Option<&[String]>,
+) -> Result<(), Stop>
+    requires { (state_of state.old).functions ≡ [] }
+    ensures { (body : Node cmd) → IsImage words.entry body →
+        Does W.events world.old world.new state_of state.old state.new
+        (background_with slots body (Some file.0)) (λ x. x) result }
+{
+    let inner = Slots {
+        input: Slot::To(file),
+        ..slots
+    };
+    let started = start_shell(alloc, world, state, inner, words)?;
+    calls::close(world, file)?;
+    keep_child(alloc, state, started)?;
+    Ok(())
+}
+
+/// Starts a command in the background, where there are no functions.
+#[tactic(auto, using(crate::proofs::Acts::acting))]
+fn run_background<W: World>(
+    alloc: Global,
+    world: &mut W,
+    state: &mut State,
+    slots: Slots,
+    words: Option<&[String]>,
+) -> Result<(), Stop>
+    requires { (state_of state.old).functions ≡ [] }
+    ensures { (body : Node cmd) → IsImage words.entry body →
+        Does W.events world.old world.new state_of state.old state.new (background slots body) (λ x. x) result }
+{
+    let Some(file) = calls::open(world, "/dev/null", Mode::Read)? else {
+        state.set_status("cannot open")?;
+        return Ok(());
+    };
+    background_with(alloc, world, state, slots, file, words)
+}
+
+/// Starts a command in the background, by the words of its image: `None` where they are too many.
+#[tactic(auto, using(crate::proofs::Acts::acting))]
+pub fn background<W: World>(
+    alloc: Global,
+    world: &mut W,
+    state: &mut State,
+    slots: Slots,
+    words: Option<&[String]>,
+) -> Result<Attempt<()>, Stop>
+    ensures { (body : Node cmd) → IsImage words.entry body →
+        Tries W.events world.old world.new state_of state.old state.new (background slots body) (λ x. x) result }
+{
+    if state.has_functions() {
+        return Ok(Attempt::NotYet);
+    }
+    run_background(alloc, world, state, slots, words)?;
+    Ok(Attempt::Done(()))
+}
+
+/// Waits for a child in the background, which is taken out of the list first: the status is how it ended.
+fn wait_child<W: World>(
+    alloc: Global,
+    world: &mut W,
+    state: &mut State,
+    child: ChildNo,
+) -> Result<(), Stop>
+    ensures { Does W.events world.old world.new state_of state.old state.new (wait_child child.0) (λ x. x) result }
+{
+    state.drop_child(child);
+    let status = waited(alloc, world, child)?;
+    state.set_status(&status)?;
+    Ok(())
+}
+
+/// Waits for these children in their order.
+fn wait_all<W: World>(
+    alloc: Global,
+    world: &mut W,
+    state: &mut State,
+    children: &[ChildNo],
+) -> Result<(), Stop>
+    ensures { Does W.events world.old world.new state_of state.old state.new
+        (wait_all (numbers children.now)) (λ x. x) result }
+{
+    for child in children {
+        wait_child(alloc, world, state, *child)?;
+    }
+    Ok(())
+}
+
+/// Whether two children have one number.
+fn is_same(other: ChildNo, child: ChildNo) -> bool
+    ensures { result ≡ (other.0 == child.0) }
+{
+    other.0 == child.0
+}
+
+/// Whether a child is one of these.
+fn is_among(children: &[ChildNo], child: ChildNo) -> bool
+    ensures { result ≡ list_any (λ other. other.0 == child.0) children.now }
+{
+    children.iter().any(|other| is_same(*other, child))
+}
+
+/// Whether this child is one of those in the background.
+fn is_in_background(state: &State, child: ChildNo) -> bool
+    ensures { result ≡ list_any (λ number. number == child.0) (state_of state.now).background }
+{
+    is_among(state.children(), child)
+}
+
+/// Waits for this child, where it is one of those in the background.
+fn wait_one<W: World>(
+    alloc: Global,
+    world: &mut W,
+    state: &mut State,
+    child: ChildNo,
+) -> Result<(), Stop>
+    ensures { Does W.events world.old world.new state_of state.old state.new
+        (wait_one child.0 (state_of state.old)) (λ x. x) result }
+{
+    if is_in_background(state, child) {
+        return wait_child(alloc, world, state, child);
+    }
+    state.set_status("no such child")?;
+    Ok(())
+}
+
+/// Waits for all children in the background, in the order of their starts.
+fn wait_every<W: World>(alloc: Global, world: &mut W, state: &mut State) -> Result<(), Stop>
+    ensures { Does W.events world.old world.new state_of state.old state.new (wait_for []) (λ x. Finished) result }
+{
+    state.set_status("")?;
+    let children = Vec::from_slice(alloc, state.children())?;
+    wait_all(alloc, world, state, &children)
+}
+
+/// Waits for the child of this number in the background, or for all of them.
+pub fn wait_for<W: World>(
+    alloc: Global,
+    world: &mut W,
+    state: &mut State,
+    number: Option<&str>,
+) -> Result<(), Stop>
+    ensures { Does W.events world.old world.new state_of state.old state.new
+        (wait_for (arguments_of number.entry)) (λ x. Finished) result }
+{
+    let Some(text) = number else {
+        return wait_every(alloc, world, state);
+    };
+    let Some(number) = number_of(text) else {
+        state.set_status("usage")?;
+        return Ok(());
+    };
+    wait_one(alloc, world, state, ChildNo(number))
+}
