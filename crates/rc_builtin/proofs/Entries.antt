@@ -1,146 +1,122 @@
 -- The entries of a launch, variable by variable.
-use Rattle.std.proofs.Common.{◌≡◌, ℕ, Bool, true, false, cond, List, [], ◌∷◌, ◌++◌, length, map, refl, sym, ap, ◌∙◌, string_bytes, append_assoc, ◌||◌, ◌&&◌, ◌==◌, ◌<◌, ◌≤◌, ◌+◌, zero, suc, drop, get_or, drop-cons, add-one, arith}
-use Rattle.std.specs.Cmp.{nat_eq_equiv}
-use Rattle.std.proofs.lemmas.Map.Text.{is_eq-slice_cmp}
-use Rattle.std.specs.declared.cmp.Ordering.{Ordering}
-use Rattle.std.specs.declared.cmp.Ordering.TheVariants.{Less, Equal, Greater}
-use Rattle.std.specs.Ordering.{is_eq, is_lt, match_ordering}
-use Rattle.std.specs.BTreeMap.{insert_entry}
-use Rattle.std.specs.Str.{bytes_eq}
+use Rattle.std.proofs.Common.{◌≡◌, ℕ, Bool, true, false, not, cond, List, [], ◌∷◌, ◌++◌, length, map, refl, sym, ap, ◌∙◌, suc, arith, string_bytes, append_assoc, ◌&&◌, ◌==◌, ◌<◌, ◌+◌, drop, get_or, drop-cons, add-one, subst}
+use Rattle.std.proofs.lemmas.Bool.{ne_eqb}
+use Rattle.std.proofs.lemmas.Map.Keys.{sorted_tail}
+use mathlib.Core.Bool.{true≢false}
+use Rattle.std.specs.List.Sorted.{IsStrictlySortedBy}
+use Rattle.std.specs.Map.{keys_of}
+use Rattle.std.specs.String.{string_cmp}
 use Rattle.std.specs.declared.alloc.Global.{Global}
+use Rattle.std.specs.declared.cmp.Ordering.TheVariants.{Less, Equal, Greater}
 use Rattle.std.specs.declared.string.String.{String}
 use Rattle.rc_model.specs.Syntax.Text.{text_cmp}
-use Rattle.rc_model.specs.Run.State.{State, status_name}
-use Rattle.rc_model.specs.Handed.Image.{entry, entries, with_functions, value_text, with_binding, is_kept, handed_values}
-use Rattle.rc_model.specs.Run.State.{visible}
-use Rattle.rc_scope.specs.Bindings.{bindings_of, visible_values}
+use Rattle.rc_model.specs.Run.State.{State, status_name, visible}
+use Rattle.rc_model.specs.Handed.Environment.{Bindings}
+use Rattle.rc_model.specs.Handed.Image.{entry, entries, value_text, with_binding, with_functions, is_kept, handed_values}
+use Rattle.rc_scope.specs.Bindings.{binding_of, bindings_of, visible_values}
 use Rattle.rc_scope.specs.declared.variables.Binding.{Binding}
+use Rattle.rc_builtin.specs.Additions.{added, handed, is_handed, put_all, texts_of, AreAfter}
+use Rattle.rc_builtin.proofs.Insertions.{BeginsAfter, comes_first, first_key, functions_among, passes_first, takes_place}
 
--- the variables that are handed over
-abbrev pub handed_bindings : List (List ℕ × List (List ℕ)) → List (List ℕ × List ℕ)
-handed_bindings vs = handed_values (map (λ v. (v.0, v.1 ∷ [])) vs)
-
-abbrev pub handed : List Binding → List (List ℕ × List ℕ)
-handed vs = handed_bindings (bindings_of vs)
-
--- they are those of the state
-pub handed_visible : (vs : List (List ℕ × List (List (List ℕ)))) → handed_bindings (visible_values vs) ≡ handed_values vs
+-- the values that are handed over are those of the state
+pub handed_visible : (vs : List (List ℕ × List (List (List ℕ)))) → handed_values (map (λ v. (v.0, v.1 ∷ [])) (visible_values vs)) ≡ handed_values vs
 handed_visible [] = refl
 handed_visible (v ∷ vs) = ap (with_binding v.0 (visible v.1)) (handed_visible vs)
 
--- the entries that are still to come, with the status among them unless it is there already
-abbrev pub to_come : Bool → List ℕ → List (List ℕ × List ℕ) → List (List ℕ)
-to_come true status bindings = map entry bindings
-to_come false status bindings = map entry (insert_entry text_cmp bindings status_name (value_text (status ∷ [])))
+and_false : (b : Bool) → b && false ≡ false
+and_false true = refl
+and_false false = refl
 
--- a variable that is not handed over
-pub handed_not : (v : Binding) (vs : List Binding) → ((map string_bytes v.value.now ≡ []) → handed (v ∷ vs) ≡ handed vs)
-handed_not v vs e = ap (λ value. with_binding (v.name.now) value (handed vs)) e
+-- a variable that is handed over
+on_by : (name : List ℕ) (value : List (List ℕ)) (others : Bindings) (k : Bool) → is_kept name ≡ k → not (length value == 0) && not k ≡ true → with_binding name value others ≡ (name, value_text value) ∷ others
+on_by name [] others true h e = cc
+on_by name [] others false h e = cc
+on_by name (m ∷ ms) others true h e = absurd (true≢false (sym e ∙ and_false _))
+on_by name (m ∷ ms) others false h e = ap (λ b. cond b others ((name, value_text (m ∷ ms)) ∷ others)) h
 
-kept_by : (b : Bool) (name : List ℕ) (value : List (List ℕ)) (others : List (List ℕ × List ℕ)) → b ≡ true → is_kept name ≡ b → with_binding name value others ≡ others
-kept_by b name [] others e h = refl
-kept_by b name (m ∷ ms) others e h = ap (λ k. cond k others ((name, value_text (m ∷ ms)) ∷ others)) (h ∙ e)
+pub handed_on : (v : Binding) (vs : List Binding) → is_handed (binding_of v) ≡ true → handed (v ∷ vs) ≡ (v.name.now, value_text (map string_bytes v.value.now)) ∷ handed vs
+handed_on v vs h = on_by (v.name.now) (map string_bytes v.value.now) (handed vs) (is_kept v.name.now) refl h
 
-pub handed_kept : (v : Binding) (vs : List Binding) → is_kept (v.name.now) ≡ true → handed (v ∷ vs) ≡ handed vs
-handed_kept v vs h = kept_by true (v.name.now) (map string_bytes v.value.now) (handed vs) refl h
+-- one that is not
+off_by : (name : List ℕ) (value : List (List ℕ)) (others : Bindings) (k : Bool) → is_kept name ≡ k → not (length value == 0) && not k ≡ false → with_binding name value others ≡ others
+off_by name [] others k h e = refl
+off_by name (m ∷ ms) others true h e = ap (λ b. cond b others ((name, value_text (m ∷ ms)) ∷ others)) h
+off_by name (m ∷ ms) others false h e = absurd (true≢false (sym (ap (λ b. not b && true) (ne_eqb (length (m ∷ ms)) 0 (λ z. omega (arith, z)))) ∙ e))
 
-handed_by : (name : List ℕ) (value : List (List ℕ)) (others : List (List ℕ × List ℕ)) → (value ≡ [] → ⊥) → is_kept name ≡ false → with_binding name value others ≡ (name, value_text value) ∷ others
-handed_by name [] others e h = absurd (e refl)
-handed_by name (m ∷ ms) others e h = ap (λ k. cond k others ((name, value_text (m ∷ ms)) ∷ others)) h
+pub handed_off : (v : Binding) (vs : List Binding) → is_handed (binding_of v) ≡ false → handed (v ∷ vs) ≡ handed vs
+handed_off v vs h = off_by (v.name.now) (map string_bytes v.value.now) (handed vs) (is_kept v.name.now) refl h
 
--- one that is
-pub handed_on : (v : Binding) (vs : List Binding) → (map string_bytes v.value.now ≡ [] → ⊥) → is_kept (v.name.now) ≡ false →
-    handed (v ∷ vs) ≡ (v.name.now, value_text (map string_bytes v.value.now)) ∷ handed vs
-handed_on v vs e h = handed_by (v.name.now) (map string_bytes v.value.now) (handed vs) e h
-
--- the status comes before a variable
-before_by : (o : Ordering) (status : List ℕ) (b : List ℕ × List ℕ) (bs more : List (List ℕ × List ℕ)) → is_lt o ≡ true →
-    match_ordering o ((status_name, value_text (status ∷ [])) ∷ b ∷ bs) ((b.0, value_text (status ∷ [])) ∷ bs) (b ∷ more) ≡ (status_name, value_text (status ∷ [])) ∷ b ∷ bs
-before_by Less status b bs more h = refl
-before_by Equal status b bs more h = cc
-before_by Greater status b bs more h = cc
-
-pub status_before : (status : List ℕ) (b : List ℕ × List ℕ) (bs : List (List ℕ × List ℕ)) → is_lt (text_cmp status_name b.0) ≡ true →
-    to_come false status (b ∷ bs) ≡ entry (status_name, value_text (status ∷ [])) ∷ to_come true status (b ∷ bs)
-status_before status b bs h = ap (map entry) (before_by (text_cmp status_name b.0) status b bs (insert_entry text_cmp bs status_name (value_text (status ∷ []))) h)
-
--- or after it
-after_by : (o : Ordering) (status : List ℕ) (b : List ℕ × List ℕ) (bs more : List (List ℕ × List ℕ)) → is_lt o ≡ false → is_eq o ≡ false →
-    match_ordering o ((status_name, value_text (status ∷ [])) ∷ b ∷ bs) ((b.0, value_text (status ∷ [])) ∷ bs) (b ∷ more) ≡ b ∷ more
-after_by Less status b bs more h k = cc
-after_by Equal status b bs more h k = cc
-after_by Greater status b bs more h k = refl
-
-or_false : (a b : Bool) → a || b ≡ false → b ≡ false
-or_false true b h = cc
-or_false false b h = h
-
-bytes_eq_sym : (a b : List ℕ) → bytes_eq b a ≡ bytes_eq a b
-bytes_eq_sym [] [] = refl
-bytes_eq_sym [] (y ∷ b) = refl
-bytes_eq_sym (x ∷ a) [] = refl
-bytes_eq_sym (x ∷ a) (y ∷ b) = ap (λ t. t && bytes_eq b a) (nat_eq_equiv.symm y x) ∙ ap (λ t. (x == y) && t) (bytes_eq_sym a b)
-
-pub status_after : (status : List ℕ) (b : List ℕ × List ℕ) (bs : List (List ℕ × List ℕ)) → is_lt (text_cmp status_name b.0) ≡ false → is_kept b.0 ≡ false →
-    to_come false status (b ∷ bs) ≡ entry b ∷ to_come false status bs
-status_after status b bs h k =
-    let other : bytes_eq b.0 status_name ≡ false = or_false _ _ k in
-    ap (map entry) (after_by (text_cmp status_name b.0) status b bs (insert_entry text_cmp bs status_name (value_text (status ∷ []))) h (is_eq-slice_cmp status_name b.0 ∙ (bytes_eq_sym b.0 status_name ∙ other)))
-
--- One more entry, and what was still to come.
-pub turn_with_status : (w all : List (List ℕ)) (status e : List ℕ) (b : List ℕ × List ℕ) (bs : List (List ℕ × List ℕ)) → e ≡ entry b → w ++ to_come true status (b ∷ bs) ≡ all →
-    (w ++ e ∷ []) ++ to_come true status bs ≡ all
-turn_with_status w all status e b bs h inv = append_assoc w (e ∷ []) (map entry bs) ∙ ap (λ t. w ++ t ∷ map entry bs) h ∙ inv
-
-pub turn_before_status : (w all : List (List ℕ)) (status e : List ℕ) (b : List ℕ × List ℕ) (bs : List (List ℕ × List ℕ)) → e ≡ entry b → is_lt (text_cmp status_name b.0) ≡ false → is_kept b.0 ≡ false →
-    w ++ to_come false status (b ∷ bs) ≡ all → (w ++ e ∷ []) ++ to_come false status bs ≡ all
-turn_before_status w all status e b bs h lt kept inv =
-    append_assoc w (e ∷ []) (to_come false status bs) ∙ ap (λ t. w ++ t ∷ to_come false status bs) h
-    ∙ ap (λ t. w ++ t) (sym (status_after status b bs lt kept)) ∙ inv
-
-pub turn_at_status : (w v all : List (List ℕ)) (status x : List ℕ) (b : List ℕ × List ℕ) (bs : List (List ℕ × List ℕ)) → v ≡ w ++ x ∷ [] → x ≡ entry (status_name, value_text (status ∷ [])) →
-    is_lt (text_cmp status_name b.0) ≡ true → w ++ to_come false status (b ∷ bs) ≡ all → v ++ to_come true status (b ∷ bs) ≡ all
-turn_at_status w v all status x b bs p h lt inv =
-    ap (λ t. t ++ to_come true status (b ∷ bs)) p ∙ append_assoc w (x ∷ []) (to_come true status (b ∷ bs)) ∙ ap (λ t. w ++ t ∷ to_come true status (b ∷ bs)) h
-    ∙ ap (λ t. w ++ t) (sym (status_before status b bs lt)) ∙ inv
-
--- a value with a member has one in its texts
-pub some_texts : (xs : List (String Global)) → (length xs ≡ 0 → ⊥) → map string_bytes xs ≡ [] → ⊥
-some_texts [] h e = h refl
-some_texts (x ∷ xs) h e = cc
+pub length_texts : (xs : List (String Global)) → length (map string_bytes xs) ≡ length xs
+length_texts [] = refl
+length_texts (x ∷ xs) = ap (λ n. suc n) (length_texts xs)
 
 -- ** the variables that are left
 
-binding_left : (bs : List Binding) (i : ℕ) (v : Binding) → i < length bs → v ≡ get_or bs i v → drop i bs ≡ v ∷ drop (i + 1) bs
-binding_left bs i v lt is =
-    drop-cons bs i v lt ∙ ap (λ n. get_or bs i v ∷ drop n bs) (sym (add-one i)) ∙ ap (λ w. w ∷ drop (i + 1) bs) (sym is)
+variable_left : (vs : List Binding) (i : ℕ) (v : Binding) → i < length vs → v ≡ get_or vs i v → drop i vs ≡ v ∷ drop (i + 1) vs
+variable_left vs i v lt is =
+    drop-cons vs i v lt ∙ ap (λ n. get_or vs i v ∷ drop n vs) (sym (add-one i)) ∙ ap (λ w. w ∷ drop (i + 1) vs) (sym is)
 
-length_texts : (xs : List (String Global)) → length xs ≡ 0 → map string_bytes xs ≡ []
-length_texts [] h = refl
-length_texts (x ∷ xs) h = absurd (omega (arith, h))
+pub left_on : (vs : List Binding) (i : ℕ) (v : Binding) → i < length vs → v ≡ get_or vs i v → is_handed (binding_of v) ≡ true
+    → handed (drop i vs) ≡ (v.name.now, value_text (map string_bytes v.value.now)) ∷ handed (drop (i + 1) vs)
+left_on vs i v lt is h = ap handed (variable_left vs i v lt is) ∙ handed_on v (drop (i + 1) vs) h
 
--- one without members is not handed over, nor is one that stays with the shell
-pub skips_empty : (bs : List Binding) (i : ℕ) (v : Binding) → i < length bs → v ≡ get_or bs i v → length v.value.now ≡ 0 → handed (drop i bs) ≡ handed (drop (i + 1) bs)
-skips_empty bs i v lt is none = ap handed (binding_left bs i v lt is) ∙ handed_not v (drop (i + 1) bs) (length_texts v.value.now none)
+pub left_off : (vs : List Binding) (i : ℕ) (v : Binding) → i < length vs → v ≡ get_or vs i v → is_handed (binding_of v) ≡ false → handed (drop i vs) ≡ handed (drop (i + 1) vs)
+left_off vs i v lt is h = ap handed (variable_left vs i v lt is) ∙ handed_off v (drop (i + 1) vs) h
 
-pub skips_kept : (bs : List Binding) (i : ℕ) (v : Binding) → i < length bs → v ≡ get_or bs i v → is_kept v.name.now ≡ true → handed (drop i bs) ≡ handed (drop (i + 1) bs)
-skips_kept bs i v lt is kept = ap handed (binding_left bs i v lt is) ∙ handed_kept v (drop (i + 1) bs) kept
+-- one entry more
+pub entry_on : (w all : List (List ℕ)) (e : List ℕ) (b : List ℕ × List ℕ) (bs more : Bindings) → e ≡ entry b → more ≡ b ∷ bs
+    → w ++ map entry more ≡ all → (w ++ e ∷ []) ++ map entry bs ≡ all
+entry_on w all e b bs more is h inv = append_assoc w (e ∷ []) (map entry bs) ∙ ap (λ t. w ++ t ∷ map entry bs) is ∙ ap (λ l. w ++ map entry l) (sym h) ∙ inv
 
-pub hands_over : (bs : List Binding) (i : ℕ) (v : Binding) → i < length bs → v ≡ get_or bs i v → (length v.value.now ≡ 0 → ⊥) → is_kept v.name.now ≡ false
-    → handed (drop i bs) ≡ (v.name.now, value_text (map string_bytes v.value.now)) ∷ handed (drop (i + 1) bs)
-hands_over bs i v lt is some kept = ap handed (binding_left bs i v lt is) ∙ handed_on v (drop (i + 1) bs) (some_texts v.value.now some) kept
+-- ** the variables before a name
 
--- all of them are still to come
-pub all_to_come : (bs : List Binding) (s : State) → bindings_of bs ≡ visible_values s.variables → s.functions ≡ [] → to_come false s.status (handed bs) ≡ entries s
-all_to_come bs s h none =
-    ap (λ v. map entry (insert_entry text_cmp (handed_bindings v) status_name (value_text (s.status ∷ [])))) h
-    ∙ ap (λ v. map entry (insert_entry text_cmp v status_name (value_text (s.status ∷ [])))) (handed_visible s.variables)
-    ∙ ap (λ fs. map entry (with_functions fs (insert_entry text_cmp (handed_values s.variables) status_name (value_text (s.status ∷ []))))) (sym none)
+-- what has this name, and others after it, are still to come among the variables
+abbrev pub Keeps : List ℕ → (bs rest : Bindings) → (before after : List (List ℕ)) → Type 0
+Keeps name bs rest before after = (text : List ℕ) (others : Bindings) → AreAfter name others →
+    before ++ map entry (put_all ((name, text) ∷ others) bs) ≡ after ++ map entry (put_all ((name, text) ∷ others) rest)
 
-pub no_more : (bs : List Binding) (i : ℕ) → length bs ≤ i → handed (drop i bs) ≡ []
-no_more [] zero h = refl
-no_more [] (suc i) h = refl
-no_more (b ∷ bs) zero h = absurd (omega (arith, h))
-no_more (b ∷ bs) (suc i) h = no_more bs i (omega (arith, h))
+-- a variable before the name
+pub keeps_on : (name : List ℕ) (bs more rest : Bindings) (b : List ℕ × List ℕ) (e : List ℕ) (before after : List (List ℕ)) → text_cmp name b.0 ≡ Greater → e ≡ entry b → more ≡ b ∷ rest
+    → Keeps name bs more before after → Keeps name bs rest before (after ++ e ∷ [])
+keeps_on name bs more rest b e before after gt is h k = λ text others a.
+    k text others a ∙ ap (λ l. after ++ map entry l) (ap (put_all ((name, text) ∷ others)) h ∙ passes_first others rest b name text gt a)
+    ∙ ap (λ x. after ++ x ∷ map entry (put_all ((name, text) ∷ others) rest)) (sym is) ∙ sym (append_assoc after (e ∷ []) (map entry (put_all ((name, text) ∷ others) rest)))
 
-pub ruleset skipped = (skips_empty, skips_kept, no_more)
+-- one after it
+pub ends_before : (name : List ℕ) (bs more rest : Bindings) (b : List ℕ × List ℕ) (before after : List (List ℕ)) → text_cmp name b.0 ≡ Less → more ≡ b ∷ rest → Keeps name bs more before after
+    → (text : List ℕ) (others : Bindings) → AreAfter name others → before ++ map entry (put_all ((name, text) ∷ others) bs) ≡ after ++ (entry (name, text) ∷ map entry (put_all others more))
+ends_before name bs more rest b before after lt h k = λ text others a.
+    k text others a ∙ ap (λ l. after ++ map entry l) (comes_first others more name text a (subst (λ l. BeginsAfter name l) (sym h) lt))
+
+-- one of this name
+pub ends_at : (name : List ℕ) (bs more rest : Bindings) (b : List ℕ × List ℕ) (before after : List (List ℕ)) → text_cmp name b.0 ≡ Equal → more ≡ b ∷ rest → Keeps name bs more before after
+    → (text : List ℕ) (others : Bindings) → AreAfter name others → before ++ map entry (put_all ((name, text) ∷ others) bs) ≡ after ++ (entry (name, text) ∷ map entry (put_all others rest))
+ends_at name bs more rest b before after eq h k = λ text others a.
+    k text others a ∙ ap (λ l. after ++ map entry l) (ap (put_all ((name, text) ∷ others)) h ∙ takes_place others rest b name text eq a)
+
+-- no more
+pub ends_all : (name : List ℕ) (bs more last : Bindings) (before after : List (List ℕ)) → more ≡ [] → last ≡ [] → Keeps name bs more before after
+    → (text : List ℕ) (others : Bindings) → AreAfter name others → before ++ map entry (put_all ((name, text) ∷ others) bs) ≡ after ++ (entry (name, text) ∷ map entry (put_all others last))
+ends_all name bs more last before after h i k = λ text others a.
+    k text others a ∙ ap (λ l. after ++ map entry (put_all ((name, text) ∷ others) l)) (h ∙ sym i) ∙ ap (λ l. after ++ map entry l) (comes_first others last name text a (subst (λ l. BeginsAfter name l) (sym i) tt))
+
+-- ** all of them
+
+pub all_to_come : (m : Bindings) (vs : List Binding) (s : State) → m ≡ added s → bindings_of vs ≡ visible_values s.variables → map entry (put_all m (handed vs)) ≡ entries s
+all_to_come m vs s h k =
+    let base : Bindings = (status_name, value_text (s.status ∷ [])) ∷ [] in
+    ap (λ n. map entry (put_all n (handed vs))) h
+    ∙ sym (ap (map entry) (functions_among s.functions base (handed vs)))
+    ∙ ap (λ l. map entry (with_functions s.functions (put_all base l))) (ap (λ v. handed_values (map (λ b. (b.0, b.1 ∷ [])) v)) k ∙ handed_visible s.variables)
+
+-- what was added under its name, and the others
+pub turn : (w v all : List (List ℕ)) (x : List ℕ) (e : String Global × String Global) (es more : List (String Global × String Global)) (bs rest : Bindings) → more ≡ e ∷ es →
+    ((text : List ℕ) (others : Bindings) → AreAfter (string_bytes e.0) others → w ++ map entry (put_all ((string_bytes e.0, text) ∷ others) bs) ≡ v ++ (entry (string_bytes e.0, text) ∷ map entry (put_all others rest)))
+    → x ≡ entry (string_bytes e.0, string_bytes e.1) → IsStrictlySortedBy string_cmp (keys_of more) → w ++ map entry (put_all (texts_of more) bs) ≡ all → (v ++ x ∷ []) ++ map entry (put_all (texts_of es) rest) ≡ all
+turn w v all x e es more bs rest is pushes h sorted inv =
+    let after : AreAfter (string_bytes e.0) (texts_of es) = first_key e es (subst (λ l. IsStrictlySortedBy string_cmp (keys_of l)) is sorted) in
+    append_assoc v (x ∷ []) (map entry (put_all (texts_of es) rest)) ∙ ap (λ y. v ++ y ∷ map entry (put_all (texts_of es) rest)) h
+    ∙ sym (pushes (string_bytes e.1) (texts_of es) after) ∙ ap (λ l. w ++ map entry (put_all (texts_of l) bs)) (sym is) ∙ inv
+
+pub sorted_on : (e : String Global × String Global) (es more : List (String Global × String Global)) → more ≡ e ∷ es → IsStrictlySortedBy string_cmp (keys_of more) → IsStrictlySortedBy string_cmp (keys_of es)
+sorted_on e es more is sorted = sorted_tail string_cmp e.0 (keys_of es) (subst (λ l. IsStrictlySortedBy string_cmp (keys_of l)) is sorted)

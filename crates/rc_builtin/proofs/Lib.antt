@@ -5,6 +5,6 @@ pub mod Entries
 pub mod Escapes
 pub mod Fits
 pub mod Gathered
-pub mod Runs
+pub mod Insertions
 pub mod Search
 pub mod Written

@@ -1,3 +1,3 @@
 pub mod Starts
-pub mod Outcomes
+pub mod Additions
 pub mod Known

@@ -14,7 +14,7 @@ pub use directories::change_dir;
 pub use exits::exit_status;
 pub use names::whatis;
 pub use programs::{
-    Outcome, Started, ending_status, fault, find_program, make_started, report, run_program,
+    Started, ending_status, fault, find_program, make_started, report, run_program,
 };
 pub use rc_model::Builtin;
 pub use shifts::shift;

@@ -8,7 +8,6 @@ ghost use Rattle.rc_model.specs.Handed.Image.{is_short, is_fit, program_launch};
 ghost use Rattle.rc_world.specs.Comes.{Reads, Does};
 ghost use Rattle.rc_world.specs.Views.{launch_of};
 ghost use Rattle.std.specs.List.{list_all};
-ghost use Rattle.rc_builtin.specs.Outcomes.{Runs};
 ghost use Rattle.rc_builtin.specs.Starts.{path_of, paths_in, started_of};
 ghost use Rattle.rc_scope.specs.States.{state_of};
 
@@ -210,7 +209,7 @@ fn wait_started<W: World>(
     Ok(())
 }
 
-/// What is asked for a program, where there are no functions.
+/// What is asked for a program.
 fn launch(
     alloc: Global,
     state: &State,
@@ -218,7 +217,6 @@ fn launch(
     path: String,
     args: &[String],
 ) -> Result<Launch, AllocError>
-    requires { (state_of state.now).functions ≡ [] }
     ensures { IfOk result (λ launch. launch_of launch
         ≡ program_launch slots (string_bytes path) (map string_bytes args.now) (state_of state.now)) }
 {
@@ -232,7 +230,7 @@ fn launch(
     })
 }
 
-/// The program at this path is started, where there are no functions.
+/// The program at this path is started.
 #[tactic(auto, using(crate::proofs::Acts::acting))]
 fn run_at<W: World>(
     alloc: Global,
@@ -243,7 +241,6 @@ fn run_at<W: World>(
     args: &[String],
     path: String,
 ) -> Result<(), Stop>
-    requires { (state_of state.old).functions ≡ [] }
     ensures does { Does W.events world.old world.new state_of state.old state.new
         (run_found slots name.now (map string_bytes args.now) (Some (string_bytes path))) (λ x. x) result }
     ensures err { OnErr result (state_of state.new ≡ state_of state.old) }
@@ -251,14 +248,6 @@ fn run_at<W: World>(
     let launch = launch(alloc, state, slots, path, args)?;
     let child = make_started(world, &launch)?;
     wait_started(alloc, world, state, slots, name, child)
-}
-
-/// What became of a program.
-#[derive(Clone, Copy)]
-pub enum Outcome {
-    Finished,
-    /// It can't be started yet, since there are functions, which can't be handed over yet.
-    NotYet,
 }
 
 /// A program that was looked for is started.
@@ -271,20 +260,15 @@ fn run_found<W: World>(
     name: &str,
     args: &[String],
     path: Option<String>,
-) -> Result<Outcome, Stop>
-    ensures runs { Runs W.events world.old world.new state_of state.old state.new
-        (run_found slots name.now (map string_bytes args.now) (path_of path)) result }
+) -> Result<(), Stop>
+    ensures does { Does W.events world.old world.new state_of state.old state.new
+        (run_found slots name.now (map string_bytes args.now) (path_of path)) (λ x. x) result }
     ensures err { OnErr result (state_of state.new ≡ state_of state.old) }
 {
-    let Some(path) = path else {
-        refuse(alloc, world, state, slots, name, "not found")?;
-        return Ok(Outcome::Finished);
-    };
-    if state.has_functions() {
-        return Ok(Outcome::NotYet);
+    match path {
+        Some(path) => run_at(alloc, world, state, slots, name, args, path),
+        None => refuse(alloc, world, state, slots, name, "not found"),
     }
-    run_at(alloc, world, state, slots, name, args, path)?;
-    Ok(Outcome::Finished)
 }
 
 /// Runs a program by its name.
@@ -296,9 +280,9 @@ pub fn run_program<W: World>(
     slots: Slots,
     name: &str,
     args: &[String],
-) -> Result<Outcome, Stop>
-    ensures runs { Runs W.events world.old world.new state_of state.old state.new
-        (run_program slots name.now (map string_bytes args.now)) result }
+) -> Result<(), Stop>
+    ensures does { Does W.events world.old world.new state_of state.old state.new
+        (run_program slots name.now (map string_bytes args.now)) (λ x. x) result }
     ensures err { OnErr result (state_of state.new ≡ state_of state.old) }
 {
     let path = find_program(alloc, world, state, name)?;
