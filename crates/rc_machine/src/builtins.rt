@@ -11,9 +11,7 @@ ghost use Rattle.rc_machine.specs.Outcomes.{RunsWords};
 ghost use Rattle.rc_scope.specs.States.{state_of};
 
 use crate::commands::Outcome;
-use rc_builtin::{
-    Builtin, Outcome as Program, change_dir, exit_status, run_program, shift, whatis,
-};
+use rc_builtin::{Builtin, change_dir, exit_status, run_program, shift, whatis};
 use rc_code::compile;
 use rc_parser::{InputError, parse};
 use rc_scope::State;
@@ -53,10 +51,8 @@ fn exec<W: World>(
         state.set_status("usage")?;
         return Ok(Outcome::Finished);
     };
-    match run_program(alloc, world, state, slots, name, args)? {
-        Program::Finished => Ok(Outcome::Exit),
-        Program::NotYet => Ok(Outcome::NotYet),
-    }
+    run_program(alloc, world, state, slots, name, args)?;
+    Ok(Outcome::Exit)
 }
 
 /// Runs a built-in command other than `builtin`.
@@ -100,10 +96,8 @@ fn run_other<W: World>(
     ensures { RunsWords (W.events world.old) (W.events world.new)
         (finished (run_program slots name.now (map string_bytes args.now)) (state_of state.old)) (state_of state.new) result }
 {
-    match run_program(alloc, world, state, slots, name, args)? {
-        Program::Finished => Ok(Outcome::Finished),
-        Program::NotYet => Ok(Outcome::NotYet),
-    }
+    run_program(alloc, world, state, slots, name, args)?;
+    Ok(Outcome::Finished)
 }
 
 /// Runs words for which functions are ignored.

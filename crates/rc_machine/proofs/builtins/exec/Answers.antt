@@ -7,7 +7,6 @@ use Rattle.rc_world.proofs.Joins.{left_as, ran_as}
 use Rattle.rc_world.proofs.Shells.{left_under}
 use Rattle.rc_scope.specs.States.{state_of}
 use Rattle.rc_machine.proofs.Left.{words_left}
-use Rattle.rc_machine.proofs.Runs.{begun_as, begun_under}
 use Rattle.rc_machine.proofs.builtins.exec.Goals as goal
 
 pub returns-in_err-run_program : goal.returns-in_err-run_program
@@ -18,23 +17,14 @@ returns-in_err-run_program g c =
     let named : c.deref.result.now ≡ name = search rules in
     words_left _ _ _ _ c.from_residual-in_err-run_program.result c.in_err-run_program.field-0.0 c.from_residual-in_err-run_program.ensures.1
     (left_as _ _ _ _ _ (ap (λ ws. exec c.args.slots (map string_bytes ws) s) c.in-Some.ensures.cases.0)
-    (left_under _ _ _ (run_program c.args.slots name args s) (λ x. exits) leaves (rw named at c.in_err-run_program.ensures.runs)))
+    (left_under _ _ _ (run_program c.args.slots name args s) (λ x. exits) leaves (rw named at c.in_err-run_program.ensures.does)))
 
-pub returns-in-Finished : goal.returns-in-Finished
-returns-in-Finished g c =
+pub returns : goal.returns
+returns g c =
     let s = state_of c.args.state.now in
     let name = string_bytes c.in-Some.name.now in
     let args = map string_bytes c.in-Some.args.now in
     let named : c.deref.result.now ≡ name = search rules in
     ran_as _ _ _ _ _ (ap (λ ws. exec c.args.slots (map string_bytes ws) s) c.in-Some.ensures.cases.0)
     (ran_next _ _ _ (run_program c.args.slots name args s) tt (state_of c.run_program.new.state) (λ x. exits) leaves _
-    (rw (c.in-Finished.is, named) at c.in_ok-run_program.ensures.runs) (ran_none _ _))
-
-pub returns-in-NotYet : goal.returns-in-NotYet
-returns-in-NotYet g c =
-    let s = state_of c.args.state.now in
-    let name = string_bytes c.in-Some.name.now in
-    let args = map string_bytes c.in-Some.args.now in
-    let named : c.deref.result.now ≡ name = search rules in
-    begun_as (ap (λ ws. exec c.args.slots (map string_bytes ws) s) c.in-Some.ensures.cases.0)
-    (begun_under (run_program c.args.slots name args s) (λ x. exits) leaves (rw (c.in-NotYet.is, named) at c.in_ok-run_program.ensures.runs))
+    (rw named at c.in_ok-run_program.ensures.does) (ran_none _ _))

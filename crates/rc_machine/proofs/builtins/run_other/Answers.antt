@@ -1,4 +1,4 @@
-use Rattle.std.proofs.Common.{rules, map, string_bytes}
+use Rattle.std.proofs.Common.{map, string_bytes}
 use Rattle.rc_model.specs.Run.Acts.{run_program}
 use Rattle.rc_model.specs.Run.Builtins.{Finished}
 use Rattle.rc_model.specs.Run.Shell.{leaves, pure}
@@ -6,21 +6,15 @@ use Rattle.law_plans.proofs.Runs.{ran_next, ran_none}
 use Rattle.rc_world.proofs.Shells.{left_under}
 use Rattle.rc_scope.specs.States.{state_of}
 use Rattle.rc_machine.proofs.Left.{words_left}
-use Rattle.rc_machine.proofs.Runs.{begun_under}
 use Rattle.rc_machine.proofs.builtins.run_other.Goals as goal
 
 pub returns-in_err-run_program : goal.returns-in_err-run_program
 returns-in_err-run_program g c =
     words_left _ _ _ _ c.from_residual.result c.in_err-run_program.field-0.0 c.from_residual.ensures.1
     (left_under _ _ _ (run_program c.args.slots c.args.name.now (map string_bytes c.args.args.now) (state_of c.args.state.now)) (λ x. pure Finished) leaves
-    c.in_err-run_program.ensures.runs)
+    c.in_err-run_program.ensures.does)
 
-pub returns-in-Finished : goal.returns-in-Finished
-returns-in-Finished g c =
+pub returns : goal.returns
+returns g c =
     ran_next _ _ _ (run_program c.args.slots c.args.name.now (map string_bytes c.args.args.now) (state_of c.args.state.now)) tt (state_of c.run_program.new.state)
-    (λ x. pure Finished) leaves _ (rw c.in-Finished.is at c.in_ok-run_program.ensures.runs) (ran_none _ _)
-
-pub returns-in-NotYet : goal.returns-in-NotYet
-returns-in-NotYet g c =
-    let f = rw c.in-NotYet.is at c.in_ok-run_program.ensures.runs in
-    begun_under (run_program c.args.slots c.args.name.now (map string_bytes c.args.args.now) (state_of c.args.state.now)) (λ x. pure Finished) leaves f
+    (λ x. pure Finished) leaves _ c.in_ok-run_program.ensures.does (ran_none _ _)
