@@ -66,6 +66,9 @@ const ARGUMENTS: [(&str, &[&str], &[u8]); 14] = [
 /// Starts the shell with an argument that isn't UTF-8.
 const NO_TEXT: &str = "exec \"$0\" rc -c 'echo a' \"$(printf '\\377')\"";
 
+/// Starts the shell without a descriptor 2.
+const NO_ERRORS: &str = "exec \"$0\" rc 2>&-";
+
 /// What descriptor 2 is to a child of the shell.
 const PROBE_ERRORS: &[u8] = b"sh probes_errors.sh; nope";
 
@@ -77,20 +80,14 @@ pub fn show_all<R: Print + Files<File = File> + Processes + AllocGlobal>(
     for (what, text, times) in RUNS {
         show(rt, what, &with_text(rt, shell(rt.alloc())?, text, times)?)?;
     }
-    for (what, arguments, input) in ARGUMENTS {
-        let mut shell = shell(rt.alloc())?;
-        for argument in arguments {
-            shell.arg(argument)?;
-        }
-        show(rt, what, &with_text(rt, shell, input, 1)?)?;
-    }
+    show_arguments(rt)?;
     let no_text = through_sh(rt.alloc(), NO_TEXT, own_path)?;
     show(
         rt,
         "an argument that isn't UTF-8",
         &with_text(rt, no_text, b"", 1)?,
     )?;
-    let closed = through_sh(rt.alloc(), "exec \"$0\" rc 2>&-", own_path)?;
+    let closed = through_sh(rt.alloc(), NO_ERRORS, own_path)?;
     show(
         rt,
         "descriptor 2 closed at the start",
@@ -99,10 +96,27 @@ pub fn show_all<R: Print + Files<File = File> + Processes + AllocGlobal>(
     show(rt, "an input that can't be read", &with_directory(rt)?)
 }
 
+fn show_arguments<R: Print + Processes + AllocGlobal>(rt: &R) -> Result<()> {
+    for (what, arguments, input) in ARGUMENTS {
+        let shell = with_arguments(rt.alloc(), arguments)?;
+        show(rt, what, &with_text(rt, shell, input, 1)?)?;
+    }
+    Ok(())
+}
+
 /// The shell as a process.
 fn shell(alloc: Global) -> Result<Command, AllocError> {
     let mut command = Command::new(alloc, "/proc/self/exe")?;
     command.arg("rc")?;
+    Ok(command)
+}
+
+/// The shell as a process with these arguments.
+fn with_arguments(alloc: Global, arguments: &[&str]) -> Result<Command, AllocError> {
+    let mut command = shell(alloc)?;
+    for argument in arguments {
+        command.arg(argument)?;
+    }
     Ok(command)
 }
 
