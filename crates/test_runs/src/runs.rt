@@ -34,7 +34,7 @@ const RUNS: [(&str, &[u8], usize); 14] = [
 ];
 
 /// Each further run: what it shows, its arguments, and its input.
-const ARGUMENTS: [(&str, &[&str], &[u8]); 14] = [
+const ARGUMENTS: [(&str, &[&str], &[u8]); 25] = [
     ("a text", &["-c", "echo a; echo b"], b""),
     (
         "a text with arguments",
@@ -61,6 +61,53 @@ const ARGUMENTS: [(&str, &[&str], &[u8]); 14] = [
     ("a status that is a list", &["-c", "status=(3 4)"], b""),
     ("a wrong option", &["-x", "arguments.rc"], b""),
     ("an option without its text", &["-e", "-c"], b""),
+    (
+        "a function",
+        &["-c", "fn greet {echo hello $1}; greet world; fn greet; greet"],
+        b"",
+    ),
+    (
+        "redirections",
+        &["-c", "echo a >made; echo b >>made; cat <made; nope >[2=1]; rm made"],
+        b"",
+    ),
+    (
+        "a file that can't be opened",
+        &["-c", "echo a >/none/file; echo on"],
+        b"",
+    ),
+    (
+        "a here document",
+        &["-c", "x=(1 2)\ncat <<E\n$x^y $$\nE\n"],
+        b"",
+    ),
+    (
+        "names of files",
+        &["-c", "echo ends*.sh [~e]*.sh *.none"],
+        b"",
+    ),
+    (
+        "loops",
+        &["-c", "for(i in a b) for(j in 1 2) echo $i$j"],
+        b"",
+    ),
+    (
+        "a choice",
+        &["-c", "switch abc {case a*c\necho yes\ncase *\necho no}"],
+        b"",
+    ),
+    (
+        "eval and shift",
+        &["-c", "eval 'x=(a b)'; shift; echo $x $*", "p", "q"],
+        b"",
+    ),
+    ("another directory", &["-c", "cd /; pwd"], b""),
+    ("exec", &["-c", "exec echo last; echo never"], b""),
+    (
+        "what names stand for",
+        &["-c", "x=(a 'b c'); fn f {echo hi}; whatis x f cd"],
+        b"",
+    ),
 ];
 
 /// Starts the shell with an argument that isn't UTF-8.
