@@ -7,6 +7,7 @@ use Rattle.rc_model.specs.Run.State.{State}
 use Rattle.rc_model.specs.Syntax.Tree.{Node, cmd}
 use Rattle.rc_model.specs.declared.fault.SyntaxFault.{SyntaxFault}
 use Rattle.rc_shell.specs.Executed.{EndsWithin, HaltsWithin, IsBegunWithin}
+use Rattle.rc_cli.specs.Requests.{Request}
 use Rattle.rc_cli.specs.Runs.{RunsAsMeant, most_instructions}
 use Rattle.rc_cli.specs.Start.{first_state}
 use Rattle.rc_cli.specs.Statuses.{IsProcessStatus}
@@ -20,33 +21,33 @@ HasTree script = (t : Node cmd) × IsAccepted script t
 abbrev pub OfEach : Option (List Event) → Option (List Event) → List ℕ → (Node cmd → List Event → Type 0) → Type 0
 OfEach before after script P = (t : Node cmd) → IsAccepted script t → Told before after (λ trace. P t trace)
 
-pub ended : (before after : Option (List Event)) (script : List ℕ) (s end : State) (text : List ℕ) (status : ℕ) → s ≡ first_state → HasTree script →
+pub ended : (before after : Option (List Event)) (r : Request) (script : List ℕ) (s end : State) (text : List ℕ) (status : ℕ) → s ≡ first_state r → HasTree script →
     OfEach before after script (λ t trace. EndsWithin most_instructions t s trace end) → text ≡ end.status → IsProcessStatus text status →
-    RunsAsMeant before after script (Ok status)
-ended before after script s end text status e a each is p =
+    RunsAsMeant before after r script (Ok status)
+ended before after r script s end text status e a each is p =
     let told = each a.0 a.1 in
     (a.0, a.1, (told.0, told.1, (end, subst (λ z. EndsWithin most_instructions a.0 z told.0 end) e told.2, subst (λ z. IsProcessStatus z status) is p)))
 
-pub halted : (before after : Option (List Event)) (script : List ℕ) (s : State) → s ≡ first_state → HasTree script →
-    OfEach before after script (λ t trace. HaltsWithin most_instructions t s trace) → RunsAsMeant before after script (Err Halted)
-halted before after script s e a each =
+pub halted : (before after : Option (List Event)) (r : Request) (script : List ℕ) (s : State) → s ≡ first_state r → HasTree script →
+    OfEach before after script (λ t trace. HaltsWithin most_instructions t s trace) → RunsAsMeant before after r script (Err Halted)
+halted before after r script s e a each =
     let told = each a.0 a.1 in
     (a.0, a.1, (told.0, told.1, subst (λ z. HaltsWithin most_instructions a.0 z told.0) e told.2))
 
-pub limited : (before after : Option (List Event)) (script : List ℕ) (s : State) → s ≡ first_state → HasTree script →
-    OfEach before after script (λ t trace. StopsAtLimit most_instructions t s trace) → RunsAsMeant before after script (Err Limit)
-limited before after script s e a each =
+pub limited : (before after : Option (List Event)) (r : Request) (script : List ℕ) (s : State) → s ≡ first_state r → HasTree script →
+    OfEach before after script (λ t trace. StopsAtLimit most_instructions t s trace) → RunsAsMeant before after r script (Err Limit)
+limited before after r script s e a each =
     let told = each a.0 a.1 in
     (a.0, a.1, (told.0, told.1, subst (λ z. StopsAtLimit most_instructions a.0 z told.0) e told.2))
 
-pub not_yet : (before after : Option (List Event)) (script : List ℕ) (s : State) → s ≡ first_state → HasTree script →
-    OfEach before after script (λ t trace. IsBegunWithin most_instructions t s trace) → RunsAsMeant before after script (Err NotYet)
-not_yet before after script s e a each =
+pub not_yet : (before after : Option (List Event)) (r : Request) (script : List ℕ) (s : State) → s ≡ first_state r → HasTree script →
+    OfEach before after script (λ t trace. IsBegunWithin most_instructions t s trace) → RunsAsMeant before after r script (Err NotYet)
+not_yet before after r script s e a each =
     let told = each a.0 a.1 in
     (a.0, a.1, (told.0, told.1, subst (λ z. IsBegunWithin most_instructions a.0 z told.0) e told.2))
 
-pub begun : (before after : Option (List Event)) (script : List ℕ) (s : State) → s ≡ first_state →
+pub begun : (before after : Option (List Event)) (r : Request) (script : List ℕ) (s : State) → s ≡ first_state r →
     OfEach before after script (λ t trace. IsBegunWithin most_instructions t s trace) →
-    ((fault : SyntaxFault) → IsRefused script fault → after ≡ before) → RunsAsMeant before after script (Err NoMemory)
-begun before after script s e each silent =
+    ((fault : SyntaxFault) → IsRefused script fault → after ≡ before) → RunsAsMeant before after r script (Err NoMemory)
+begun before after r script s e each silent =
     (λ t a. (let told = each t a in (told.0, told.1, subst (λ z. IsBegunWithin most_instructions t z told.0) e told.2)), silent)

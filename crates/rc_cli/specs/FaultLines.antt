@@ -6,8 +6,8 @@ use Rattle.rc_cli.specs.declared.fault.RunFault.TheVariants.{Usage, CannotRead, 
 
 -- the line itself, without its newline
 abbrev pub fault_line : RunFault → List ℕ
-fault_line Usage = codes "rc: usage: rc [-c text | file] [arg ...]"
-fault_line CannotRead = codes "rc: cannot read standard input"
+fault_line Usage = codes "rc: usage: rc [-e] [-c text | file] [arg ...]"
+fault_line (CannotRead name) = codes "rc: cannot read " ++ name.now
 fault_line (Syntax fault) = codes "rc: " ++ fault_words fault
 fault_line NoMemory = codes "rc: no memory"
 fault_line Limit = codes "rc: limit"

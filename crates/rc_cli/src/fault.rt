@@ -12,10 +12,11 @@ use std::{fmt, io};
 /// Why a run of the program failed. It is shown as the line that the program prints, without a
 /// newline.
 #[derive(Clone, Copy, Debug, PartialEq)]
-pub enum RunFault {
-    /// The program was given arguments.
+pub enum RunFault<'a> {
+    /// The arguments ask for nothing that the program does.
     Usage,
-    CannotRead,
+    /// What has this name couldn't be read: the script's file, or `standard input`.
+    CannotRead(&'a str),
     Syntax(SyntaxFault),
     NoMemory,
     /// The script took too many instructions.
@@ -26,21 +27,21 @@ pub enum RunFault {
     NotYet,
 }
 
-impl From<AllocError> for RunFault {
+impl<'a> From<AllocError> for RunFault<'a> {
     ghost use Rattle.rc_cli.specs.declared.fault.RunFault.TheVariants.{NoMemory};
 
     ghost from_gives = { λ _ fault. fault ≡ NoMemory };
 
-    fn from(_: AllocError) -> RunFault {
+    fn from(_: AllocError) -> RunFault<'a> {
         RunFault::NoMemory
     }
 }
 
-impl RunFault {
+impl<'a> RunFault<'a> {
     /// The fault at an error of the system: out of memory is distinguished from any other.
-    pub(crate) fn at(error: &io::Error, other: RunFault) -> RunFault
-        ensures either { (result ≡ other) ⊎ (result ≡ RunFault.NoMemory) }
-        ensures other { error_kind error.now ≢ ErrorKind.OutOfMemory → result ≡ other }
+    pub(crate) fn at(error: &io::Error, other: RunFault<'a>) -> RunFault<'a>
+        ensures either { (result ≡ other.entry) ⊎ (result ≡ RunFault.NoMemory) }
+        ensures other { error_kind error.now ≢ ErrorKind.OutOfMemory → result ≡ other.entry }
         ensures memory { error_kind error.now ≡ ErrorKind.OutOfMemory → raw_os_error error.now ≡ None →
             result ≡ RunFault.NoMemory }
     {
@@ -51,13 +52,13 @@ impl RunFault {
     }
 }
 
-impl fmt::Display for RunFault {
+impl fmt::Display for RunFault<'_> {
     ghost output = { λ fault. Some (fault_line fault) };
 
     fn fmt<W: fmt::Write>(&self, f: &mut fmt::Formatter<W>) -> fmt::Result {
         match self {
-            RunFault::Usage => f.write_str("rc: usage: rc [-c text | file] [arg ...]"),
-            RunFault::CannotRead => f.write_str("rc: cannot read standard input"),
+            RunFault::Usage => f.write_str("rc: usage: rc [-e] [-c text | file] [arg ...]"),
+            RunFault::CannotRead(name) => write!(f, "rc: cannot read {name}"),
             RunFault::Syntax(fault) => write!(f, "rc: {fault}"),
             RunFault::NoMemory => f.write_str("rc: no memory"),
             RunFault::Limit => f.write_str("rc: limit"),
@@ -67,4 +68,4 @@ impl fmt::Display for RunFault {
     }
 }
 
-impl Error for RunFault {}
+impl Error for RunFault<'_> {}

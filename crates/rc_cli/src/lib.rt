@@ -4,10 +4,13 @@
 mod fault;
 mod process;
 mod reading;
+mod request;
 mod running;
+mod start;
 mod status;
 
 pub use fault::RunFault;
 pub use process::report;
+pub use request::{Request, Source, request_of};
 pub use running::run_rc;
 pub use status::process_status;

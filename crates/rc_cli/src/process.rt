@@ -6,9 +6,9 @@ use crate::fault::RunFault;
 use std::process::ExitCode;
 
 /// Prints the line of a fault to descriptor 2, and gives what the process ends with.
-pub fn report<R: Eprint>(rt: &R, run: Result<u8, RunFault>) -> ExitCode
-    ensures ended { IfOk run (λ status. exit_status result ≡ status) }
-    ensures failed { OnErr run (exit_status result ≡ 1) }
+pub fn report<R: Eprint>(rt: &R, run: Result<u8, RunFault<'_>>) -> ExitCode
+    ensures ended { IfOk run.entry (λ status. exit_status result ≡ status) }
+    ensures failed { OnErr run.entry (exit_status result ≡ 1) }
 {
     match run {
         Ok(status) => ExitCode::from(status),

@@ -1,5 +1,5 @@
 //! The reading of a script.
-ghost use Rattle.std.specs.Prelude.{◌≡◌, ◌⊎◌, IfOk, IfErr};
+ghost use Rattle.std.specs.Prelude.{◌≡◌, ◌⊎◌, None, Err, IfOk, IfErr, IfSome};
 ghost use Rattle.rc_cli.specs.Runs.{IsScriptOf};
 ghost use Rattle.rc_cli.specs.declared.fault.RunFault.TheVariants.{CannotRead, NoMemory};
 
@@ -11,14 +11,23 @@ use std::io::Read;
 /// One byte more than a script may have.
 const MOST: u64 = LONGEST_SCRIPT as u64 + 1;
 
-/// The bytes of a script. No more are read than it takes to see that it is too long.
-pub fn read_script<R: Read + Drop>(alloc: Global, input: R) -> Result<Vec<u8>, RunFault>
-    ensures script { IfOk result (λ script. IsScriptOf (R.remaining input) script.items) }
-    ensures err { IfErr result (λ fault. (fault ≡ CannotRead) ⊎ (fault ≡ NoMemory)) }
+/// The bytes of the script that is read from an input of this name, if it could be opened. No more are read than it
+/// takes to see that it is too long.
+pub fn read_script<'a, R: Read + Drop>(
+    alloc: Global,
+    input: Option<R>,
+    name: &'a str,
+) -> Result<Vec<u8>, RunFault<'a>>
+    ensures script { IfOk result (λ script. IfSome input (λ r. IsScriptOf (R.remaining r) script.items)) }
+    ensures unopened { input ≡ None → result ≡ Err (CannotRead name.entry) }
+    ensures err { IfErr result (λ fault. (fault ≡ CannotRead name.entry) ⊎ (fault ≡ NoMemory)) }
 {
+    let Some(input) = input else {
+        return Err(RunFault::CannotRead(name));
+    };
     let mut script = Vec::new(alloc);
     match input.take(MOST).read_to_end(&mut script) {
         Ok(_) => Ok(script),
-        Err(error) => Err(RunFault::at(&error, RunFault::CannotRead)),
+        Err(error) => Err(RunFault::at(&error, RunFault::CannotRead(name))),
     }
 }

@@ -1,45 +1,72 @@
 //! A run of the program.
-ghost use Rattle.std.specs.Prelude.{◌≡◌, ◌≢◌, ◌↔◌, ℕ, ◌<◌, List, length, Err, IfOk, map, string_bytes};
-ghost use Rattle.rc_scope.specs.States.{state_of};
-ghost use Rattle.rc_cli.specs.Runs.{IsScriptOf, RunsAsMeant};
-ghost use Rattle.rc_cli.specs.Start.{first_state};
+ghost use Rattle.std.specs.Prelude.{◌≡◌, ◌≢◌, ◌↔◌, Err, None, Some, IfSome, map, option_map, string_bytes};
+ghost use Rattle.rc_cli.specs.Asked.{asked};
+ghost use Rattle.rc_cli.specs.Requests.{request_of, name_of};
+ghost use Rattle.rc_cli.specs.Runs.{RunsAsMeant, RunsInput, RunsRequest};
 
 use crate::fault::RunFault;
 use crate::reading::read_script;
+use crate::request::{Request, Source, request_of};
+use crate::start::first_state;
 use crate::status::process_status;
-use rc_scope::State;
 use rc_shell::{Ran, ShellFault, execute};
 use rc_world::World;
-use std::alloc::{AllocError, Global};
+use std::alloc::Global;
 use std::io::Read;
 
 /// The most instructions that a script may take.
 const LIMIT: u64 = 1 << 62;
 
-/// Runs the script of the input, and answers the number that the process ends with. No arguments are
-/// taken yet.
-pub fn run_rc<W: World, R: Read + Drop>(
+/// Runs the script that the arguments ask for, and answers the number that the process ends with. The input is that of
+/// the script's file, if it could be opened, or else standard input.
+pub fn run_rc<'a, W: World, R: Read + Drop>(
     alloc: Global,
     world: &mut W,
-    arguments: &[String],
-    input: R,
-) -> Result<u8, RunFault>
-    ensures usage { (result ≡ Err RunFault.Usage) ↔ (0 < length arguments.now) }
-    ensures meant { (script : List ℕ) × IsScriptOf (R.remaining input) script
-        × RunsAsMeant (W.events world.old) (W.events world.new) script result }
+    words: &'a [String],
+    input: Option<R>,
+) -> Result<u8, RunFault<'a>>
+    ensures usage { (result ≡ Err RunFault.Usage) ↔ (request_of (map string_bytes words.now) ≡ None) }
+    ensures unchanged { result ≡ Err RunFault.Usage → W.events world.new ≡ W.events world.old }
+    ensures meant { IfSome (request_of (map string_bytes words.now))
+        (RunsRequest (option_map (λ r. R.remaining r) input) (W.events world.old) (W.events world.new) result) }
 {
-    if !arguments.is_empty() {
+    let Some(request) = request_of(words) else {
         return Err(RunFault::Usage);
+    };
+    match request.source {
+        Source::Input => run_input(alloc, world, request, input, "standard input"),
+        Source::Text(text) => run_script(alloc, world, request, text.as_bytes()),
+        Source::File(name) => run_input(alloc, world, request, input, name),
     }
-    let script = read_script(alloc, input)?;
-    run_script(alloc, world, &script)
 }
 
-fn run_script<W: World>(alloc: Global, world: &mut W, script: &[u8]) -> Result<u8, RunFault>
+/// Runs the script of an input that has this name.
+fn run_input<'a, W: World, R: Read + Drop>(
+    alloc: Global,
+    world: &mut W,
+    request: Request<'a>,
+    input: Option<R>,
+    name: &'a str,
+) -> Result<u8, RunFault<'a>>
+    requires { name_of (asked request).source ≡ Some name.now }
     ensures usage { result ≢ Err RunFault.Usage }
-    ensures meant { RunsAsMeant (W.events world.old) (W.events world.new) script.now result }
+    ensures meant { RunsInput (option_map (λ r. R.remaining r) input) (W.events world.old) (W.events world.new)
+        (asked request.entry) result }
 {
-    let state = first_state(alloc)?;
+    let script = read_script(alloc, input, name)?;
+    run_script(alloc, world, request, &script)
+}
+
+fn run_script<'a, W: World>(
+    alloc: Global,
+    world: &mut W,
+    request: Request<'a>,
+    script: &[u8],
+) -> Result<u8, RunFault<'a>>
+    ensures usage { result ≢ Err RunFault.Usage }
+    ensures meant { RunsAsMeant (W.events world.old) (W.events world.new) (asked request.entry) script.now result }
+{
+    let state = first_state(alloc, request)?;
     match execute(alloc, world, script, state, LIMIT) {
         Ok(Ran::Ended { state }) => Ok(process_status(state.status())),
         Ok(Ran::Limit) => Err(RunFault::Limit),
@@ -48,26 +75,4 @@ fn run_script<W: World>(alloc: Global, world: &mut W, script: &[u8]) -> Result<u
         Err(ShellFault::Syntax(fault)) => Err(RunFault::Syntax(fault)),
         Err(ShellFault::NoMemory) => Err(RunFault::NoMemory),
     }
-}
-
-/// The state that a script begins in.
-fn first_state(alloc: Global) -> Result<State, AllocError>
-    ensures { IfOk result (λ state. state_of state ≡ first_state) }
-{
-    let ifs = value(alloc, &[" \t\n"])?;
-    let path = value(alloc, &["/bin", "/usr/bin"])?;
-    let mut state = State::new(alloc);
-    state.set("ifs", ifs).map_err(|_| AllocError)?;
-    state.set("path", path).map_err(|_| AllocError)?;
-    Ok(state)
-}
-
-fn value(alloc: Global, members: &[&str]) -> Result<Vec<String>, AllocError>
-    ensures { IfOk result (λ value. map string_bytes value.items ≡ map (λ member. member.now) members.now) }
-{
-    let mut value = Vec::new(alloc);
-    for member in members {
-        value.push(String::from_str(alloc, member)?)?;
-    }
-    Ok(value)
 }

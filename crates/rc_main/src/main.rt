@@ -1,27 +1,31 @@
 //! The shell.
 #![tactic(auto)]
 
-use rc_cli::{RunFault, report, run_rc};
+use rc_cli::{RunFault, Source, report, request_of, run_rc};
 use rc_host::{ArgumentsFault, HostWorld, arguments, open_standard, own_path};
+use std::fs;
 use std::process::ExitCode;
 
-fn given_arguments(rt: &HostRuntime) -> Result<Vec<String>, RunFault> {
-    match arguments(rt) {
-        Ok(arguments) => Ok(arguments),
-        Err(ArgumentsFault::NotText) => Err(RunFault::Usage),
-        Err(ArgumentsFault::NoMemory) => Err(RunFault::NoMemory),
+/// No file of a script gets the number 0, 1 or 2: these are open before anything else is.
+fn run<'a>(rt: HostRuntime, words: &'a [String]) -> Result<u8, RunFault<'a>> {
+    let Some(request) = request_of(words) else {
+        return Err(RunFault::Usage);
+    };
+    open_standard(&rt).map_err(|_| RunFault::CannotRead("standard input"))?;
+    let shell = own_path(&rt)?;
+    let mut world = HostWorld::new(rt, shell);
+    match request.source {
+        Source::File(name) => run_rc(rt.alloc(), &mut world, words, fs::open(&rt, name).ok()),
+        Source::Input | Source::Text(_) => {
+            run_rc(rt.alloc(), &mut world, words, Some(rt.reader()))
+        }
     }
 }
 
-/// No file of a script gets the number 0, 1 or 2: these are open before anything else is.
-fn run(rt: HostRuntime) -> Result<u8, RunFault> {
-    open_standard(&rt).map_err(|_| RunFault::CannotRead)?;
-    let arguments = given_arguments(&rt)?;
-    let shell = own_path(&rt)?;
-    let mut world = HostWorld::new(rt, shell);
-    run_rc(rt.alloc(), &mut world, &arguments, rt.reader())
-}
-
 fn main(rt: HostRuntime) -> ExitCode {
-    report(&rt, run(rt))
+    match arguments(&rt) {
+        Ok(words) => report(&rt, run(rt, &words)),
+        Err(ArgumentsFault::NotText) => report(&rt, Err(RunFault::Usage)),
+        Err(ArgumentsFault::NoMemory) => report(&rt, Err(RunFault::NoMemory)),
+    }
 }

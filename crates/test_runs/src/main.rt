@@ -5,20 +5,34 @@
 mod runs;
 
 use anyhow::Result;
-use rc_cli::{RunFault, report, run_rc};
-use rc_host::{HostWorld, arguments, open_standard, own_path};
+use rc_cli::{RunFault, Source, report, request_of, run_rc};
+use rc_host::{ArgumentsFault, HostWorld, arguments, open_standard, own_path};
 use runs::show_all;
+use std::fs;
 use std::process::ExitCode;
 
-fn shell(rt: HostRuntime, arguments: &[String]) -> Result<u8, RunFault> {
-    open_standard(&rt).map_err(|_| RunFault::CannotRead)?;
+fn shell<'a>(rt: HostRuntime, words: &'a [String]) -> Result<u8, RunFault<'a>> {
+    let Some(request) = request_of(words) else {
+        return Err(RunFault::Usage);
+    };
+    open_standard(&rt).map_err(|_| RunFault::CannotRead("standard input"))?;
     let shell = own_path(&rt)?;
     let mut world = HostWorld::new(rt, shell);
-    run_rc(rt.alloc(), &mut world, arguments, rt.reader())
+    match request.source {
+        Source::File(name) => run_rc(rt.alloc(), &mut world, words, fs::open(&rt, name).ok()),
+        Source::Input | Source::Text(_) => {
+            run_rc(rt.alloc(), &mut world, words, Some(rt.reader()))
+        }
+    }
 }
 
 fn main(rt: HostRuntime) -> Result<ExitCode> {
-    match arguments(&rt)?.as_slice() {
+    let words = match arguments(&rt) {
+        Ok(words) => words,
+        Err(ArgumentsFault::NotText) => return Ok(report(&rt, Err(RunFault::Usage))),
+        Err(ArgumentsFault::NoMemory) => return Ok(report(&rt, Err(RunFault::NoMemory))),
+    };
+    match words.as_slice() {
         [] => {
             show_all(&rt, &own_path(&rt)?)?;
             Ok(ExitCode::SUCCESS)

@@ -30,8 +30,91 @@ const RUNS: [(&str, &[u8], usize); 14] = [
     ("a script over that size", b" ", 1_048_577),
     ("a byte that is no text", b"true\ntrue \xff\n", 1),
     ("a token that fits no script", b"a | ;", 1),
-    ("a form that doesn't run yet", b"echo first; ~ a a", 1),
+    ("a form that doesn't run yet", b"echo first; x=`{echo}", 1),
 ];
+
+/// Each further run: what it shows, its arguments, and its input.
+const ARGUMENTS: [(&str, &[&str], &[u8]); 25] = [
+    ("a text", &["-c", "echo a; echo b"], b""),
+    (
+        "a text with arguments",
+        &["-c", "echo $#* $*; echo $1^$2", "-e", "b c"],
+        b"",
+    ),
+    (
+        "lists and variables",
+        &["-c", "x=(a b); echo $x^.c $#x $\"x $x(2-) $1 $*", "p", "q"],
+        b"",
+    ),
+    ("a file", &["arguments.rc"], b""),
+    ("a file with arguments", &["arguments.rc", "-x", "y z"], b""),
+    ("a file that isn't there", &["absent.rc", "x"], b""),
+    ("a directory as the file", &["/"], b""),
+    ("a strict shell", &["-e"], b"false; echo on"),
+    (
+        "a strict shell with a text",
+        &["-e", "-c", "echo $*; false; echo on", "x"],
+        b"",
+    ),
+    ("a strict shell with a file", &["-e", "strict.rc"], b""),
+    ("a shell that isn't strict", &["strict.rc", "-e"], b""),
+    ("a status that is a list", &["-c", "status=(3 4)"], b""),
+    ("a wrong option", &["-x", "arguments.rc"], b""),
+    ("an option without its text", &["-e", "-c"], b""),
+    (
+        "a function",
+        &["-c", "fn greet {echo hello $1}; greet world; fn greet; greet"],
+        b"",
+    ),
+    (
+        "redirections",
+        &["-c", "echo a >made; echo b >>made; cat <made; nope >[2=1]; rm made"],
+        b"",
+    ),
+    (
+        "a file that can't be opened",
+        &["-c", "echo a >/none/file; echo on"],
+        b"",
+    ),
+    (
+        "a here document",
+        &["-c", "x=(1 2)\ncat <<E\n$x^y $$\nE\n"],
+        b"",
+    ),
+    (
+        "names of files",
+        &["-c", "echo ends*.sh [~e]*.sh *.none"],
+        b"",
+    ),
+    (
+        "loops",
+        &["-c", "for(i in a b) for(j in 1 2) echo $i$j"],
+        b"",
+    ),
+    (
+        "a choice",
+        &["-c", "switch abc {case a*c\necho yes\ncase *\necho no}"],
+        b"",
+    ),
+    (
+        "eval and shift",
+        &["-c", "eval 'x=(a b)'; shift; echo $x $*", "p", "q"],
+        b"",
+    ),
+    ("another directory", &["-c", "cd /; pwd"], b""),
+    ("exec", &["-c", "exec echo last; echo never"], b""),
+    (
+        "what names stand for",
+        &["-c", "x=(a 'b c'); fn f {echo hi}; whatis x f cd"],
+        b"",
+    ),
+];
+
+/// Starts the shell with an argument that isn't UTF-8.
+const NO_TEXT: &str = "exec \"$0\" rc -c 'echo a' \"$(printf '\\377')\"";
+
+/// Starts the shell without a descriptor 2.
+const NO_ERRORS: &str = "exec \"$0\" rc 2>&-";
 
 /// What descriptor 2 is to a child of the shell.
 const PROBE_ERRORS: &[u8] = b"sh probes_errors.sh; nope";
@@ -44,10 +127,28 @@ pub fn show_all<R: Print + Files<File = File> + Processes + AllocGlobal>(
     for (what, text, times) in RUNS {
         show(rt, what, &with_text(rt, shell(rt.alloc())?, text, times)?)?;
     }
-    show(rt, "an argument", &with_argument(rt)?)?;
-    let closed = with_text(rt, without_errors(rt.alloc(), own_path)?, PROBE_ERRORS, 1)?;
-    show(rt, "descriptor 2 closed at the start", &closed)?;
+    show_arguments(rt)?;
+    let no_text = through_sh(rt.alloc(), NO_TEXT, own_path)?;
+    show(
+        rt,
+        "an argument that isn't UTF-8",
+        &with_text(rt, no_text, b"", 1)?,
+    )?;
+    let closed = through_sh(rt.alloc(), NO_ERRORS, own_path)?;
+    show(
+        rt,
+        "descriptor 2 closed at the start",
+        &with_text(rt, closed, PROBE_ERRORS, 1)?,
+    )?;
     show(rt, "an input that can't be read", &with_directory(rt)?)
+}
+
+fn show_arguments<R: Print + Processes + AllocGlobal>(rt: &R) -> Result<()> {
+    for (what, arguments, input) in ARGUMENTS {
+        let shell = with_arguments(rt.alloc(), arguments)?;
+        show(rt, what, &with_text(rt, shell, input, 1)?)?;
+    }
+    Ok(())
 }
 
 /// The shell as a process.
@@ -57,11 +158,20 @@ fn shell(alloc: Global) -> Result<Command, AllocError> {
     Ok(command)
 }
 
-/// The shell as a process that is started without a descriptor 2: `rc 2>&-`.
-fn without_errors(alloc: Global, own_path: &str) -> Result<Command, AllocError> {
+/// The shell as a process with these arguments.
+fn with_arguments(alloc: Global, arguments: &[&str]) -> Result<Command, AllocError> {
+    let mut command = shell(alloc)?;
+    for argument in arguments {
+        command.arg(argument)?;
+    }
+    Ok(command)
+}
+
+/// The shell as a process that another shell starts by this text.
+fn through_sh(alloc: Global, text: &str, own_path: &str) -> Result<Command, AllocError> {
     let mut command = Command::new(alloc, "/bin/sh")?;
     command.arg("-c")?;
-    command.arg("exec \"$0\" rc 2>&-")?;
+    command.arg(text)?;
     command.arg(own_path)?;
     Ok(command)
 }
@@ -86,10 +196,6 @@ fn with_text<R: Processes + AllocGlobal>(
         input.write_all(script.as_slice())?;
     }
     Ok(child.wait_with_output(rt.alloc())?)
-}
-
-fn with_argument<R: Processes + AllocGlobal>(rt: &R) -> Result<Output> {
-    Ok(shell(rt.alloc())?.arg("argument")?.output(rt)?)
 }
 
 fn with_directory<R: Files<File = File> + Processes + AllocGlobal>(rt: &R) -> Result<Output> {

@@ -1,5 +1,5 @@
 //! Runs over a tape.
-use rc_cli::{RunFault, process_status, run_rc};
+use rc_cli::{RunFault, Source, process_status, request_of, run_rc};
 use rc_model::{FaultKind, SyntaxFault};
 use rc_world::{Answer, Call, ChildNo, Ending, Kind, Program, Slot, Slots, Tape};
 use std::alloc::{AllocError, Global};
@@ -43,7 +43,7 @@ fn no_answers(alloc: Global) -> Tape {
     Tape::new(Vec::new(alloc))
 }
 
-fn syntax(kind: FaultKind, line: usize) -> RunFault {
+fn syntax(kind: FaultKind, line: usize) -> RunFault<'static> {
     RunFault::Syntax(SyntaxFault { kind, line })
 }
 
@@ -51,7 +51,7 @@ fn syntax(kind: FaultKind, line: usize) -> RunFault {
 fn runs_a_command(rt: HostRuntime) -> Result<(), Fail> {
     let alloc = rt.alloc();
     let mut tape = one_program(alloc, Ending::Code(0))?;
-    let ended = run_rc(alloc, &mut tape, &[], b"echo hello\n".as_slice());
+    let ended = run_rc(alloc, &mut tape, &[], Some(b"echo hello\n".as_slice()));
     assert_eq!(rt; ended, Ok(0));
     let [Call::Probe(path), Call::Start(launch), Call::Wait(child)] = tape.calls() else {
         panic!(rt; "other calls");
@@ -73,7 +73,7 @@ fn runs_a_command(rt: HostRuntime) -> Result<(), Fail> {
 #[test]
 fn out_of_memory_is_reported(rt: HostRuntime) -> Result<(), Fail> {
     let mut tape = no_answers(rt.alloc());
-    let ended = run_rc(rt.alloc(), &mut tape, &[], b"c".as_slice());
+    let ended = run_rc(rt.alloc(), &mut tape, &[], Some(b"c".as_slice()));
     if ended == Err(RunFault::NoMemory) {
         assert!(rt; tape.calls().is_empty());
         return Err(Fail::from(AllocError));
@@ -92,12 +92,12 @@ fn ends_as_the_script(rt: HostRuntime) -> Result<(), Fail> {
         (Ending::Signal, 1),
     ] {
         let mut tape = one_program(rt.alloc(), ending)?;
-        let ended = run_rc(rt.alloc(), &mut tape, &[], b"c".as_slice());
+        let ended = run_rc(rt.alloc(), &mut tape, &[], Some(b"c".as_slice()));
         assert_eq!(rt; ended, Ok(want));
     }
     let mut tape = no_answers(rt.alloc());
     assert_eq!(rt;
-        run_rc(rt.alloc(), &mut tape, &[], b"# note".as_slice()),
+        run_rc(rt.alloc(), &mut tape, &[], Some(b"# note".as_slice())),
         Ok(0)
     );
     assert!(rt; tape.calls().is_empty());
@@ -125,36 +125,135 @@ fn numbers_statuses(rt: HostRuntime) {
     }
 }
 
+/// The arguments of a run.
+fn words(alloc: Global, texts: &[&str]) -> Result<Vec<String>, AllocError> {
+    let mut words = Vec::new(alloc);
+    for text in texts {
+        words.push(String::from_str(alloc, text)?)?;
+    }
+    Ok(words)
+}
+
 #[test]
 fn looks_for_faults_in_order(rt: HostRuntime) -> Result<(), Fail> {
     let alloc = rt.alloc();
     let mut tape = no_answers(alloc);
-    let words = vec![in alloc; String::from_str(alloc, "script")?]?;
-    let ended = run_rc(alloc, &mut tape, &words, Broken { text: b"" });
+    let file = words(alloc, &["script"])?;
+    let wrong = words(alloc, &["-x"])?;
+    let ended = run_rc(alloc, &mut tape, &wrong, Some(Broken { text: b"" }));
     assert_eq!(rt; ended, Err(RunFault::Usage));
-    let ended = run_rc(alloc, &mut tape, &[], Broken { text: b"\xff" });
-    assert_eq!(rt; ended, Err(RunFault::CannotRead));
-    let ended = run_rc(alloc, &mut tape, &[], b"c\n\xff".as_slice());
+    let ended = run_rc(alloc, &mut tape, &file, Some(Broken { text: b"\xff" }));
+    assert_eq!(rt; ended, Err(RunFault::CannotRead("script")));
+    let ended = run_rc(alloc, &mut tape, &[], Some(Broken { text: b"\xff" }));
+    assert_eq!(rt; ended, Err(RunFault::CannotRead("standard input")));
+    let ended = run_rc(alloc, &mut tape, &file, Some(b"c\n\xff".as_slice()));
     assert_eq!(rt; ended, Err(syntax(FaultKind::NotText, 2)));
     assert!(rt; tape.calls().is_empty());
-    let ended = run_rc(alloc, &mut tape, &[], b"c".as_slice());
+    let ended = run_rc(alloc, &mut tape, &file, Some(b"c".as_slice()));
     assert_eq!(rt; ended, Err(RunFault::Halted));
     assert_eq!(rt; tape.calls().len(), 1);
     Ok(())
 }
 
 #[test]
+fn refuses_a_wrong_use(rt: HostRuntime) -> Result<(), Fail> {
+    let wrong: [&[&str]; 8] = [
+        &["-c"],
+        &["-"],
+        &["--", "file"],
+        &["-x", "file"],
+        &["-S"],
+        &["-e", "-e"],
+        &["-e", "-c"],
+        &["-ec", "c"],
+    ];
+    for texts in wrong {
+        let words = words(rt.alloc(), texts)?;
+        assert!(rt; request_of(&words).is_none());
+        let mut tape = no_answers(rt.alloc());
+        let ended = run_rc(rt.alloc(), &mut tape, &words, Some(b"c".as_slice()));
+        assert_eq!(rt; ended, Err(RunFault::Usage));
+        assert!(rt; tape.calls().is_empty());
+    }
+    Ok(())
+}
+
+#[test]
+fn takes_options_file_and_arguments(rt: HostRuntime) -> Result<(), Fail> {
+    let words = words(rt.alloc(), &["-e", "lib/run", "-c", "-e"])?;
+    let Some(request) = request_of(&words) else {
+        panic!(rt; "a wrong use");
+    };
+    assert!(rt; request.strict);
+    assert!(rt; matches!(request.source, Source::File(name) if name == "lib/run"));
+    assert_eq!(rt; request.arguments.len(), 2);
+    assert_eq!(rt; request.arguments[0].as_str(), "-c");
+    assert_eq!(rt; request.arguments[1].as_str(), "-e");
+    Ok(())
+}
+
+#[test]
+fn hands_on_the_arguments(rt: HostRuntime) -> Result<(), Fail> {
+    let alloc = rt.alloc();
+    let words = words(alloc, &["-c", "echo $#* $2 $*", "-e", "", "b c"])?;
+    let mut tape = one_program(alloc, Ending::Code(0))?;
+    let ended = run_rc(alloc, &mut tape, &words, Some(b"".as_slice()));
+    assert_eq!(rt; ended, Ok(0));
+    let [_, Call::Start(launch), _] = tape.calls() else {
+        panic!(rt; "other calls");
+    };
+    let want = ["3", "", "-e", "", "b c"];
+    assert_eq!(rt; launch.args.len(), want.len());
+    for (argument, want) in launch.args.iter().zip(want) {
+        assert_eq!(rt; argument.as_str(), want);
+    }
+    Ok(())
+}
+
+#[test]
+fn reads_nothing_of_a_file_that_was_not_opened(rt: HostRuntime) -> Result<(), Fail> {
+    let file = words(rt.alloc(), &["-e", "lib/run", "-x"])?;
+    let mut tape = no_answers(rt.alloc());
+    let ended = run_rc::<_, &[u8]>(rt.alloc(), &mut tape, &file, None);
+    assert_eq!(rt; ended, Err(RunFault::CannotRead("lib/run")));
+    assert!(rt; tape.calls().is_empty());
+    let text = words(rt.alloc(), &["-c", "c"])?;
+    let ended = run_rc::<_, &[u8]>(rt.alloc(), &mut tape, &text, None);
+    assert_eq!(rt; ended, Err(RunFault::Halted));
+    Ok(())
+}
+
+#[test]
+fn a_strict_shell_ends_at_a_failure(rt: HostRuntime) -> Result<(), Fail> {
+    let alloc = rt.alloc();
+    for (texts, want, calls) in [
+        (["-e", "-c", "a; b"], Ok(2), 3),
+        (["-c", "a; b", "-e"], Err(RunFault::Halted), 4),
+    ] {
+        let words = words(alloc, &texts)?;
+        let mut tape = one_program(alloc, Ending::Code(2))?;
+        let ended = run_rc(alloc, &mut tape, &words, Some(b"".as_slice()));
+        assert_eq!(rt; ended, want);
+        assert_eq!(rt; tape.calls().len(), calls);
+    }
+    Ok(())
+}
+
+#[test]
 fn reads_no_more_than_it_needs(rt: HostRuntime) {
     let mut tape = no_answers(rt.alloc());
-    let ended = run_rc(rt.alloc(), &mut tape, &[], io::repeat(b' '));
+    let ended = run_rc(rt.alloc(), &mut tape, &[], Some(io::repeat(b' ')));
     assert_eq!(rt; ended, Err(syntax(FaultKind::TooLong, 0)));
 }
 
 #[test]
 fn shows_faults(rt: HostRuntime) -> Result<(), Fail> {
     for (fault, line) in [
-        (RunFault::Usage, "rc: usage: rc [-c text | file] [arg ...]"),
-        (RunFault::CannotRead, "rc: cannot read standard input"),
+        (
+            RunFault::Usage,
+            "rc: usage: rc [-e] [-c text | file] [arg ...]",
+        ),
+        (RunFault::CannotRead("a b"), "rc: cannot read a b"),
         (RunFault::NoMemory, "rc: no memory"),
         (RunFault::Limit, "rc: limit"),
         (RunFault::Halted, "rc: halted"),

@@ -11,4 +11,4 @@ read_of_left (Some bytes) limit most read old e none h = cc
 pub returns-in-Ok-clause-script : goal.returns-in-Ok-clause-script
 returns-in-Ok-clause-script g c =
     let h = rw c.take.ensures.inner at c.in-Ok.ensures.bytes in
-    read_of_left (g.R.Read.remaining c.args.input) c.take.result.limit 1048577 c.read_to_end.new.buf.items _ c.take.ensures.limit c.new-script.ensures.items h
+    rw c.in-Some.is (read_of_left (g.R.Read.remaining c.in-Some.input) c.take.result.limit 1048577 c.read_to_end.new.buf.items _ c.take.ensures.limit c.new-script.ensures.items h)

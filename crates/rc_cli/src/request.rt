@@ -1,0 +1,60 @@
+//! What the arguments of the program ask for.
+ghost use Rattle.std.specs.Prelude.{◌≡◌, map, option_map, string_bytes};
+ghost use Rattle.rc_cli.specs.Asked.{asked};
+ghost use Rattle.rc_cli.specs.Requests.{request_of, request_of_script, is_option};
+
+/// Where a script comes from.
+#[derive(Clone, Copy)]
+pub enum Source<'a> {
+    /// Standard input.
+    Input,
+    /// An argument, after `-c`.
+    Text(&'a str),
+    /// The file of this name.
+    File(&'a str),
+}
+
+/// A script with its arguments.
+#[derive(Clone, Copy)]
+pub struct Request<'a> {
+    /// Whether a simple command that fails ends the shell.
+    pub strict: bool,
+    pub source: Source<'a>,
+    pub arguments: &'a [String],
+}
+
+fn is_option(word: &str) -> bool
+    ensures { result ≡ is_option word.now }
+{
+    word.as_bytes().first() == Some(&b'-')
+}
+
+/// What `[-c text | file] [arg ...]` asks for.
+fn request_of_script(strict: bool, words: &[String]) -> Option<Request<'_>>
+    ensures { option_map asked result ≡ request_of_script strict (map string_bytes words.now) }
+{
+    let (source, arguments) = match words {
+        [] => (Source::Input, words),
+        [first, others @ ..] if first.as_str() == "-c" => {
+            let (text, arguments) = others.split_first()?;
+            (Source::Text(text), arguments)
+        }
+        [first, ..] if is_option(first) => return None,
+        [file, arguments @ ..] => (Source::File(file), arguments),
+    };
+    Some(Request {
+        strict,
+        source,
+        arguments,
+    })
+}
+
+/// What the arguments of the program ask for: `None` for a wrong use.
+pub fn request_of(words: &[String]) -> Option<Request<'_>>
+    ensures { option_map asked result ≡ request_of (map string_bytes words.now) }
+{
+    match words {
+        [first, others @ ..] if first.as_str() == "-e" => request_of_script(true, others),
+        _ => request_of_script(false, words),
+    }
+}
