@@ -1,8 +1,8 @@
 //! Pipelines, subshells, jobs and backquotes over a tape: the calls, and what they leave.
 
 use rc_pipes::{
-    StageWords, StartedStages, background, backquote, end_refused, end_stages,
-    start_stages, subshell, wait_for,
+    StageWords, StartedStages, background, backquote, end_refused, end_stages, start_stages,
+    subshell, wait_for,
 };
 use rc_scope::State;
 use rc_tree_types::Cmd;
@@ -231,17 +231,35 @@ fn an_image_in_too_many_words_is_too_large(rt: HostRuntime) -> Result<(), Fail> 
     Ok(())
 }
 
+/// The entries that the first shell was handed, one after the other.
+fn handed(alloc: Global, tape: &Tape) -> Result<String, Fail> {
+    let mut text = String::new(alloc);
+    if let Some(Call::Start(launch)) = tape.calls().first() {
+        for entry in &launch.env {
+            write!(text, "{entry}\n")?;
+        }
+    }
+    Ok(text)
+}
+
 #[test]
-fn nothing_starts_beside_functions(rt: HostRuntime) -> Result<(), Fail> {
+fn a_shell_is_handed_variables_and_functions(rt: HostRuntime) -> Result<(), Fail> {
     let alloc = rt.alloc();
-    let mut tape = Tape::new(Vec::new(alloc));
+    let mut tape = Tape::new(vec![in alloc; Answer::Child(ChildNo(1)), ended(0)]?);
     let mut state = State::new(alloc);
+    state.set("fn", list(alloc, &["1", "2"])?)?;
+    state.set("fz", list(alloc, &["3"])?)?;
+    state.set("Z", list(alloc, &["4"])?)?;
+    state.define("g", Cmd::Empty)?;
     state.define("f", Cmd::Empty)?;
-    background(alloc, &mut tape, &mut state, PLAIN, None)
+    let words = list(alloc, &["rc1;c1,w1:a"])?;
+    subshell(alloc, &mut tape, &mut state, PLAIN, Some(&words))
         .ok()
         .ok_or("stopped")?;
-    assert!(rt; matches!(left, Attempt::NotYet));
-    assert!(rt; tape.calls().is_empty());
+    assert_eq!(rt;
+        handed(alloc, &tape)?.as_str(),
+        "Z=4\nfn=1\u{1}2\nfn#f=rc1;e\nfn#g=rc1;e\nfz=3\nstatus=\n"
+    );
     Ok(())
 }
 
