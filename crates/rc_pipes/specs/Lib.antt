@@ -1,4 +1,3 @@
-pub mod Attempts
 pub mod Jobs
 pub mod Launches
 pub mod Readings

@@ -1,17 +1,16 @@
 //! Backquotes: what a command writes becomes words.
 
-ghost use Rattle.std.specs.Prelude.{◌≡◌, [], IfOk, map, string_bytes};
+ghost use Rattle.std.specs.Prelude.{◌≡◌, IfOk, map, string_bytes};
 ghost use Rattle.std.specs.List.{concat};
 ghost use Rattle.rc_model.specs.Run.Acts.{backquote, back_child, members_of};
 ghost use Rattle.rc_model.specs.Syntax.Tree.{Node, cmd};
 ghost use Rattle.rc_world.specs.Comes.{Does};
 ghost use Rattle.rc_builtin.specs.Starts.{started_of};
 ghost use Rattle.rc_scope.specs.States.{state_of};
-ghost use Rattle.rc_pipes.specs.Attempts.{Tries};
 ghost use Rattle.rc_pipes.specs.Launches.{IsImage};
 
 use crate::children::wait_child;
-use crate::launches::{Attempt, start_shell};
+use crate::launches::start_shell;
 use crate::reading::{longest_output, read_all};
 use rc_builtin::Started;
 use rc_scope::State;
@@ -69,15 +68,14 @@ fn back_child<W: World>(
     Ok(members)
 }
 
-/// What a command writes, as words, where there are no functions.
-fn run_backquote<W: World>(
+/// What a command writes, as words, by the words of its image: `None` where they are too many.
+pub fn backquote<W: World>(
     alloc: Global,
     world: &mut W,
     state: &mut State,
     slots: Slots,
     words: Option<&[String]>,
 ) -> Result<Vec<String>, Stop>
-    requires { (state_of state.old).functions ≡ [] }
     ensures { (body : Node cmd) → IsImage words.entry body →
         Does W.events world.old world.new state_of state.old state.new (backquote slots body)
         (λ members. map string_bytes members.items) result }
@@ -92,22 +90,4 @@ fn run_backquote<W: World>(
     };
     let started = start_shell(alloc, world, state, inner, words)?;
     back_child(alloc, world, state, read_end, write_end, started)
-}
-
-/// What a command writes, as words, by the words of its image: `None` where they are too many.
-pub fn backquote<W: World>(
-    alloc: Global,
-    world: &mut W,
-    state: &mut State,
-    slots: Slots,
-    words: Option<&[String]>,
-) -> Result<Attempt<Vec<String>>, Stop>
-    ensures { (body : Node cmd) → IsImage words.entry body →
-        Tries W.events world.old world.new state_of state.old state.new (backquote slots body)
-        (λ members. map string_bytes members.items) result }
-{
-    if state.has_functions() {
-        return Ok(Attempt::NotYet);
-    }
-    Ok(Attempt::Done(run_backquote(alloc, world, state, slots, words)?))
 }

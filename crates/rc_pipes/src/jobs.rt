@@ -12,12 +12,11 @@ ghost use Rattle.rc_world.specs.Comes.{Does};
 ghost use Rattle.rc_world.specs.declared.types.Stop.TheVariants.{NoMemory};
 ghost use Rattle.rc_builtin.specs.Starts.{started_of};
 ghost use Rattle.rc_scope.specs.States.{numbers, state_of};
-ghost use Rattle.rc_pipes.specs.Attempts.{Tries};
 ghost use Rattle.rc_pipes.specs.Launches.{IsImage};
 ghost use Rattle.rc_pipes.specs.Jobs.{arguments_of};
 
 use crate::children::wait_child as waited;
-use crate::launches::{Attempt, start_shell};
+use crate::launches::start_shell;
 use rc_builtin::Started;
 use rc_scope::State;
 use rc_text::number_of;
@@ -47,7 +46,7 @@ fn keep_child(alloc: Global, state: &mut State, started: Started) -> Result<(), 
     }
 }
 
-/// Starts a command in the background that reads from this file, where there are no functions.
+/// Starts a command in the background that reads from this file.
 #[tactic(auto, using(crate::proofs::Acts::acting))]
 fn background_with<W: World>(
     alloc: Global,
@@ -57,7 +56,6 @@ fn background_with<W: World>(
     file: Handle,
     words: Option<&[String]>,
 ) -> Result<(), Stop>
-    requires { (state_of state.old).functions ≡ [] }
     ensures { (body : Node cmd) → IsImage words.entry body →
         Does W.events world.old world.new state_of state.old state.new
         (background_with slots body (Some file.0)) (λ x. x) result }
@@ -72,26 +70,6 @@ fn background_with<W: World>(
     Ok(())
 }
 
-/// Starts a command in the background, where there are no functions.
-#[tactic(auto, using(crate::proofs::Acts::acting))]
-fn run_background<W: World>(
-    alloc: Global,
-    world: &mut W,
-    state: &mut State,
-    slots: Slots,
-    words: Option<&[String]>,
-) -> Result<(), Stop>
-    requires { (state_of state.old).functions ≡ [] }
-    ensures { (body : Node cmd) → IsImage words.entry body →
-        Does W.events world.old world.new state_of state.old state.new (background slots body) (λ x. x) result }
-{
-    let Some(file) = calls::open(world, "/dev/null", Mode::Read)? else {
-        state.set_status("cannot open")?;
-        return Ok(());
-    };
-    background_with(alloc, world, state, slots, file, words)
-}
-
 /// Starts a command in the background, by the words of its image: `None` where they are too many.
 #[tactic(auto, using(crate::proofs::Acts::acting))]
 pub fn background<W: World>(
@@ -100,15 +78,15 @@ pub fn background<W: World>(
     state: &mut State,
     slots: Slots,
     words: Option<&[String]>,
-) -> Result<Attempt<()>, Stop>
+) -> Result<(), Stop>
     ensures { (body : Node cmd) → IsImage words.entry body →
-        Tries W.events world.old world.new state_of state.old state.new (background slots body) (λ x. x) result }
+        Does W.events world.old world.new state_of state.old state.new (background slots body) (λ x. x) result }
 {
-    if state.has_functions() {
-        return Ok(Attempt::NotYet);
-    }
-    run_background(alloc, world, state, slots, words)?;
-    Ok(Attempt::Done(()))
+    let Some(file) = calls::open(world, "/dev/null", Mode::Read)? else {
+        state.set_status("cannot open")?;
+        return Ok(());
+    };
+    background_with(alloc, world, state, slots, file, words)
 }
 
 /// Waits for a child in the background, which is taken out of the list first: the status is how it ended.

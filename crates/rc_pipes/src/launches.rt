@@ -1,13 +1,12 @@
 //! Launches of shells, and subshells.
 
-ghost use Rattle.std.specs.Prelude.{◌≡◌, ◌++◌, [], IfOk, OnOk, map, string_bytes};
+ghost use Rattle.std.specs.Prelude.{◌≡◌, ◌++◌, IfOk, OnOk, map, string_bytes};
 ghost use Rattle.rc_model.specs.Run.Acts.{start_shell, subshell, wait_subshell};
 ghost use Rattle.rc_model.specs.Syntax.Tree.{Node, cmd};
 ghost use Rattle.rc_world.specs.Comes.{Reads, Does};
 ghost use Rattle.rc_world.specs.Views.{launch_of};
 ghost use Rattle.rc_builtin.specs.Starts.{started_of};
 ghost use Rattle.rc_scope.specs.States.{state_of};
-ghost use Rattle.rc_pipes.specs.Attempts.{Tries};
 ghost use Rattle.rc_pipes.specs.Launches.{IsImage, args_with, launch_with};
 
 use crate::children::wait_child;
@@ -16,14 +15,6 @@ use rc_builtin::{Started, make_started};
 use rc_scope::State;
 use rc_world::{Launch, Program, Slots, Stop, World};
 use std::alloc::{AllocError, Global};
-
-/// What became of a command that starts shells.
-#[derive(Drop)]
-pub enum Attempt<T> {
-    Done(T),
-    /// No shell can be started yet, since there are functions, which can't be handed over yet.
-    NotYet,
-}
 
 /// Adds copies of these texts.
 fn push_copies(out: &mut Vec<String>, texts: &[String]) -> Result<(), AllocError>
@@ -51,14 +42,13 @@ fn shell_args(alloc: Global, state: &State, words: &[String]) -> Result<Vec<Stri
     Ok(args)
 }
 
-/// What is asked for a shell that is handed its command in these words, where there are no functions.
+/// What is asked for a shell that is handed its command in these words.
 fn shell_launch(
     alloc: Global,
     state: &State,
     slots: Slots,
     words: &[String],
 ) -> Result<Launch, AllocError>
-    requires { (state_of state.now).functions ≡ [] }
     ensures { IfOk result (λ launch. launch_of launch
         ≡ launch_with slots (map string_bytes words.now) (state_of state.now)) }
 {
@@ -81,7 +71,6 @@ pub fn start_shell<W: World>(
     slots: Slots,
     words: Option<&[String]>,
 ) -> Result<Started, Stop>
-    requires { (state_of state.now).functions ≡ [] }
     ensures { (body : Node cmd) → IsImage words.entry body →
         Reads W.events world.old world.new (state_of state.now) (start_shell slots body) started_of result }
 {
@@ -115,23 +104,6 @@ fn wait_subshell<W: World>(
     Ok(())
 }
 
-/// Runs a command in a shell of its own, where there are no functions.
-#[tactic(auto, using(crate::proofs::Acts::acting))]
-fn run_subshell<W: World>(
-    alloc: Global,
-    world: &mut W,
-    state: &mut State,
-    slots: Slots,
-    words: Option<&[String]>,
-) -> Result<(), Stop>
-    requires { (state_of state.old).functions ≡ [] }
-    ensures { (body : Node cmd) → IsImage words.entry body →
-        Does W.events world.old world.new state_of state.old state.new (subshell slots body) (λ x. x) result }
-{
-    let started = start_shell(alloc, world, state, slots, words)?;
-    wait_subshell(alloc, world, state, started)
-}
-
 /// Runs a command in a shell of its own, by the words of its image: `None` where they are too many.
 #[tactic(auto, using(crate::proofs::Acts::acting))]
 pub fn subshell<W: World>(
@@ -140,13 +112,10 @@ pub fn subshell<W: World>(
     state: &mut State,
     slots: Slots,
     words: Option<&[String]>,
-) -> Result<Attempt<()>, Stop>
+) -> Result<(), Stop>
     ensures { (body : Node cmd) → IsImage words.entry body →
-        Tries W.events world.old world.new state_of state.old state.new (subshell slots body) (λ x. x) result }
+        Does W.events world.old world.new state_of state.old state.new (subshell slots body) (λ x. x) result }
 {
-    if state.has_functions() {
-        return Ok(Attempt::NotYet);
-    }
-    run_subshell(alloc, world, state, slots, words)?;
-    Ok(Attempt::Done(()))
+    let started = start_shell(alloc, world, state, slots, words)?;
+    wait_subshell(alloc, world, state, started)
 }

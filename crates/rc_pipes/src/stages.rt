@@ -1,17 +1,16 @@
 //! The stages of a pipeline but the last: each is started with a pipe to the next.
 
-ghost use Rattle.std.specs.Prelude.{◌≡◌, ℕ, List, [], option_map};
+ghost use Rattle.std.specs.Prelude.{◌≡◌, ℕ, List, option_map};
 ghost use Rattle.rc_model.specs.Run.Acts.{close_end, from_pipe, stages_from, start_stages};
 ghost use Rattle.rc_model.specs.Run.Calls.{with_slot, to_file};
 ghost use Rattle.rc_model.specs.Run.State as model;
 ghost use Rattle.rc_model.specs.Syntax.Tree.{Node, Many, cmd, stage, more, Stage};
 ghost use Rattle.rc_world.specs.Comes.{Reads};
 ghost use Rattle.rc_scope.specs.States.{state_of};
-ghost use Rattle.rc_pipes.specs.Attempts.{Tried};
 ghost use Rattle.rc_pipes.specs.Launches.{IsImage};
 ghost use Rattle.rc_pipes.specs.Stages.{AreStages, GoesOn, after_stage, after_stages};
 
-use crate::launches::{Attempt, start_shell};
+use crate::launches::start_shell;
 use rc_builtin::Started;
 use rc_scope::State;
 use rc_world::{ChildNo, Handle, Slot, Slots, Stop, World, calls};
@@ -74,7 +73,7 @@ fn close_end<W: World>(world: &mut W, end: Option<Handle>) -> Result<(), Stop>
     Ok(())
 }
 
-/// Starts a stage, where there are no functions. Its other descriptors are those of the pipeline, but
+/// Starts a stage. Its other descriptors are those of the pipeline, but
 /// for the pipe before it.
 fn start_stage<W: World>(
     alloc: Global,
@@ -84,7 +83,6 @@ fn start_stage<W: World>(
     before: Option<Handle>,
     next: StageWords<'_>,
 ) -> Result<StageStart, Stop>
-    requires { (state_of state.now).functions ≡ [] }
     ensures { (body : Node cmd) (rest : Many stage) (children : List ℕ) → IsImage next.entry.words body →
         let all = more (Stage body next.entry.number) rest in
         let stages = stages_from slots all (option_map (λ end. end.0) before) children in
@@ -111,15 +109,14 @@ fn start_stage<W: World>(
     }
 }
 
-/// Starts the stages one after the other, where there are no functions.
-fn start_each<W: World>(
+/// Starts the stages but the last, each with a pipe to the next.
+pub fn start_stages<W: World>(
     alloc: Global,
     world: &mut W,
     state: &State,
     slots: Slots,
     stages: &[StageWords<'_>],
 ) -> Result<StartedStages, Stop>
-    requires { (state_of state.now).functions ≡ [] }
     ensures { (all : Many stage) → AreStages stages.now all →
         GoesOn (W.events world.old) (W.events world.new) (start_stages slots all (state_of state.now))
         (after_stages (state_of state.now)) result }
@@ -146,22 +143,4 @@ fn start_each<W: World>(
         children,
         refused: None,
     })
-}
-
-/// Starts the stages but the last, each with a pipe to the next.
-pub fn start_stages<W: World>(
-    alloc: Global,
-    world: &mut W,
-    state: &State,
-    slots: Slots,
-    stages: &[StageWords<'_>],
-) -> Result<Attempt<StartedStages>, Stop>
-    ensures { (all : Many stage) → AreStages stages.now all →
-        Tried (W.events world.old) (W.events world.new) (start_stages slots all (state_of state.now))
-        (after_stages (state_of state.now)) result }
-{
-    if state.has_functions() {
-        return Ok(Attempt::NotYet);
-    }
-    Ok(Attempt::Done(start_each(alloc, world, state, slots, stages)?))
 }

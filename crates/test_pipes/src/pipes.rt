@@ -1,8 +1,8 @@
 //! Pipelines, subshells, jobs and backquotes over a tape: the calls, and what they leave.
 
 use rc_pipes::{
-    Attempt, StageWords, StartedStages, background, backquote, end_refused, end_stages,
-    start_stages, subshell, wait_for,
+    StageWords, StartedStages, background, backquote, end_refused, end_stages, start_stages,
+    subshell, wait_for,
 };
 use rc_scope::State;
 use rc_tree_types::Cmd;
@@ -88,13 +88,10 @@ fn started(
     state: &State,
     stages: &[StageWords<'_>],
 ) -> Result<StartedStages, Fail> {
-    match start_stages(alloc, tape, state, PLAIN, stages)
+    let stages = start_stages(alloc, tape, state, PLAIN, stages)
         .ok()
-        .ok_or("stopped")?
-    {
-        Attempt::Done(stages) => Ok(stages),
-        Attempt::NotYet => Err(Fail::from("not yet")),
-    }
+        .ok_or("stopped")?;
+    Ok(stages)
 }
 
 #[test]
@@ -210,10 +207,9 @@ fn a_subshell_is_handed_the_arguments(rt: HostRuntime) -> Result<(), Fail> {
     state.set("*", list(alloc, &["p", "q"])?)?;
     state.set_strict(true);
     let words = list(alloc, &["rc2;2", "c1,", "w1:a"])?;
-    let left = subshell(alloc, &mut tape, &mut state, PLAIN, Some(&words))
+    subshell(alloc, &mut tape, &mut state, PLAIN, Some(&words))
         .ok()
         .ok_or("stopped")?;
-    assert!(rt; matches!(left, Attempt::Done(())));
     assert_eq!(rt; state.status(), "5");
     assert_eq!(rt;
         calls(alloc, &tape)?.as_str(),
@@ -227,26 +223,43 @@ fn an_image_in_too_many_words_is_too_large(rt: HostRuntime) -> Result<(), Fail> 
     let alloc = rt.alloc();
     let mut tape = Tape::new(Vec::new(alloc));
     let mut state = State::new(alloc);
-    let left = subshell(alloc, &mut tape, &mut state, PLAIN, None)
+    subshell(alloc, &mut tape, &mut state, PLAIN, None)
         .ok()
         .ok_or("stopped")?;
-    assert!(rt; matches!(left, Attempt::Done(())));
     assert_eq!(rt; state.status(), "too large");
     assert!(rt; tape.calls().is_empty());
     Ok(())
 }
 
+/// The entries that the first shell was handed, one after the other.
+fn handed(alloc: Global, tape: &Tape) -> Result<String, Fail> {
+    let mut text = String::new(alloc);
+    if let Some(Call::Start(launch)) = tape.calls().first() {
+        for entry in &launch.env {
+            write!(text, "{entry}\n")?;
+        }
+    }
+    Ok(text)
+}
+
 #[test]
-fn nothing_starts_beside_functions(rt: HostRuntime) -> Result<(), Fail> {
+fn a_shell_is_handed_variables_and_functions(rt: HostRuntime) -> Result<(), Fail> {
     let alloc = rt.alloc();
-    let mut tape = Tape::new(Vec::new(alloc));
+    let mut tape = Tape::new(vec![in alloc; Answer::Child(ChildNo(1)), ended(0)]?);
     let mut state = State::new(alloc);
+    state.set("fn", list(alloc, &["1", "2"])?)?;
+    state.set("fz", list(alloc, &["3"])?)?;
+    state.set("Z", list(alloc, &["4"])?)?;
+    state.define("g", Cmd::Empty)?;
     state.define("f", Cmd::Empty)?;
-    let left = background(alloc, &mut tape, &mut state, PLAIN, None)
+    let words = list(alloc, &["rc1;c1,w1:a"])?;
+    subshell(alloc, &mut tape, &mut state, PLAIN, Some(&words))
         .ok()
         .ok_or("stopped")?;
-    assert!(rt; matches!(left, Attempt::NotYet));
-    assert!(rt; tape.calls().is_empty());
+    assert_eq!(rt;
+        handed(alloc, &tape)?.as_str(),
+        "Z=4\nfn=1\u{1}2\nfn#f=rc1;e\nfn#g=rc1;e\nfz=3\nstatus=\n"
+    );
     Ok(())
 }
 
@@ -270,13 +283,9 @@ fn what_was_read_before_a_refusal_is_used(rt: HostRuntime) -> Result<(), Fail> {
     let mut state = State::new(alloc);
     state.set("ifs", list(alloc, &[" \t\n"])?)?;
     let words = list(alloc, &["rc1;s1,;c1,w1:c"])?;
-    let members = match backquote(alloc, &mut tape, &mut state, PLAIN, Some(&words))
+    let members = backquote(alloc, &mut tape, &mut state, PLAIN, Some(&words))
         .ok()
-        .ok_or("stopped")?
-    {
-        Attempt::Done(members) => members,
-        Attempt::NotYet => return Err(Fail::from("not yet")),
-    };
+        .ok_or("stopped")?;
     assert_eq!(rt; members, list(alloc, &["aé", "b"])?);
     assert_eq!(rt; state.status(), "cannot read");
     assert_eq!(rt;
@@ -303,10 +312,9 @@ fn a_job_is_waited_for_once(rt: HostRuntime) -> Result<(), Fail> {
     assert_eq!(rt; state.status(), "no such child");
     assert!(rt; tape.calls().is_empty());
     let words = list(alloc, &["rc1;c1,w1:a"])?;
-    let left = background(alloc, &mut tape, &mut state, PLAIN, Some(&words))
+    background(alloc, &mut tape, &mut state, PLAIN, Some(&words))
         .ok()
         .ok_or("stopped")?;
-    assert!(rt; matches!(left, Attempt::Done(())));
     assert_eq!(rt; state.status(), "no such child");
     wait_for(alloc, &mut tape, &mut state, None)
         .ok()

@@ -3,7 +3,7 @@ use Rattle.rc_model.specs.Syntax.Tree.{Many, stage}
 use Rattle.rc_scope.specs.States.{numbers, state_of}
 use Rattle.rc_pipes.specs.Stages.{AreStages}
 use Rattle.rc_pipes.proofs.Pipelines.{HasStarted}
-use Rattle.rc_pipes.proofs.stages.start_each.Given as goal
+use Rattle.rc_pipes.proofs.stages.start_stages.Given as goal
 
 -- the stages before this one were started
 abbrev pub invariant-loop-stage : goal.invariant-loop-stage
