@@ -14,33 +14,33 @@ pub returns-in-Ok-Ended : goal.returns-in-Ok-Ended
 returns-in-Ok-Ended g c =
     let t = cmd_tree c.args.cmd.now in
     let s = state_of c.args.state in
-    let start : config_of c.new-machine.result ≡ begin t s = begins t s (code_of c.in-Ok.code) (config_of c.new-machine.result) c.new-machine.ensures c.in-Ok.ensures in
-    rw c.into_state.ensures (told_ended c.args.limit t s _ _ (state_of c.run.new.self.state) (rw (c.in-Ok-Ended.field-0-is, start) at c.in-Ok-Ended.ensures))
+    let start : config_of c.new-machine.result ≡ begin t s = begins t s (code_of c.in-Ok.code) (config_of c.new-machine.result) c.new-machine.ensures.begins c.in-Ok.ensures in
+    rw c.into_state.ensures (told_ended c.args.limit t s _ _ (state_of c.run.new.self.state) (rw (c.in-Ok-Ended.field-0-is, start) at (c.in-Ok-Ended.ensures.runs c.new-machine.ensures.running)))
 
 pub returns-in-Ok-Limit : goal.returns-in-Ok-Limit
 returns-in-Ok-Limit g c =
     let t = cmd_tree c.args.cmd.now in
     let s = state_of c.args.state in
-    let start : config_of c.new-machine.result ≡ begin t s = begins t s (code_of c.in-Ok.code) (config_of c.new-machine.result) c.new-machine.ensures c.in-Ok.ensures in
-    told_limit c.args.limit t s _ _ (config_of c.run.new.self) (rw (c.in-Ok-Limit.field-0-is, start) at c.in-Ok-Limit.ensures)
+    let start : config_of c.new-machine.result ≡ begin t s = begins t s (code_of c.in-Ok.code) (config_of c.new-machine.result) c.new-machine.ensures.begins c.in-Ok.ensures in
+    told_limit c.args.limit t s _ _ (config_of c.run.new.self) (rw (c.in-Ok-Limit.field-0-is, start) at (c.in-Ok-Limit.ensures.runs c.new-machine.ensures.running))
 
 pub returns-in-Ok-Halted : goal.returns-in-Ok-Halted
 returns-in-Ok-Halted g c =
     let t = cmd_tree c.args.cmd.now in
     let s = state_of c.args.state in
-    let start : config_of c.new-machine.result ≡ begin t s = begins t s (code_of c.in-Ok.code) (config_of c.new-machine.result) c.new-machine.ensures c.in-Ok.ensures in
-    told_halted c.args.limit t s _ _ (rw (c.in-Ok-Halted.field-0-is, start) at c.in-Ok-Halted.ensures)
+    let start : config_of c.new-machine.result ≡ begin t s = begins t s (code_of c.in-Ok.code) (config_of c.new-machine.result) c.new-machine.ensures.begins c.in-Ok.ensures in
+    told_halted c.args.limit t s _ _ (rw (c.in-Ok-Halted.field-0-is, start) at (c.in-Ok-Halted.ensures.runs c.new-machine.ensures.running))
 
 pub returns-in-Ok-NotYet : goal.returns-in-Ok-NotYet
 returns-in-Ok-NotYet g c =
     let t = cmd_tree c.args.cmd.now in
     let s = state_of c.args.state in
-    let start : config_of c.new-machine.result ≡ begin t s = begins t s (code_of c.in-Ok.code) (config_of c.new-machine.result) c.new-machine.ensures c.in-Ok.ensures in
-    told_begun c.args.limit t s _ _ (rw (c.in-Ok-NotYet.field-0-is, start) at c.in-Ok-NotYet.ensures)
+    let start : config_of c.new-machine.result ≡ begin t s = begins t s (code_of c.in-Ok.code) (config_of c.new-machine.result) c.new-machine.ensures.begins c.in-Ok.ensures in
+    told_begun c.args.limit t s _ _ (rw (c.in-Ok-NotYet.field-0-is, start) at (c.in-Ok-NotYet.ensures.runs c.new-machine.ensures.running))
 
 pub returns-in-Err : goal.returns-in-Err
 returns-in-Err g c =
     let t = cmd_tree c.args.cmd.now in
     let s = state_of c.args.state in
-    let start : config_of c.new-machine.result ≡ begin t s = begins t s (code_of c.in-Ok.code) (config_of c.new-machine.result) c.new-machine.ensures c.in-Ok.ensures in
-    told_begun c.args.limit t s _ _ (rw start at c.in-Err.ensures)
+    let start : config_of c.new-machine.result ≡ begin t s = begins t s (code_of c.in-Ok.code) (config_of c.new-machine.result) c.new-machine.ensures.begins c.in-Ok.ensures in
+    told_begun c.args.limit t s _ _ (rw start at (c.in-Err.ensures.runs c.new-machine.ensures.running))
