@@ -22,7 +22,8 @@ use std::alloc::{AllocError, Global};
 /// `eval`: the words, joined by spaces, are a script that is run.
 fn eval(alloc: Global, state: &mut State, words: &[String]) -> Result<Outcome, AllocError>
     ensures { IfOk result (λ outcome. (told : Option (List Event)) → RunsWords told told
-        (as_body (tree_of (spaced (map string_bytes words.now))) (state_of state.old)) (state_of state.new) (Ok outcome)) }
+        (as_body (tree_of (spaced (map string_bytes words.now))) (state_of state.old))
+        (state_of state.new) (Ok outcome)) }
 {
     let text = flat(alloc, words)?;
     match parse(alloc, text.as_bytes()) {
@@ -94,7 +95,8 @@ fn run_other<W: World>(
     args: &[String],
 ) -> Result<Outcome, Stop>
     ensures { RunsWords (W.events world.old) (W.events world.new)
-        (finished (run_program slots name.now (map string_bytes args.now)) (state_of state.old)) (state_of state.new) result }
+        (finished (run_program slots name.now (map string_bytes args.now)) (state_of state.old))
+        (state_of state.new) result }
 {
     run_program(alloc, world, state, slots, name, args)?;
     Ok(Outcome::Finished)

@@ -84,7 +84,8 @@ impl Machine {
         member: String,
         bound: bool,
     ) -> Result<(), AllocError>
-        ensures { OnOk result (config_of self.new ≡ bound_to (config_of self.old) name.now (string_bytes member) bound) }
+        ensures { OnOk result
+            (config_of self.new ≡ bound_to (config_of self.old) name.now (string_bytes member) bound) }
     {
         let mut value = Vec::new(alloc);
         value.push(member)?;

@@ -1,6 +1,7 @@
 //! Names, what they stand for, and texts as words.
 
-ghost use Rattle.std.specs.Prelude.{◌≡◌, ◌<◌, ◌≤◌, ◌^◌, [], ◌∷◌, IfOk, OnOk, MatchOption, length, map, option_map, string_bytes, true, Some};
+ghost use Rattle.std.specs.Prelude.{◌≡◌, ◌<◌, ◌≤◌, ◌^◌, [], ◌∷◌, IfOk};
+ghost use Rattle.std.specs.Prelude.{OnOk, MatchOption, length, map, option_map, string_bytes, true, Some};
 ghost use Rattle.std.specs.List.{list_all};
 ghost use Rattle.rc_machine.specs.Names.{read, the_name};
 ghost use Rattle.rc_model.specs.Run.Lists.{member};
@@ -85,7 +86,7 @@ fn has_name_bytes(text: &str) -> bool
     text.as_bytes().iter().all(|byte| is_name_byte(*byte))
 }
 
-/// Whether the text can stand behind `$`.
+/// Whether the text can stand after `$`.
 pub fn is_readable(text: &str) -> bool
     ensures { result ≡ is_readable text.now }
 {
@@ -139,7 +140,7 @@ pub fn got<'a>(state: &'a State, name: &str) -> &'a [String]
     member(state.value("*"), name)
 }
 
-/// The one name that the words are, where it can stand behind `$`.
+/// The one name that the words are, where it can stand after `$`.
 fn readable_name(words: &[Word]) -> Result<Option<String>, AllocError>
     ensures { IfOk result (λ name. option_map string_bytes name ≡ the_name is_readable (word_texts words.now)) }
 {

@@ -19,7 +19,8 @@ impl Machine {
     #[tactic(auto, using(crate::proofs::Left::step_refused))]
     pub(crate) fn value<W: World>(&mut self, alloc: Global, world: &mut W) -> Result<Move, Stop>
         requires { self.old.place < 2 ^ 63 }
-        ensures { Steps (W.events world.old) (W.events world.new) (act (Some op.Value) (config_of self.old)) (config_of self.new) result }
+        ensures { Steps (W.events world.old) (W.events world.new)
+            (act (Some op.Value) (config_of self.old)) (config_of self.new) result }
     {
         let Some(words) = self.words.top() else {
             return Ok(Move::Ended);
@@ -37,7 +38,8 @@ impl Machine {
     #[tactic(auto, using(crate::proofs::Left::step_refused))]
     pub(crate) fn count<W: World>(&mut self, alloc: Global, world: &mut W) -> Result<Move, Stop>
         requires { self.old.place < 2 ^ 63 }
-        ensures { Steps (W.events world.old) (W.events world.new) (act (Some op.Count) (config_of self.old)) (config_of self.new) result }
+        ensures { Steps (W.events world.old) (W.events world.new)
+            (act (Some op.Count) (config_of self.old)) (config_of self.new) result }
     {
         let Some(words) = self.words.top() else {
             return Ok(Move::Ended);
@@ -56,7 +58,8 @@ impl Machine {
     #[tactic(auto, using(crate::proofs::Left::step_refused))]
     pub(crate) fn flat<W: World>(&mut self, alloc: Global, world: &mut W) -> Result<Move, Stop>
         requires { self.old.place < 2 ^ 63 }
-        ensures { Steps (W.events world.old) (W.events world.new) (act (Some op.Flat) (config_of self.old)) (config_of self.new) result }
+        ensures { Steps (W.events world.old) (W.events world.new)
+            (act (Some op.Flat) (config_of self.old)) (config_of self.new) result }
     {
         let Some(words) = self.words.top() else {
             return Ok(Move::Ended);
@@ -75,7 +78,8 @@ impl Machine {
     #[tactic(auto, using(crate::proofs::Left::step_refused))]
     pub(crate) fn select<W: World>(&mut self, alloc: Global, world: &mut W) -> Result<Move, Stop>
         requires { self.old.place < 2 ^ 63 }
-        ensures { Steps (W.events world.old) (W.events world.new) (act (Some op.Select) (config_of self.old)) (config_of self.new) result }
+        ensures { Steps (W.events world.old) (W.events world.new)
+            (act (Some op.Select) (config_of self.old)) (config_of self.new) result }
     {
         let Some((words, subscripts)) = self.words.top_two() else {
             return Ok(Move::Ended);
@@ -94,7 +98,8 @@ impl Machine {
     #[tactic(auto, using(crate::proofs::Left::step_refused))]
     pub(crate) fn assign<W: World>(&mut self, alloc: Global, world: &mut W) -> Result<Move, Stop>
         requires { self.old.place < 2 ^ 63 }
-        ensures { Steps (W.events world.old) (W.events world.new) (act (Some op.Assign) (config_of self.old)) (config_of self.new) result }
+        ensures { Steps (W.events world.old) (W.events world.new)
+            (act (Some op.Assign) (config_of self.old)) (config_of self.new) result }
     {
         let Some((words, value)) = self.words.top_two() else {
             return Ok(Move::Ended);

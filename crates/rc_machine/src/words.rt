@@ -57,7 +57,8 @@ impl Machine {
     #[tactic(auto, using(crate::proofs::Left::step_refused))]
     pub(crate) fn concat<W: World>(&mut self, alloc: Global, world: &mut W) -> Result<Move, Stop>
         requires { self.old.place < 2 ^ 63 }
-        ensures { Steps (W.events world.old) (W.events world.new) (act (Some op.Concat) (config_of self.old)) (config_of self.new) result }
+        ensures { Steps (W.events world.old) (W.events world.new)
+            (act (Some op.Concat) (config_of self.old)) (config_of self.new) result }
     {
         let Some((first, second)) = self.words.top_two() else {
             return Ok(Move::Ended);
