@@ -7,11 +7,14 @@ ghost use Rattle.rc_tree_types.specs.View.{cmd_tree};
 ghost use Rattle.rc_image.specs.Images.{Gives, Writes, short_image};
 
 mod beginning;
+mod entries;
+mod environment;
 mod fault;
 mod pieces;
 mod words;
 
 use beginning::{beginning_fault, begins};
+pub use environment::read_env;
 pub use fault::ImageFault;
 pub use pieces::write_pieces;
 use rc_model::limits::LONGEST_ARGUMENT;
