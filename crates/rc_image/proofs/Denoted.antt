@@ -36,7 +36,7 @@ one_value true v o h = refl
 one_value false v o h = h
 
 -- each variable has one value
-single : (bs : Bindings) (n : List ℕ) → covered (unwrap_or (lookup (bytes_eq n) (variables_in bs)) []) ≡ []
+pub single : (bs : Bindings) (n : List ℕ) → covered (unwrap_or (lookup (bytes_eq n) (variables_in bs)) []) ≡ []
 single [] n = refl
 single (b ∷ bs) n = by_test (is_variable b.0) (single bs n)
   where

@@ -6,3 +6,4 @@ pub mod Faults
 pub mod Lengths
 pub mod Puts
 pub mod Denoted
+pub mod Handed

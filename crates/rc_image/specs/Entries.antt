@@ -1,9 +1,9 @@
 -- What an entry of an environment says.
-use Rattle.std.specs.Prelude.{ℕ, List, [], drop, Bool, not, ◌&&◌, ◌||◌, if◌then◌else◌, codes, is_some}
+use Rattle.std.specs.Prelude.{ℕ, List, [], ◌∷◌, drop, Bool, not, ◌&&◌, ◌||◌, if◌then◌else◌, codes, is_some}
 use Rattle.std.specs.Prelude.{Option, Some, None, Result, Ok}
 use denote.Ref.{Bor}
 use Rattle.std.specs.Str.{bytes_eq}
-use Rattle.rc_model.specs.Run.State.{State, define, function_of, status_name}
+use Rattle.rc_model.specs.Run.State.{State, define, function_of, set_value, status_name}
 use Rattle.rc_model.specs.Handed.TreeReading.{ImageFault, ◌>>=◌, read_tree}
 use Rattle.rc_model.specs.Handed.Environment.{Bindings, is_function, variables_in, functions_in}
 use Rattle.rc_model.specs.Handed.Environment.{own_status, fresh_state}
@@ -34,3 +34,8 @@ with_function s (Some f) =
 -- the state with the functions of these entries
 unfoldable pub with_functions : State → Bindings → Result State ImageFault
 with_functions s bs = functions_in [] bs >>= λ functions. Ok (record s { functions = functions })
+
+-- the state with these arguments as `$*`, where there are any
+unfoldable pub with_arguments : List (List ℕ) → State → State
+with_arguments [] s = s
+with_arguments (a ∷ args) s = set_value s (codes "*") (a ∷ args)

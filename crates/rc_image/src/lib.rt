@@ -6,6 +6,7 @@ ghost use Rattle.rc_model.specs.Handed.TreeReading.{read_tree};
 ghost use Rattle.rc_tree_types.specs.View.{cmd_tree};
 ghost use Rattle.rc_image.specs.Images.{Gives, Writes, short_image};
 
+mod arguments;
 mod beginning;
 mod entries;
 mod environment;
@@ -13,6 +14,7 @@ mod fault;
 mod pieces;
 mod words;
 
+pub use arguments::{read_image, read_state};
 use beginning::{beginning_fault, begins};
 pub use environment::read_env;
 pub use fault::ImageFault;
