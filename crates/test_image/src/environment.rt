@@ -1,6 +1,5 @@
 //! The state that an environment denotes.
 
-use rc_environment::{values_and_status, written};
 use rc_image::{ImageFault, read_env, write_tree};
 use rc_scope::State;
 use std::alloc::{AllocError, Global};
@@ -23,7 +22,17 @@ fn read(alloc: Global, entries: &[&str], own: bool) -> Result<State, ImageFault>
 #[test]
 fn members_stand_between_bytes_1(rt: HostRuntime) -> Result<(), Fail> {
     let alloc = rt.alloc();
-    let state = read(alloc, &["x=A\u{2}AB\u{1}\u{1}\u{2}B", "y=", "z=\u{1}", "é=a", "t=é=\n"], true)?;
+    let state = read(
+        alloc,
+        &[
+            "x=A\u{2}AB\u{1}\u{1}\u{2}B",
+            "y=",
+            "z=\u{1}",
+            "é=a",
+            "t=é=\n",
+        ],
+        true,
+    )?;
     assert_eq!(rt; state.get("x")?, list(alloc, &["A\u{1}B", "", "\u{2}"])?);
     assert_eq!(rt; state.get("y")?, list(alloc, &[""])?);
     assert_eq!(rt; state.get("z")?, list(alloc, &["", ""])?);
@@ -33,9 +42,15 @@ fn members_stand_between_bytes_1(rt: HostRuntime) -> Result<(), Fail> {
 }
 
 #[test]
-fn byte_2_stands_for_itself_before_another_byte_and_at_the_end(rt: HostRuntime) -> Result<(), Fail> {
+fn byte_2_stands_for_itself_before_another_byte_and_at_the_end(
+    rt: HostRuntime,
+) -> Result<(), Fail> {
     let alloc = rt.alloc();
-    let state = read(alloc, &["x=\u{2}C", "y=\u{2}\u{1}\u{2}", "z=\u{2}\u{2}A\u{2}é"], false)?;
+    let state = read(
+        alloc,
+        &["x=\u{2}C", "y=\u{2}\u{1}\u{2}", "z=\u{2}\u{2}A\u{2}é"],
+        false,
+    )?;
     assert_eq!(rt; state.get("x")?, list(alloc, &["\u{2}C"])?);
     assert_eq!(rt; state.get("y")?, list(alloc, &["\u{2}", "\u{2}"])?);
     assert_eq!(rt; state.get("z")?, list(alloc, &["\u{2}\u{1}\u{2}é"])?);
@@ -43,18 +58,25 @@ fn byte_2_stands_for_itself_before_another_byte_and_at_the_end(rt: HostRuntime) 
 }
 
 #[test]
-fn values_come_back_with_bytes_1_and_2_in_every_place(rt: HostRuntime) -> Result<(), Fail> {
+fn bytes_1_and_2_come_back_in_every_place(rt: HostRuntime) -> Result<(), Fail> {
     let alloc = rt.alloc();
-    let members = ["", "\u{1}", "\u{2}", "\u{2}A", "a\u{2}B", "\u{1}\u{2}\u{1}", "é\u{1}", "A", "B", "=", " "];
-    let mut state = State::new(alloc);
-    for first in &members {
-        for second in &members {
-            state.set("x", list(alloc, &[*first, *second, *first])?)?;
-            state.set_status(*second)?;
-            let entries = written(alloc, values_and_status(alloc, &state)?.as_slice())?;
-            let back = read_env(alloc, entries.as_slice(), true)?;
-            assert_eq!(rt; back.get("x")?, state.get("x")?);
-            assert_eq!(rt; back.status(), *second);
+    let members = [
+        ("", ""),
+        ("\u{1}", "\u{2}A"),
+        ("\u{2}", "\u{2}B"),
+        ("\u{2}A", "\u{2}BA"),
+        ("a\u{2}B", "a\u{2}BB"),
+        ("\u{1}\u{2}\u{1}", "\u{2}A\u{2}B\u{2}A"),
+        ("é\u{1}", "é\u{2}A"),
+        ("A", "A"),
+        ("=", "="),
+        (" b ", " b "),
+    ];
+    for (first, begins) in &members {
+        for (second, goes_on) in &members {
+            let entry = format!(in alloc; "x={begins}\u{1}{goes_on}\u{1}{begins}")?;
+            let state = read(alloc, &[entry.as_str()], false)?;
+            assert_eq!(rt; state.get("x")?, list(alloc, &[*first, *second, *first])?);
         }
     }
     Ok(())
@@ -63,7 +85,19 @@ fn values_come_back_with_bytes_1_and_2_in_every_place(rt: HostRuntime) -> Result
 #[test]
 fn entries_of_foreign_programs_are_ignored(rt: HostRuntime) -> Result<(), Fail> {
     let alloc = rt.alloc();
-    let entries = ["", "e", "=", "=d", "a-b=c", "12=x", "BASH_FUNC_f%%=() { a\n}", "*=p", "fn#=x", "fn#f", "fn=a"];
+    let entries = [
+        "",
+        "e",
+        "=",
+        "=d",
+        "a-b=c",
+        "12=x",
+        "BASH_FUNC_f%%=() { a\n}",
+        "*=p",
+        "fn#=x",
+        "fn#f",
+        "fn=a",
+    ];
     for own in [false, true] {
         let state = read(alloc, &entries, own)?;
         assert_eq!(rt; state.variables()?, list(alloc, &["fn"])?);
@@ -76,7 +110,16 @@ fn entries_of_foreign_programs_are_ignored(rt: HostRuntime) -> Result<(), Fail> 
 #[test]
 fn the_first_entry_of_a_name_counts(rt: HostRuntime) -> Result<(), Fail> {
     let alloc = rt.alloc();
-    let entries = ["x=a", "a*b=c", "x=b", "status=1", "fn#f=rc1;e", "status=2", "fn#f=x", "x"];
+    let entries = [
+        "x=a",
+        "a*b=c",
+        "x=b",
+        "status=1",
+        "fn#f=rc1;e",
+        "status=2",
+        "fn#f=x",
+        "x",
+    ];
     let state = read(alloc, &entries, true)?;
     assert_eq!(rt; state.get("x")?, list(alloc, &["a"])?);
     assert_eq!(rt; state.get("a*b")?, list(alloc, &["c"])?);
@@ -98,7 +141,11 @@ fn the_members_of_the_status_are_joined(rt: HostRuntime) -> Result<(), Fail> {
 #[test]
 fn functions_are_read_in_a_shell_of_the_same_kind(rt: HostRuntime) -> Result<(), Fail> {
     let alloc = rt.alloc();
-    let entries = ["fn#f=rc1;c1,w1:a", "fn#a-b=rc1;bs1,;c2,w4:echo$w1:x", "fn#*=rc1;e"];
+    let entries = [
+        "fn#f=rc1;c1,w1:a",
+        "fn#a-b=rc1;bs1,;c2,w4:echo$w1:x",
+        "fn#*=rc1;e",
+    ];
     let state = read(alloc, &entries, true)?;
     assert_eq!(rt; state.functions()?, list(alloc, &["*", "a-b", "f"])?);
     for (name, image) in [("f", "rc1;c1,w1:a"), ("a-b", "rc1;bs1,;c2,w4:echo$w1:x")] {
@@ -130,7 +177,10 @@ fn a_fault_of_a_function_is_that_of_the_environment(rt: HostRuntime) -> Result<(
     ];
     for (entry, fault) in faults {
         let entries = ["x=a", "fn#g=rc1;e", entry, "fn#h=rc1;c1,w1:"];
-        assert!(rt; matches!(read(alloc, &entries, true), Err(found) if found == fault), "at {entry}");
+        assert!(rt;
+            matches!(read(alloc, &entries, true), Err(found) if found == fault),
+            "at {entry}"
+        );
         assert!(rt; read(alloc, &entries, false).is_ok(), "at {entry}");
     }
     Ok(())
