@@ -1,4 +1,4 @@
-//! Trees as text: the image that a shell hands to another.
+//! What a shell hands to another, as text: the image of a tree, and the state that arguments and entries denote.
 #![tactic(auto)]
 
 ghost use Rattle.std.specs.Prelude.{◌≡◌, string_bytes};
