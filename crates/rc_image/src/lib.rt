@@ -1,4 +1,4 @@
-//! Trees as text: the image that a shell hands to another.
+//! What a shell hands to another, as text: the image of a tree, and the state that arguments and entries denote.
 #![tactic(auto)]
 
 ghost use Rattle.std.specs.Prelude.{◌≡◌, string_bytes};
@@ -6,12 +6,17 @@ ghost use Rattle.rc_model.specs.Handed.TreeReading.{read_tree};
 ghost use Rattle.rc_tree_types.specs.View.{cmd_tree};
 ghost use Rattle.rc_image.specs.Images.{Gives, Writes, short_image};
 
+mod arguments;
 mod beginning;
+mod entries;
+mod environment;
 mod fault;
 mod pieces;
 mod words;
 
+pub use arguments::{read_image, read_state};
 use beginning::{beginning_fault, begins};
+pub use environment::read_env;
 pub use fault::ImageFault;
 pub use pieces::write_pieces;
 use rc_model::limits::LONGEST_ARGUMENT;

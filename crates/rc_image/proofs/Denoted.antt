@@ -1,0 +1,409 @@
+-- The state that entries denote.
+use Rattle.std.specs.Prelude.{Option, Some, None, Result, Ok, Err, OnOk, if◌then◌else◌, not, ◌||◌, unwrap_or, is_some, codes, drop, map, string_bytes, option_map, length}
+use Rattle.std.proofs.Common.{◌≡◌, ℕ, List, [], ◌∷◌, ◌++◌, ◌&&◌, Bool, true, false, cond, refl, sym, ap, subst, ◌∙◌, ◌<◌, ◌≤◌, ◌+◌, get_or, drop-cons, add-one}
+use Rattle.std.specs.Str.{bytes_eq}
+use Rattle.std.specs.List.{list_any}
+use Rattle.std.specs.Map.{lookup}
+use Rattle.std.specs.Option.{option_copied}
+use Rattle.std.specs.Result.{IsErrAnd}
+use denote.Ref.{Bor}
+use Rattle.std.specs.declared.alloc.Global.{Global}
+use Rattle.std.specs.declared.string.String.{String}
+use Rattle.std.proofs.Math.ListN.{drop_of_length-le}
+use Rattle.std.specs.BTreeMap.{insert_entry}
+use Rattle.std.proofs.lemmas.Bool.{false≢true, and_parts, false_from_ne_true}
+use Rattle.std.proofs.lemmas.Slice.Eq.{bytes_eq-Decides}
+use Rattle.rc_model.specs.Syntax.Text.{text_cmp, spaced, begins_with}
+use Rattle.rc_model.specs.Syntax.Tree.{Node, cmd}
+use Rattle.rc_model.specs.Run.State.{State, new_state, covered, values_of, put_values, set_value, with_status, status_name, is_name, is_function_name, define, function_of}
+use Rattle.rc_model.specs.Handed.TreeReading as m
+use Rattle.rc_model.specs.Handed.TreeReading.{◌>>=◌, read_tree}
+use Rattle.rc_model.specs.Handed.Environment.{Bindings, Variables, Functions, bindings, with_cut, cut_entry, members_of, is_variable, variables_in, status_in, own_status, is_function, functions_in, fresh_state, read_state}
+use Rattle.rc_model.specs.Handed.Environment as e
+use Rattle.rc_image.specs.Entries.{function_in, is_ignored, values_state, with_function, with_functions}
+use Rattle.rc_tree_types.specs.View.{cmd_tree}
+use Rattle.rc_tree_types.specs.declared.Cmd.{Cmd}
+use Rattle.rc_image.specs.declared.fault.ImageFault.{ImageFault}
+use Rattle.rc_image.specs.declared.fault.ImageFault.TheVariants as f
+use Rattle.rc_image.specs.Images.{Fails, Gives}
+use Rattle.rc_image.proofs.Escapes.{begun_split}
+use Rattle.rc_image.proofs.Puts.{found, swap}
+
+-- ** variables and the status
+
+one_value : (t : Bool) (v : List (List ℕ)) (o : Option (List (List (List ℕ)))) → covered (unwrap_or o []) ≡ [] → covered (unwrap_or (cond t (Some (v ∷ [])) o) []) ≡ []
+one_value true v o h = refl
+one_value false v o h = h
+
+-- each variable has one value
+pub single : (bs : Bindings) (n : List ℕ) → covered (unwrap_or (lookup (bytes_eq n) (variables_in bs)) []) ≡ []
+single [] n = refl
+single (b ∷ bs) n = by_test (is_variable b.0) (single bs n)
+  where
+    by_test : (t : Bool) → covered (unwrap_or (lookup (bytes_eq n) (variables_in bs)) []) ≡ [] → covered (unwrap_or (lookup (bytes_eq n) (if t then insert_entry text_cmp (variables_in bs) b.0 (members_of b.1 ∷ []) else variables_in bs)) []) ≡ []
+    by_test true h =
+        ap (λ o. covered (unwrap_or o [])) (found (variables_in bs) n b.0 (members_of b.1 ∷ []))
+        ∙ one_value (bytes_eq n b.0) (members_of b.1) (lookup (bytes_eq n) (variables_in bs)) h
+    by_test false h = h
+
+-- what an entry of this name adds, where the tests of the name are these
+abbrev step_variables : (star st nm : Bool) (name text : List ℕ) → Bindings → Variables
+step_variables star st nm name text bs =
+    if nm && not (star || st) then insert_entry text_cmp (variables_in bs) name (members_of text ∷ []) else variables_in bs
+
+abbrev step_status : (own st : Bool) (text : List ℕ) → Bindings → List ℕ
+step_status true st text bs = if st then spaced (members_of text) else status_in bs
+step_status false st text bs = []
+
+status_step : (own st : Bool) (name text : List ℕ) (bs : Bindings) → bytes_eq name status_name ≡ st → own_status own ((name, text) ∷ bs) ≡ step_status own st text bs
+status_step true st name text bs h = ap (λ t. if t then spaced (members_of text) else status_in bs) h
+status_step false st name text bs h = refl
+
+variables_step : (star st nm : Bool) (name text : List ℕ) (bs : Bindings) → bytes_eq name (codes "*") ≡ star → bytes_eq name status_name ≡ st → is_name name ≡ nm →
+    variables_in ((name, text) ∷ bs) ≡ step_variables star st nm name text bs
+variables_step star st nm name text bs h k i =
+    ap (λ t. if t && not (bytes_eq name (codes "*") || bytes_eq name status_name) then insert_entry text_cmp (variables_in bs) name (members_of text ∷ []) else variables_in bs) i
+    ∙ ap (λ t. if nm && not (t || bytes_eq name status_name) then insert_entry text_cmp (variables_in bs) name (members_of text ∷ []) else variables_in bs) h
+    ∙ ap (λ t. if nm && not (star || t) then insert_entry text_cmp (variables_in bs) name (members_of text ∷ []) else variables_in bs) k
+
+values_step : (own star st nm : Bool) (name text : List ℕ) (bs : Bindings) → bytes_eq name (codes "*") ≡ star → bytes_eq name status_name ≡ st → is_name name ≡ nm →
+    values_state own ((name, text) ∷ bs) ≡ fresh_state (step_variables star st nm name text bs) [] (step_status own st text bs)
+unfolding values_state
+values_step own star st nm name text bs h k i =
+    ap (λ vs. fresh_state vs [] (own_status own ((name, text) ∷ bs))) (variables_step star st nm name text bs h k i)
+    ∙ ap (fresh_state (step_variables star st nm name text bs) []) (status_step own st name text bs k)
+
+-- the status has a name
+named_status : (name : List ℕ) → bytes_eq name status_name ≡ true → is_name name ≡ false → ⊥
+named_status name h k = false≢true (sym k ∙ ap is_name ((bytes_eq-Decides name status_name).0 h))
+
+other_star : (name : List ℕ) → bytes_eq name (codes "*") ≡ true → bytes_eq name status_name ≡ true → ⊥
+other_star name h k = false≢true (sym (ap (λ z. bytes_eq z status_name) ((bytes_eq-Decides name (codes "*")).0 h)) ∙ k)
+
+-- what is ignored changes nothing
+skip_by : (own star st nm : Bool) (name text : List ℕ) (bs : Bindings) → bytes_eq name (codes "*") ≡ star → bytes_eq name status_name ≡ st → (star || (st && not own)) ≡ true →
+    fresh_state (step_variables star st nm name text bs) [] (step_status own st text bs) ≡ values_state own bs
+unfolding values_state
+skip_by own true true nm name text bs h k i = absurd (other_star name h k)
+skip_by true true false true name text bs h k i = refl
+skip_by true true false false name text bs h k i = refl
+skip_by false true false true name text bs h k i = refl
+skip_by false true false false name text bs h k i = refl
+skip_by true false true nm name text bs h k i = absurd (false≢true i)
+skip_by false false true true name text bs h k i = refl
+skip_by false false true false name text bs h k i = refl
+skip_by own false false nm name text bs h k i = absurd (false≢true i)
+
+pub skip_next : (own : Bool) (name text : List ℕ) (bs : Bindings) → is_ignored own name ≡ true → values_state own bs ≡ values_state own ((name, text) ∷ bs)
+skip_next own name text bs h =
+    sym (values_step own (bytes_eq name (codes "*")) (bytes_eq name status_name) (is_name name) name text bs refl refl refl
+    ∙ skip_by own (bytes_eq name (codes "*")) (bytes_eq name status_name) (is_name name) name text bs refl refl h)
+
+-- nor does another kind of name
+bad_by : (own star st : Bool) (name text : List ℕ) (bs : Bindings) → bytes_eq name status_name ≡ st → is_name name ≡ false →
+    fresh_state (step_variables star st false name text bs) [] (step_status own st text bs) ≡ values_state own bs
+unfolding values_state
+bad_by own star true name text bs k i = absurd (named_status name k i)
+bad_by true star false name text bs k i = refl
+bad_by false star false name text bs k i = refl
+
+put_one : (s : State) (name : List ℕ) (value : List (List ℕ)) → covered (values_of s name) ≡ [] → bytes_eq name status_name ≡ false →
+    set_value s name value ≡ record s { variables = insert_entry text_cmp s.variables name (value ∷ []) }
+put_one s name value h k =
+    ap (λ t. if t then with_status s (spaced value) else record s { variables = put_values s.variables name (value ∷ covered (values_of s name)) }) k
+    ∙ ap (λ c. record s { variables = insert_entry text_cmp s.variables name (value ∷ c) }) h
+
+put_status : (s : State) (name : List ℕ) (value : List (List ℕ)) → bytes_eq name status_name ≡ true → set_value s name value ≡ with_status s (spaced value)
+put_status s name value k =
+    ap (λ t. if t then with_status s (spaced value) else record s { variables = put_values s.variables name (value ∷ covered (values_of s name)) }) k
+
+set_by : (own star st : Bool) (name text : List ℕ) (bs : Bindings) → bytes_eq name status_name ≡ st → (star || (st && not own)) ≡ false →
+    set_value (values_state own bs) name (members_of text) ≡ fresh_state (step_variables star st true name text bs) [] (step_status own st text bs)
+unfolding values_state
+set_by own true st name text bs k i = absurd (false≢true (sym i))
+set_by true false true name text bs k i = put_status (values_state true bs) name (members_of text) k
+set_by false false true name text bs k i = absurd (false≢true (sym i))
+set_by true false false name text bs k i = put_one (values_state true bs) name (members_of text) (single bs name) k
+set_by false false false name text bs k i = put_one (values_state false bs) name (members_of text) (single bs name) k
+
+next_by : (own nm : Bool) (name text : List ℕ) (bs : Bindings) → is_name name ≡ nm → is_ignored own name ≡ false →
+    (if nm then set_value (values_state own bs) name (members_of text) else values_state own bs) ≡ values_state own ((name, text) ∷ bs)
+next_by own true name text bs i h =
+    set_by own (bytes_eq name (codes "*")) (bytes_eq name status_name) name text bs refl h
+    ∙ sym (values_step own (bytes_eq name (codes "*")) (bytes_eq name status_name) true name text bs refl refl i)
+next_by own false name text bs i h =
+    sym (values_step own (bytes_eq name (codes "*")) (bytes_eq name status_name) false name text bs refl refl i
+    ∙ bad_by own (bytes_eq name (codes "*")) (bytes_eq name status_name) name text bs refl i)
+
+-- any other is set
+pub set_next : (own : Bool) (name text : List ℕ) (bs : Bindings) → is_ignored own name ≡ false →
+    (if is_name name then set_value (values_state own bs) name (members_of text) else values_state own bs) ≡ values_state own ((name, text) ∷ bs)
+set_next own name text bs h = next_by own (is_name name) name text bs refl h
+
+pub on_ok : {A E P Q : Type 0} (r : Result A E) → (P → Q) → OnOk r P → OnOk r Q
+on_ok (Ok x) f h = f h
+on_ok (Err x) f h = h
+
+pub entry_set : (own : Bool) (name text entry : List ℕ) (bs : Bindings) (s t : State) (v : List (List ℕ)) → Some (name, text) ≡ cut_entry entry → is_ignored own name ≡ false → v ≡ members_of text →
+    s ≡ values_state own bs → t ≡ (if is_name name then set_value s name v else s) → t ≡ values_state own (with_cut (cut_entry entry) bs)
+entry_set own name text entry bs s t v h i k w d =
+    d
+    ∙ ap (λ v. if is_name name then set_value s name v else s) k
+    ∙ ap (λ s. if is_name name then set_value s name (members_of text) else s) w
+    ∙ set_next own name text bs i
+    ∙ ap (λ z. values_state own (with_cut z bs)) h
+
+-- ** functions
+
+or_true : (t s : Bool) → s ≡ true → (t || s) ≡ true
+or_true true s h = refl
+or_true false s h = h
+
+-- the functions that are read, among those that are there
+abbrev over : Functions → List (List ℕ) → Bindings → Result Functions m.ImageFault
+over base seen [] = Ok base
+over base seen (b ∷ bs) =
+    if is_function b.0 && not (list_any (bytes_eq b.0) seen)
+    then e.with_function b.0 (read_tree b.1) (over base (b.0 ∷ seen) bs)
+    else over base seen bs
+
+from_nothing : (seen : List (List ℕ)) (bs : Bindings) → over [] seen bs ≡ functions_in seen bs
+from_nothing seen [] = refl
+from_nothing seen (b ∷ bs) =
+    ap (λ x. if is_function b.0 && not (list_any (bytes_eq b.0) seen) then e.with_function b.0 (read_tree b.1) x else over [] seen bs) (from_nothing (b.0 ∷ seen) bs)
+    ∙ ap (λ x. if is_function b.0 && not (list_any (bytes_eq b.0) seen) then e.with_function b.0 (read_tree b.1) (functions_in (b.0 ∷ seen) bs) else x) (from_nothing seen bs)
+
+marked_name : (key : List ℕ) → is_function key ≡ true → key ≡ codes "fn#" ++ drop 3 key
+marked_name key h = begun_split (codes "fn#") key (and_parts (begins_with (codes "fn#") key) (is_function_name (drop 3 key)) h).0
+
+moved : (key n : List ℕ) (c : Node cmd) (r : Result (Node cmd) m.ImageFault) (q : Result Functions m.ImageFault) → bytes_eq n (drop 3 key) ≡ false → bytes_eq (drop 3 key) n ≡ false →
+    e.with_function key r (q >>= λ x. Ok (insert_entry text_cmp x n c)) ≡ (e.with_function key r q >>= λ x. Ok (insert_entry text_cmp x n c))
+moved key n c (Ok d) (Ok x) h k = ap Ok (swap x n (drop 3 key) c d h k)
+moved key n c (Ok d) (Err f) h k = refl
+moved key n c (Err f) q h k = refl
+
+new_name : (key n : List ℕ) (seen : List (List ℕ)) → list_any (bytes_eq (codes "fn#" ++ n)) seen ≡ true → is_function key ≡ true → list_any (bytes_eq key) seen ≡ false → n ≡ drop 3 key → ⊥
+new_name key n seen h f g e =
+    false≢true (sym g ∙ ap (λ z. list_any (bytes_eq z) seen) (marked_name key f ∙ ap (λ z. codes "fn#" ++ z) (sym e)) ∙ h)
+
+-- one that was seen may be put in before the others or after them
+base_put : (base : Functions) (n : List ℕ) (c : Node cmd) (seen : List (List ℕ)) (bs : Bindings) → list_any (bytes_eq (codes "fn#" ++ n)) seen ≡ true →
+    over (insert_entry text_cmp base n c) seen bs ≡ (over base seen bs >>= λ x. Ok (insert_entry text_cmp x n c))
+base_put base n c seen [] h = refl
+base_put base n c seen (b ∷ bs) h = by_tests (λ s i. base_put base n c s bs i) (is_function b.0) (list_any (bytes_eq b.0) seen) refl refl
+  where
+    by_tests : ((s : List (List ℕ)) → list_any (bytes_eq (codes "fn#" ++ n)) s ≡ true → over (insert_entry text_cmp base n c) s bs ≡ (over base s bs >>= λ x. Ok (insert_entry text_cmp x n c))) → (f d : Bool) → is_function b.0 ≡ f → list_any (bytes_eq b.0) seen ≡ d →
+        (if f && not d then e.with_function b.0 (read_tree b.1) (over (insert_entry text_cmp base n c) (b.0 ∷ seen) bs) else over (insert_entry text_cmp base n c) seen bs)
+        ≡ ((if f && not d then e.with_function b.0 (read_tree b.1) (over base (b.0 ∷ seen) bs) else over base seen bs) >>= λ x. Ok (insert_entry text_cmp x n c))
+    by_tests ih false d p q = ih seen h
+    by_tests ih true true p q = ih seen h
+    by_tests ih true false p q =
+        ap (e.with_function b.0 (read_tree b.1)) (ih (b.0 ∷ seen) (or_true (bytes_eq (codes "fn#" ++ n) b.0) (list_any (bytes_eq (codes "fn#" ++ n)) seen) h))
+        ∙ moved b.0 n c (read_tree b.1) (over base (b.0 ∷ seen) bs)
+        (false_from_ne_true (bytes_eq n (drop 3 b.0)) (λ t. new_name b.0 n seen h p q ((bytes_eq-Decides n (drop 3 b.0)).0 t)))
+        (false_from_ne_true (bytes_eq (drop 3 b.0) n) (λ t. new_name b.0 n seen h p q (sym ((bytes_eq-Decides (drop 3 b.0) n).0 t))))
+
+-- the names that were seen are those of the functions that are there
+abbrev Agree : List (List ℕ) → Functions → Type 0
+Agree seen fs = (n : List ℕ) → list_any (bytes_eq (codes "fn#" ++ n)) seen ≡ is_some (lookup (bytes_eq n) fs)
+
+some_or : {A : Type 0} (t s : Bool) (c : A) (o : Option A) → s ≡ is_some o → (t || s) ≡ is_some (cond t (Some c) o)
+some_or true s c o h = refl
+some_or false s c o h = h
+
+agree_put : (seen : List (List ℕ)) (fs : Functions) (key : List ℕ) (c : Node cmd) → Agree seen fs → key ≡ codes "fn#" ++ drop 3 key → Agree (key ∷ seen) (insert_entry text_cmp fs (drop 3 key) c)
+agree_put seen fs key c a e n =
+    ap (λ k. bytes_eq (codes "fn#" ++ n) k || list_any (bytes_eq (codes "fn#" ++ n)) seen) e
+    ∙ some_or (bytes_eq n (drop 3 key)) (list_any (bytes_eq (codes "fn#" ++ n)) seen) c (lookup (bytes_eq n) fs) (a n)
+    ∙ ap is_some (sym (found fs n (drop 3 key) c))
+
+-- the state with the functions of these entries, one after the other
+abbrev pub defined_in : State → Bindings → Result State m.ImageFault
+defined_in s [] = Ok s
+defined_in s (b ∷ bs) = with_function s (function_in (Some b)) >>= λ t. defined_in t bs
+
+entry_step : (s : State) (b : List ℕ × List ℕ) (f d : Bool) → is_function b.0 ≡ f → is_some (function_of s (drop 3 b.0)) ≡ d →
+    with_function s (function_in (Some b)) ≡ (if f then (if d then Ok s else (read_tree b.1 >>= λ c. Ok (define s (drop 3 b.0) c))) else Ok s)
+unfolding function_in with_function
+entry_step s b true d p q =
+    ap (λ t. with_function s (if t then Some (drop 3 b.0, b.1) else None)) p
+    ∙ ap (λ t. if t then Ok s else (read_tree b.1 >>= λ c. Ok (define s (drop 3 b.0) c))) q
+entry_step s b false d p q = ap (λ t. with_function s (if t then Some (drop 3 b.0, b.1) else None)) p
+
+over_step : (base : Functions) (seen : List (List ℕ)) (b : List ℕ × List ℕ) (bs : Bindings) (f d : Bool) → is_function b.0 ≡ f → list_any (bytes_eq b.0) seen ≡ d →
+    over base seen (b ∷ bs) ≡ (if f && not d then e.with_function b.0 (read_tree b.1) (over base (b.0 ∷ seen) bs) else over base seen bs)
+over_step base seen b bs f d p q =
+    ap (λ t. if t && not (list_any (bytes_eq b.0) seen) then e.with_function b.0 (read_tree b.1) (over base (b.0 ∷ seen) bs) else over base seen bs) p
+    ∙ ap (λ t. if f && not t then e.with_function b.0 (read_tree b.1) (over base (b.0 ∷ seen) bs) else over base seen bs) q
+
+abbrev with_those : State → Functions → State
+with_those s fs = record s { functions = fs }
+
+defined_is : (s : State) (seen : List (List ℕ)) (bs : Bindings) → Agree seen s.functions → defined_in s bs ≡ (over s.functions seen bs >>= λ fs. Ok (with_those s fs))
+defined_is s seen [] a = refl
+defined_is s seen (b ∷ bs) a = by_tests (λ t r. defined_is t r bs) (is_function b.0) (is_some (function_of s (drop 3 b.0))) refl refl
+  where
+    Rest : Type 0
+    Rest = (t : State) (r : List (List ℕ)) → Agree r t.functions → defined_in t bs ≡ (over t.functions r bs >>= λ fs. Ok (with_those t fs))
+
+    read : Rest → (r : Result (Node cmd) m.ImageFault) → is_function b.0 ≡ true →
+        ((r >>= λ c. Ok (define s (drop 3 b.0) c)) >>= λ t. defined_in t bs)
+        ≡ (e.with_function b.0 r (over s.functions (b.0 ∷ seen) bs) >>= λ fs. Ok (with_those s fs))
+    read ih (Err f) p = refl
+    read ih (Ok c) p =
+        ih (define s (drop 3 b.0) c) (b.0 ∷ seen) (agree_put seen s.functions b.0 c a (marked_name b.0 p))
+        ∙ ap (λ x. x >>= λ fs. Ok (with_those s fs)) (base_put s.functions (drop 3 b.0) c (b.0 ∷ seen) bs
+        (ap (λ t. t || list_any (bytes_eq (codes "fn#" ++ drop 3 b.0)) seen) ((bytes_eq-Decides (codes "fn#" ++ drop 3 b.0) b.0).1 (sym (marked_name b.0 p)))))
+
+    by_tests : Rest → (f d : Bool) → is_function b.0 ≡ f → is_some (function_of s (drop 3 b.0)) ≡ d →
+        defined_in s (b ∷ bs) ≡ (over s.functions seen (b ∷ bs) >>= λ fs. Ok (with_those s fs))
+    by_tests ih false d p q =
+        ap (λ x. x >>= λ t. defined_in t bs) (entry_step s b false d p q) ∙ ih s seen a
+        ∙ ap (λ x. x >>= λ fs. Ok (with_those s fs)) (sym (over_step s.functions seen b bs false (list_any (bytes_eq b.0) seen) p refl))
+    by_tests ih true true p q =
+        ap (λ x. x >>= λ t. defined_in t bs) (entry_step s b true true p q) ∙ ih s seen a
+        ∙ ap (λ x. x >>= λ fs. Ok (with_those s fs)) (sym (over_step s.functions seen b bs true true p (ap (λ k. list_any (bytes_eq k) seen) (marked_name b.0 p) ∙ a (drop 3 b.0) ∙ q)))
+    by_tests ih true false p q =
+        ap (λ x. x >>= λ t. defined_in t bs) (entry_step s b true false p q) ∙ read ih (read_tree b.1) p
+        ∙ ap (λ x. x >>= λ fs. Ok (with_those s fs)) (sym (over_step s.functions seen b bs true false p (ap (λ k. list_any (bytes_eq k) seen) (marked_name b.0 p) ∙ a (drop 3 b.0) ∙ q)))
+
+agree_nothing : (fs : Functions) → fs ≡ [] → Agree [] fs
+agree_nothing fs h n = ap (λ z. is_some (lookup (bytes_eq n) z)) (sym h)
+
+-- ** one entry
+
+no_function : (s : State) (f : Option (List ℕ × List ℕ)) → None ≡ f → with_function s f ≡ Ok s
+unfolding with_function
+no_function s f h = ap (with_function s) (sym h)
+
+step_by : (s : State) (name image : List ℕ) (f : Option (List ℕ × List ℕ)) (t : Bool) → Some (name, image) ≡ f → is_some (function_of s name) ≡ t →
+    with_function s f ≡ (if t then Ok s else (read_tree image >>= λ c. Ok (define s name c)))
+unfolding with_function
+step_by s name image f t h k = ap (with_function s) (sym h) ∙ ap (λ z. if z then Ok s else (read_tree image >>= λ c. Ok (define s name c))) k
+
+some_copied : (t : Bool) (r : Option (Bor Cmd)) (o : Option (Node cmd)) → option_map cmd_tree (option_copied r) ≡ o → t ≡ is_some r → is_some o ≡ t
+some_copied t None o h k = ap is_some (sym h) ∙ sym k
+some_copied t (Some x) o h k = ap is_some (sym h) ∙ sym k
+
+pub nothing_new : (s : State) (entry : List ℕ) → None ≡ function_in (cut_entry entry) → with_function s (function_in (cut_entry entry)) ≡ Ok s
+nothing_new s entry h = no_function s (function_in (cut_entry entry)) h
+
+pub is_there : (s : State) (name image entry : List ℕ) (r : Option (Bor Cmd)) → Some (name, image) ≡ function_in (cut_entry entry) → option_map cmd_tree (option_copied r) ≡ function_of s name → is_some r ≡ true →
+    with_function s (function_in (cut_entry entry)) ≡ Ok s
+is_there s name image entry r h k i = step_by s name image (function_in (cut_entry entry)) true h (some_copied true r (function_of s name) k (sym i))
+
+is_new : (s : State) (name image entry : List ℕ) (r : Option (Bor Cmd)) → Some (name, image) ≡ function_in (cut_entry entry) → option_map cmd_tree (option_copied r) ≡ function_of s name → is_some r ≡ false →
+    with_function s (function_in (cut_entry entry)) ≡ (read_tree image >>= λ c. Ok (define s name c))
+is_new s name image entry r h k i = step_by s name image (function_in (cut_entry entry)) false h (some_copied false r (function_of s name) k (sym i))
+
+-- a fault goes through what follows
+pub fails_on : {X Y : Type 0} (e : ImageFault) (r : Result X m.ImageFault) (k : X → Result Y m.ImageFault) → Fails e r → Fails e (r >>= k)
+fails_on f.BadTag r k h = ap (λ z. z >>= k) h
+fails_on f.BadLength r k h = ap (λ z. z >>= k) h
+fails_on f.Trailing r k h = ap (λ z. z >>= k) h
+fails_on f.TooDeep r k h = ap (λ z. z >>= k) h
+fails_on f.Version r k h = ap (λ z. z >>= k) h
+fails_on f.TooLarge r k h = absurd h
+fails_on f.NoMemory r k h = tt
+
+-- a fault that is passed on
+pub passed_on : {X Y : Type 0} (view : X → Y) (r : Result X ImageFault) (e : ImageFault) (w : Result Y m.ImageFault) → IsErrAnd r (λ x. x ≡ e) → Fails e w → Gives view r w
+passed_on view (Ok x) e w h k = absurd h
+passed_on view (Err x) e w h k = subst (λ y. Fails y w) (sym h) k
+
+pub bad_image : (s : State) (name image entry : List ℕ) (r : Option (Bor Cmd)) (e : ImageFault) → Some (name, image) ≡ function_in (cut_entry entry) → option_map cmd_tree (option_copied r) ≡ function_of s name → is_some r ≡ false →
+    Fails e (read_tree image) → Fails e (with_function s (function_in (cut_entry entry)))
+bad_image s name image entry r e h k i w =
+    subst (Fails e) (sym (is_new s name image entry r h k i)) (fails_on e (read_tree image) (λ c. Ok (define s name c)) w)
+
+abbrev first_of : Option (List ℕ × List ℕ) → List ℕ
+first_of None = []
+first_of (Some x) = x.0
+
+same_name : (a b : List ℕ × List ℕ) → Some a ≡ Some b → a.0 ≡ b.0
+same_name a b q = ap first_of q
+
+named_by : (key image name text : List ℕ) (t : Bool) → is_function key ≡ t →
+    ◌≡◌ {A = Option (List ℕ × List ℕ)} (Some (name, text)) (if t then Some (drop 3 key, image) else None) → is_function_name name ≡ true
+named_by key image name text true p h =
+    ap is_function_name (same_name (name, text) (drop 3 key, image) h) ∙ (and_parts (begins_with (codes "fn#") key) (is_function_name (drop 3 key)) p).1
+named_by key image name text false p h = cc
+
+function_named : (name text : List ℕ) (cut : Option (List ℕ × List ℕ)) → Some (name, text) ≡ function_in cut → is_function_name name ≡ true
+unfolding function_in
+function_named name text None h = cc
+function_named name text (Some b) h = named_by b.0 b.1 name text (is_function b.0) refl h
+
+pub is_defined : (s t : State) (name image entry : List ℕ) (r : Option (Bor Cmd)) (c : Node cmd) → Some (name, image) ≡ function_in (cut_entry entry) → option_map cmd_tree (option_copied r) ≡ function_of s name → is_some r ≡ false →
+    read_tree image ≡ Ok c → t ≡ (if is_function_name name then define s name c else s) → with_function s (function_in (cut_entry entry)) ≡ Ok t
+is_defined s t name image entry r c h k i w d =
+    is_new s name image entry r h k i
+    ∙ ap (λ z. z >>= λ c. Ok (define s name c)) w
+    ∙ ap Ok (sym (d ∙ ap (λ z. if z then define s name c else s) (function_named name image (cut_entry entry) h)))
+
+-- the functions of the entries that are left
+next_by_cut : (s t : State) (cut : Option (List ℕ × List ℕ)) (bs : Bindings) → with_function s (function_in cut) ≡ Ok t → defined_in s (with_cut cut bs) ≡ defined_in t bs
+unfolding function_in with_function
+next_by_cut s t None bs h = ap (λ z. z >>= λ t. defined_in t bs) h
+next_by_cut s t (Some b) bs h = ap (λ z. z >>= λ t. defined_in t bs) h
+
+fails_by_cut : (s : State) (e : ImageFault) (cut : Option (List ℕ × List ℕ)) (bs : Bindings) → Fails e (with_function s (function_in cut)) → Fails e (defined_in s (with_cut cut bs))
+unfolding function_in with_function
+fails_by_cut s e None bs h = fails_on e (with_function s (function_in None)) (λ t. defined_in t bs) h
+fails_by_cut s e (Some b) bs h = fails_on e (with_function s (function_in (Some b))) (λ t. defined_in t bs) h
+
+entry_left : (es : List (String Global)) (i : ℕ) (x : String Global) → i < length es → x ≡ get_or es i x → bindings (map string_bytes (drop i es)) ≡ with_cut (cut_entry (string_bytes x)) (bindings (map string_bytes (drop (i + 1) es)))
+entry_left es i x lt is =
+    ap (λ z. bindings (map string_bytes z))
+    (drop-cons es i x lt ∙ ap (λ n. get_or es i x ∷ drop n es) (sym (add-one i)) ∙ ap (λ w. w ∷ drop (i + 1) es) (sym is))
+
+pub defines_next : (s t : State) (es : List (String Global)) (i : ℕ) (x : String Global) (whole : Result State m.ImageFault) → i < length es → x ≡ get_or es i x →
+    with_function s (function_in (cut_entry (string_bytes x))) ≡ Ok t → defined_in s (bindings (map string_bytes (drop i es))) ≡ whole → defined_in t (bindings (map string_bytes (drop (i + 1) es))) ≡ whole
+defines_next s t es i x whole lt is h w =
+    sym (next_by_cut s t (cut_entry (string_bytes x)) (bindings (map string_bytes (drop (i + 1) es))) h)
+    ∙ ap (defined_in s) (sym (entry_left es i x lt is)) ∙ w
+
+pub defines_not : (s : State) (e : ImageFault) (es : List (String Global)) (i : ℕ) (x : String Global) (whole : Result State m.ImageFault) → i < length es → x ≡ get_or es i x →
+    Fails e (with_function s (function_in (cut_entry (string_bytes x)))) → defined_in s (bindings (map string_bytes (drop i es))) ≡ whole → Fails e whole
+defines_not s e es i x whole lt is h w =
+    subst (Fails e) (ap (defined_in s) (sym (entry_left es i x lt is)) ∙ w)
+    (fails_by_cut s e (cut_entry (string_bytes x)) (bindings (map string_bytes (drop (i + 1) es))) h)
+
+pub defines_all : (s : State) (es : List (String Global)) (i : ℕ) (whole : Result State m.ImageFault) → length es ≤ i →
+    defined_in s (bindings (map string_bytes (drop i es))) ≡ whole → whole ≡ Ok s
+defines_all s es i whole l w = sym w ∙ ap (λ z. defined_in s (bindings (map string_bytes z))) (drop_of_length-le es l)
+
+-- where there are none, they are those that the entries denote
+pub all_defined : (s : State) (bs : Bindings) → s.functions ≡ [] → defined_in s bs ≡ with_functions s bs
+unfolding with_functions
+all_defined s bs h =
+    defined_is s [] bs (agree_nothing s.functions h)
+    ∙ ap (λ base. over base [] bs >>= λ fs. Ok (with_those s fs)) h
+    ∙ ap (λ r. r >>= λ fs. Ok (with_those s fs)) (from_nothing [] bs)
+
+-- ** the whole
+
+pub no_functions : (own : Bool) (bs : Bindings) → (values_state own bs).functions ≡ []
+unfolding values_state
+no_functions own bs = refl
+
+pub nothing_read : (own : Bool) (s : State) → s ≡ new_state → s ≡ values_state own (bindings [])
+unfolding values_state
+nothing_read true s h = h
+nothing_read false s h = h
+
+own_is : (entries : List (List ℕ)) → with_functions (values_state true (bindings entries)) (bindings entries) ≡ read_state true [] entries
+unfolding with_functions values_state
+own_is entries = refl
+
+other_is : (entries : List (List ℕ)) → Ok (values_state false (bindings entries)) ≡ read_state false [] entries
+unfolding values_state
+other_is entries = refl
+
+pub read_own : (own : Bool) (s : State) (entries : List (List ℕ)) → own ≡ true → s ≡ values_state own (bindings entries) → read_state own [] entries ≡ with_functions s (bindings entries)
+read_own true s entries o h = sym (ap (λ z. with_functions z (bindings entries)) h ∙ own_is entries)
+read_own false s entries o h = cc
+
+pub read_other : (own : Bool) (s : State) (entries : List (List ℕ)) → own ≡ false → s ≡ values_state own (bindings entries) → read_state own [] entries ≡ Ok s
+read_other true s entries o h = cc
+read_other false s entries o h = sym (ap Ok h ∙ other_is entries)

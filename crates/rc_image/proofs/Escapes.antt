@@ -1,0 +1,160 @@
+-- What the entries of an environment say.
+use Rattle.std.specs.Prelude.{string_bytes, option_map}
+use Rattle.std.proofs.Common.{◌≡◌, ℕ, ◌<◌, suc, List, [], ◌∷◌, ◌++◌, length, drop, map, get_or, refl, sym, ap, ◌∙◌, arith, append_assoc, true, false, cond, ◌==◌, ◌&&◌, if◌then◌else◌, codes, Option, Some, None}
+use Rattle.std.proofs.lemmas.Bool.{ne_eqb, eqb-true, eq-eqb, and_parts, false_from_ne_true}
+use Rattle.std.proofs.lemmas.List.{append-nil, map-append}
+use Rattle.std.specs.List.{slice_split, onto_first}
+use Rattle.std.specs.Option.{MatchOption}
+use denote.Ref.{Bor}
+use Rattle.std.specs.declared.alloc.Global.{Global}
+use Rattle.std.specs.declared.string.String.{String}
+use Rattle.rc_model.specs.Syntax.Text.{begins_with}
+use Rattle.rc_model.specs.Run.State.{is_function_name}
+use Rattle.rc_model.specs.Handed.Environment.{cut_entry, with_first, unescaped, members_of}
+use Rattle.rc_image.specs.Entries.{pair_of, function_in}
+
+-- a text without a byte
+abbrev pub Lacks : ℕ → List ℕ → Type 0
+Lacks c bs = (i : ℕ) → i < length bs → get_or bs i 0 ≡ c → ⊥
+
+other_first : (c b : ℕ) (bs : List ℕ) → Lacks c (b ∷ bs) → (b == c) ≡ false
+other_first c b bs h = ne_eqb b c (h 0 (omega arith))
+
+other_rest : (c b : ℕ) (bs : List ℕ) → Lacks c (b ∷ bs) → Lacks c bs
+other_rest c b bs h i lt = h (suc i) (omega arith)
+
+-- ** the name of an entry
+
+pub cut_none : (bs : List ℕ) → Lacks 61 bs → cut_entry bs ≡ None
+cut_none [] h = refl
+cut_none (b ∷ bs) h =
+    ap (λ t. if t then Some ([], bs) else with_first b (cut_entry bs)) (other_first 61 b bs h)
+    ∙ ap (with_first b) (cut_none bs (other_rest 61 b bs h))
+
+pub cut_some : (xs ys : List ℕ) → Lacks 61 xs → cut_entry (xs ++ 61 ∷ ys) ≡ Some (xs, ys)
+cut_some [] ys h = refl
+cut_some (x ∷ xs) ys h =
+    ap (λ t. if t then Some ([], xs ++ 61 ∷ ys) else with_first x (cut_entry (xs ++ 61 ∷ ys))) (other_first 61 x xs h)
+    ∙ ap (with_first x) (cut_some xs ys (other_rest 61 x xs h))
+
+pub cut_is : (bs : List ℕ) (r : Option (Bor (List ℕ) × Bor (List ℕ))) →
+    MatchOption r (Lacks 61 bs) (λ x. (bs ≡ x.0.now ++ (61 ∷ x.1.now)) × Lacks 61 x.0.now) → option_map pair_of r ≡ cut_entry bs
+cut_is bs None h = sym (cut_none bs h)
+cut_is bs (Some x) h = sym (ap cut_entry h.0 ∙ cut_some x.0.now x.1.now h.1)
+
+-- ** members
+
+plain_step : (b : ℕ) (bs : List ℕ) → (b == 2) ≡ false → unescaped (b ∷ bs) ≡ b ∷ unescaped bs
+plain_step b [] h = refl
+plain_step b (c ∷ bs) h =
+    ap (λ t. if t
+    then (if c == 65 then 1 ∷ unescaped bs else (if c == 66 then 2 ∷ unescaped bs else 2 ∷ unescaped (c ∷ bs)))
+    else b ∷ unescaped (c ∷ bs)) h
+
+plain_front : (xs ys : List ℕ) → Lacks 2 xs → unescaped (xs ++ ys) ≡ xs ++ unescaped ys
+plain_front [] ys h = refl
+plain_front (x ∷ xs) ys h =
+    plain_step x (xs ++ ys) (other_first 2 x xs h) ∙ ap (λ t. x ∷ t) (plain_front xs ys (other_rest 2 x xs h))
+
+pub plain_all : (xs : List ℕ) → Lacks 2 xs → unescaped xs ≡ xs
+plain_all xs h = ap unescaped (sym (append-nil xs)) ∙ plain_front xs [] h ∙ append-nil xs
+
+-- byte 2 stands for itself before another byte, and at the end
+pub itself : (after : List ℕ) → ((rest : List ℕ) → after ≡ 65 ∷ rest → ⊥) → ((rest : List ℕ) → after ≡ 66 ∷ rest → ⊥) → unescaped (2 ∷ after) ≡ 2 ∷ unescaped after
+itself [] h k = refl
+itself (c ∷ rest) h k =
+    ap (λ t. if t then 1 ∷ unescaped rest else (if c == 66 then 2 ∷ unescaped rest else 2 ∷ unescaped (c ∷ rest))) (ne_eqb c 65 (λ e. h rest (ap (λ b. b ∷ rest) e)))
+    ∙ ap (λ t. if t then 2 ∷ unescaped rest else 2 ∷ unescaped (c ∷ rest)) (ne_eqb c 66 (λ e. k rest (ap (λ b. b ∷ rest) e)))
+
+-- a plain part and what byte 2 stands for
+pub one_mark : (m plain after more rest written whole : List ℕ) (c : ℕ) → rest ≡ plain ++ 2 ∷ after → Lacks 2 plain →
+    unescaped (2 ∷ after) ≡ c ∷ unescaped more → m ++ unescaped rest ≡ whole → written ≡ (m ++ plain) ++ c ∷ [] → written ++ unescaped more ≡ whole
+one_mark m plain after more rest written whole c e h k i w =
+    ap (λ t. t ++ unescaped more) w
+    ∙ append_assoc (m ++ plain) (c ∷ []) (unescaped more)
+    ∙ append_assoc m plain (c ∷ unescaped more)
+    ∙ ap (λ t. m ++ (plain ++ t)) (sym k)
+    ∙ ap (λ t. m ++ t) (sym (plain_front plain (2 ∷ after) h))
+    ∙ ap (λ t. m ++ unescaped t) (sym e)
+    ∙ i
+
+split_plain : (xs : List ℕ) → Lacks 1 xs → slice_split (λ b. b == 1) xs ≡ xs ∷ []
+split_plain [] h = refl
+split_plain (x ∷ xs) h =
+    ap (λ t. cond t ([] ∷ slice_split (λ b. b == 1) xs) (onto_first x (slice_split (λ b. b == 1) xs))) (other_first 1 x xs h)
+    ∙ ap (onto_first x) (split_plain xs (other_rest 1 x xs h))
+
+split_at : (xs ys : List ℕ) → Lacks 1 xs → slice_split (λ b. b == 1) (xs ++ 1 ∷ ys) ≡ xs ∷ slice_split (λ b. b == 1) ys
+split_at [] ys h = refl
+split_at (x ∷ xs) ys h =
+    ap (λ t. cond t ([] ∷ slice_split (λ b. b == 1) (xs ++ 1 ∷ ys)) (onto_first x (slice_split (λ b. b == 1) (xs ++ 1 ∷ ys)))) (other_first 1 x xs h)
+    ∙ ap (onto_first x) (split_at xs ys (other_rest 1 x xs h))
+
+pub last_member : (xs : List ℕ) → Lacks 1 xs → members_of xs ≡ unescaped xs ∷ []
+last_member xs h = ap (map unescaped) (split_plain xs h)
+
+pub first_member : (xs ys : List ℕ) → Lacks 1 xs → members_of (xs ++ 1 ∷ ys) ≡ unescaped xs ∷ members_of ys
+first_member xs ys h = ap (map unescaped) (split_at xs ys h)
+
+-- one more member
+pub one_member : (m written : List (String Global)) (s : String Global) (member after rest : List ℕ) (whole : List (List ℕ)) → rest ≡ member ++ 1 ∷ after →
+    Lacks 1 member → string_bytes s ≡ unescaped member → map string_bytes m ++ members_of rest ≡ whole → written ≡ m ++ s ∷ [] →
+    map string_bytes written ++ members_of after ≡ whole
+one_member m written s member after rest whole e h k i w =
+    ap (λ t. map string_bytes t ++ members_of after) w
+    ∙ ap (λ t. t ++ members_of after) (map-append string_bytes m (s ∷ []))
+    ∙ append_assoc (map string_bytes m) (string_bytes s ∷ []) (members_of after)
+    ∙ ap (λ t. map string_bytes m ++ t ∷ members_of after) k
+    ∙ ap (λ t. map string_bytes m ++ t) (sym (first_member member after h))
+    ∙ ap (λ t. map string_bytes m ++ members_of t) (sym e)
+    ∙ i
+
+-- and the last
+pub no_more_members : (m written : List (String Global)) (s : String Global) (rest : List ℕ) (whole : List (List ℕ)) →
+    Lacks 1 rest → string_bytes s ≡ unescaped rest → map string_bytes m ++ members_of rest ≡ whole → written ≡ m ++ s ∷ [] →
+    map string_bytes written ≡ whole
+no_more_members m written s rest whole h k i w =
+    ap (map string_bytes) w
+    ∙ map-append string_bytes m (s ∷ [])
+    ∙ ap (λ t. map string_bytes m ++ t ∷ []) k
+    ∙ ap (λ t. map string_bytes m ++ t) (sym (last_member rest h))
+    ∙ i
+
+-- ** functions
+
+pub begun_split : (mark text : List ℕ) → begins_with mark text ≡ true → text ≡ mark ++ drop (length mark) text
+begun_split [] text h = refl
+begun_split (b ∷ bs) [] h = cc
+begun_split (b ∷ bs) (c ∷ text) h =
+    let p = and_parts (b == c) (begins_with bs text) h in
+    ap (λ t. c ∷ t) (begun_split bs text p.1) ∙ ap (λ x. x ∷ bs ++ drop (length bs) text) (sym (eqb-true b c p.0))
+
+not_begun : (mark text : List ℕ) → ((rest : List ℕ) → text ≡ mark ++ rest → ⊥) → begins_with mark text ≡ false
+not_begun mark text h = false_from_ne_true (begins_with mark text) (λ b. h (drop (length mark) text) (begun_split mark text b))
+
+begun_by : (mark rest : List ℕ) → begins_with mark (mark ++ rest) ≡ true
+begun_by [] rest = refl
+begun_by (b ∷ bs) rest = ap (λ t. t && begins_with bs (bs ++ rest)) (eq-eqb b b refl) ∙ begun_by bs rest
+
+pub function_none : (cut : Option (List ℕ × List ℕ)) → cut ≡ None → function_in cut ≡ None
+unfolding function_in
+function_none cut h = ap function_in h
+
+pub function_unmarked : (key image : List ℕ) → ((rest : List ℕ) → key ≡ codes "fn#" ++ rest → ⊥) → function_in (Some (key, image)) ≡ None
+unfolding function_in
+function_unmarked key image h =
+    ap (λ t. if t && is_function_name (drop 3 key) then Some (drop 3 key, image) else None) (not_begun (codes "fn#") key h)
+
+function_marked : (key name image : List ℕ) → key ≡ codes "fn#" ++ name → function_in (Some (key, image)) ≡ (if is_function_name name then Some (name, image) else None)
+unfolding function_in
+function_marked key name image e =
+    ap (λ k. if begins_with (codes "fn#") k && is_function_name (drop 3 k) then Some (drop 3 k, image) else None) e
+    ∙ ap (λ t. if t && is_function_name name then Some (name, image) else None) (begun_by (codes "fn#") name)
+
+pub function_unnamed : (key name image : List ℕ) → key ≡ codes "fn#" ++ name → is_function_name name ≡ false → function_in (Some (key, image)) ≡ None
+function_unnamed key name image e h =
+    function_marked key name image e ∙ ap (λ t. if t then Some (name, image) else None) h
+
+pub function_named : (key name image : List ℕ) → key ≡ codes "fn#" ++ name → is_function_name name ≡ true → function_in (Some (key, image)) ≡ Some (name, image)
+function_named key name image e h =
+    function_marked key name image e ∙ ap (λ t. if t then Some (name, image) else None) h

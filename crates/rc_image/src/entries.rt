@@ -1,0 +1,76 @@
+//! What the entries of an environment say.
+
+ghost use Rattle.std.specs.Prelude.{◌≡◌, ◌∷◌, ◌<◌, ◌≤◌, ℕ, length, IfOk, map, option_map, string_bytes};
+ghost use Rattle.rc_model.specs.Handed.Environment.{cut_entry, members_of, unescaped};
+ghost use Rattle.rc_image.specs.Entries.{pair_of, function_in};
+
+use rc_scope::is_function_name;
+use std::alloc::{AllocError, Global};
+
+/// What stands before the first `=` of an entry, and what stands after it.
+pub fn cut_entry(entry: &str) -> Option<(&str, &str)>
+    ensures { option_map pair_of result ≡ cut_entry entry.now }
+{
+    entry.split_once('=')
+}
+
+/// What byte 2 and the text after it begin with, and what comes then.
+fn unmarked(after: &str) -> (char, &str)
+    ensures value { unescaped (2 ∷ after.now) ≡ result.0 ∷ unescaped result.1.now }
+    ensures ascii { result.0 < 128 }
+    ensures shorter { length result.1.now ≤ length after.now }
+{
+    if let Some(rest) = after.strip_prefix('A') {
+        return ('\u{1}', rest);
+    }
+    if let Some(rest) = after.strip_prefix('B') {
+        return ('\u{2}', rest);
+    }
+    ('\u{2}', after)
+}
+
+/// A member as it was before bytes 1 and 2 in it were escaped.
+fn unescaped(alloc: Global, text: &str) -> Result<String, AllocError>
+    ensures { IfOk result (λ member. string_bytes member ≡ unescaped text.now) }
+{
+    let mut member = String::new(alloc);
+    let mut rest = text;
+    while let Some((plain, after)) = rest.split_once('\u{2}') {
+        let (c, more) = unmarked(after);
+        member.push_str(plain)?;
+        member.push(c)?;
+        rest = more;
+    }
+    member.push_str(rest)?;
+    Ok(member)
+}
+
+/// The members of a value, which stand between bytes 1.
+pub fn members(alloc: Global, text: &str) -> Result<Vec<String>, AllocError>
+    ensures { IfOk result (λ members. map string_bytes members.items ≡ members_of text.now) }
+{
+    let mut members = Vec::new(alloc);
+    let mut rest = text;
+    while let Some((member, after)) = rest.split_once('\u{1}') {
+        members.push(unescaped(alloc, member)?)?;
+        rest = after;
+    }
+    members.push(unescaped(alloc, rest)?)?;
+    Ok(members)
+}
+
+/// The name of a function and its image, where an entry is one of a function.
+pub fn function_entry(entry: &str) -> Option<(&str, &str)>
+    ensures { option_map pair_of result ≡ function_in (cut_entry entry.now) }
+{
+    let Some((key, image)) = cut_entry(entry) else {
+        return None;
+    };
+    let Some(name) = key.strip_prefix("fn#") else {
+        return None;
+    };
+    if !is_function_name(name) {
+        return None;
+    }
+    Some((name, image))
+}
