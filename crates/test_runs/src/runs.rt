@@ -63,12 +63,18 @@ const ARGUMENTS: [(&str, &[&str], &[u8]); 25] = [
     ("an option without its text", &["-e", "-c"], b""),
     (
         "a function",
-        &["-c", "fn greet {echo hello $1}; greet world; fn greet; greet"],
+        &[
+            "-c",
+            "fn greet {echo hello $1}; greet world; fn greet; greet",
+        ],
         b"",
     ),
     (
         "redirections",
-        &["-c", "echo a >made; echo b >>made; cat <made; nope >[2=1]; rm made"],
+        &[
+            "-c",
+            "echo a >made; echo b >>made; cat <made; nope >[2=1]; rm made",
+        ],
         b"",
     ),
     (
