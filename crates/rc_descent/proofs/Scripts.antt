@@ -4,7 +4,7 @@ use Rattle.rc_model.specs.Syntax.Tokens as model
 use Rattle.rc_model.specs.Syntax.Tree.{Node, Many}
 use Rattle.rc_model.specs.Syntax.Tree as t
 use Rattle.rc_model.specs.Syntax.WellFormed.{depth, most_stages}
-use Rattle.rc_model.specs.Syntax.Grammar.{IsScript, IsAccepted}
+use Rattle.rc_model.specs.Syntax.Grammar.{HaveTree, HaveAcceptedTree}
 use Rattle.rc_model.specs.Mirrors.Descent as d
 use Rattle.law_grammar.proofs.Laws as laws
 use Rattle.rc_lexemes.specs.declared.lexeme.Lexeme.{Lexeme}
@@ -47,12 +47,12 @@ unfolding d.script_tree
 script_fails levels ts e h = ap (λ o. d.whole o) h
 
 -- what the laws say of an answer
-pub found_by : (o : Result Cmd TokenError) (ts : List model.Lexeme) → Gives (λ c. cmd_tree c) o (d.script_tree 200 ts) → IfOk o (λ c. IsAccepted ts (cmd_tree c))
+pub found_by : (o : Result Cmd TokenError) (ts : List model.Lexeme) → Gives (λ c. cmd_tree c) o (d.script_tree 200 ts) → IfOk o (λ c. HaveAcceptedTree ts (cmd_tree c))
 found_by (Ok x) ts h = laws.finds_only_trees 200 ts (cmd_tree x) h
 found_by (Err e) ts h = tt
 
 pub only_by : (o : Result Cmd TokenError) (ts : List model.Lexeme) → Gives (λ c. cmd_tree c) o (d.script_tree 200 ts) →
-    IfOk o (λ c. (other : Node t.cmd) → IsScript ts other → other ≡ cmd_tree c)
+    IfOk o (λ c. (other : Node t.cmd) → HaveTree ts other → other ≡ cmd_tree c)
 only_by (Ok x) ts h = λ other p. laws.has_one_tree ts (cmd_tree x) other (laws.finds_only_trees 200 ts (cmd_tree x) h) p
 only_by (Err e) ts h = tt
 
@@ -60,14 +60,14 @@ fault_by : (o : Result Cmd TokenError) (fault : Fault) (ts : List model.Lexeme) 
 fault_by o fault ts h f = subst (λ z. Gives (λ c. cmd_tree c) z (d.script_tree 200 ts)) f.1 h
 
 pub none_by : (o : Result Cmd TokenError) (ts : List model.Lexeme) → Gives (λ c. cmd_tree c) o (d.script_tree 200 ts) → HasFault o f.Unexpected ⊎ HasFault o f.IfNot →
-    (tree : Node t.cmd) → IsScript ts tree → ⊥
+    (tree : Node t.cmd) → HaveTree ts tree → ⊥
 none_by o ts h (inl e) tree p = laws.has_no_tree 200 ts tree (inl (fault_by o f.Unexpected ts h e)) p
 none_by o ts h (inr e) tree p = laws.has_no_tree 200 ts tree (inr (fault_by o f.IfNot ts h e)) p
 
-pub stages_by : (o : Result Cmd TokenError) (ts : List model.Lexeme) → Gives (λ c. cmd_tree c) o (d.script_tree 200 ts) → HasFault o f.TooManyStages → (tree : Node t.cmd) → IsScript ts tree →
+pub stages_by : (o : Result Cmd TokenError) (ts : List model.Lexeme) → Gives (λ c. cmd_tree c) o (d.script_tree 200 ts) → HasFault o f.TooManyStages → (tree : Node t.cmd) → HaveTree ts tree →
     64 < most_stages tree
 stages_by o ts h e tree p = laws.has_too_many_stages 200 ts tree (fault_by o f.TooManyStages ts h e) p
 
-pub levels_by : (o : Result Cmd TokenError) (ts : List model.Lexeme) → Gives (λ c. cmd_tree c) o (d.script_tree 200 ts) → HasFault o f.TooDeep → (tree : Node t.cmd) → IsScript ts tree →
+pub levels_by : (o : Result Cmd TokenError) (ts : List model.Lexeme) → Gives (λ c. cmd_tree c) o (d.script_tree 200 ts) → HasFault o f.TooDeep → (tree : Node t.cmd) → HaveTree ts tree →
     200 < depth tree
 levels_by o ts h e tree p = laws.is_too_deep 200 ts tree (omega arith) (fault_by o f.TooDeep ts h e) p

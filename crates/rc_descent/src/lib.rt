@@ -4,7 +4,7 @@
 ghost use Rattle.std.specs.Prelude.{◌≡◌, ◌<◌, ◌⊎◌, IfOk};
 ghost use Rattle.rc_model.specs.Syntax.Tree.{Node, cmd};
 ghost use Rattle.rc_model.specs.Syntax.WellFormed.{depth, most_stages};
-ghost use Rattle.rc_model.specs.Syntax.Grammar.{IsScript, IsAccepted};
+ghost use Rattle.rc_model.specs.Syntax.Grammar.{HaveTree, HaveAcceptedTree};
 ghost use Rattle.rc_model.specs.Mirrors.Descent.{script_tree};
 ghost use Rattle.rc_tree_types.specs.View.{cmd_tree};
 ghost use Rattle.rc_lexemes.specs.Lexemes.{lexemes_of};
@@ -21,19 +21,19 @@ use std::alloc::Global;
 /// The tree of these lexemes.
 pub fn script(alloc: Global, lexemes: &[Lexeme]) -> Result<Cmd, TokenError>
     // What is found is the tree of an accepted script.
-    ensures found { IfOk result (λ c. IsAccepted (lexemes_of lexemes.now) (cmd_tree c)) }
+    ensures found { IfOk result (λ c. HaveAcceptedTree (lexemes_of lexemes.now) (cmd_tree c)) }
     // It has no other tree.
     ensures only { IfOk result (λ c. (other : Node cmd) →
-        IsScript (lexemes_of lexemes.now) other → other ≡ cmd_tree c) }
+        HaveTree (lexemes_of lexemes.now) other → other ≡ cmd_tree c) }
     // Where a token is unexpected or an `if not` misplaced, there is no tree of any size.
     ensures none { HasFault result Fault.Unexpected ⊎ HasFault result Fault.IfNot →
-        (tree : Node cmd) → IsScript (lexemes_of lexemes.now) tree → ⊥ }
+        (tree : Node cmd) → HaveTree (lexemes_of lexemes.now) tree → ⊥ }
     // Too many stages are found only where a pipeline has them.
     ensures stages { HasFault result Fault.TooManyStages →
-        (tree : Node cmd) → IsScript (lexemes_of lexemes.now) tree → 64 < most_stages tree }
+        (tree : Node cmd) → HaveTree (lexemes_of lexemes.now) tree → 64 < most_stages tree }
     // Too many levels are found only where the tree has them.
     ensures levels { HasFault result Fault.TooDeep →
-        (tree : Node cmd) → IsScript (lexemes_of lexemes.now) tree → 200 < depth tree }
+        (tree : Node cmd) → HaveTree (lexemes_of lexemes.now) tree → 200 < depth tree }
 {
     tree(alloc, lexemes)
 }

@@ -12,7 +12,7 @@ use Rattle.rc_model.specs.declared.call.Kind.{Kind}
 use Rattle.rc_model.specs.Run.Plans.{Plan, done_with, asks, Ran}
 use Rattle.rc_model.specs.Run.Shell.{Result, Next, Shell, ◌>>=◌, pure}
 use Rattle.rc_model.specs.Run.State.{State}
-use Rattle.rc_model.specs.Run.FileNames.{components, each_name, expanded, expanded_word, fitting_names, folder, if_there, listed, names_of, or_itself, ordered, walk}
+use Rattle.rc_model.specs.Run.FileNames.{components, each_name, expanded, expanded_word, fitting_names, directory, if_there, listed, names_of, or_itself, ordered, walk}
 use Rattle.rc_text.specs.declared.words.Ch.{Ch}
 use Rattle.rc_text.specs.Views.{marks}
 use Rattle.rc_glob.specs.Paths.{components_of, paths_from}
@@ -65,40 +65,40 @@ module _ {A : Type 0} (s : State) where
 -- ** the names in a directory
 
 module _ (c : Word) (path : List ℕ) where
-  pub left_listing : (a b : Option (List Event)) (stop : Stop) (p : List ℕ) → p ≡ folder path → Left a b (asks (list_names p) as_names) stop →
-      Left a b (asks (list_names (folder path)) (λ x. fitting_names c (as_names x))) stop
-  left_listing a b stop p e l = left_asked a b stop (list_names (folder path)) as_names (λ v. done_with (fitting_names c v)) (subst (λ p. Left a b (asks (list_names p) as_names) stop) e l)
+  pub left_listing : (a b : Option (List Event)) (stop : Stop) (p : List ℕ) → p ≡ directory path → Left a b (asks (list_names p) as_names) stop →
+      Left a b (asks (list_names (directory path)) (λ x. fitting_names c (as_names x))) stop
+  left_listing a b stop p e l = left_asked a b stop (list_names (directory path)) as_names (λ v. done_with (fitting_names c v)) (subst (λ p. Left a b (asks (list_names p) as_names) stop) e l)
 
-  pub left_sorting : (a b : Option (List Event)) (p : List ℕ) (v : Option (List (List ℕ))) → p ≡ folder path → Ran a b (asks (list_names p) as_names) (done_with v) →
-      Left a b (asks (list_names (folder path)) (λ x. fitting_names c (as_names x))) NoMemory
+  pub left_sorting : (a b : Option (List Event)) (p : List ℕ) (v : Option (List (List ℕ))) → p ≡ directory path → Ran a b (asks (list_names p) as_names) (done_with v) →
+      Left a b (asks (list_names (directory path)) (λ x. fitting_names c (as_names x))) NoMemory
   left_sorting a b p v e h =
-      left_answered a b b NoMemory (list_names (folder path)) as_names v (λ v. done_with (fitting_names c v)) (subst (λ p. Ran a b (asks (list_names p) as_names) (done_with v)) e h)
+      left_answered a b b NoMemory (list_names (directory path)) as_names v (λ v. done_with (fitting_names c v)) (subst (λ p. Ran a b (asks (list_names p) as_names) (done_with v)) e h)
       (left_memory b (done_with (fitting_names c v)))
 
-  pub ran_listing : (a b : Option (List Event)) (p : List ℕ) (v : Option (List (List ℕ))) (names : List (List ℕ)) → p ≡ folder path → Ran a b (asks (list_names p) as_names) (done_with v) → names ≡ fitting_names c v →
-      Ran a b (asks (list_names (folder path)) (λ x. fitting_names c (as_names x))) (done_with names)
+  pub ran_listing : (a b : Option (List Event)) (p : List ℕ) (v : Option (List (List ℕ))) (names : List (List ℕ)) → p ≡ directory path → Ran a b (asks (list_names p) as_names) (done_with v) → names ≡ fitting_names c v →
+      Ran a b (asks (list_names (directory path)) (λ x. fitting_names c (as_names x))) (done_with names)
   ran_listing a b p v names e h q =
-      ran_answered a b b (list_names (folder path)) as_names v (λ v. done_with (fitting_names c v)) (done_with names) (subst (λ p. Ran a b (asks (list_names p) as_names) (done_with v)) e h)
+      ran_answered a b b (list_names (directory path)) as_names v (λ v. done_with (fitting_names c v)) (done_with names) (subst (λ p. Ran a b (asks (list_names p) as_names) (done_with v)) e h)
       (subst (λ l. Ran b b (done_with (fitting_names c v)) (done_with l)) (sym q) (ran_none b (done_with (fitting_names c v))))
 
   -- and then each of them
   pub left_listed : (a b : Option (List Event)) (stop : Stop) (s : State) (next : List ℕ → Shell (List (List ℕ))) (whole : Shell (List (List ℕ))) (p : List ℕ) → whole ≡ listed c next path → p ≡ path →
-      Left a b (asks (list_names (folder p)) (λ x. fitting_names c (as_names x))) stop → Left a b (whole s) stop
+      Left a b (asks (list_names (directory p)) (λ x. fitting_names c (as_names x))) stop → Left a b (whole s) stop
   left_listed a b stop s next whole p w e l =
       subst (λ m. Left a b (m s) stop) (sym w)
-      (left_asked a b stop (list_names (folder path)) (λ x. fitting_names c (as_names x)) (λ ns. each_name next path ns s)
-      (subst (λ p. Left a b (asks (list_names (folder p)) (λ x. fitting_names c (as_names x))) stop) e l))
+      (left_asked a b stop (list_names (directory path)) (λ x. fitting_names c (as_names x)) (λ ns. each_name next path ns s)
+      (subst (λ p. Left a b (asks (list_names (directory p)) (λ x. fitting_names c (as_names x))) stop) e l))
 
   pub begun : (a b : Option (List Event)) (s : State) (next : List ℕ → Shell (List (List ℕ))) (whole : Shell (List (List ℕ))) (p : List ℕ) (items given found : List (String Global)) →
-      whole ≡ listed c next path → p ≡ path → Ran a b (asks (list_names (folder p)) (λ x. fitting_names c (as_names x))) (done_with (map string_bytes items)) → given ≡ items → found ≡ [] →
+      whole ≡ listed c next path → p ≡ path → Ran a b (asks (list_names (directory p)) (λ x. fitting_names c (as_names x))) (done_with (map string_bytes items)) → given ≡ items → found ≡ [] →
       Collected a b s (whole s) (each_name next path (map string_bytes given) s) (map string_bytes found)
   begun a b s next whole p items given found w e h g n =
       let names = map string_bytes given in
-      let listing : Ran a b (asks (list_names (folder path)) (λ x. fitting_names c (as_names x))) (done_with names) =
-      subst (λ l. Ran a b (asks (list_names (folder path)) (λ x. fitting_names c (as_names x))) (done_with (map string_bytes l))) (sym g)
-      (subst (λ p. Ran a b (asks (list_names (folder p)) (λ x. fitting_names c (as_names x))) (done_with (map string_bytes items))) e h) in
+      let listing : Ran a b (asks (list_names (directory path)) (λ x. fitting_names c (as_names x))) (done_with names) =
+      subst (λ l. Ran a b (asks (list_names (directory path)) (λ x. fitting_names c (as_names x))) (done_with (map string_bytes l))) (sym g)
+      (subst (λ p. Ran a b (asks (list_names (directory p)) (λ x. fitting_names c (as_names x))) (done_with (map string_bytes items))) e h) in
       let ran : Ran a b (listed c next path s) (each_name next path names s) =
-      ran_answered a b b (list_names (folder path)) (λ x. fitting_names c (as_names x)) names (λ ns. each_name next path ns s) (each_name next path names s) listing (ran_none b (each_name next path names s)) in
+      ran_answered a b b (list_names (directory path)) (λ x. fitting_names c (as_names x)) names (λ ns. each_name next path ns s) (each_name next path names s) listing (ran_none b (each_name next path names s)) in
       subst (λ f. Collected a b s (whole s) (each_name next path names s) (map string_bytes f)) (sym n)
       (collected_from s a b (whole s) (each_name next path names s) (subst (λ m. Ran a b (m s) (each_name next path names s)) (sym w) ran))
 

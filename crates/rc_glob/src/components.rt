@@ -1,7 +1,7 @@
 //! The components of a word, and the paths that they make.
 ghost use Rattle.std.specs.Prelude.{◌≡◌, ◌<◌, ◌++◌, ◌∷◌, [], true, length, map, string_bytes, IfOk, IfSome, OnOk};
 ghost use Rattle.rc_model.specs.Syntax.Words.{has_pattern, word_text};
-ghost use Rattle.rc_model.specs.Run.FileNames.{components, folder, listed, walk};
+ghost use Rattle.rc_model.specs.Run.FileNames.{components, directory, listed, walk};
 ghost use Rattle.rc_text.specs.Views.{marks};
 ghost use Rattle.rc_glob.specs.Paths.{components_of, paths_from};
 
@@ -62,7 +62,7 @@ pub(crate) fn advance<'a>(
 
 /// The directory with this path.
 pub(crate) fn directory(path: &str) -> &str
-    ensures { result.now ≡ folder path.now }
+    ensures { result.now ≡ directory path.now }
 {
     if path.is_empty() { "." } else { path }
 }

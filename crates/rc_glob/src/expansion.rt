@@ -5,7 +5,7 @@ ghost use Rattle.rc_model.specs.Syntax.Words.{has_pattern};
 ghost use Rattle.rc_model.specs.Run.Calls.{list_names, as_names};
 ghost use Rattle.rc_model.specs.Run.State.{State};
 ghost use Rattle.rc_model.specs.Run.Shell.{Next};
-ghost use Rattle.rc_model.specs.Run.FileNames.{components, expanded, expanded_word, fitting_names, folder, if_there};
+ghost use Rattle.rc_model.specs.Run.FileNames.{components, expanded, expanded_word, fitting_names, directory, if_there};
 ghost use Rattle.rc_model.specs.Run.FileNames.{walk};
 ghost use Rattle.rc_text.specs.Views.{marks};
 ghost use Rattle.rc_world.specs.Comes.{Asks, Comes};
@@ -25,7 +25,7 @@ fn listed<W: World>(
     path: &str,
     component: &[Ch],
 ) -> Result<Vec<String>, Stop>
-    ensures { Asks W.events world.old world.new (list_names (folder path.now))
+    ensures { Asks W.events world.old world.new (list_names (directory path.now))
         (λ a. fitting_names (marks component.now) (as_names a)) (λ names. map string_bytes names.items) result }
 {
     let given = calls::list(world, directory(path))?;

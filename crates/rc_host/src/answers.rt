@@ -20,7 +20,8 @@ const EXECUTE: u32 = 0o111;
 
 /// Waits until the child has ended, and says how it did.
 pub fn end_of(child: &mut Child) -> Result<Ending, Fault>
-    ensures told { IfOk result (λ ending. IsSomeAnd (child_status child.new) (λ status. ending ≡ ending_of status)) }
+    ensures recorded { IfOk result (λ ending.
+        IsSomeAnd (child_status child.new) (λ status. ending ≡ ending_of status)) }
     ensures answered { result ≢ Err Halt }
 {
     ended(child.wait())

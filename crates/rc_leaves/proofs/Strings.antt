@@ -5,7 +5,8 @@ use Rattle.std.specs.Str.{is_utf8}
 use Rattle.std.proofs.lemmas.Bool.{le-leb}
 use Rattle.std.proofs.lemmas.Str.{is_utf8-from_IsUtf8, IsUtf8-from_is_utf8}
 use Rattle.std.proofs.lemmas.Grind.{common_steps}
-use Rattle.rc_model.specs.Syntax.WellFormed.{without_zero, has_text}
+use Rattle.rc_model.specs.Syntax.Text.{without_zero}
+use Rattle.rc_model.specs.Syntax.WellFormed.{has_text}
 use Rattle.rc_model.specs.Handed.TreeReading.{ImageFault, BadLength}
 use Rattle.rc_soundness.proofs.Fitting.{zero_sought}
 use Rattle.rc_leaves.specs.Steps.{string_by}

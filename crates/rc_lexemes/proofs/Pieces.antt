@@ -2,9 +2,9 @@
 use Rattle.std.proofs.Common.{◌≡◌, ℕ, List, [], ◌∷◌, length, refl, ap, arith}
 use Rattle.rc_model.specs.Syntax.Tree.{Many, snoc}
 use Rattle.rc_model.specs.Syntax.Tree as t
-use Rattle.rc_model.specs.Syntax.HereDocs.{Begun, behind, ended_by, with_text, with_last, pieces_from}
+use Rattle.rc_model.specs.Syntax.HereDocs.{Begun, begun_after, ended_by, with_text, with_last, pieces_from}
 
-pub pieces_next : (begun : Begun) (pieces : Many t.piece) (all cs : List ℕ) (c : ℕ) → all ≡ c ∷ cs → pieces_from begun pieces all ≡ pieces_from (behind begun c) (ended_by begun c pieces) cs
+pub pieces_next : (begun : Begun) (pieces : Many t.piece) (all cs : List ℕ) (c : ℕ) → all ≡ c ∷ cs → pieces_from begun pieces all ≡ pieces_from (begun_after begun c) (ended_by begun c pieces) cs
 pieces_next begun pieces all cs c h = ap (pieces_from begun pieces) h
 
 pub pieces_end : (begun : Begun) (pieces : Many t.piece) (all : List ℕ) → all ≡ [] → pieces_from begun pieces all ≡ with_last begun pieces

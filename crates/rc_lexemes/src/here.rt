@@ -3,7 +3,7 @@
 ghost use Rattle.std.specs.Prelude.{◌≡◌, ◌++◌, IfOk, OnOk, string_bytes};
 ghost use Rattle.std.specs.Char.{encode_utf8};
 ghost use Rattle.rc_model.specs.Syntax.Tokens.{is_name_char};
-ghost use Rattle.rc_model.specs.Syntax.HereDocs.{behind, ended_by, with_text, with_last, pieces_of};
+ghost use Rattle.rc_model.specs.Syntax.HereDocs.{begun_after, ended_by, with_text, with_last, pieces_of};
 ghost use Rattle.rc_tree_types.specs.View.{pieces_tree};
 ghost use Rattle.rc_lexemes.specs.Begun.{begun_of};
 
@@ -52,7 +52,7 @@ fn with_char(mut text: String, c: char) -> Result<String, AllocError>
 /// What has begun after one more character. A piece that it ends is pushed.
 #[tactic(auto, using(rc_tree_types::specs::View::tree_lists))]
 fn next(alloc: Global, pieces: &mut Vec<Piece>, begun: Begun, c: char) -> Result<Begun, AllocError>
-    ensures begun { IfOk result (λ b. begun_of b ≡ behind (begun_of begun) c) }
+    ensures begun { IfOk result (λ b. begun_of b ≡ begun_after (begun_of begun) c) }
     ensures pieces { OnOk result (pieces_tree pieces.new.items
         ≡ ended_by (begun_of begun) c (pieces_tree pieces.old.items)) }
 {

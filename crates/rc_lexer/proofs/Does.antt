@@ -46,7 +46,7 @@ ends_does script end before after l start place c k old mid new r s d =
     emits script end (model.tokens_of (before_of before) l (place_of start) (place_of place))
     (reading.begin (model.as_before (before_of before) l) (model.due_after (before_of before) l (due_in old)) (place_of place) c k)
     old mid new r s.tokens s.bodies
-    (along script end mid new r _ _ (ap (λ b. reading.begin b (due_in mid) (place_of place) c k) s.behind
+    (along script end mid new r _ _ (ap (λ b. reading.begin b (due_in mid) (place_of place) c k) s.after_token
     ∙ ap (λ q. reading.begin (model.as_before (before_of before) l) q (place_of place) c k) s.due) d)
 
 -- a character that ends a word
@@ -86,11 +86,11 @@ name_does script end text start place c k old mid new r h e t kept d =
     (reading.ends model.DollarBefore (model.Name text) (place_of start) (due_in old) (place_of place) c k)) h
     ∙ ap (λ z. reading.ends model.DollarBefore (model.Name z) (place_of start) (due_in old) (place_of place) c k) e))
     (ends_does script end before.Dollar before.Name (model.Name text') start place c k old mid new r
-    (record { tokens = t script; due = ap (map due_of) kept.due; behind = refl; dollars = kept.dollars; bodies = kept.bodies }) d)
+    (record { tokens = t script; due = ap (map due_of) kept.due; after_token = refl; dollars = kept.dollars; bodies = kept.bodies }) d)
 
 -- after `$`s
-abbrev behind : Bool → Bool → List model.Token → List model.Due → model.Place → ℕ → model.Class → Step
-behind a b dollars due p c k =
+abbrev after_token : Bool → Bool → List model.Token → List model.Due → model.Place → ℕ → model.Class → Step
+after_token a b dollars due p c k =
     cond a (reading.emit dollars (reading.begin model.DollarBefore due p c k))
     (cond b (reading.goes [] (reading.Operator model.DollarBefore dollars p (c ∷ [])) due)
     (reading.emit (reading.bare dollars) (reading.begin model.Apart due p c k)))
@@ -100,7 +100,7 @@ pub named_does : (script : List ℕ) (end : ℕ) (place : Place) (c : ℕ) (k : 
     Does script end mid new r (reading.begin model.DollarBefore (due_in mid) (place_of place) c k) →
     Does script end old new r (reading.after_dollars (dollars_in script old) (due_in old) (place_of place) c k)
 named_does script end place c k old mid new r h s d =
-    along script end old new r _ _ (sym (ap (λ v. behind v (c == 36) (dollars_in script old) (due_in old) (place_of place) c k) h))
+    along script end old new r _ _ (sym (ap (λ v. after_token v (c == 36) (dollars_in script old) (due_in old) (place_of place) c k) h))
     (emits script end (dollars_in script old) (reading.begin model.DollarBefore (due_in old) (place_of place) c k) old mid new r (s.tokens script) s.bodies
     (along script end mid new r _ _ (ap (λ q. reading.begin model.DollarBefore (map due_of q) (place_of place) c k) s.due) d))
 
@@ -110,8 +110,8 @@ pub bare_does : (script : List ℕ) (end : ℕ) (place : Place) (c : ℕ) (k : m
     Does script end old new r (reading.after_dollars (dollars_in script old) (due_in old) (place_of place) c k)
 bare_does script end place c k old mid new r h n s d =
     along script end old new r _ _
-    (sym (ap (λ v. behind v (c == 36) (dollars_in script old) (due_in old) (place_of place) c k) h
-    ∙ ap (λ v. behind false v (dollars_in script old) (due_in old) (place_of place) c k) (no (c == 36) refl)))
+    (sym (ap (λ v. after_token v (c == 36) (dollars_in script old) (due_in old) (place_of place) c k) h
+    ∙ ap (λ v. after_token false v (dollars_in script old) (due_in old) (place_of place) c k) (no (c == 36) refl)))
     (emits script end (reading.bare (dollars_in script old)) (reading.begin model.Apart (due_in old) (place_of place) c k) old mid new r
     (s.tokens script) s.bodies
     (along script end mid new r _ _ (ap (λ q. reading.begin model.Apart (map due_of q) (place_of place) c k) s.due) d))

@@ -14,7 +14,7 @@ use Rattle.std.proofs.lemmas.List.{drop-drop}
 use Rattle.std.specs.Str.{bytes_eq}
 use Rattle.rc_lexer.specs.declared.Span.{Span}
 use Rattle.rc_lexer.specs.declared.machine.Due.{Due}
-use Rattle.rc_lexer.specs.Machine.{body_of, behind_first, line_of, state_of, due_behind, due_of, after_step}
+use Rattle.rc_lexer.specs.Machine.{body_of, after_first, line_of, state_of, due_after, due_of, after_step}
 use Rattle.std.specs.Char.{encode_utf8}
 
 -- the first of the here documents that are due
@@ -39,12 +39,12 @@ slices_join script a b c h k =
 pub other_line : (script : List ℕ) (body line place next : ℕ) (c : ℕ) (d : Due) (due : List Due) (ts : List model.Token) (bodies : List (List ℕ))
     (p : model.Place) → First d due → body ≤ line → line ≤ place →
     slice_range script body next ≡ slice_range script body place ++ encode_utf8 c → bytes_eq (slice_range script line place) d.mark.items ≡ false →
-    after_step ts bodies (reading.step (body_of due (slice_range script body line) (slice_range script line place)) (behind_first due) p c model.LineEnd)
-    ≡ Ok (ts, bodies, body_of due (slice_range script body next) (slice_range script next next), behind_first due)
+    after_step ts bodies (reading.step (body_of due (slice_range script body line) (slice_range script line place)) (after_first due) p c model.LineEnd)
+    ≡ Ok (ts, bodies, body_of due (slice_range script body next) (slice_range script next next), after_first due)
 other_line script body line place next c d due ts bodies p f h k e n =
-    subst (λ z. after_step ts bodies (reading.step (body_of z (slice_range script body line) (slice_range script line place)) (behind_first z) p c
+    subst (λ z. after_step ts bodies (reading.step (body_of z (slice_range script body line) (slice_range script line place)) (after_first z) p c
     model.LineEnd)
-    ≡ Ok (ts, bodies, body_of z (slice_range script body next) (slice_range script next next), behind_first z)) (sym f.is)
+    ≡ Ok (ts, bodies, body_of z (slice_range script body next) (slice_range script next next), after_first z)) (sym f.is)
     (ap (λ v. after_step ts bodies (ended v (due_of d) (slice_range script body line) (slice_range script line place) (map due_of f.rest) c)) n
     ∙ ap (λ z. Ok (
       z,
@@ -66,12 +66,12 @@ pub mark_line : (script : List ℕ) (body line place next : ℕ) (c : ℕ) (d : 
     (bodies : List (List ℕ)) (bodies' : List (List ℕ)) (p : model.Place) → First d due →
     bytes_eq (slice_range script line place) d.mark.items ≡ true → due' ≡ drop 1 due → s ≡ line_of due' next →
     bodies' ≡ bodies ++ slice_range script body line ∷ [] →
-    after_step ts bodies (reading.step (body_of due (slice_range script body line) (slice_range script line place)) (behind_first due) p c model.LineEnd)
-    ≡ Ok (ts, bodies', state_of script next dollars due' s, due_behind due' s)
+    after_step ts bodies (reading.step (body_of due (slice_range script body line) (slice_range script line place)) (after_first due) p c model.LineEnd)
+    ≡ Ok (ts, bodies', state_of script next dollars due' s, due_after due' s)
 mark_line script body line place next c d due due' s dollars ts bodies bodies' p f e g h b =
     let r : due' ≡ f.rest = g ∙ ap (drop 1) f.is in
     let is : s ≡ line_of f.rest next = h ∙ ap (λ z. line_of z next) r in
-    ap (λ z. after_step ts bodies (reading.step (body_of z (slice_range script body line) (slice_range script line place)) (behind_first z) p c
+    ap (λ z. after_step ts bodies (reading.step (body_of z (slice_range script body line) (slice_range script line place)) (after_first z) p c
     model.LineEnd)) f.is
     ∙ ap (λ v. after_step ts bodies (ended v (due_of d) (slice_range script body line) (slice_range script line place) (map due_of f.rest) c)) e
     ∙ line_step script next dollars f.rest ts [] bodies (slice_range script body line ∷ [])
@@ -79,11 +79,11 @@ mark_line script body line place next c d due due' s dollars ts bodies bodies' p
       z,
       bodies ++ slice_range script body line ∷ [],
       state_of script next dollars f.rest (line_of f.rest next),
-      due_behind f.rest (line_of f.rest next),
+      due_after f.rest (line_of f.rest next),
     )) (append-nil ts)
-    ∙ ap (λ z. Ok (ts, z, state_of script next dollars f.rest (line_of f.rest next), due_behind f.rest (line_of f.rest next))) (sym b)
-    ∙ ap (λ z. Ok (ts, bodies', state_of script next dollars f.rest z, due_behind f.rest z)) (sym is)
-    ∙ ap (λ z. Ok (ts, bodies', state_of script next dollars z s, due_behind z s)) (sym r)
+    ∙ ap (λ z. Ok (ts, z, state_of script next dollars f.rest (line_of f.rest next), due_after f.rest (line_of f.rest next))) (sym b)
+    ∙ ap (λ z. Ok (ts, bodies', state_of script next dollars f.rest z, due_after f.rest z)) (sym is)
+    ∙ ap (λ z. Ok (ts, bodies', state_of script next dollars z s, due_after z s)) (sym r)
 
 pub bodies_pushed : (script : List ℕ) (old new : List Span) (t : Span) → new ≡ old ++ t ∷ [] →
     map (slice_at script) new ≡ map (slice_at script) old ++ slice_at script t ∷ []

@@ -144,7 +144,7 @@ plain_does script end before after q place kind meant o c k old mid new r e a b 
     (record {
       tokens = ts script ∙ ap (λ z. tokens_in script old ++ z) (sym (tokens_apart (before_of before) l (place_of q) (place_of place) h));
       due = ap (map due_of) kept.due ∙ sym (due_apart (before_of before) l (due_in old) h);
-      behind = n script slice;
+      after_token = n script slice;
       dollars = kept.dollars;
       bodies = kept.bodies;
     }) d))

@@ -77,14 +77,14 @@ state_of script end dollars due (Operator b) =
 state_of script end dollars due (Body b l) = body_of due (slice_range script b l) (slice_range script l end)
 
 -- the here documents that are due after the one whose body is read
-abbrev pub behind_first : List Due → List model.Due
-behind_first [] = []
-behind_first (d ∷ due) = map due_of due
+abbrev pub after_first : List Due → List model.Due
+after_first [] = []
+after_first (d ∷ due) = map due_of due
 
 -- the here documents that are due besides the one whose body is read, if one is
-abbrev pub due_behind : List Due → State → List model.Due
-due_behind due (Body b l) = behind_first due
-due_behind due s = map due_of due
+abbrev pub due_after : List Due → State → List model.Due
+due_after due (Body b l) = after_first due
+due_after due s = map due_of due
 
 -- the state of a lexer that has read this many bytes of the script
 abbrev pub state_in : List ℕ → ℕ → Lexer → State → reading.State
@@ -92,7 +92,7 @@ state_in script end l s = state_of script end (dollars_in script l) l.due.items 
 
 -- the here documents that a lexer in this state has still to read after that one
 abbrev pub due_left : Lexer → State → List model.Due
-due_left l s = due_behind l.due.items s
+due_left l s = due_after l.due.items s
 
 -- the state says what stands in the script before this byte
 abbrev pub Stands : List ℕ → ℕ → State → Type 0
@@ -135,7 +135,7 @@ pub record Spelled (script : List ℕ) (before after : Before) (l : model.Lexeme
   pub tokens : tokens_in script new ≡ tokens_in script old
       ++ model.tokens_of (before_of before) l (place_of p) (place_of q)
   pub due : due_in new ≡ model.due_after (before_of before) l (due_in old)
-  pub behind : before_of after ≡ model.as_before (before_of before) l
+  pub after_token : before_of after ≡ model.as_before (before_of before) l
   pub dollars : new.dollars.items ≡ old.dollars.items
   pub bodies : new.bodies.items ≡ old.bodies.items
 

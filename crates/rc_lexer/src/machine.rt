@@ -156,7 +156,7 @@ fn begins_name(before: Before, c: char) -> bool
 }
 
 /// What the token is for what follows.
-fn behind(before: Before, kind: TokenKind) -> Before
+fn after_token(before: Before, kind: TokenKind) -> Before
     ensures { (script text : List ℕ) → before_of result
         ≡ model.as_before (before_of before) (lexeme_of script kind text) }
 {
@@ -405,7 +405,7 @@ impl Lexer {
             return Ok(Before::Apart);
         }
         self.lexeme(begun.before, TokenKind::Word, begun.start, stop)?;
-        Ok(behind(begun.before, TokenKind::Word))
+        Ok(after_token(begun.before, TokenKind::Word))
     }
 
     /// A quoted word, and what it is for what follows.
@@ -422,7 +422,7 @@ impl Lexer {
             return Ok(Before::Apart);
         }
         self.lexeme(begun.before, TokenKind::Quoted, begun.start, stop)?;
-        Ok(behind(begun.before, TokenKind::Quoted))
+        Ok(after_token(begun.before, TokenKind::Quoted))
     }
 
     /// The character after a word that is read so far.
@@ -558,7 +558,7 @@ impl Lexer {
             _ => {
                 let meant = meant(begun.before, kind);
                 self.lexeme(begun.before, meant, begun.start, head.place)?;
-                self.begin(script, behind(begun.before, meant), head)
+                self.begin(script, after_token(begun.before, meant), head)
             }
         }
     }

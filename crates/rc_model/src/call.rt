@@ -38,6 +38,13 @@ pub struct Slots {
     pub errors: Slot,
 }
 
+/// The descriptors as a shell finds them: each is its own.
+pub const PLAIN_SLOTS: Slots = Slots {
+    input: Slot::Own(0),
+    output: Slot::Own(1),
+    errors: Slot::Own(2),
+};
+
 /// How a file is opened. `Write` creates the file, or cuts it to nothing.
 #[derive(Clone, Copy, PartialEq)]
 pub enum Mode {

@@ -9,8 +9,14 @@ pub const MOST_LEVELS: usize = 200;
 /// The most stages of a pipeline.
 pub const MOST_STAGES: usize = 64;
 
+/// The most bytes of the output that a backquote takes.
+pub const LONGEST_OUTPUT: usize = 16_777_216;
+
 /// The most bytes of one read.
 pub const LONGEST_READ: usize = 4096;
 
 /// The most bytes of an argument or an entry of a launch.
 pub const LONGEST_ARGUMENT: usize = 100_000;
+
+/// The most instructions that a run of the program takes.
+pub const MOST_INSTRUCTIONS: u64 = 1 << 62;

@@ -9,7 +9,7 @@ use Rattle.rc_model.specs.Syntax.Tree.{Node, cmd}
 use Rattle.rc_model.specs.Syntax.WellFormed.{depth, most_stages, is_sound}
 use Rattle.rc_model.specs.Syntax.Accepted.{HasTokens, IsAccepted, IsRefused, lexemes, longest_script}
 use Rattle.rc_model.specs.Syntax.Accepted as script
-use Rattle.rc_model.specs.Syntax.Grammar.{IsScript}
+use Rattle.rc_model.specs.Syntax.Grammar.{HaveTree}
 use Rattle.rc_model.specs.Syntax.Grammar as grammar
 use Rattle.law_acceptance.proofs.Decided.{are_spelled, same_tokens}
 use Rattle.rc_model.specs.declared.fault.SyntaxFault.{SyntaxFault}
@@ -49,23 +49,23 @@ tokens_refused bytes text (Err (error.Fault f)) e short utf8 read = has_fault by
 tokens_refused bytes text (Err error.NoMemory) e short utf8 read = tt
 
 -- the tree of a script's tokens is the script's tree, and its only one
-pub is_accepted : (text : List ℕ) (tokens : List Token) (ts : List t.Lexeme) (tree : Node cmd) → HasTokens text tokens → ts ≡ lexemes tokens → grammar.IsAccepted ts tree → IsAccepted text tree
-is_accepted text tokens ts tree h e a = record { tokens = tokens; has = h; tree_is = subst (λ z. grammar.IsAccepted z tree) e a }
+pub is_accepted : (text : List ℕ) (tokens : List Token) (ts : List t.Lexeme) (tree : Node cmd) → HasTokens text tokens → ts ≡ lexemes tokens → grammar.HaveAcceptedTree ts tree → IsAccepted text tree
+is_accepted text tokens ts tree h e a = record { tokens = tokens; has = h; tree_is = subst (λ z. grammar.HaveAcceptedTree z tree) e a }
 
 pub has_no_other : (text : List ℕ) (tokens : List Token) (ts : List t.Lexeme) (tree : Node cmd) → HasTokens text tokens → ts ≡ lexemes tokens →
-    ((other : Node cmd) → IsScript ts other → other ≡ tree) → (other : Node cmd) → IsAccepted text other → other ≡ tree
-has_no_other text tokens ts tree h e only other a = only other (subst (λ z. IsScript z other) (ap lexemes (same_tokens a.has h) ∙ sym e) a.tree_is.script)
+    ((other : Node cmd) → HaveTree ts other → other ≡ tree) → (other : Node cmd) → IsAccepted text other → other ≡ tree
+has_no_other text tokens ts tree h e only other a = only other (subst (λ z. HaveTree z other) (ap lexemes (same_tokens a.has h) ∙ sym e) a.tree_is.script)
 
 -- what the descent says of its faults
 pub record Says (ts : List t.Lexeme) (fault : Fault) : Type 0 where
-  pub none : (fault ≡ descent.Unexpected) ⊎ (fault ≡ descent.IfNot) → (tree : Node cmd) → IsScript ts tree → ⊥
-  pub stages : fault ≡ descent.TooManyStages → (tree : Node cmd) → IsScript ts tree → 64 < most_stages tree
-  pub levels : fault ≡ descent.TooDeep → (tree : Node cmd) → IsScript ts tree → 200 < depth tree
+  pub none : (fault ≡ descent.Unexpected) ⊎ (fault ≡ descent.IfNot) → (tree : Node cmd) → HaveTree ts tree → ⊥
+  pub stages : fault ≡ descent.TooManyStages → (tree : Node cmd) → HaveTree ts tree → 64 < most_stages tree
+  pub levels : fault ≡ descent.TooDeep → (tree : Node cmd) → HaveTree ts tree → 200 < depth tree
 
 pub says : (o : Result Cmd TokenError) (ts : List t.Lexeme) (found : TokenFault) → o ≡ Err (error.Fault found) →
-    (HasFault o descent.Unexpected ⊎ HasFault o descent.IfNot → (tree : Node cmd) → IsScript ts tree → ⊥) →
-    (HasFault o descent.TooManyStages → (tree : Node cmd) → IsScript ts tree → 64 < most_stages tree) →
-    (HasFault o descent.TooDeep → (tree : Node cmd) → IsScript ts tree → 200 < depth tree) → Says ts found.fault
+    (HasFault o descent.Unexpected ⊎ HasFault o descent.IfNot → (tree : Node cmd) → HaveTree ts tree → ⊥) →
+    (HasFault o descent.TooManyStages → (tree : Node cmd) → HaveTree ts tree → 64 < most_stages tree) →
+    (HasFault o descent.TooDeep → (tree : Node cmd) → HaveTree ts tree → 200 < depth tree) → Says ts found.fault
 says o ts found e none stages levels = record { none = λ h. none (either h); stages = λ h. stages (at h); levels = λ h. levels (at h) }
   where
     at : {other : Fault} → found.fault ≡ other → HasFault o other
@@ -79,11 +79,11 @@ says o ts found e none stages levels = record { none = λ h. none (either h); st
 pub is_refused : (text : List ℕ) (tokens : List Token) (ts : List t.Lexeme) (fault : Fault) (f : SyntaxFault) → HasTokens text tokens → ts ≡ lexemes tokens → Says ts fault →
     IsPlaced text tokens fault f → IsRefused text f
 is_refused text tokens ts descent.Unexpected f h e says p =
-    subst (IsRefused text) (sym p.0) (script.unexpected tokens f.line h p.1 (λ tree s. says.none (inl refl) tree (subst (λ z. IsScript z tree) (sym e) s)))
+    subst (IsRefused text) (sym p.0) (script.unexpected tokens f.line h p.1 (λ tree s. says.none (inl refl) tree (subst (λ z. HaveTree z tree) (sym e) s)))
 is_refused text tokens ts descent.IfNot f h e says p =
-    subst (IsRefused text) (sym p.0) (script.if_not tokens f.line h p.1 (λ tree s. says.none (inr refl) tree (subst (λ z. IsScript z tree) (sym e) s)))
+    subst (IsRefused text) (sym p.0) (script.if_not tokens f.line h p.1 (λ tree s. says.none (inr refl) tree (subst (λ z. HaveTree z tree) (sym e) s)))
 is_refused text tokens ts descent.TooDeep f h e says p =
     subst (IsRefused text) (sym p) (script.too_deep tokens h
-    (λ tree s. says.levels refl tree (subst (λ z. IsScript z tree) (sym e) s)))
+    (λ tree s. says.levels refl tree (subst (λ z. HaveTree z tree) (sym e) s)))
 is_refused text tokens ts descent.TooManyStages f h e says p =
-    subst (IsRefused text) (sym p.0) (script.too_many_stages tokens f.line h p.1 (λ tree s. says.stages refl tree (subst (λ z. IsScript z tree) (sym e) s)))
+    subst (IsRefused text) (sym p.0) (script.too_many_stages tokens f.line h p.1 (λ tree s. says.stages refl tree (subst (λ z. HaveTree z tree) (sym e) s)))

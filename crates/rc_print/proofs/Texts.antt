@@ -10,7 +10,7 @@ use Rattle.rc_model.specs.Syntax.Printing.{Line, joined, ended, parting, listed,
 use Rattle.rc_model.specs.Syntax.Tree.{is_empty}
 use Rattle.rc_model.specs.Syntax.Printing.{cmd_text, arg_text, redir_text, arg_texts, pair_texts, redir_texts, stages_text, links_text}
 use Rattle.rc_model.specs.Syntax.Printing.{item_lines, branch_lines, branch_items}
-use Rattle.rc_print.specs.Lines.{led, trailed, behind, parting_after}
+use Rattle.rc_print.specs.Lines.{led, trailed, lines_after, parting_after}
 use Rattle.rc_tree_types.specs.View.{tree_nodes}
 
 -- joined texts, and those after a first one
@@ -32,17 +32,17 @@ unfolding lib.Utf8.encode
 space_is_text = (codes " ", (refl, refl))
 
 -- the lines of a list
-pub behind-listed : (lines : List Line) → behind [] lines ≡ listed lines
-behind-listed [] = refl
-behind-listed (line ∷ []) = append-nil (ended line)
-behind-listed (line ∷ next ∷ lines) = ap (λ l. ended line ++ (parting line ++ l)) (behind-listed (next ∷ lines))
+pub lines_after-listed : (lines : List Line) → lines_after [] lines ≡ listed lines
+lines_after-listed [] = refl
+lines_after-listed (line ∷ []) = append-nil (ended line)
+lines_after-listed (line ∷ next ∷ lines) = ap (λ l. ended line ++ (parting line ++ l)) (lines_after-listed (next ∷ lines))
 
-pub behind-append : (between : List ℕ) (xs ys : List Line) → behind between (xs ++ ys) ≡ behind between xs ++ behind (parting_after between xs) ys
-behind-append between [] ys = refl
-behind-append between (x ∷ xs) ys =
-    ap (λ l. between ++ (ended x ++ l)) (behind-append (parting x) xs ys)
-    ∙ ap (λ l. between ++ l) (sym (append_assoc (ended x) (behind (parting x) xs) (behind (parting_after (parting x) xs) ys)))
-    ∙ sym (append_assoc between (ended x ++ behind (parting x) xs) (behind (parting_after (parting x) xs) ys))
+pub lines_after-append : (between : List ℕ) (xs ys : List Line) → lines_after between (xs ++ ys) ≡ lines_after between xs ++ lines_after (parting_after between xs) ys
+lines_after-append between [] ys = refl
+lines_after-append between (x ∷ xs) ys =
+    ap (λ l. between ++ (ended x ++ l)) (lines_after-append (parting x) xs ys)
+    ∙ ap (λ l. between ++ l) (sym (append_assoc (ended x) (lines_after (parting x) xs) (lines_after (parting_after (parting x) xs) ys)))
+    ∙ sym (append_assoc between (ended x ++ lines_after (parting x) xs) (lines_after (parting_after (parting x) xs) ys))
 
 pub parting_after-append : (between : List ℕ) (xs ys : List Line) → parting_after between (xs ++ ys) ≡ parting_after (parting_after between xs) ys
 parting_after-append between [] ys = refl
@@ -52,9 +52,9 @@ pub cmd_text_Empty : (begins : Bool) → cmd_text t.Empty begins ≡ []
 unfolding cmd_text
 cmd_text_Empty begins = refl
 
-pub cmd_text_Seq : (items : Many t.item) (begins : Bool) → cmd_text (t.Seq items) begins ≡ behind [] (item_lines items begins false)
+pub cmd_text_Seq : (items : Many t.item) (begins : Bool) → cmd_text (t.Seq items) begins ≡ lines_after [] (item_lines items begins false)
 unfolding cmd_text
-cmd_text_Seq items begins = sym (behind-listed (item_lines items begins false))
+cmd_text_Seq items begins = sym (lines_after-listed (item_lines items begins false))
 
 pub cmd_text_Simple : (words : Many t.arg) (begins : Bool) → cmd_text (t.Simple words) begins ≡ led [] (codes " ") (arg_texts words)
 unfolding cmd_text
@@ -103,9 +103,9 @@ unfolding cmd_text
 cmd_text_For name words body begins = rw led-joined refl
 
 pub cmd_text_Switch : (subject : Node t.arg) (branches : Many t.branch) (begins : Bool) → cmd_text (t.Switch subject branches) begins ≡
-    codes "switch " ++ (arg_text subject ++ (codes " {" ++ (behind [] (branch_lines branches) ++ codes "}")))
+    codes "switch " ++ (arg_text subject ++ (codes " {" ++ (lines_after [] (branch_lines branches) ++ codes "}")))
 unfolding cmd_text
-cmd_text_Switch subject branches begins = rw behind-listed refl
+cmd_text_Switch subject branches begins = rw lines_after-listed refl
 
 pub cmd_text_Match : (subject : Node t.arg) (patterns : Many t.arg) (begins : Bool) → cmd_text (t.Match subject patterns) begins ≡
     codes "~ " ++ (arg_text subject ++ led (codes " ") (codes " ") (arg_texts patterns))
@@ -313,7 +313,7 @@ pub ruleset writing = (
   redirect_alone,
   redirect_after,
   redirect_before,
-  behind-append,
+  lines_after-append,
   parting_after-append,
   tree_nodes,
   common_steps,

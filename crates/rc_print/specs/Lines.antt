@@ -13,9 +13,9 @@ trailed [] = []
 trailed (t ∷ ts) = t ++ (codes " " ++ trailed ts)
 
 -- `between` stands before the first line
-abbrev pub behind : (between : List ℕ) → List Line → List ℕ
-behind between [] = []
-behind between (line ∷ lines) = between ++ (ended line ++ behind (parting line) lines)
+abbrev pub lines_after : (between : List ℕ) → List Line → List ℕ
+lines_after between [] = []
+lines_after between (line ∷ lines) = between ++ (ended line ++ lines_after (parting line) lines)
 
 -- what stands between these lines and the next one
 abbrev pub parting_after : (between : List ℕ) → List Line → List ℕ

@@ -5,7 +5,7 @@ ghost use Rattle.rc_model.specs.Syntax.Printing.{printed, has_here, cmd_text, ar
 ghost use Rattle.rc_model.specs.Syntax.Printing.{pair_texts, redir_texts};
 ghost use Rattle.rc_model.specs.Syntax.Printing.{stages_text, links_text, item_lines, branch_lines, branch_items};
 ghost use Rattle.rc_model.specs.Syntax.Printing.{body_lines};
-ghost use Rattle.rc_print.specs.Lines.{led, trailed, behind, parting_after};
+ghost use Rattle.rc_print.specs.Lines.{led, trailed, lines_after, parting_after};
 ghost use Rattle.rc_tree_types.specs.View.{cmd_tree, arg_tree, redir_tree};
 ghost use Rattle.rc_tree_types.specs.View.{args_tree, items_tree, pairs_tree, redirs_tree, stages_tree, links_tree};
 ghost use Rattle.rc_tree_types.specs.View.{branches_tree};
@@ -290,7 +290,7 @@ fn print_items<'a>(
     others: bool,
 ) -> Result<&'a str, AllocError>
     ensures written { OnOk result
-        (string_bytes out.new ≡ string_bytes out.old ++ behind between.now
+        (string_bytes out.new ≡ string_bytes out.old ++ lines_after between.now
         (item_lines (items_tree items.now) begins others)) }
     ensures after { IfOk result (λ text. text.now
         ≡ parting_after between.now (item_lines (items_tree items.now) begins others)) }
@@ -313,7 +313,7 @@ fn print_items<'a>(
 #[tactic(auto, using(crate::proofs::Texts::writing))]
 fn print_branches(out: &mut String, branches: &[Branch]) -> Result<(), AllocError>
     ensures { OnOk result
-        (string_bytes out.new ≡ string_bytes out.old ++ behind [] (branch_lines (branches_tree branches.now))) }
+        (string_bytes out.new ≡ string_bytes out.old ++ lines_after [] (branch_lines (branches_tree branches.now))) }
 {
     let mut between = "";
     for x in branches {
@@ -332,7 +332,7 @@ fn print_body(out: &mut String, body: &Cmd) -> Result<&'static str, AllocError>
     ensures written { OnOk result
         (string_bytes out.new
         ≡ string_bytes out.old
-        ++ behind (codes "; ")
+        ++ lines_after (codes "; ")
         (body_lines (cmd_tree body.now) (branch_items (cmd_tree body.now)) (cmd_text (cmd_tree body.now) true))) }
     ensures after { IfOk result
         (λ text. text.now

@@ -5,10 +5,11 @@ use Rattle.std.proofs.lemmas.Bool.Decides.{nat_tests}
 use Rattle.std.proofs.lemmas.Grind.{common_steps}
 use Rattle.rc_model.specs.declared.call.Mode.{Mode}
 use Rattle.rc_model.specs.declared.syntax.Logic.{Logic}
+use Rattle.rc_model.specs.Syntax.Text.{without_zero}
 use Rattle.rc_model.specs.Syntax.Tree.{Sort, Node, Many, none, more, count, nodes}
 use Rattle.rc_model.specs.Syntax.Tree as t
 use Rattle.rc_model.specs.Syntax.WellFormed.{depth, depths, is_sound, are_sound, has_some, has_several, has_stages}
-use Rattle.rc_model.specs.Syntax.WellFormed.{is_output, opens, copies, has_text, without_zero}
+use Rattle.rc_model.specs.Syntax.WellFormed.{is_output, opens, copies, has_text}
 use Rattle.rc_tree_types.specs.View.{tree_nodes}
 use Rattle.rc_soundness.specs.Fits.{fits, all_fit}
 

@@ -1,7 +1,8 @@
 //! Which trees are well formed.
 
 ghost use Rattle.std.specs.Prelude.{◌≡◌};
-ghost use Rattle.rc_model.specs.Syntax.WellFormed.{well_formed, is_output, opens, copies, without_zero, are_sound};
+ghost use Rattle.rc_model.specs.Syntax.Text.{without_zero};
+ghost use Rattle.rc_model.specs.Syntax.WellFormed.{well_formed, is_output, opens, copies, are_sound};
 ghost use Rattle.rc_tree_types.specs.View.{cmd_tree, arg_tree, redir_tree, pieces_tree};
 ghost use Rattle.rc_tree_types.specs.View.{args_tree, items_tree, pairs_tree, redirs_tree, stages_tree, links_tree};
 ghost use Rattle.rc_tree_types.specs.View.{branches_tree};

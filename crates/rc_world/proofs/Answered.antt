@@ -5,7 +5,7 @@ use Rattle.std.specs.declared.alloc.Global.{Global}
 use Rattle.std.specs.Prelude.{Bool, true, false, if◌then◌else◌}
 use Rattle.std.proofs.lemmas.Bool.{le-leb}
 use Rattle.rc_model.specs.Run.Calls.{Call, Answer, Event, file, pair, done, bytes, child, ended}
-use Rattle.rc_model.specs.Run.Calls.{names, found, refused, extend, told_by, was_made, is_halt, want, taken_as, Want}
+use Rattle.rc_model.specs.Run.Calls.{names, found, refused, extend, recorded_by, was_made, is_halt, want, taken_as, Want}
 use Rattle.rc_model.specs.Run.Calls.{WantsFile, WantsPair, WantsDone, WantsBytes, WantsChild, WantsEnding, WantsNames, WantsKind}
 use Rattle.rc_model.specs.Run.Calls.{as_file, as_pair, as_done, as_bytes, as_child, as_ending, as_names, as_kind}
 use Rattle.rc_model.specs.Run.Plans.{Plan, done_with, asks, Ran}
@@ -41,7 +41,7 @@ record Gives {V : Type 0} (c : Call) (seen : Answer → V) (x : Answer) (v : V) 
   viewed : seen x ≡ v
 
 ran_asks : {V : Type 0} (a b : Option (List Event)) (c : Call) (seen : Answer → V) (x : Answer) (v : V) →
-    Gives c seen x v → b ≡ extend a (told_by c x) → Ran a b (asks c seen) (done_with v)
+    Gives c seen x v → b ≡ extend a (recorded_by c x) → Ran a b (asks c seen) (done_with v)
 ran_asks {V = V} a b c seen x v g h =
     let P : V → Type 0 = λ v. Ran a b (asks c seen) (done_with v) in
     subst P g.viewed (ran_call a b c x (λ x. done_with (seen x)) g.made (record { came = g.came; fits = g.fits }) h)
@@ -49,13 +49,13 @@ ran_asks {V = V} a b c seen x v g h =
 -- a refusal, by a fault that is neither a halt nor memory that was refused
 ran_refused : {V : Type 0} (a b : Option (List Event)) (c : Call) (seen : Answer → V) (f : Fault) (v : V) →
     was_made (refused f) ≡ true → is_halt (refused f) ≡ false → taken_as WantsFile (refused f) ≡ refused f → seen (refused f) ≡ v →
-    b ≡ extend a (told_by c (refused f)) → Ran a b (asks c seen) (done_with v)
+    b ≡ extend a (recorded_by c (refused f)) → Ran a b (asks c seen) (done_with v)
 ran_refused a b c seen f v made came fits viewed h =
     ran_asks a b c seen (refused f) v (record { made = made; came = came; fits = same_refusal (want c) f ∙ fits; viewed = viewed }) h
 
 -- the refusal of a call
 refusal_comes : {T V : Type 0} (a b : Option (List Event)) (c : Call) (seen : Answer → V) (view : Option T → V) (f : Fault) →
-    ((f : Fault) → seen (refused f) ≡ view None) → b ≡ extend a (told_by c (refused f)) →
+    ((f : Fault) → seen (refused f) ≡ view None) → b ≡ extend a (recorded_by c (refused f)) →
     Comes a b (asks c seen) view (unless_refused (Err f))
 refusal_comes a b c seen view Halt n h = left_halt a b c (λ x. done_with (seen x)) h
 refusal_comes a b c seen view NoMemory n h = left_no_memory a b (asks c seen) h
@@ -68,7 +68,7 @@ refusal_comes a b c seen view Other n h = ran_refused a b c seen Other (view Non
 
 came_to : {T V : Type 0} (a b : Option (List Event)) (c : Call) (good : T → Answer) (seen : Answer → V) (view : Option T → V) (r : Result T Fault) →
     ((x : T) → r ≡ Ok x → Gives c seen (good x) (view (Some x))) → ((f : Fault) → seen (refused f) ≡ view None) →
-    b ≡ extend a (told_by c (answer_or_refused good r)) → Comes a b (asks c seen) view (unless_refused r)
+    b ≡ extend a (recorded_by c (answer_or_refused good r)) → Comes a b (asks c seen) view (unless_refused r)
 came_to a b c good seen view (Ok x) g n h = ran_asks a b c seen (good x) (view (Some x)) (g x refl) h
 came_to a b c good seen view (Err f) g n h = refusal_comes a b c seen view f n h
 
@@ -78,28 +78,28 @@ ends_so {T = T} a b plan view r s e h = let P : Result T Stop → Type 0 = λ s.
 
 -- the calls, by the kind of their answers
 pub file_comes : (a b : Option (List Event)) (c : Call) (r : Result Handle Fault) (s : Result (Option Handle) Stop) →
-    want c ≡ WantsFile → b ≡ extend a (told_by c (file_answer r)) → s ≡ unless_refused r → Comes a b (asks c as_file) (option_map (λ x. x.0)) s
+    want c ≡ WantsFile → b ≡ extend a (recorded_by c (file_answer r)) → s ≡ unless_refused r → Comes a b (asks c as_file) (option_map (λ x. x.0)) s
 file_comes a b c r s w h e =
     ends_so a b (asks c as_file) (option_map (λ x. x.0)) (unless_refused r) s e
     (came_to a b c (λ x. file x.0) as_file (option_map (λ x. x.0)) r
     (λ x o. record { made = refl; came = refl; fits = ap (λ w. taken_as w (file x.0)) w; viewed = refl }) (λ f. refl) h)
 
 pub pair_comes : (a b : Option (List Event)) (c : Call) (r : Result (Handle × Handle) Fault) (s : Result (Option (Handle × Handle)) Stop) →
-    want c ≡ WantsPair → b ≡ extend a (told_by c (pair_answer r)) → s ≡ unless_refused r → Comes a b (asks c as_pair) (option_map (λ x. (x.0.0, x.1.0))) s
+    want c ≡ WantsPair → b ≡ extend a (recorded_by c (pair_answer r)) → s ≡ unless_refused r → Comes a b (asks c as_pair) (option_map (λ x. (x.0.0, x.1.0))) s
 pair_comes a b c r s w h e =
     ends_so a b (asks c as_pair) (option_map (λ x. (x.0.0, x.1.0))) (unless_refused r) s e
     (came_to a b c (λ x. pair x.0.0 x.1.0) as_pair (option_map (λ x. (x.0.0, x.1.0))) r
     (λ x o. record { made = refl; came = refl; fits = ap (λ w. taken_as w (pair x.0.0 x.1.0)) w; viewed = refl }) (λ f. refl) h)
 
 pub child_comes : (a b : Option (List Event)) (c : Call) (r : Result ChildNo Fault) (s : Result (Option ChildNo) Stop) →
-    want c ≡ WantsChild → b ≡ extend a (told_by c (child_answer r)) → s ≡ unless_refused r → Comes a b (asks c as_child) (option_map (λ x. x.0)) s
+    want c ≡ WantsChild → b ≡ extend a (recorded_by c (child_answer r)) → s ≡ unless_refused r → Comes a b (asks c as_child) (option_map (λ x. x.0)) s
 child_comes a b c r s w h e =
     ends_so a b (asks c as_child) (option_map (λ x. x.0)) (unless_refused r) s e
     (came_to a b c (λ x. child x.0) as_child (option_map (λ x. x.0)) r
     (λ x o. record { made = refl; came = refl; fits = ap (λ w. taken_as w (child x.0)) w; viewed = refl }) (λ f. refl) h)
 
 pub ending_comes : (a b : Option (List Event)) (c : Call) (r : Result Ending Fault) (s : Result (Option Ending) Stop) →
-    want c ≡ WantsEnding → b ≡ extend a (told_by c (ending_answer r)) → s ≡ unless_refused r → Comes a b (asks c as_ending) (λ x. x) s
+    want c ≡ WantsEnding → b ≡ extend a (recorded_by c (ending_answer r)) → s ≡ unless_refused r → Comes a b (asks c as_ending) (λ x. x) s
 ending_comes a b c r s w h e =
     ends_so a b (asks c as_ending) (λ x. x) (unless_refused r) s e
     (came_to a b c (λ x. ended x) as_ending (λ x. x) r
@@ -107,7 +107,7 @@ ending_comes a b c r s w h e =
 
 pub names_comes : (a b : Option (List Event)) (c : Call)
     (r : Result (Vec (String Global) Global) Fault) (s : Result (Option (Vec (String Global) Global)) Stop) →
-    want c ≡ WantsNames → b ≡ extend a (told_by c (names_answer r)) → s ≡ unless_refused r →
+    want c ≡ WantsNames → b ≡ extend a (recorded_by c (names_answer r)) → s ≡ unless_refused r →
     Comes a b (asks c as_names) (option_map (λ x. map string_bytes x.items)) s
 names_comes a b c r s w h e =
     ends_so a b (asks c as_names) (option_map (λ x. map string_bytes x.items)) (unless_refused r) s e
@@ -115,7 +115,7 @@ names_comes a b c r s w h e =
     (λ x o. record { made = refl; came = refl; fits = ap (λ w. taken_as w (names (map string_bytes x.items))) w; viewed = refl }) (λ f. refl) h)
 
 pub kind_comes : (a b : Option (List Event)) (c : Call) (r : Result Kind Fault) (s : Result (Option Kind) Stop) →
-    want c ≡ WantsKind → b ≡ extend a (told_by c (kind_answer r)) → s ≡ unless_refused r → Comes a b (asks c as_kind) (λ x. x) s
+    want c ≡ WantsKind → b ≡ extend a (recorded_by c (kind_answer r)) → s ≡ unless_refused r → Comes a b (asks c as_kind) (λ x. x) s
 kind_comes a b c r s w h e =
     ends_so a b (asks c as_kind) (λ x. x) (unless_refused r) s e
     (came_to a b c (λ x. found x) as_kind (λ x. x) r
@@ -131,7 +131,7 @@ fits_read x l =
     ap (λ m. if m then bytes x.items else refused Other) (le-leb (length x.items) 4096 short)
 
 pub bytes_comes : (a b : Option (List Event)) (c : Call) (r : Result (Vec ℕ Global) Fault) (s : Result (Option (Vec ℕ Global)) Stop) →
-    want c ≡ WantsBytes → IfOk r (λ x. vec_len x ≤ 4096) → b ≡ extend a (told_by c (bytes_answer r)) → s ≡ unless_refused r →
+    want c ≡ WantsBytes → IfOk r (λ x. vec_len x ≤ 4096) → b ≡ extend a (recorded_by c (bytes_answer r)) → s ≡ unless_refused r →
     Comes a b (asks c as_bytes) (option_map (λ x. x.items)) s
 bytes_comes a b c r s w l h e =
     ends_so a b (asks c as_bytes) (option_map (λ x. x.items)) (unless_refused r) s e
@@ -152,6 +152,6 @@ done_to a b plan (Err Halt) h = h
 done_to a b plan (Err NoMemory) h = h
 
 pub done_comes : (a b : Option (List Event)) (c : Call) (r : Result (Unit {0}) Fault) (s : Result Bool Stop) →
-    want c ≡ WantsDone → b ≡ extend a (told_by c (done_answer r)) → s ≡ was_done r → Comes a b (asks c as_done) (λ x. x) s
+    want c ≡ WantsDone → b ≡ extend a (recorded_by c (done_answer r)) → s ≡ was_done r → Comes a b (asks c as_done) (λ x. x) s
 done_comes a b c r s w h e = ends_so a b (asks c as_done) (λ x. x) (was_done r) s e (done_to a b (asks c as_done) r (came_to a b c (λ x. done) as_done is_some r
     (λ x o. record { made = refl; came = refl; fits = ap (λ w. taken_as w done) w; viewed = refl }) (λ f. refl) h))

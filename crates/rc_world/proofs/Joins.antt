@@ -21,7 +21,7 @@ left_here a b p q f = for_memory q f
 
 -- a call was not made
 pub left_no_memory : {X : Type 0} (a b : Option (List Event)) (p : Plan X) → b ≡ extend a [] → Left a b p NoMemory
-left_no_memory a b p h = for_memory p (record { trace = []; told = h; goes = refl })
+left_no_memory a b p h = for_memory p (record { trace = []; recorded = h; goes = refl })
 
 -- a call was not answered
 pub left_halt : {X : Type 0} (a b : Option (List Event)) (call : Call) (go : Answer → Plan X) →

@@ -1,7 +1,7 @@
 -- How code over a world ends: it comes to the value of what it does, or it is stopped on the way.
 use Rattle.std.specs.Prelude.{◌≡◌, List, [], Option, Some, None, Result, Ok, Err, Bool, true, false}
 use Rattle.std.specs.Result.{MatchResult}
-use Rattle.rc_model.specs.Run.Calls.{Call, Answer, Event, extend, told_by}
+use Rattle.rc_model.specs.Run.Calls.{Call, Answer, Event, extend, recorded_by}
 use Rattle.rc_model.specs.Run.Plans.{Plan, done_with, asks, Ran, Halted}
 use Rattle.rc_model.specs.Run.State.{State}
 use Rattle.rc_model.specs.Run.Shell as shell
@@ -18,8 +18,8 @@ abbrev pub Telling : Type 0 → Type 0
 Telling W = W → Option (List Event)
 
 -- a world records one call more, with its answer, and none that was not made
-abbrev pub Tells : {W : Type 0} → Telling W → W → W → Call → Answer → Type 0
-Tells events before after call answer = events after ≡ extend (events before) (told_by call answer)
+abbrev pub Records : {W : Type 0} → Telling W → W → W → Call → Answer → Type 0
+Records events before after call answer = events after ≡ extend (events before) (recorded_by call answer)
 
 -- between two records of a world, a plan was left: out of memory somewhere, or at a halt with its last call unanswered
 pub data Left {X : Type 0} (before after : Option (List Event)) (plan : Plan X) : Stop → Type 0 where

@@ -1,6 +1,6 @@
 -- What a tape records: its calls, each with the answer that it plays.
 use Rattle.std.specs.Prelude.{◌≡◌, List, [], ◌∷◌, ◌++◌, map}
-use Rattle.rc_model.specs.Run.Calls.{Call, Answer, Event, event, told_by, fitting, refused}
+use Rattle.rc_model.specs.Run.Calls.{Call, Answer, Event, event, recorded_by, fitting, refused}
 use Rattle.rc_model.specs.declared.call.Fault.TheVariants.{Halt, NoMemory, Other}
 use Rattle.rc_world.specs.Views.{call_of, answer_of}
 use Rattle.rc_world.specs.declared.tape.Tape.{Tape}
@@ -22,7 +22,7 @@ tape_events tape = played (map call_of tape.calls.items) (tape_answers tape)
 -- a tape plays an answer to one call more, and records it
 abbrev pub Plays : Tape → Tape → Call → Answer → Type 0
 Plays before after call answer =
-    (tape_events after ≡ tape_events before ++ told_by call answer) × (tape_answers after ≡ tape_answers before)
+    (tape_events after ≡ tape_events before ++ recorded_by call answer) × (tape_answers after ≡ tape_answers before)
 
 -- the answer that comes after these calls
 abbrev pub next_answer : List Answer → List Call → Answer

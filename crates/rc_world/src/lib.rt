@@ -8,7 +8,7 @@ pub mod types;
 pub mod world;
 
 pub use event::{Answer, Call};
-pub use rc_model::{ChildNo, Ending, Fault, Handle, Kind, Mode, Slot, Slots};
+pub use rc_model::{ChildNo, Ending, Fault, Handle, Kind, Mode, PLAIN_SLOTS, Slot, Slots};
 pub use tape::Tape;
 pub use types::{Flow, Launch, Program, Stop};
 pub use world::World;

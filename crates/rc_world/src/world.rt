@@ -3,7 +3,7 @@
 ghost use Rattle.std.specs.Prelude.{◌≤◌, List, Option, IfOk, vec_len};
 ghost use Rattle.rc_model.specs.Run.Calls.{Event, open_file, here, make_pipe, close, read, write, start, wait};
 ghost use Rattle.rc_model.specs.Run.Calls.{list_names, probe, change_dir};
-ghost use Rattle.rc_world.specs.Comes.{Tells};
+ghost use Rattle.rc_world.specs.Comes.{Records};
 ghost use Rattle.rc_world.specs.Views.{launch_of};
 ghost use Rattle.rc_world.specs.Views.{file_answer, pair_answer, done_answer, bytes_answer};
 ghost use Rattle.rc_world.specs.Views.{child_answer, ending_answer, names_answer, kind_answer};
@@ -18,46 +18,46 @@ pub trait World {
 
     /// Opens a file.
     fn open(&mut self, path: &str, mode: Mode) -> Result<Handle, Fault>
-        ensures { Tells events self.old self.new (open_file path.now mode) (file_answer result) };
+        ensures { Records events self.old self.new (open_file path.now mode) (file_answer result) };
 
     /// A file for reading that holds this text.
     fn here(&mut self, text: &str) -> Result<Handle, Fault>
-        ensures { Tells events self.old self.new (here text.now) (file_answer result) };
+        ensures { Records events self.old self.new (here text.now) (file_answer result) };
 
     /// A pipe: its read end and its write end.
     fn pipe(&mut self) -> Result<(Handle, Handle), Fault>
-        ensures { Tells events self.old self.new make_pipe (pair_answer result) };
+        ensures { Records events self.old self.new make_pipe (pair_answer result) };
 
     /// Closes a file or an end of a pipe.
     fn close(&mut self, handle: Handle) -> Result<(), Fault>
-        ensures { Tells events self.old self.new (close handle.0) (done_answer result) };
+        ensures { Records events self.old self.new (close handle.0) (done_answer result) };
 
     /// The next bytes, at least one but at the end.
     fn read(&mut self, handle: Handle) -> Result<Vec<u8>, Fault>
-        ensures told { Tells events self.old self.new (read handle.0) (bytes_answer result) }
+        ensures recorded { Records events self.old self.new (read handle.0) (bytes_answer result) }
         ensures bound { IfOk result (λ bytes. vec_len bytes ≤ 4096) };
 
     /// Writes the whole text.
     fn write(&mut self, slot: Slot, text: &[u8]) -> Result<(), Fault>
-        ensures { Tells events self.old self.new (write slot text.now) (done_answer result) };
+        ensures { Records events self.old self.new (write slot text.now) (done_answer result) };
 
     /// Starts a child.
     fn start(&mut self, launch: &Launch) -> Result<ChildNo, Fault>
-        ensures { Tells events self.old self.new (start (launch_of launch.now)) (child_answer result) };
+        ensures { Records events self.old self.new (start (launch_of launch.now)) (child_answer result) };
 
     /// Waits until the child has ended.
     fn wait(&mut self, child: ChildNo) -> Result<Ending, Fault>
-        ensures { Tells events self.old self.new (wait child.0) (ending_answer result) };
+        ensures { Records events self.old self.new (wait child.0) (ending_answer result) };
 
     /// The names in a directory, in any order.
     fn list(&mut self, path: &str) -> Result<Vec<String>, Fault>
-        ensures { Tells events self.old self.new (list_names path.now) (names_answer result) };
+        ensures { Records events self.old self.new (list_names path.now) (names_answer result) };
 
     /// What a path names.
     fn probe(&mut self, path: &str) -> Result<Kind, Fault>
-        ensures { Tells events self.old self.new (probe path.now) (kind_answer result) };
+        ensures { Records events self.old self.new (probe path.now) (kind_answer result) };
 
     /// Changes the directory that paths are taken from.
     fn chdir(&mut self, path: &str) -> Result<(), Fault>
-        ensures { Tells events self.old self.new (change_dir path.now) (done_answer result) };
+        ensures { Records events self.old self.new (change_dir path.now) (done_answer result) };
 }

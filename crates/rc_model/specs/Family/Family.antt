@@ -7,7 +7,7 @@ use Rattle.rc_model.specs.Syntax.Tree.{Node, cmd, Empty}
 use Rattle.rc_model.specs.Run.State.{State, new_state}
 use Rattle.rc_model.specs.Run.Script.{script}
 use Rattle.rc_model.specs.Handed.Arguments.{entry_state, reads}
-use Rattle.rc_model.specs.Handed.Proper.{IsScript, IsProper}
+use Rattle.rc_model.specs.Handed.Proper.{IsProperTree, IsProper}
 use Rattle.rc_model.specs.Handed.Handed.{IsHanded}
 use Rattle.rc_model.specs.Family.Accounts.{Thing, a_file, read_end, write_end, Account, put, account, at_start, IsFresh}
 use Rattle.rc_model.specs.Family.Accounts.{NothingLost, NothingLeft}
@@ -77,12 +77,12 @@ shell_started (start l) (child n) = shell_of l.program l n
 shell_started _ _ = None
 
 -- one event more of a process
-abbrev pub told : Process → Call → Answer → Process
-told p c x = record p { trace = p.trace ++ event c x ∷ [] }
+abbrev pub recorded : Process → Call → Answer → Process
+recorded p c x = record p { trace = p.trace ++ event c x ∷ [] }
 
 -- a step is added to the trace of its process
 abbrev pub with_trace : Family → Step → Family
-with_trace f e = record f { at = put f.at e.at (told (f.at e.at) e.call e.answer) }
+with_trace f e = record f { at = put f.at e.at (recorded (f.at e.at) e.call e.answer) }
 
 -- the process of a step and the number of the shell that it started, if it did
 abbrev pub born : Step → Option (Launch × ℕ) → List (ℕ × ℕ)
@@ -284,9 +284,9 @@ BeganSo f (suc j) = (k : ℕ) × BeganAsHanded f (suc j) k
 
 -- each process began with what it was handed, which is a tree that a shell holds and a proper state
 abbrev pub AllRead : Family → Type 0
-AllRead f = (j : ℕ) → j < f.count → IsScript (f.at j).tree × IsProper (f.at j).state × BeganSo f j
+AllRead f = (j : ℕ) → j < f.count → IsProperTree (f.at j).tree × IsProper (f.at j).state × BeganSo f j
 
 -- so it is in every family of shells that read what they are handed
 abbrev pub FamiliesRead : Type 0
-FamiliesRead = (c : Node cmd) (s : State) (es : List Step) → IsScript c → IsProper s → IsFamily read_launch c s es →
+FamiliesRead = (c : Node cmd) (s : State) (es : List Step) → IsProperTree c → IsProper s → IsFamily read_launch c s es →
     AllRead (family read_launch (first read_launch c s) es)

@@ -5,7 +5,7 @@ use Rattle.rc_model.specs.Run.Plans.{IsAnswered}
 use Rattle.rc_model.specs.Syntax.Tree.{Node, cmd}
 use Rattle.rc_model.specs.Run.State.{State}
 use Rattle.rc_model.specs.Family.Family.{Process, Family, IsPending, HasEnded, GoesAsMeant, EachOf, shell_started}
-use Rattle.rc_model.specs.Family.Family.{child_process, told, stepped}
+use Rattle.rc_model.specs.Family.Family.{child_process, recorded, stepped}
 
 -- why a step is refused
 pub data StepFault : Type 0 where
@@ -23,13 +23,13 @@ module _ (reads : Launch → Node cmd × State) (hits : Process → Type 0) wher
   ChildHits k p (Some (l, n)) = hits (child_process reads k p l n)
 
   -- in this order: each says that none before it holds
-  abbrev pub IsRefused : Family → ℕ → Answer → StepFault → Type 0
-  IsRefused f k x NoProcess = f.count ≤ k
-  IsRefused f k x AtEnd = (k < f.count) × HasEnded (f.at k)
-  IsRefused f k x WrongKind = (k < f.count) × ((c : Call) × IsPending (f.at k) c × (IsAnswered c x → ⊥))
-  IsRefused f k x AtLimit =
+  abbrev pub IsStepRefused : Family → ℕ → Answer → StepFault → Type 0
+  IsStepRefused f k x NoProcess = f.count ≤ k
+  IsStepRefused f k x AtEnd = (k < f.count) × HasEnded (f.at k)
+  IsStepRefused f k x WrongKind = (k < f.count) × ((c : Call) × IsPending (f.at k) c × (IsAnswered c x → ⊥))
+  IsStepRefused f k x AtLimit =
       (k < f.count) × ((c : Call) × IsPending (f.at k) c × IsAnswered c x ×
-      (hits (told (f.at k) c x) ⊎ ChildHits k (f.at k) (shell_started c x)))
+      (hits (recorded (f.at k) c x) ⊎ ChildHits k (f.at k) (shell_started c x)))
 
   -- a step that is made: the call that it answered, and the family that comes of it
   pub record IsMade (f : Family) (k : ℕ) (x : Answer) (c : Call) (next : Family) : Type 0 where

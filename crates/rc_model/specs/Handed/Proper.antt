@@ -20,14 +20,14 @@ Ordered [] = Unit {0}
 Ordered (e ∷ es) = Above e.0 es × Ordered es
 
 -- a tree that a shell holds
-pub record IsScript (c : Node cmd) : Type 0 where
+pub record IsProperTree (c : Node cmd) : Type 0 where
   pub sound : IsTrue (well_formed c)
   pub characters : IsTrue (has_characters c)
 
 -- the bodies of all functions are trees that a shell holds
-abbrev pub AllScripts : List (List ℕ × Node cmd) → Type 0
-AllScripts [] = Unit {0}
-AllScripts (f ∷ fs) = IsScript f.1 × AllScripts fs
+abbrev pub AllProperTrees : List (List ℕ × Node cmd) → Type 0
+AllProperTrees [] = Unit {0}
+AllProperTrees (f ∷ fs) = IsProperTree f.1 × AllProperTrees fs
 
 -- the name of a variable that has a value of its own
 abbrev pub is_own_name : List ℕ → Bool
@@ -39,4 +39,4 @@ pub record IsProper (s : State) : Type 0 where
   pub ordered : Ordered s.variables
   pub function_names : IsTrue (list_all (λ f. is_function_name f.0) s.functions)
   pub functions_ordered : Ordered s.functions
-  pub bodies : AllScripts s.functions
+  pub bodies : AllProperTrees s.functions

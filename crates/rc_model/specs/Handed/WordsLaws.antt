@@ -6,7 +6,7 @@ use Rattle.rc_model.specs.Handed.Pieces.{longest_word, ArePieces, AreWords, piec
 use Rattle.rc_model.specs.Handed.Image.{image_words}
 use Rattle.rc_model.specs.Handed.TreeSpelling.{Spells}
 use Rattle.rc_model.specs.Handed.WordsReading.{read_pieces}
-use Rattle.rc_model.specs.Handed.Proper.{IsScript}
+use Rattle.rc_model.specs.Handed.Proper.{IsProperTree}
 
 -- the pieces of a text are those of the rule, where they are not too many
 abbrev pub PiecesByRule : Type 0
@@ -30,7 +30,7 @@ OneListOfWords = (c : Node cmd) (words : List (List ℕ)) → SpellsWords c word
 
 -- and has those where they are enough
 abbrev pub HasWords : Type 0
-HasWords = (c : Node cmd) (words : List (List ℕ)) → IsScript c → image_words c ≡ Some words → SpellsWords c words
+HasWords = (c : Node cmd) (words : List (List ℕ)) → IsProperTree c → image_words c ≡ Some words → SpellsWords c words
 
 -- words spell no more than one tree
 abbrev pub OneTreeOfWords : Type 0
@@ -43,5 +43,5 @@ ReadsWords = (words : List (List ℕ)) (c : Node cmd) (n : ℕ) →
 
 -- what was written reads back, whatever follows
 abbrev pub WordsReadBack : Type 0
-WordsReadBack = (c : Node cmd) (words rest : List (List ℕ)) → IsScript c → image_words c ≡ Some words →
+WordsReadBack = (c : Node cmd) (words rest : List (List ℕ)) → IsProperTree c → image_words c ≡ Some words →
     read_pieces (words ++ rest) ≡ Ok (c, length words)

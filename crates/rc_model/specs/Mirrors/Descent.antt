@@ -33,14 +33,14 @@ abbrev pub staged : Read (Node t.cmd) → Read Opening
 staged read = read >>= λ c. Ok (Staged c.0, c.1)
 
 -- after a first argument: with a `=` it is a name, else its other words and redirections follow
-abbrev pub behind_first : Readers → Node t.arg → Reader Opening
-behind_first deeper a (Equals ∷ ts) = Ok (Named a, ts)
-behind_first deeper a ts =
+abbrev pub after_first : Readers → Node t.arg → Reader Opening
+after_first deeper a (Equals ∷ ts) = Ok (Named a, ts)
+after_first deeper a ts =
     simple_by (deeper (a_part false)) ts >>= λ x. Ok (Staged (redirect x.0.1 (t.Simple (more a x.0.0))), x.1)
 
 -- a simple command, or the name of an assignment
 unfoldable pub first_by : Readers → Reader Opening
-first_by deeper ts = arg_by (deeper (a_part false)) false ts >>= λ a. behind_first deeper a.0 a.1
+first_by deeper ts = arg_by (deeper (a_part false)) false ts >>= λ a. after_first deeper a.0 a.1
 
 -- a stage, or the name of an assignment, that begins with this word
 unfoldable pub worded_by : Readers → Keyword → (word : Lexeme) → Reader Opening

@@ -9,53 +9,53 @@ use Rattle.rc_model.specs.Syntax.Printing.{has_here, printed}
 use Rattle.rc_model.specs.Syntax.Faults.{SyntaxFault}
 use Rattle.rc_model.specs.Syntax.Accepted.{lexemes, longest_script, IsRefused}
 use Rattle.rc_model.specs.Syntax.Accepted as script
-use Rattle.rc_model.specs.Syntax.Grammar.{IsScript, IsAccepted}
+use Rattle.rc_model.specs.Syntax.Grammar.{HaveTree, HaveAcceptedTree}
 use Rattle.rc_model.specs.Mirrors.Descent.{Unexpected, IfNot, TooDeep, TooManyStages, script_tree}
 
 -- what is found is the tree of an accepted script
 abbrev pub FindsOnlyTrees : Type 0
 FindsOnlyTrees =
-    (levels : ℕ) (ts : List Lexeme) (tree : Node t.cmd) → script_tree levels ts ≡ Ok tree → IsAccepted ts tree
+    (levels : ℕ) (ts : List Lexeme) (tree : Node t.cmd) → script_tree levels ts ≡ Ok tree → HaveAcceptedTree ts tree
 
 -- each tree of an accepted script is found
 abbrev pub FindsEachTree : Type 0
 FindsEachTree =
-    (levels : ℕ) (ts : List Lexeme) (tree : Node t.cmd) → 200 ≤ levels → IsAccepted ts tree → script_tree levels ts
-    ≡ Ok tree
+    (levels : ℕ) (ts : List Lexeme) (tree : Node t.cmd) → 200 ≤ levels → HaveAcceptedTree ts tree →
+    script_tree levels ts ≡ Ok tree
 
 -- an accepted script has no other tree
 abbrev pub HasOneTree : Type 0
-HasOneTree = (ts : List Lexeme) (tree other : Node t.cmd) → IsAccepted ts tree → IsScript ts other → other ≡ tree
+HasOneTree = (ts : List Lexeme) (tree other : Node t.cmd) → HaveAcceptedTree ts tree → HaveTree ts other → other ≡ tree
 
 -- where a token is unexpected, or an `if not` is misplaced, there is no tree of any size
 abbrev pub HasNoTree : Type 0
 HasNoTree =
     (levels : ℕ) (ts : List Lexeme) (tree : Node t.cmd) → (script_tree levels ts ≡ Err Unexpected) ⊎
-    (script_tree levels ts ≡ Err IfNot) → IsScript ts tree → ⊥
+    (script_tree levels ts ≡ Err IfNot) → HaveTree ts tree → ⊥
 
 -- too many stages are found only where a pipeline has them
 abbrev pub HasTooManyStages : Type 0
 HasTooManyStages =
-    (levels : ℕ) (ts : List Lexeme) (tree : Node t.cmd) → script_tree levels ts ≡ Err TooManyStages → IsScript ts tree →
+    (levels : ℕ) (ts : List Lexeme) (tree : Node t.cmd) → script_tree levels ts ≡ Err TooManyStages → HaveTree ts tree →
     64 < most_stages tree
 
 -- and too many levels only where the tree has them
 abbrev pub IsTooDeep : Type 0
 IsTooDeep =
     (levels : ℕ) (ts : List Lexeme) (tree : Node t.cmd) → 200 ≤ levels → script_tree levels ts ≡ Err TooDeep →
-    IsScript ts tree → 200 < depth tree
+    HaveTree ts tree → 200 < depth tree
 
 -- a tree of spelled lexemes is sound, unless it has too many stages
 abbrev pub HasSoundTrees : Type 0
 HasSoundTrees =
-    (ts : List Lexeme) (tree : Node t.cmd) → AreSpelled ts → IsScript ts tree → most_stages tree ≤ 64 → is_sound tree
+    (ts : List Lexeme) (tree : Node t.cmd) → AreSpelled ts → HaveTree ts tree → most_stages tree ≤ 64 → is_sound tree
     ≡ true
 
 -- each tree of a text that is well formed and has no here document is that of its print, where that isn't too long
 abbrev pub RoundTrip : Type 0
 RoundTrip =
     (text : List ℕ) (tokens : List Token) (tree : Node t.cmd) → IsUtf8 text → Lexes text (Ok tokens) →
-    IsScript (lexemes tokens) tree →
+    HaveTree (lexemes tokens) tree →
     well_formed tree ≡ true → has_here tree ≡ false → length (printed tree) ≤ longest_script →
     script.IsAccepted (printed tree) tree
 

@@ -2,13 +2,14 @@
 use Rattle.std.specs.Prelude.{◌≡◌, ◌≢◌, ℕ, true, List, [], ◌∷◌, map, Ok, IsUtf8}
 use Rattle.std.specs.List.{list_all}
 use Rattle.std.specs.Str.{chars}
+use Rattle.rc_model.specs.Syntax.Text.{without_zero}
 use Rattle.rc_model.specs.Syntax.Tokens.{Lexeme, Token, Lexes, Word, Quoted, Bar, Redirection, CopyTo, HereDoc, Name}
-use Rattle.rc_model.specs.Syntax.Tokens.{Run, word_goes_on, is_name_char, has_no_zero}
+use Rattle.rc_model.specs.Syntax.Tokens.{Run, word_goes_on, is_name_char}
 use Rattle.rc_model.specs.Syntax.WellFormed.{is_output, opens, copies}
 
 -- text without byte 0
 abbrev pub IsText : List ℕ → Type 0
-IsText text = IsUtf8 text × (has_no_zero (chars text) ≡ true)
+IsText text = IsUtf8 text × (without_zero (chars text) ≡ true)
 
 -- an unquoted word: its characters are a longest run, none of them an operator, a blank or a quote
 abbrev pub IsWord : List ℕ → Type 0

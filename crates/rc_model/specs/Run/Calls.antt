@@ -181,9 +181,9 @@ was_made (refused NoMemory) = false
 was_made _ = true
 
 -- what a world records of one call
-abbrev pub told_by : Call → Answer → List Event
-told_by call answer = if was_made answer then event call answer ∷ [] else []
+abbrev pub recorded_by : Call → Answer → List Event
+recorded_by call answer = if was_made answer then event call answer ∷ [] else []
 
--- the events of a world after these: None for a world that does not tell
+-- the events of a world after these: none for a world that records nothing
 abbrev pub extend : Option (List Event) → List Event → Option (List Event)
-extend told more = option_map (λ before. before ++ more) told
+extend recorded more = option_map (λ before. before ++ more) recorded

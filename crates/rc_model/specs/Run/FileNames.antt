@@ -34,8 +34,8 @@ abbrev pub fitting_names : Word → Option (List (List ℕ)) → List (List ℕ)
 fitting_names c names = ordered (filter (λ n. not (is_no_name n) && matches c (chars n) true) (unwrap_or names []))
 
 -- the directory with this path, which ends in a slash unless it is empty
-abbrev pub folder : List ℕ → List ℕ
-folder path = if length path == 0 then codes "." else path
+abbrev pub directory : List ℕ → List ℕ
+directory path = if length path == 0 then codes "." else path
 
 -- each name, with what follows it
 abbrev pub each_name : (List ℕ → Shell (List (List ℕ))) → List ℕ → List (List ℕ) → Shell (List (List ℕ))
@@ -54,7 +54,7 @@ if_there path = do
 -- a component with a pattern character, in the directory with this path
 abbrev pub listed : Word → (List ℕ → Shell (List (List ℕ))) → List ℕ → Shell (List (List ℕ))
 listed c next path = do
-  a ← call (list_names (folder path))
+  a ← call (list_names (directory path))
   each_name next path (fitting_names c (as_names a))
 
 -- one component after this path: the directory is listed only where it has a pattern character

@@ -14,7 +14,7 @@ pub data Joins (xs ys : List Word) : Result (List Word) ListFault → Type 0 whe
   pairs : (zs : List Word) → Pairs xs ys zs → Joins xs ys (Ok zs)
   -- one member goes to each of the other side, which isn't empty
   before : (a : Word) → xs ≡ a ∷ [] → ys ≢ [] → length ys ≢ 1 → Joins xs ys (Ok (map (λ b. a ++ b) ys))
-  behind : (b : Word) → ys ≡ b ∷ [] → xs ≢ [] → length xs ≢ 1 → Joins xs ys (Ok (map (λ a. a ++ b) xs))
+  after : (b : Word) → ys ≡ b ∷ [] → xs ≢ [] → length xs ≢ 1 → Joins xs ys (Ok (map (λ a. a ++ b) xs))
   -- exactly one side is empty
   left_empty : xs ≡ [] → ys ≢ [] → Joins xs ys (Err EmptyConcat)
   right_empty : ys ≡ [] → xs ≢ [] → Joins xs ys (Err EmptyConcat)

@@ -9,17 +9,17 @@ use Rattle.rc_model.specs.Syntax.Words.{Word, word_text, plain_words, has_patter
 use Rattle.rc_model.specs.Run.Calls.{Call, Answer, Event, list_names, probe, as_names, as_kind}
 use Rattle.rc_model.specs.Run.Plans.{Plan, done_with, ask, cut}
 use Rattle.rc_model.specs.Run.Matching.{Matches}
-use Rattle.rc_model.specs.Run.FileNames.{components, is_no_name, folder}
+use Rattle.rc_model.specs.Run.FileNames.{components, is_no_name, directory}
 
 -- what comes of a plan where each call has this answer
 abbrev pub follow : {X : Type 0} → (Call → Answer) → Plan X → Option X
-follow tells (done_with x) = Some x
-follow tells (ask c go) = follow tells (go (tells c))
-follow tells cut = None
+follow answers (done_with x) = Some x
+follow answers (ask c go) = follow answers (go (answers c))
+follow answers cut = None
 
 -- each call of a trace has the answer that it has there
 abbrev pub Agreeing : (Call → Answer) → List Event → Type 0
-Agreeing tells trace = AllByRecursion (λ e. tells e.call ≡ e.answer) trace
+Agreeing answers trace = AllByRecursion (λ e. answers e.call ≡ e.answer) trace
 
 -- x is one of the list
 abbrev pub IsIn : {X : Type 0} → X → List X → Type 0
@@ -28,29 +28,29 @@ IsIn x (y ∷ ys) = (y ≡ x) ⊎ IsIn x ys
 
 -- the names in a directory, none where they are refused
 abbrev pub names_in : (Call → Answer) → List ℕ → List (List ℕ)
-names_in tells path = unwrap_or (as_names (tells (list_names (folder path)))) []
+names_in answers path = unwrap_or (as_names (answers (list_names (directory path)))) []
 
 -- whether something stands at a path
 abbrev pub is_there : (Call → Answer) → List ℕ → Bool
-is_there tells path = is_some (as_kind (tells (probe path)))
+is_there answers path = is_some (as_kind (answers (probe path)))
 
 -- a component with a pattern character stands for this name in the directory with this path
-pub record StandsFor (tells : Call → Answer) (path : List ℕ) (c : Word) (name : List ℕ) : Type 0 where
-  pub listed : IsIn name (names_in tells path)
+pub record StandsFor (answers : Call → Answer) (path : List ℕ) (c : Word) (name : List ℕ) : Type 0 where
+  pub listed : IsIn name (names_in answers path)
   pub a_name : is_no_name name ≡ false
   pub matches : Matches true c (chars name)
 
 -- a component stands for this text: one with no pattern character for itself
-pub record IsChosen (tells : Call → Answer) (path : List ℕ) (c : Word) (t : List ℕ) : Type 0 where
+pub record IsChosen (answers : Call → Answer) (path : List ℕ) (c : Word) (t : List ℕ) : Type 0 where
   pub itself : has_pattern c ≡ false → t ≡ word_text c
-  pub pattern : has_pattern c ≡ true → StandsFor tells path c t
+  pub pattern : has_pattern c ≡ true → StandsFor answers path c t
 
 -- the components stand for these texts, one each, after a path that is empty or ends in a slash
 abbrev pub Chosen : (Call → Answer) → List ℕ → List Word → List (List ℕ) → Type 0
-Chosen tells path [] [] = ⊤
-Chosen tells path [] (t ∷ ts) = ⊥
-Chosen tells path (c ∷ cs) [] = ⊥
-Chosen tells path (c ∷ cs) (t ∷ ts) = IsChosen tells path c t × Chosen tells ((path ++ t) ++ codes "/") cs ts
+Chosen answers path [] [] = ⊤
+Chosen answers path [] (t ∷ ts) = ⊥
+Chosen answers path (c ∷ cs) [] = ⊥
+Chosen answers path (c ∷ cs) (t ∷ ts) = IsChosen answers path c t × Chosen answers ((path ++ t) ++ codes "/") cs ts
 
 -- the last component has no pattern character
 abbrev pub ends_plain : List Word → Bool
@@ -60,24 +60,24 @@ ends_plain (c ∷ d ∷ cs) = ends_plain (d ∷ cs)
 
 -- The word stands for this path: its components for texts that are joined by slashes, and where the last has no pattern
 -- character the path is there.
-pub record Named (tells : Call → Answer) (w : Word) (path : List ℕ) : Type 0 where
+pub record Named (answers : Call → Answer) (w : Word) (path : List ℕ) : Type 0 where
   pub texts : List (List ℕ)
-  pub chosen : Chosen tells [] (components w) texts
+  pub chosen : Chosen answers [] (components w) texts
   pub joined : path ≡ join_with_byte 47 texts
-  pub checked : ends_plain (components w) ≡ true → is_there tells path ≡ true
+  pub checked : ends_plain (components w) ≡ true → is_there answers path ≡ true
 
 -- what a word with a pattern character becomes: the paths that it stands for, in byte order and each once, or itself
 -- where there are none
-pub data Expands (tells : Call → Answer) (w : Word) : List Word → Type 0 where
-  found : (paths : List (List ℕ)) → ((p : List ℕ) → IsIn p paths ↔ Named tells w p) →
-      IsStrictlySortedBy text_cmp paths → paths ≢ [] → Expands tells w (plain_words paths)
-  itself : ((p : List ℕ) → Named tells w p → ⊥) → Expands tells w (w ∷ [])
+pub data Expands (answers : Call → Answer) (w : Word) : List Word → Type 0 where
+  found : (paths : List (List ℕ)) → ((p : List ℕ) → IsIn p paths ↔ Named answers w p) →
+      IsStrictlySortedBy text_cmp paths → paths ≢ [] → Expands answers w (plain_words paths)
+  itself : ((p : List ℕ) → Named answers w p → ⊥) → Expands answers w (w ∷ [])
 
 -- what one word becomes by the events of its calls: itself without any, where it has no pattern character
 pub data ExpandsBy (w : Word) : List Event → List Word → Type 0 where
   plain : has_pattern w ≡ false → ExpandsBy w [] (w ∷ [])
-  names : (trace : List Event) (vs : List Word) (tells : Call → Answer) → has_pattern w ≡ true → Agreeing tells trace →
-      Expands tells w vs → ExpandsBy w trace vs
+  names : (trace : List Event) (vs : List Word) (answers : Call → Answer) → has_pattern w ≡ true →
+      Agreeing answers trace → Expands answers w vs → ExpandsBy w trace vs
 
 -- what words become, from left to right, each with all its calls before the next
 pub data AllExpand : List Word → List Event → List Word → Type 0 where

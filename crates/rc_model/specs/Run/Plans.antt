@@ -59,7 +59,7 @@ Goes _ (e ∷ es) q = ⊥
 -- between two records of a world, the plan went on to another
 pub record Ran {X : Type 0} (before after : Option (List Event)) (plan rest : Plan X) : Type 0 where
   pub trace : List Event
-  pub told : after ≡ extend before trace
+  pub recorded : after ≡ extend before trace
   pub goes : Goes plan trace rest
 
 -- between two records of a world, the plan went on to a call that was not answered
@@ -67,5 +67,5 @@ pub record Halted {X : Type 0} (before after : Option (List Event)) (plan : Plan
   pub trace : List Event
   pub call : Call
   pub go : Answer → Plan X
-  pub told : after ≡ extend before (trace ++ event call (refused Halt) ∷ [])
+  pub recorded : after ≡ extend before (trace ++ event call (refused Halt) ∷ [])
   pub goes : Goes plan trace (ask call go)

@@ -50,8 +50,8 @@ pub record Agrees (c : Node cmd) (s : State) (given : List Answer) : Type 0 wher
 -- What is recorded of a run of a script, by its trace.
 
 -- between two records of a world came a trace of which this holds
-abbrev pub Told : Option (List Event) → Option (List Event) → (List Event → Type 0) → Type 0
-Told before after P = (trace : List Event) × (after ≡ extend before trace) × P trace
+abbrev pub Recorded : Option (List Event) → Option (List Event) → (List Event → Type 0) → Type 0
+Recorded before after P = (trace : List Event) × (after ≡ extend before trace) × P trace
 
 -- the meaning ends so, over the answers that were given, all of which it uses
 abbrev pub EndsAsMeant : Node cmd → State → List Event → State → Type 0

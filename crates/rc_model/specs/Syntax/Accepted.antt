@@ -8,7 +8,7 @@ use Rattle.rc_model.specs.Syntax.Faults.{SyntaxFault, fault, TooLong, NotText, U
 use Rattle.rc_model.specs.Syntax.Faults.{TooManyStages}
 use Rattle.rc_model.specs.Syntax.Tree.{Node, cmd}
 use Rattle.rc_model.specs.Syntax.WellFormed.{depth, most_stages}
-use Rattle.rc_model.specs.Syntax.Grammar.{IsScript}
+use Rattle.rc_model.specs.Syntax.Grammar.{HaveTree}
 use Rattle.rc_model.specs.Syntax.Grammar as g
 
 -- a script is at most so many bytes long
@@ -29,7 +29,7 @@ lexemes tokens = map (λ t. t.lexeme) tokens
 pub record IsAccepted (script : List ℕ) (tree : Node cmd) : Type 0 where
   pub tokens : List Token
   pub has : HasTokens script tokens
-  pub tree_is : g.IsAccepted (lexemes tokens) tree
+  pub tree_is : g.HaveAcceptedTree (lexemes tokens) tree
 
 -- the line of the byte at this place
 abbrev pub line_of : List ℕ → ℕ → ℕ
@@ -48,13 +48,13 @@ pub data IsRefused (script : List ℕ) : SyntaxFault → Type 0 where
       IsRefused script f
   -- no tree of any size
   unexpected : (tokens : List Token) (line : ℕ) → HasTokens script tokens → IsLineOf script tokens line →
-      ((tree : Node cmd) → IsScript (lexemes tokens) tree → ⊥) → IsRefused script (fault Unexpected line)
+      ((tree : Node cmd) → HaveTree (lexemes tokens) tree → ⊥) → IsRefused script (fault Unexpected line)
   if_not : (tokens : List Token) (line : ℕ) → HasTokens script tokens → IsLineOf script tokens line →
-      ((tree : Node cmd) → IsScript (lexemes tokens) tree → ⊥) → IsRefused script (fault IfNot line)
+      ((tree : Node cmd) → HaveTree (lexemes tokens) tree → ⊥) → IsRefused script (fault IfNot line)
   -- no tree but one that is too deep, and none but one with a pipeline of too many stages
   too_deep : (tokens : List Token) → HasTokens script tokens →
-      ((tree : Node cmd) → IsScript (lexemes tokens) tree → 200 < depth tree) →
+      ((tree : Node cmd) → HaveTree (lexemes tokens) tree → 200 < depth tree) →
       IsRefused script (fault TooDeep 0)
   too_many_stages : (tokens : List Token) (line : ℕ) → HasTokens script tokens → IsLineOf script tokens line →
-      ((tree : Node cmd) → IsScript (lexemes tokens) tree → 64 < most_stages tree) →
+      ((tree : Node cmd) → HaveTree (lexemes tokens) tree → 64 < most_stages tree) →
       IsRefused script (fault TooManyStages line)

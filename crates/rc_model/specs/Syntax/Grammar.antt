@@ -301,11 +301,11 @@ pub data Phrase : (l : Level) → List Lexeme → Out l → List Lexeme → Type
       Phrase branches (Word text ∷ ts) (more (t.Branch as' (t.Seq is)) bs) rest
 
 -- The tokens are a script that has this tree.
-abbrev pub IsScript : List Lexeme → Node t.cmd → Type 0
-IsScript ts tree = (is : Many t.item) × Phrase (items false false) ts is [] × (tree ≡ t.Seq is)
+abbrev pub HaveTree : List Lexeme → Node t.cmd → Type 0
+HaveTree ts tree = (is : Many t.item) × Phrase (items false false) ts is [] × (tree ≡ t.Seq is)
 
 -- A script is accepted where it has a tree of at most 200 levels, with at most 64 stages in each pipeline.
-pub record IsAccepted (ts : List Lexeme) (tree : Node t.cmd) : Type 0 where
-  pub script : IsScript ts tree
+pub record HaveAcceptedTree (ts : List Lexeme) (tree : Node t.cmd) : Type 0 where
+  pub script : HaveTree ts tree
   pub shallow : depth tree ≤ 200
   pub narrow : most_stages tree ≤ 64

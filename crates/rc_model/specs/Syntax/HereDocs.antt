@@ -23,12 +23,12 @@ begun_by c = if c == 36 then Dollar [] else Plain (encode_utf8 c)
 
 -- what has begun after one more character: `$$` is `$`, a `$` with no name after it stays, and a `^` after a name is
 -- left out
-abbrev pub behind : Begun → ℕ → Begun
-behind (Plain text) c = if c == 36 then Dollar text else Plain (text ++ encode_utf8 c)
-behind (Dollar text) c =
+abbrev pub begun_after : Begun → ℕ → Begun
+begun_after (Plain text) c = if c == 36 then Dollar text else Plain (text ++ encode_utf8 c)
+begun_after (Dollar text) c =
     if is_name_char c then Naming (encode_utf8 c) else if c == 36 then Plain (text ++ 36 ∷ [])
     else Plain (text ++ 36 ∷ encode_utf8 c)
-behind (Naming name) c =
+begun_after (Naming name) c =
     if is_name_char c then Naming (name ++ encode_utf8 c) else if c == 94 then Plain [] else begun_by c
 
 -- the pieces so far, with the one that one more character ends
@@ -46,7 +46,7 @@ with_last (Naming name) pieces = snoc pieces (t.Name name)
 -- the pieces so far, with those of the characters that follow
 abbrev pub pieces_from : Begun → Many t.piece → List ℕ → Many t.piece
 pieces_from begun pieces [] = with_last begun pieces
-pieces_from begun pieces (c ∷ cs) = pieces_from (behind begun c) (ended_by begun c pieces) cs
+pieces_from begun pieces (c ∷ cs) = pieces_from (begun_after begun c) (ended_by begun c pieces) cs
 
 -- The pieces of a body: after a quoted mark its text as it stands, else the longest texts between names.
 abbrev pub pieces_of : (quoted : Bool) → List ℕ → Many t.piece

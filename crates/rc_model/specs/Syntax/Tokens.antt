@@ -1,10 +1,9 @@
 -- Tokens: the pieces of a script that the grammar speaks of, and how a text is cut into them.
-use Rattle.std.specs.Prelude.{◌≡◌, ◌≢◌, ℕ, Bool, true, false, not, if◌then◌else◌, ◌==◌, ◌||◌}
+use Rattle.std.specs.Prelude.{◌≡◌, ◌≢◌, ℕ, Bool, true, false, if◌then◌else◌, ◌==◌, ◌||◌}
 use Rattle.std.specs.Prelude.{List, [], ◌∷◌, ◌++◌}
 use Rattle.std.specs.Prelude.{Some, None, Result, Ok, Err}
-use Rattle.std.specs.List.{list_all}
 use Rattle.std.specs.Str.{chars, encode_utf8_all}
-use Rattle.rc_model.specs.Syntax.Text.{begins_with}
+use Rattle.rc_model.specs.Syntax.Text.{begins_with, without_zero}
 pub use Rattle.rc_model.specs.Syntax.Faults.{SyntaxFault, fault, OpenQuote, OpenHere, BadDescriptor, ZeroByte}
 pub use Rattle.rc_model.specs.Syntax.Lexemes.{Lexeme, Word, Quoted, Semicolon, Ampersand, Newline, AndAnd, OrOr, Bar}
 pub use Rattle.rc_model.specs.Syntax.Lexemes.{Caret, FreeCaret, Equals, LeftParen, RightParen, LeftBrace, RightBrace}
@@ -276,15 +275,11 @@ abbrev pub result_of : Outcome → Result (List Token) SyntaxFault
 result_of (Ok read) = Ok (filled read.0 read.1)
 result_of (Err f) = Err f
 
--- no character is 0
-abbrev pub has_no_zero : List ℕ → Bool
-has_no_zero cs = list_all (λ c. not (c == 0)) cs
-
 -- The text has these tokens, or this is its first fault. A byte 0 is looked for first.
 pub data Lexes (text : List ℕ) : Result (List Token) SyntaxFault → Type 0 where
-  zero_byte : (cs rest : List ℕ) → chars text ≡ cs ++ 0 ∷ rest → has_no_zero cs ≡ true →
+  zero_byte : (cs rest : List ℕ) → chars text ≡ cs ++ 0 ∷ rest → without_zero cs ≡ true →
       Lexes text (Err (fault ZeroByte (after_chars first_place cs).line))
-  cut : (o : Outcome) → has_no_zero (chars text) ≡ true → Cuts Apart [] first_place (chars text) o →
+  cut : (o : Outcome) → without_zero (chars text) ≡ true → Cuts Apart [] first_place (chars text) o →
       Lexes text (result_of o)
 
 -- this and nothing else comes of the text

@@ -1,6 +1,7 @@
 -- The depth of a tree, and which trees are well formed.
-use Rattle.std.specs.Prelude.{ℕ, suc, max, nat_lt, nat_le, ◌==◌, Bool, true, false, not, ◌&&◌, ◌||◌, List, [], ◌∷◌}
+use Rattle.std.specs.Prelude.{ℕ, suc, max, nat_lt, nat_le, ◌==◌, Bool, true, false, ◌&&◌, ◌||◌, List, [], ◌∷◌}
 use Rattle.rc_model.specs.Run.Calls.{Mode, Read, Write, Append}
+use Rattle.rc_model.specs.Syntax.Text.{without_zero}
 use Rattle.rc_model.specs.Syntax.Tree.{Sort, Node, Many, none, more, count}
 use Rattle.rc_model.specs.Syntax.Tree as t
 
@@ -109,11 +110,6 @@ has_several ns = nat_lt 1 (count ns)
 -- a list of 1 to 63 stages
 abbrev pub has_stages : {s : Sort} → Many s → Bool
 has_stages ns = nat_lt 0 (count ns) && nat_lt (count ns) 64
-
--- byte 0 isn't in the text
-abbrev pub without_zero : List ℕ → Bool
-without_zero [] = true
-without_zero (b ∷ bs) = not (b == 0) && without_zero bs
 
 -- the text isn't empty
 abbrev pub has_text : List ℕ → Bool

@@ -2,7 +2,7 @@ use Rattle.std.proofs.Common.{◌≡◌, ◌++◌, [], drop, codes, string_bytes
 use denote.Shadow.{shadow}
 use denote.Text.{Utf8}
 use Rattle.rc_model.specs.Syntax.Printing.{arg_texts, pair_texts, redir_texts, stages_text, links_text, item_lines, branch_lines}
-use Rattle.rc_print.specs.Lines.{led, trailed, behind, parting_after}
+use Rattle.rc_print.specs.Lines.{led, trailed, lines_after, parting_after}
 use Rattle.rc_tree_types.specs.View.{args_tree, items_tree, pairs_tree, redirs_tree, stages_tree, links_tree, branches_tree}
 use Rattle.rc_print.proofs.printing.+print.Given as goal
 
@@ -43,13 +43,13 @@ invariant-print_links-loop-x l =
 abbrev pub invariant-print_items-loop-x : goal.invariant-print_items-loop-x
 invariant-print_items-loop-x l =
     shadow (Utf8 l.between)
-    × (string_bytes l.out ++ behind l.between (item_lines (items_tree (drop l.x-index l.items)) l.begins l.others)
-    ≡ string_bytes l.fn.out ++ behind l.fn.between (item_lines (items_tree l.items) l.fn.begins l.others))
+    × (string_bytes l.out ++ lines_after l.between (item_lines (items_tree (drop l.x-index l.items)) l.begins l.others)
+    ≡ string_bytes l.fn.out ++ lines_after l.fn.between (item_lines (items_tree l.items) l.fn.begins l.others))
     × (parting_after l.between (item_lines (items_tree (drop l.x-index l.items)) l.begins l.others)
     ≡ parting_after l.fn.between (item_lines (items_tree l.items) l.fn.begins l.others))
 
 abbrev pub invariant-print_branches-loop-x : goal.invariant-print_branches-loop-x
 invariant-print_branches-loop-x l =
     shadow (Utf8 l.between)
-    × (string_bytes l.out ++ behind l.between (branch_lines (branches_tree (drop l.x-index l.branches)))
-    ≡ string_bytes l.fn.out ++ behind [] (branch_lines (branches_tree l.branches)))
+    × (string_bytes l.out ++ lines_after l.between (branch_lines (branches_tree (drop l.x-index l.branches)))
+    ≡ string_bytes l.fn.out ++ lines_after [] (branch_lines (branches_tree l.branches)))

@@ -5,19 +5,19 @@ use Rattle.rc_lexer.specs.declared.machine.Head.{Head}
 use Rattle.rc_lexer.specs.declared.machine.Lexer.{Lexer}
 use Rattle.rc_lexer.specs.Classes.{class_is}
 use Rattle.std.specs.Prelude.{slice_range}
-use Rattle.rc_lexer.specs.Machine.{place_of, tokens_in, bodies_in, dollars_in, after_step, body_of, behind_first}
+use Rattle.rc_lexer.specs.Machine.{place_of, tokens_in, bodies_in, dollars_in, after_step, body_of, after_first}
 use Rattle.rc_lexer.proofs.InBody.{first, other_line, mark_line, bodies_pushed, is_mark, is_no_mark}
 use Rattle.rc_lexer.proofs.machine.Lexer.in_body.Goals as goal
 
 -- the step at a character of a known class
 step_at : (script : List ℕ) (old : Lexer) (body line : ℕ) (head : Head) {class : Class} → head.class ≡ class →
     after_step (tokens_in script old) (bodies_in script old) (reading.step (body_of old.due.items (slice_range script body line)
-    (slice_range script line head.place.byte)) (behind_first old.due.items) (place_of head.place) head.c (class_is head.class))
+    (slice_range script line head.place.byte)) (after_first old.due.items) (place_of head.place) head.c (class_is head.class))
     ≡ after_step (tokens_in script old) (bodies_in script old) (reading.step (body_of old.due.items (slice_range script body line)
-    (slice_range script line head.place.byte)) (behind_first old.due.items) (place_of head.place) head.c (class_is class))
+    (slice_range script line head.place.byte)) (after_first old.due.items) (place_of head.place) head.c (class_is class))
 step_at script old body line head e =
     ap (λ k. after_step (tokens_in script old) (bodies_in script old) (reading.step (body_of old.due.items (slice_range script body line)
-    (slice_range script line head.place.byte)) (behind_first old.due.items) (place_of head.place) head.c (class_is k))) e
+    (slice_range script line head.place.byte)) (after_first old.due.items) (place_of head.place) head.c (class_is k))) e
 
 pub returns-then-ne-clause-does : goal.returns-then-ne-clause-does
 returns-then-ne-clause-does c =

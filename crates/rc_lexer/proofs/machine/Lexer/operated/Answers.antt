@@ -35,7 +35,7 @@ returns-in_ok-lexeme-in_default-kind c = record {
   does =
       plain_does _ _ _ _ _ _ c.in-Some.kind _ _ _ _ c.args.self.now c.lexeme.new.self c.begin-in_default-kind.new.self _ c.in-Some.ensures
       c.in_default-kind.not-BareHere c.in_default-kind.not-Dollar c.in_default-kind.not-DollarCount c.in_default-kind.not-DollarFlat c.requires.apart
-      c.meant-meant.ensures c.behind.ensures c.in_ok-lexeme-in_default-kind.ensures.tokens c.in_ok-lexeme-in_default-kind.ensures.rest
+      c.meant-meant.ensures c.after_token.ensures c.in_ok-lexeme-in_default-kind.ensures.tokens c.in_ok-lexeme-in_default-kind.ensures.rest
       c.begin-in_default-kind.ensures.does;
   stands = c.begin-in_default-kind.ensures.stands;
 }
