@@ -14,7 +14,7 @@ use Rattle.rc_model.specs.declared.fault.SyntaxFault.{SyntaxFault}
 use Rattle.rc_model.specs.Syntax.Faults.{fault}
 use Rattle.rc_model.specs.Syntax.Accepted.{HasTokens, IsAccepted, IsRefused, IsLineOf, lexemes, line_of, longest_script}
 use Rattle.rc_model.specs.Syntax.Accepted as script
-use Rattle.rc_model.specs.Syntax.Grammar.{IsScript}
+use Rattle.rc_model.specs.Syntax.Grammar.{HaveTree}
 use Rattle.rc_model.specs.Mirrors.Descent.{Fault, script_tree}
 use Rattle.rc_model.specs.Mirrors.Descent as descent
 use Rattle.rc_model.specs.Mirrors.ParsingLaws.{AcceptedAreWellFormed, IsDecided, IsNeverBoth}
@@ -42,9 +42,9 @@ accepted_formed text tree a =
     formed b n e h = grind (arith, nat_tests)
 
 -- a refused script isn't accepted
-no_script : {text : List ℕ} {xs ys : List Token} (tree : Node cmd) → HasTokens text xs → HasTokens text ys → ((other : Node cmd) → IsScript (lexemes xs) other → ⊥) →
-    IsScript (lexemes ys) tree → ⊥
-no_script tree h k none s = none tree (subst (λ z. IsScript (lexemes z) tree) (same_tokens k h) s)
+no_script : {text : List ℕ} {xs ys : List Token} (tree : Node cmd) → HasTokens text xs → HasTokens text ys → ((other : Node cmd) → HaveTree (lexemes xs) other → ⊥) →
+    HaveTree (lexemes ys) tree → ⊥
+no_script tree h k none s = none tree (subst (λ z. HaveTree (lexemes z) tree) (same_tokens k h) s)
 
 pub never_both : IsNeverBoth
 never_both text fault tree (script.too_long h) a = let short = a.has.short in omega arith
@@ -59,11 +59,11 @@ never_both text fault tree (script.no_tokens f short utf8 h) a = differ (one_rea
 never_both text fault tree (script.unexpected tokens line h at none) a = no_script tree h a.has none a.tree_is.script
 never_both text fault tree (script.if_not tokens line h at none) a = no_script tree h a.has none a.tree_is.script
 never_both text fault tree (script.too_deep tokens h far) a =
-    let deep = far tree (subst (λ z. IsScript (lexemes z) tree) (same_tokens a.has h) a.tree_is.script) in
+    let deep = far tree (subst (λ z. HaveTree (lexemes z) tree) (same_tokens a.has h) a.tree_is.script) in
     let shallow = a.tree_is.shallow in
     omega arith
 never_both text fault tree (script.too_many_stages tokens line h at far) a =
-    let wide = far tree (subst (λ z. IsScript (lexemes z) tree) (same_tokens a.has h) a.tree_is.script) in
+    let wide = far tree (subst (λ z. HaveTree (lexemes z) tree) (same_tokens a.has h) a.tree_is.script) in
     let narrow = a.tree_is.narrow in
     omega arith
 

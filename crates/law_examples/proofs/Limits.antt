@@ -85,6 +85,18 @@ two_pieces : image_words (word 99991) ≡ Some (codes "rc2;2" ∷ (codes "c1,w99
 unfolding word letters node_image many_image digits pieces last_cut
 two_pieces = refl
 
+-- so many accented letters, of two bytes each
+accents : ℕ → List ℕ
+accents zero = []
+accents (suc n) = 195 ∷ 169 ∷ accents n
+
+-- a piece ends between characters
+no_character_is_cut :
+    image_words (Simple (more (Lit (accents 50000) false) none)) ≡
+    Some (codes "rc2;2" ∷ (codes "c1,w100000:" ++ accents 49994) ∷ accents 6 ∷ [])
+unfolding accents node_image many_image digits pieces last_cut
+no_character_is_cut = refl
+
 -- an answer of more than 4096 bytes is a refusal
 too_long_a_read :
     Does (codes "x=`{c}") fresh

@@ -13,6 +13,27 @@ quotes_are_taken_off_and_a_list_distributes :
 unfolding meant ran
 quotes_are_taken_off_and_a_list_distributes = (refl, refl)
 
+-- the name of a program may be quoted
+a_quoted_name_is_run : Does (codes "'echo' hi") fresh (runs (codes "echo") (codes "hi" ∷ []) usual 7 0) []
+unfolding meant ran
+a_quoted_name_is_run = (refl, refl)
+
+-- a command of nine words
+nine_words_are_handed_over :
+    Does (codes "echo a b c d e f g h") fresh
+    (runs (codes "echo") (codes "a" ∷ codes "b" ∷ codes "c" ∷ codes "d" ∷ codes "e" ∷ codes "f" ∷ codes "g" ∷ codes "h" ∷ []) usual 7 0)
+    []
+unfolding meant ran
+nine_words_are_handed_over = (refl, refl)
+
+-- two lists of nine words are joined word by word
+nine_words_are_joined :
+    Does (codes "exit (a b c d e f g h i)^(1 2 3 4 5 6 7 8 9)") fresh
+    []
+    (codes "a1 b2 c3 d4 e5 f6 g7 h8 i9")
+unfolding meant ran
+nine_words_are_joined = (refl, refl)
+
 -- a quoted text with a blank is no name
 quotes_make_no_name :
     Does (codes "echo $'a b'") fresh

@@ -13,7 +13,7 @@ use Rattle.std.proofs.lemmas.List.{append-nil}
 use Rattle.rc_model.specs.Run.Plans.{play, calls_made}
 use Rattle.rc_model.specs.Run.Script.{whole}
 use Rattle.rc_model.specs.Family.Accounts.{Settled, NothingLost, Thing, a_file, read_end, write_end, Due, free, made, used, passed, Account, put, next_due, called, add_file, add_pair, add_child, past, after, HoldsSlot, HoldsSlots, InTurn, Fresh, FreshFrom, Allowed, AllAllowed, account, at_start, IsFresh, IsDue, OneWriteEnd}
-use Rattle.rc_model.specs.Family.Family.{writes_to, Process, Family, Step, holding, IsPending, GoesAsMeant, ArePossible, end_of, stood_for, shell_of, shell_started, child_process, told, with_trace, with_child, stepped, family, first, EachOf, IsChildOf, Descends, itself, started_by, HoldsWrite, WritesTo, WasHanded, WriteEnds, WaitsBy, WaitsFor, WaitsLong, directly, through, NoRing}
+use Rattle.rc_model.specs.Family.Family.{writes_to, Process, Family, Step, holding, IsPending, GoesAsMeant, ArePossible, end_of, stood_for, shell_of, shell_started, child_process, recorded, with_trace, with_child, stepped, family, first, EachOf, IsChildOf, Descends, itself, started_by, HoldsWrite, WritesTo, WasHanded, WriteEnds, WaitsBy, WaitsFor, WaitsLong, directly, through, NoRing}
 use Rattle.law_traces.proofs.Keep.{put_self, put_other}
 use Rattle.law_traces.proofs.Cmds.{keeps_whole}
 use Rattle.law_traces.proofs.Traces.{one_next, one_start_account, kept_begun, begun_loses_nothing}
@@ -139,17 +139,17 @@ held_on_step : (f : Family) (e : Step) (m : ℕ) → ((e.at ≡ m) × (holding (
 held_on_step f e m = elim (eqb_tells e.at m) [
   | inl y ↦ inl (
     y.1,
-    subst (λ i. holding (put f.at e.at (told (f.at e.at) e.call e.answer) i) ≡ after (holding (f.at i)) e.call e.answer) y.1
-        (ap holding (put_self f.at e.at (told (f.at e.at) e.call e.answer)) ∙ account_on (at_start (f.at e.at).state) (f.at e.at).trace (event e.call e.answer)),
+    subst (λ i. holding (put f.at e.at (recorded (f.at e.at) e.call e.answer) i) ≡ after (holding (f.at i)) e.call e.answer) y.1
+        (ap holding (put_self f.at e.at (recorded (f.at e.at) e.call e.answer)) ∙ account_on (at_start (f.at e.at).state) (f.at e.at).trace (event e.call e.answer)),
   )
-  | inr y ↦ inr (y.1, put_other f.at e.at (told (f.at e.at) e.call e.answer) m y.1)
+  | inr y ↦ inr (y.1, put_other f.at e.at (recorded (f.at e.at) e.call e.answer) m y.1)
 ]
 
 origin_same : (f : Family) (e : Step) (j : ℕ) → ((with_trace f e).at j).origin ≡ (f.at j).origin
-origin_same f e j = put_field (λ p. p.origin) f.at e.at (told (f.at e.at) e.call e.answer) refl j
+origin_same f e j = put_field (λ p. p.origin) f.at e.at (recorded (f.at e.at) e.call e.answer) refl j
 
 stands_same : (f : Family) (e : Step) (j : ℕ) → ((with_trace f e).at j).stands ≡ (f.at j).stands
-stands_same f e j = put_field (λ p. p.stands) f.at e.at (told (f.at e.at) e.call e.answer) refl j
+stands_same f e j = put_field (λ p. p.stands) f.at e.at (recorded (f.at e.at) e.call e.answer) refl j
 
 child_back : (f : Family) (e : Step) (j m : ℕ) → IsChildOf (with_trace f e) j m → IsChildOf f j m
 child_back f e j m c = (c.0, sym (origin_same f e j) ∙ c.1)
@@ -362,7 +362,7 @@ module _ (reads : Launch → Node cmd × State) where
   InRange f [] = Unit {0}
   InRange f (e ∷ es) = (e.at < f.count) × InRange (stepped reads f e) es
 
-  sound_told : (p : Process) (c : Call) (x : Answer) → Sound (told p c x) → Sound p × Allowed (holding p) c
+  sound_told : (p : Process) (c : Call) (x : Answer) → Sound (recorded p c x) → Sound p × Allowed (holding p) c
   sound_told p c x s =
       let f = fresh_on (at_start p.state) p.trace (event c x) s.0 in
       let a = allowed_on (at_start p.state) p.trace (event c x) s.1 in
@@ -372,7 +372,7 @@ module _ (reads : Launch → Node cmd × State) where
   sound_back f e r s = (
     λ j l. elim (eqb_tells e.at j) [
       | inl y ↦ subst (λ i. Sound (f.at i)) y.1 own.0
-      | inr y ↦ subst Sound (put_other f.at e.at (told (f.at e.at) e.call e.answer) j y.1) (at_trace j l)
+      | inr y ↦ subst Sound (put_other f.at e.at (recorded (f.at e.at) e.call e.answer) j y.1) (at_trace j l)
     ],
     own.1,
   )
@@ -381,7 +381,7 @@ module _ (reads : Launch → Node cmd × State) where
       at_trace j l = subst Sound (stays f e j l) (s j (let m = more f e in omega arith))
 
       own : Sound (f.at e.at) × Allowed (holding (f.at e.at)) e.call
-      own = sound_told (f.at e.at) e.call e.answer (subst Sound (put_self f.at e.at (told (f.at e.at) e.call e.answer)) (at_trace e.at r))
+      own = sound_told (f.at e.at) e.call e.answer (subst Sound (put_self f.at e.at (recorded (f.at e.at) e.call e.answer)) (at_trace e.at r))
 
   sound_all_back : (es : List Step) (f : Family) → InRange f es → EachOf Sound (family reads f es) → EachOf Sound f
   sound_all_back [] f r s = s

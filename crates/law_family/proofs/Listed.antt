@@ -9,7 +9,7 @@ use Rattle.rc_model.specs.Run.Calls.{Launch}
 use Rattle.rc_model.specs.Syntax.Tree.{Node, cmd, Empty}
 use Rattle.rc_model.specs.Run.State.{State, new_state}
 use Rattle.rc_model.specs.Family.Accounts.{put}
-use Rattle.rc_model.specs.Family.Family.{Process, Family, Step, elsewhere, told, child_process, with_trace, with_child, stepped, shell_started}
+use Rattle.rc_model.specs.Family.Family.{Process, Family, Step, elsewhere, recorded, child_process, with_trace, with_child, stepped, shell_started}
 use Rattle.law_traces.proofs.Keep.{put_self, put_other}
 
 abbrev pub nobody : Process
@@ -50,19 +50,19 @@ module _ (reads : Launch → Node cmd × State) where
   list_child ps k p (Some (l, n)) = ps ++ child_process reads k p l n ∷ []
 
   abbrev pub list_step : List Process → Step → List Process
-  list_step ps e = list_child (set ps e.at (told (get_or ps e.at nobody) e.call e.answer)) e.at (get_or ps e.at nobody) (shell_started e.call e.answer)
+  list_step ps e = list_child (set ps e.at (recorded (get_or ps e.at nobody) e.call e.answer)) e.at (get_or ps e.at nobody) (shell_started e.call e.answer)
 
   pub list_step_alike : (ps : List Process) (e : Step) → e.at < length ps → Alike (as_family (list_step ps e)) (stepped reads (as_family ps) e)
   list_step_alike ps e r = by_child (shell_started e.call e.answer)
     where
-      same : length (set ps e.at (told (get_or ps e.at nobody) e.call e.answer)) ≡ length ps
-      same = length-set ps e.at (told (get_or ps e.at nobody) e.call e.answer)
+      same : length (set ps e.at (recorded (get_or ps e.at nobody) e.call e.answer)) ≡ length ps
+      same = length-set ps e.at (recorded (get_or ps e.at nobody) e.call e.answer)
 
-      by_child : (o : Option (Launch × ℕ)) → Alike (as_family (list_child (set ps e.at (told (get_or ps e.at nobody) e.call e.answer)) e.at (get_or ps e.at nobody) o)) (with_child reads (with_trace (as_family ps) e) e.at (get_or ps e.at nobody) o)
-      by_child None = record { count = same; at = set_alike ps e.at (told (get_or ps e.at nobody) e.call e.answer) r }
+      by_child : (o : Option (Launch × ℕ)) → Alike (as_family (list_child (set ps e.at (recorded (get_or ps e.at nobody) e.call e.answer)) e.at (get_or ps e.at nobody) o)) (with_child reads (with_trace (as_family ps) e) e.at (get_or ps e.at nobody) o)
+      by_child None = record { count = same; at = set_alike ps e.at (recorded (get_or ps e.at nobody) e.call e.answer) r }
       by_child (Some (l, n)) = record {
-        count = length-append (set ps e.at (told (get_or ps e.at nobody) e.call e.answer)) _ ∙ omega (arith, same);
-        at = λ k. push_alike (set ps e.at (told (get_or ps e.at nobody) e.call e.answer)) (child_process reads e.at (get_or ps e.at nobody) l n) k
-            ∙ put_alike (λ i. get_or (set ps e.at (told (get_or ps e.at nobody) e.call e.answer)) i nobody) (put (λ i. get_or ps i nobody) e.at (told (get_or ps e.at nobody) e.call e.answer)) _ (length ps) same (child_process reads e.at (get_or ps e.at nobody) l n)
-            (set_alike ps e.at (told (get_or ps e.at nobody) e.call e.answer) r) k;
+        count = length-append (set ps e.at (recorded (get_or ps e.at nobody) e.call e.answer)) _ ∙ omega (arith, same);
+        at = λ k. push_alike (set ps e.at (recorded (get_or ps e.at nobody) e.call e.answer)) (child_process reads e.at (get_or ps e.at nobody) l n) k
+            ∙ put_alike (λ i. get_or (set ps e.at (recorded (get_or ps e.at nobody) e.call e.answer)) i nobody) (put (λ i. get_or ps i nobody) e.at (recorded (get_or ps e.at nobody) e.call e.answer)) _ (length ps) same (child_process reads e.at (get_or ps e.at nobody) l n)
+            (set_alike ps e.at (recorded (get_or ps e.at nobody) e.call e.answer) r) k;
       }

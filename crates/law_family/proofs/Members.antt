@@ -6,7 +6,7 @@ use Rattle.rc_model.specs.Syntax.Tree.{Node, cmd}
 use Rattle.rc_model.specs.Run.State.{State}
 use Rattle.rc_model.specs.Handed.Handed.{IsHanded, HandedTo}
 use Rattle.rc_model.specs.Family.Accounts.{put, Account, account, after, at_start, Allowed, AllAllowed, NothingLost}
-use Rattle.rc_model.specs.Family.Family.{Process, Family, Step, shell_of, shell_started, child_process, told, with_trace, with_child, stepped, family, first, ArePossible, EachOf, born, starts, OneAtATime, StandFrom, OnePerStart, WasStarted, HandedSo, IsFamily, Sane}
+use Rattle.rc_model.specs.Family.Family.{Process, Family, Step, shell_of, shell_started, child_process, recorded, with_trace, with_child, stepped, family, first, ArePossible, EachOf, born, starts, OneAtATime, StandFrom, OnePerStart, WasStarted, HandedSo, IsFamily, Sane}
 use Rattle.law_traces.proofs.Keep.{put_self, put_other}
 use Rattle.law_traces.proofs.Traces.{ended_leaves_nothing}
 use Rattle.law_family.proofs.Family.{Sound, put_field, launch_is, InRange, in_range, stays, more, inv_first, inv_family, write_ends, no_ring, pending_allowed, meant_sound, meant_nothing_lost}
@@ -45,8 +45,8 @@ allowed_within (d ∷ ds) e later a h = allowed_within ds e later (after a d.cal
 module _ (reads : Launch → Node cmd × State) where
   pub one_at_a_time : (f : Family) (e : Step) → e.at < f.count → OneAtATime reads f e
   one_at_a_time f e r = record {
-    own_trace = ap (λ p. p.trace) (stays reads f e e.at r ∙ put_self f.at e.at (told (f.at e.at) e.call e.answer));
-    others = λ j l ne. stays reads f e j l ∙ put_other f.at e.at (told (f.at e.at) e.call e.answer) j (λ z. ne (sym z));
+    own_trace = ap (λ p. p.trace) (stays reads f e e.at r ∙ put_self f.at e.at (recorded (f.at e.at) e.call e.answer));
+    others = λ j l ne. stays reads f e j l ∙ put_other f.at e.at (recorded (f.at e.at) e.call e.answer) j (λ z. ne (sym z));
     no_fewer = more reads f e;
     one_more = by_child (shell_started e.call e.answer);
   }
@@ -56,10 +56,10 @@ module _ (reads : Launch → Node cmd × State) where
       by_child (Some (k, n)) = omega arith
 
   -- what a process is made with stays
-  stays_in : {Y : Type 0} (g : Process → Y) → ((p : Process) (c : Call) (x : Answer) → g (told p c x) ≡ g p) → (es : List Step) (f : Family) → InRange reads f es → (j : ℕ) → j < f.count → g ((family reads f es).at j) ≡ g (f.at j)
+  stays_in : {Y : Type 0} (g : Process → Y) → ((p : Process) (c : Call) (x : Answer) → g (recorded p c x) ≡ g p) → (es : List Step) (f : Family) → InRange reads f es → (j : ℕ) → j < f.count → g ((family reads f es).at j) ≡ g (f.at j)
   stays_in g same [] f r j l = refl
   stays_in g same (e ∷ es) f r j l = stays_in g same es (stepped reads f e) r.1 j (let m = more reads f e in omega arith)
-      ∙ (ap g (stays reads f e j l) ∙ put_field g f.at e.at (told (f.at e.at) e.call e.answer) (same (f.at e.at) e.call e.answer) j)
+      ∙ (ap g (stays reads f e j l) ∙ put_field g f.at e.at (recorded (f.at e.at) e.call e.answer) (same (f.at e.at) e.call e.answer) j)
 
   stand_step : (e : Step) (es : List Step) (f : Family) (o : Option (Launch × ℕ)) → InRange reads (with_child reads (with_trace f e) e.at (f.at e.at) o) es
       → ((g : Family) → InRange reads g es → StandFrom (family reads g es) g.count (starts es))
@@ -94,9 +94,9 @@ module _ (reads : Launch → Node cmd × State) where
       later = (longer k.0 w.before w.launch w.number w.later w.in_trace).0;
       shell = w.shell;
       in_trace = (longer k.0 w.before w.launch w.number w.later w.in_trace).1;
-      origin = put_field (λ p. p.origin) f.at e.at (told (f.at e.at) e.call e.answer) refl j ∙ w.origin;
-      tree = put_field (λ p. p.tree) f.at e.at (told (f.at e.at) e.call e.answer) refl j ∙ w.tree;
-      state = put_field (λ p. p.state) f.at e.at (told (f.at e.at) e.call e.answer) refl j ∙ w.state;
+      origin = put_field (λ p. p.origin) f.at e.at (recorded (f.at e.at) e.call e.answer) refl j ∙ w.origin;
+      tree = put_field (λ p. p.tree) f.at e.at (recorded (f.at e.at) e.call e.answer) refl j ∙ w.tree;
+      state = put_field (λ p. p.state) f.at e.at (recorded (f.at e.at) e.call e.answer) refl j ∙ w.state;
     },
   )
     where
@@ -105,10 +105,10 @@ module _ (reads : Launch → Node cmd × State) where
       longer k before l n later t = elim (eqb_tells e.at k) [
         | inl y ↦ (
           later ++ event e.call e.answer ∷ [],
-          subst (λ i. (put f.at e.at (told (f.at e.at) e.call e.answer) i).trace ≡ before ++ event (start l) (child n) ∷ (later ++ event e.call e.answer ∷ [])) y.1
-              (ap (λ p. p.trace) (put_self f.at e.at (told (f.at e.at) e.call e.answer)) ∙ (ap (λ t. t ++ event e.call e.answer ∷ []) (ap (λ i. (f.at i).trace) y.1 ∙ t) ∙ append_assoc before (event (start l) (child n) ∷ later) (event e.call e.answer ∷ []))),
+          subst (λ i. (put f.at e.at (recorded (f.at e.at) e.call e.answer) i).trace ≡ before ++ event (start l) (child n) ∷ (later ++ event e.call e.answer ∷ [])) y.1
+              (ap (λ p. p.trace) (put_self f.at e.at (recorded (f.at e.at) e.call e.answer)) ∙ (ap (λ t. t ++ event e.call e.answer ∷ []) (ap (λ i. (f.at i).trace) y.1 ∙ t) ∙ append_assoc before (event (start l) (child n) ∷ later) (event e.call e.answer ∷ []))),
         )
-        | inr y ↦ (later, ap (λ p. p.trace) (put_other f.at e.at (told (f.at e.at) e.call e.answer) k y.1) ∙ t)
+        | inr y ↦ (later, ap (λ p. p.trace) (put_other f.at e.at (recorded (f.at e.at) e.call e.answer) k y.1) ∙ t)
       ]
 
   started_step : (f : Family) (e : Step) → e.at < f.count → Started f → (o : Option (Launch × ℕ)) → shell_started e.call e.answer ≡ o → Started (with_child reads (with_trace f e) e.at (f.at e.at) o)
@@ -124,7 +124,7 @@ module _ (reads : Launch → Node cmd × State) where
         later = [];
         shell = program_is e.call e.answer l n s;
         in_trace = ap (λ p. p.trace) (put_other (with_trace f e).at f.count (child_process reads e.at (f.at e.at) l n) e.at (λ z. absurd (omega arith)))
-            ∙ (ap (λ p. p.trace) (put_self f.at e.at (told (f.at e.at) e.call e.answer))
+            ∙ (ap (λ p. p.trace) (put_self f.at e.at (recorded (f.at e.at) e.call e.answer))
             ∙ ap (λ v. (f.at e.at).trace ++ v ∷ []) (ap (λ c. event c e.answer) (launch_is e.call e.answer l n s) ∙ ap (λ x. event (start l) x) (answer_is e.call e.answer l n s)));
         origin = ap (λ p. p.origin) (new_at j y.1);
         tree = ap (λ p. p.tree) (new_at j y.1);

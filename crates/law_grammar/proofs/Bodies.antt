@@ -3,11 +3,12 @@ use Rattle.std.proofs.Common.{◌≡◌, refl, ℕ, Bool, true, false, not, ◌=
 use Rattle.std.specs.Str.{chars}
 use Rattle.std.proofs.lemmas.Bool.{and_parts, and_from}
 use lib.Utf8.{encode}
-use Rattle.rc_model.specs.Syntax.Tokens.{has_no_zero, is_name_char}
+use Rattle.rc_model.specs.Syntax.Text.{without_zero}
+use Rattle.rc_model.specs.Syntax.Tokens.{is_name_char}
 use Rattle.rc_model.specs.Syntax.Tree.{Node, Many, none, more, snoc}
 use Rattle.rc_model.specs.Syntax.Tree as t
-use Rattle.rc_model.specs.Syntax.WellFormed.{is_sound, are_sound, without_zero}
-use Rattle.rc_model.specs.Syntax.HereDocs.{Begun, Plain, Dollar, Naming, with_text, begun_by, behind, ended_by, with_last, pieces_from, pieces_of}
+use Rattle.rc_model.specs.Syntax.WellFormed.{is_sound, are_sound}
+use Rattle.rc_model.specs.Syntax.HereDocs.{Begun, Plain, Dollar, Naming, with_text, begun_by, begun_after, ended_by, with_last, pieces_from, pieces_of}
 use Rattle.rc_model.specs.Mirrors.Spelling.{IsText}
 use Rattle.law_grammar.proofs.Zeros.{clean_append, clean_char, clean_text}
 
@@ -24,7 +25,7 @@ clean_either false a b v w = w
 begun_by_clean : (c : ℕ) → not (c == 0) ≡ true → IsClean (begun_by c)
 begun_by_clean c z = clean_either (c == 36) (Dollar []) (Plain (encode c)) refl (clean_char c z)
 
-after_clean : (b : Begun) (c : ℕ) → IsClean b → not (c == 0) ≡ true → IsClean (behind b c)
+after_clean : (b : Begun) (c : ℕ) → IsClean b → not (c == 0) ≡ true → IsClean (begun_after b c)
 after_clean (Plain text) c w z = clean_either (c == 36) (Dollar text) (Plain (text ++ encode c)) w (clean_append text (encode c) w (clean_char c z))
 after_clean (Dollar text) c w z =
     clean_either (is_name_char c) (Naming (encode c)) (if c == 36 then Plain (text ++ 36 ∷ []) else Plain (text ++ 36 ∷ encode c)) (clean_char c z)
@@ -56,11 +57,11 @@ with_last_sound (Plain text) ps w v = with_text_sound ps text v w
 with_last_sound (Dollar text) ps w v = with_text_sound ps (text ++ 36 ∷ []) v (clean_append text (36 ∷ []) w refl)
 with_last_sound (Naming name) ps w v = sound_snoc ps (t.Name name) v w
 
-from_sound : (b : Begun) (ps : Many t.piece) (cs : List ℕ) → IsClean b → are_sound ps ≡ true → has_no_zero cs ≡ true → are_sound (pieces_from b ps cs) ≡ true
+from_sound : (b : Begun) (ps : Many t.piece) (cs : List ℕ) → IsClean b → are_sound ps ≡ true → without_zero cs ≡ true → are_sound (pieces_from b ps cs) ≡ true
 from_sound b ps [] w v z = with_last_sound b ps w v
 from_sound b ps (c ∷ cs) w v z =
-    let p = and_parts (not (c == 0)) (has_no_zero cs) z in
-    from_sound (behind b c) (ended_by b c ps) cs (after_clean b c w p.0) (ended_by_sound b c ps w v) p.1
+    let p = and_parts (not (c == 0)) (without_zero cs) z in
+    from_sound (begun_after b c) (ended_by b c ps) cs (after_clean b c w p.0) (ended_by_sound b c ps w v) p.1
 
 pub pieces_sound : (quoted : Bool) (body : List ℕ) → IsText body → are_sound (pieces_of quoted body) ≡ true
 pieces_sound true body x = with_text_sound none body refl (clean_text body x)

@@ -325,7 +325,7 @@ opening_first r (LeftBrace ∷ ts) h b = absurd cc
 opening_first r ts h b = refl
 
 first_simple : (r : Readers) (a : Node t.arg) (ts : List Lexeme) → begins_value ts ≡ false →
-    d.behind_first r a ts ≡ (d.simple_by (r (d.a_part false)) ts >>= λ x. Ok (Staged (redirect x.0.1 (t.Simple (more a x.0.0))), x.1))
+    d.after_first r a ts ≡ (d.simple_by (r (d.a_part false)) ts >>= λ x. Ok (Staged (redirect x.0.1 (t.Simple (more a x.0.0))), x.1))
 first_simple r a (Equals ∷ ts) h = absurd cc
 first_simple r a ts h = refl
 

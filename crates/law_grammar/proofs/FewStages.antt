@@ -280,7 +280,7 @@ block_few r s ts =
 staged_few : (o : Read (Node t.cmd)) → Few wide o → Few opening_wide (d.staged o)
 staged_few o m = bind o _ m (λ c h. record { few = h })
 
-named_few : (r : Readers) → Small r → (a : Node t.arg) (ts : List Lexeme) → most_stages a ≤ 64 → Few opening_wide (d.behind_first r a ts)
+named_few : (r : Readers) → Small r → (a : Node t.arg) (ts : List Lexeme) → most_stages a ≤ 64 → Few opening_wide (d.after_first r a ts)
 named_few r s a (Equals ∷ ts) h = record { few = h }
 named_few r s a ts h =
     bind (d.simple_by (r (d.a_part false)) ts) _ (simple_few (r (d.a_part false)) (s.part false) ts) (λ x k.

@@ -6,7 +6,7 @@ use Rattle.rc_model.specs.Syntax.Tokens.{Lexeme}
 use Rattle.rc_model.specs.Syntax.Tree.{Node, Many}
 use Rattle.rc_model.specs.Syntax.Tree as t
 use Rattle.rc_model.specs.Syntax.WellFormed.{depth, most_stages, most_stages_in}
-use Rattle.rc_model.specs.Syntax.Grammar.{IsScript}
+use Rattle.rc_model.specs.Syntax.Grammar.{HaveTree}
 use Rattle.rc_model.specs.Mirrors.Descent as d
 use Rattle.rc_model.specs.Mirrors.Descent.{Fault, Read}
 use Rattle.rc_model.specs.Mirrors.ParsingLaws.{FindsOnlyTrees, FindsEachTree, HasOneTree, HasNoTree, HasTooManyStages, IsTooDeep}
@@ -36,7 +36,7 @@ finds_only_trees levels ts tree h =
     }
 
 -- what is read of a script
-script_meets : (levels : ℕ) (ts : List Lexeme) (tree : Node t.cmd) (p : IsScript ts tree) → Meets levels (depth tree) (most_stages tree) (d.read levels (d.a_list false) ts) (p.0, [])
+script_meets : (levels : ℕ) (ts : List Lexeme) (tree : Node t.cmd) (p : HaveTree ts tree) → Meets levels (depth tree) (most_stages tree) (d.read levels (d.a_list false) ts) (p.0, [])
 script_meets levels ts tree p =
     let gr = read_good levels in
     let m : Meets levels (depth (t.Seq p.0)) (most_stages (t.Seq p.0)) (d.read levels (d.a_list false) ts) (p.0, []) = gr.list p.1 in

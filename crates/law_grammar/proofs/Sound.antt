@@ -1,11 +1,12 @@
 -- A tree of spelled lexemes is sound, unless it has too many stages.
 use Rattle.std.proofs.Common.{◌≡◌, sym, subst, refl, ℕ, suc, ◌≤◌, max, Bool, true, false, ◌&&◌, List, ◌∷◌, arith, nat_lt}
 use Rattle.std.proofs.lemmas.Bool.{and_from, lt-ltb}
+use Rattle.rc_model.specs.Syntax.Text.{without_zero}
 use Rattle.rc_model.specs.Syntax.Tree.{Sort, Node, Many, none, more, count}
 use Rattle.rc_model.specs.Syntax.Tree as t
 use Rattle.rc_model.specs.Syntax.Tokens.{Lexeme}
 use Rattle.rc_model.specs.Syntax.Tokens as k
-use Rattle.rc_model.specs.Syntax.WellFormed.{is_sound, are_sound, most_stages, most_stages_in, has_some, has_several, is_output, has_text, without_zero}
+use Rattle.rc_model.specs.Syntax.WellFormed.{is_sound, are_sound, most_stages, most_stages_in, has_some, has_several, is_output, has_text}
 use Rattle.rc_model.specs.Syntax.Grammar.{Level, Out, Phrase, past_blanks, concat_of, redirect, stages_of, last_of, pipeline, and_or}
 use Rattle.rc_model.specs.Syntax.Grammar as g
 use Rattle.rc_model.specs.Mirrors.Spelling.{IsText, IsWord, IsName, AreSpelled}

@@ -362,7 +362,7 @@ staged_sound : (ts : List Lexeme) (o : Read (Node t.cmd)) (x : Opening × List L
 staged_sound ts o x f h = let w = bind_ok o _ x h in found_opening ts (Staged w.0.0, w.0.1) x (f w.0 w.1) w.2
 
 after_first_sound : (r : Readers) → Sound r → (ts : List Lexeme) (a : Node t.arg) (mid : List Lexeme) (x : Opening × List Lexeme) → begins_first ts ≡ true → Phrase (g.arg false) ts a mid →
-    d.behind_first r a mid ≡ Ok x → IsOpening ts x.0 x.1
+    d.after_first r a mid ≡ Ok x → IsOpening ts x.0 x.1
 after_first_sound r s ts a (Equals ∷ mid) x b p h = found_opening ts (Named a, mid) x (b, p) h
 after_first_sound r s ts a mid x b p h =
     let w = bind_ok (d.simple_by (r (d.a_part false)) mid) _ x h in

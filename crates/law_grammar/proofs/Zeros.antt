@@ -7,8 +7,9 @@ use Rattle.std.proofs.lemmas.Bool.{and_parts, and_from, cases_lt}
 use Rattle.std.proofs.lemmas.Bool.Decides.{nat_tests}
 use Rattle.std.proofs.lemmas.Str.{encode_ascii, encodes-chars, inside_one}
 use lib.Utf8.{encode, encodes}
-use Rattle.rc_model.specs.Syntax.Tokens.{has_no_zero, is_name_char}
-use Rattle.rc_model.specs.Syntax.WellFormed.{without_zero, has_text}
+use Rattle.rc_model.specs.Syntax.Text.{without_zero}
+use Rattle.rc_model.specs.Syntax.Tokens.{is_name_char}
+use Rattle.rc_model.specs.Syntax.WellFormed.{has_text}
 use Rattle.rc_model.specs.Mirrors.Spelling.{IsText}
 
 pub clean_append : (xs ys : List ℕ) → without_zero xs ≡ true → without_zero ys ≡ true → without_zero (xs ++ ys) ≡ true
@@ -35,10 +36,10 @@ clean_char c e = elim (cases_lt c 128) [
       ])
 ]
 
-clean_chars : (cs : List ℕ) → has_no_zero cs ≡ true → without_zero (encodes cs) ≡ true
+clean_chars : (cs : List ℕ) → without_zero cs ≡ true → without_zero (encodes cs) ≡ true
 clean_chars [] z = refl
 clean_chars (c ∷ cs) z =
-    let p = and_parts (not (c == 0)) (has_no_zero cs) z in
+    let p = and_parts (not (c == 0)) (without_zero cs) z in
     clean_append (encode c) (encodes cs) (clean_char c p.0) (clean_chars cs p.1)
 
 pub clean_text : (text : List ℕ) → IsText text → without_zero text ≡ true

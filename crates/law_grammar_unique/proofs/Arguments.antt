@@ -73,9 +73,9 @@ joined o p us y s (g.joined q r) e =
     let m = o.same _ _ _ q e in let n = p.same _ _ _ r m.rest in
     let i = m.tree in let j = n.tree in record { tree = cc; rest = n.rest }
 
-behind_caret : (inside : Bool) (ts us next : List Lexeme) → after_caret (past_blanks inside ts) ≡ None →
+past_caret_none : (inside : Bool) (ts us next : List Lexeme) → after_caret (past_blanks inside ts) ≡ None →
     after_caret (past_blanks inside us) ≡ Some next → ts ≡ us → ⊥
-behind_caret inside ts us next h k e = let i = ap (λ z. after_caret (past_blanks inside z)) e in absurd cc
+past_caret_none inside ts us next h k e = let i = ap (λ z. after_caret (past_blanks inside z)) e in absurd cc
 
 same_caret : (inside : Bool) (ts us next after : List Lexeme) → after_caret (past_blanks inside ts) ≡ Some next →
     after_caret (past_blanks inside us) ≡ Some after → ts ≡ us →
@@ -85,12 +85,12 @@ same_caret inside ts us next after h k e =
 
 pub no_caret : (inside : Bool) (rest : List Lexeme) → after_caret (past_blanks inside rest) ≡ None → Alike (g.parts inside) rest none rest
 no_caret inside rest h us y s (g.no_caret k) e = record { tree = cc; rest = e }
-no_caret inside rest h us y s (g.caret k q r) e = absurd (behind_caret inside _ _ _ h k e)
+no_caret inside rest h us y s (g.caret k q r) e = absurd (past_caret_none inside _ _ _ h k e)
 
 pub caret : (inside : Bool) (ts next : List Lexeme) {mid rest : List Lexeme} {a : Node t.arg} {as' : Many t.arg} →
     after_caret (past_blanks inside ts) ≡ Some next →
     One (g.part inside) (past_blanks inside next) a mid → One (g.parts inside) mid as' rest → Alike (g.parts inside) ts (more a as') rest
-caret inside ts next h o p us y s (g.no_caret k) e = absurd (behind_caret inside _ _ _ k h (sym e))
+caret inside ts next h o p us y s (g.no_caret k) e = absurd (past_caret_none inside _ _ _ k h (sym e))
 caret inside ts next h o p us y s (g.caret k q r) e =
     let m = o.same _ _ _ q (same_caret inside _ _ _ _ h k e) in let n = p.same _ _ _ r m.rest in
     let i = m.tree in let j = n.tree in record { tree = cc; rest = n.rest }

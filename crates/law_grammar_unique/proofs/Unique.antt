@@ -3,7 +3,7 @@ use Rattle.std.proofs.Common.{◌≡◌, sym, ap, ◌∙◌, refl, List}
 use Rattle.rc_model.specs.Syntax.Tokens.{Lexeme}
 use Rattle.rc_model.specs.Syntax.Tree.{Node, Many}
 use Rattle.rc_model.specs.Syntax.Tree as t
-use Rattle.rc_model.specs.Syntax.Grammar.{Phrase, Level, Out, IsScript}
+use Rattle.rc_model.specs.Syntax.Grammar.{Phrase, Level, Out, HaveTree}
 use Rattle.rc_model.specs.Syntax.Grammar as g
 use Rattle.law_grammar_unique.proofs.Same.{One, arg_begins, redir_begins, redir_word, brace_begins, brace_word}
 use Rattle.law_grammar_unique.proofs.Same.{paren_word, stage_leads, pipe_leads, assigned_leads, leading_leads}
@@ -97,6 +97,6 @@ one (g.semicolon_branch q) = record { same = l.semicolon_branch (one q); apart =
 one (g.newline_branch q) = record { same = l.newline_branch (one q); apart = tt }
 one (g.one_branch {text = text} h q k r j) = record { same = l.one_branch text (one q) (one r) (one j); apart = tt }
 
-pub one_tree : (ts : List Lexeme) (tree other : Node t.cmd) → IsScript ts tree → IsScript ts other → tree ≡ other
+pub one_tree : (ts : List Lexeme) (tree other : Node t.cmd) → HaveTree ts tree → HaveTree ts other → tree ≡ other
 one_tree ts tree other p q =
     let m = (one p.1).same _ _ _ q.1 refl in p.2 ∙ ap t.Seq m.tree ∙ sym q.2

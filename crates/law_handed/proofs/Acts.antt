@@ -12,10 +12,10 @@ use Rattle.rc_model.specs.Run.Calls.{to_file, with_slot, Launch, open_file, here
 use Rattle.rc_model.specs.Run.Lists.{ListFault, EmptyConcat, CountMismatch, concatenated}
 use Rattle.rc_model.specs.Run.State.{State, got, is_name, is_readable, is_function_name, define, add_child}
 use Rattle.rc_model.specs.Run.Shell.{Shell, ◌>>=◌, pure, call, say, change, exits}
-use Rattle.rc_model.specs.Run.FileNames.{components, folder, fitting_names, each_name, if_there, listed, step, walk, paths_of, or_itself, names_of, expanded_word, expanded}
+use Rattle.rc_model.specs.Run.FileNames.{components, directory, fitting_names, each_name, if_there, listed, step, walk, paths_of, or_itself, names_of, expanded_word, expanded}
 use Rattle.rc_model.specs.Run.Acts.{set_status, report, fault, fails, close_end, one_name, variable, value, value_words, count_words, flat_words, selected_words, joined_lists, concat_words, define_each, opened, open_one, here_text, open_here, is_path, candidates, is_program, first_program, find_program, waited, wait_each, Started, Child, NoChild, child_of, begun, start_shell, refuse, wait_started, run_found, run_program, wait_subshell, subshell, kept_child, background_with, background, Got, got_all, read_on, reading, read_all, longest_output, members_of, back_status, back_child, back_pipe, backquote, back_words}
 use Rattle.rc_model.specs.Handed.Image.{is_fit, program_launch, shell_launch}
-use Rattle.rc_model.specs.Handed.Proper.{IsScript, IsProper}
+use Rattle.rc_model.specs.Handed.Proper.{IsProperTree, IsProper}
 use Rattle.rc_model.specs.Handed.HandedLaws.{ReadsBack, IsReadBack}
 use Rattle.law_image.proofs.Proper.{proper_set, proper_define, proper_same}
 use Rattle.law_image.proofs.Handed.{launch_reads_back}
@@ -73,7 +73,7 @@ pub keeps_concat : (slots : Slots) (a b : List Word) → Keeps (concat_words slo
 keeps_concat slots a b = keeps_joined slots (concatenated a b)
 
 -- functions
-pub keeps_define : (slots : Slots) (xs : List (List ℕ)) (body : Node cmd) → IsScript body → Keeps (define_each slots xs body)
+pub keeps_define : (slots : Slots) (xs : List (List ℕ)) (body : Node cmd) → IsProperTree body → Keeps (define_each slots xs body)
 keeps_define slots [] body b = keeps_skip
 keeps_define slots (x ∷ xs) body b =
     bind_so (one_name slots is_function_name (x ∷ [])) _ (gives_one_name slots is_function_name (x ∷ []))
@@ -99,7 +99,7 @@ keeps_each_name go k path (n ∷ ns) = bind (go (path ++ n)) _ (k (path ++ n)) (
 
 keeps_step : (c : Word) (go : List ℕ → Shell (List (List ℕ))) → ((path : List ℕ) → Keeps (go path)) → (path : List ℕ) → Keeps (step c go path)
 keeps_step c go k path = gives_if (has_pattern c) (listed c go path) (go (path ++ word_text c))
-    (bind (call (list_names (folder path))) _ (keeps_call (list_names (folder path)) tt) (λ a. keeps_each_name go k path (fitting_names c (as_names a)))) (k (path ++ word_text c))
+    (bind (call (list_names (directory path))) _ (keeps_call (list_names (directory path)) tt) (λ a. keeps_each_name go k path (fitting_names c (as_names a)))) (k (path ++ word_text c))
 
 keeps_if_there : (path : List ℕ) → Keeps (if_there path)
 keeps_if_there path = bind (call (probe path)) _ (keeps_call (probe path) tt) (λ a. keeps_pure _)
@@ -135,10 +135,10 @@ keeps_started : (l : Launch) (t : Bool) → (t ≡ true → ReadsBack (start l))
 keeps_started l true h = bind (call (start l)) _ (keeps_call (start l) (h refl)) (λ a. keeps_pure (child_of (as_child a)))
 keeps_started l false h = keeps_pure (NoChild (codes "too large"))
 
-read_back : (slots : Slots) (body : Node cmd) (s : State) → IsScript body → IsProper s → is_fit (shell_launch slots body s) ≡ true → IsReadBack (shell_launch slots body s)
+read_back : (slots : Slots) (body : Node cmd) (s : State) → IsProperTree body → IsProper s → is_fit (shell_launch slots body s) ≡ true → IsReadBack (shell_launch slots body s)
 read_back slots body s b p e = record { handed = record { tree = body; state = s; is = refl; fits = e }; tree = b; state = p; back = launch_reads_back body s b p e }
 
-pub keeps_start_shell : (slots : Slots) (body : Node cmd) → IsScript body → Keeps (start_shell slots body)
+pub keeps_start_shell : (slots : Slots) (body : Node cmd) → IsProperTree body → Keeps (start_shell slots body)
 keeps_start_shell slots body b = gives_from _ (λ t p. keeps_started (shell_launch slots body t) (is_fit (shell_launch slots body t)) (read_back slots body t b p))
 
 -- programs
@@ -169,7 +169,7 @@ keeps_wait_subshell : (b : Started) → Keeps (wait_subshell b)
 keeps_wait_subshell (NoChild why) = keeps_status why
 keeps_wait_subshell (Child n) = keeps_waited_status n
 
-pub keeps_subshell : (slots : Slots) (body : Node cmd) → IsScript body → Keeps (subshell slots body)
+pub keeps_subshell : (slots : Slots) (body : Node cmd) → IsProperTree body → Keeps (subshell slots body)
 keeps_subshell slots body b = bind (start_shell slots body) wait_subshell (keeps_start_shell slots body b) keeps_wait_subshell
 
 -- `&`
@@ -177,12 +177,12 @@ keeps_kept_child : (b : Started) → Keeps (kept_child b)
 keeps_kept_child (NoChild why) = keeps_status why
 keeps_kept_child (Child n) = keeps_change _ (λ s p. proper_set (add_child s n) (codes "apid") (decimal n ∷ []) refl (proper_same s (add_child s n) refl refl p))
 
-keeps_background_with : (slots : Slots) (body : Node cmd) → IsScript body → (o : Option ℕ) → Keeps (background_with slots body o)
+keeps_background_with : (slots : Slots) (body : Node cmd) → IsProperTree body → (o : Option ℕ) → Keeps (background_with slots body o)
 keeps_background_with slots body b None = keeps_status (codes "cannot open")
 keeps_background_with slots body b (Some h) =
     bind (start_shell (with_slot slots 0 (to_file h)) body) _ (keeps_start_shell (with_slot slots 0 (to_file h)) body b) (λ child. next (say (close h)) (kept_child child) (keeps_say (close h) tt) (keeps_kept_child child))
 
-pub keeps_background : (slots : Slots) (body : Node cmd) → IsScript body → Keeps (background slots body)
+pub keeps_background : (slots : Slots) (body : Node cmd) → IsProperTree body → Keeps (background slots body)
 keeps_background slots body b = bind (call (open_file (codes "/dev/null") Read)) _ (keeps_call (open_file (codes "/dev/null") Read) tt) (λ a. keeps_background_with slots body b (as_file a))
 
 -- reading
@@ -209,12 +209,12 @@ keeps_back_child r w (Child n) =
     (bind (waited n) _ (keeps_waited n)
     (λ status. next (set_status (back_status out.why status)) _ (keeps_status (back_status out.why status)) (gives_from (λ s. pure (members_of s out.text)) (λ t p. keeps_pure (members_of t out.text)))))))
 
-keeps_back_pipe : (slots : Slots) (body : Node cmd) → IsScript body → (o : Option (ℕ × ℕ)) → Keeps (back_pipe slots body o)
+keeps_back_pipe : (slots : Slots) (body : Node cmd) → IsProperTree body → (o : Option (ℕ × ℕ)) → Keeps (back_pipe slots body o)
 keeps_back_pipe slots body b None = next (set_status (codes "cannot pipe")) _ (keeps_status (codes "cannot pipe")) (keeps_pure [])
 keeps_back_pipe slots body b (Some (r, w)) = bind (start_shell (with_slot slots 1 (to_file w)) body) (back_child r w) (keeps_start_shell (with_slot slots 1 (to_file w)) body b) (keeps_back_child r w)
 
-keeps_backquote : (slots : Slots) (body : Node cmd) → IsScript body → Keeps (backquote slots body)
+keeps_backquote : (slots : Slots) (body : Node cmd) → IsProperTree body → Keeps (backquote slots body)
 keeps_backquote slots body b = bind (call make_pipe) _ (keeps_call make_pipe tt) (λ a. keeps_back_pipe slots body b (as_pair a))
 
-pub keeps_back : (slots : Slots) (body : Node cmd) → IsScript body → Keeps (back_words slots body)
+pub keeps_back : (slots : Slots) (body : Node cmd) → IsProperTree body → Keeps (back_words slots body)
 keeps_back slots body b = bind (backquote slots body) _ (keeps_backquote slots body b) (λ t. keeps_pure _)

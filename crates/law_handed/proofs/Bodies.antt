@@ -10,7 +10,7 @@ use lib.Utf8.{encode, scalar, scalars}
 use Rattle.rc_model.specs.Syntax.Tokens.{is_name_char}
 use Rattle.rc_model.specs.Syntax.Tree.{Node, Many, none, more, snoc}
 use Rattle.rc_model.specs.Syntax.Tree as t
-use Rattle.rc_model.specs.Syntax.HereDocs.{Begun, Plain, Dollar, Naming, with_text, begun_by, behind, ended_by, with_last, pieces_from, pieces_of}
+use Rattle.rc_model.specs.Syntax.HereDocs.{Begun, Plain, Dollar, Naming, with_text, begun_by, begun_after, ended_by, with_last, pieces_from, pieces_of}
 use Rattle.rc_model.specs.Handed.TreeSpelling.{has_characters, all_in_many}
 
 -- so is each of several
@@ -53,7 +53,7 @@ begun_by_whole c z = begun_either (c == 36) (Dollar []) (Plain (encode c)) IsUtf
 with_dollar : (text rest : List ℕ) → IsUtf8 text → IsUtf8 rest → IsUtf8 (text ++ 36 ∷ rest)
 with_dollar text rest v w = IsUtf8-append text (36 ∷ rest) v (IsUtf8-append (36 ∷ []) rest (ascii 36 (omega arith)) w)
 
-after_whole : (b : Begun) (c : ℕ) → IsBegunWhole b → scalar c ≡ true → IsBegunWhole (behind b c)
+after_whole : (b : Begun) (c : ℕ) → IsBegunWhole b → scalar c ≡ true → IsBegunWhole (begun_after b c)
 after_whole (Plain text) c w z = begun_either (c == 36) (Dollar text) (Plain (text ++ encode c)) w (IsUtf8-append text (encode c) w (one_char c z))
 after_whole (Dollar text) c w z =
     begun_either (is_name_char c) (Naming (encode c)) (if c == 36 then Plain (text ++ 36 ∷ []) else Plain (text ++ 36 ∷ encode c)) (one_char c z)
@@ -91,7 +91,7 @@ from_whole : (b : Begun) (ps : Many t.piece) (cs : List ℕ) → IsBegunWhole b 
 from_whole b ps [] w v z = with_last_whole b ps w v
 from_whole b ps (c ∷ cs) w v z =
     let p = and_parts (scalar c) (scalars cs) z in
-    from_whole (behind b c) (ended_by b c ps) cs (after_whole b c w p.0) (ended_by_whole b c ps w v) p.1
+    from_whole (begun_after b c) (ended_by b c ps) cs (after_whole b c w p.0) (ended_by_whole b c ps w v) p.1
 
 pub pieces_whole : (quoted : Bool) (body : List ℕ) → IsUtf8 body → all_have (pieces_of quoted body) ≡ true
 pieces_whole true body x = with_text_whole none body refl x

@@ -18,11 +18,11 @@ use Rattle.rc_model.specs.Run.Acts.{set_status, close_end, candidates, run_progr
 use Rattle.rc_model.specs.declared.builtin.Builtin.{Builtin}
 use Rattle.rc_model.specs.declared.builtin.Builtin.TheVariants.{Dot, BuiltinWord, Cd, Eval, Exec, Exit as ExitWord, Shift, Wait, Whatis}
 use Rattle.rc_model.specs.Run.Builtins.{builtin_named, Called, Finished, Body, BodyWith, finished, usage, as_body, as_body_with, opened_or, open_first, whole_file, run_file, dot, first_dir, dirs_of, first_member, cd, exit_status, shifted, shift, wait_child, wait_all, wait_one, wait_numbered, wait_for, Known, value_line, function_line, program_line, other_line, command_line, known_of, known_each, met, write_lines, whatis, exec, run_builtin, run_command, without_functions, run_named, run_words}
-use Rattle.rc_model.specs.Handed.Proper.{IsScript, AllScripts}
+use Rattle.rc_model.specs.Handed.Proper.{IsProperTree, AllProperTrees}
 use Rattle.law_image.proofs.Proper.{proper_set, proper_same}
 use Rattle.law_acceptance.proofs.Found.{finds_the_tree}
 use Rattle.law_handed.proofs.Characters.{accepted_are_scripts}
-use Rattle.law_handed.proofs.Parts.{AreParts, behind, one_many, script_of}
+use Rattle.law_handed.proofs.Parts.{AreParts, without_first, one_many, script_of}
 use Rattle.law_handed.proofs.Safe.{Gives, Keeps, bind, next, gives_pure, keeps_pure, keeps_skip, gives_exits, keeps_call, keeps_say, keeps_change, keeps_other, keeps_status, gives_from, gives_if}
 use Rattle.law_handed.proofs.Acts.{gives_fails, keeps_close_end, keeps_waited, keeps_wait_each, keeps_start_shell, keeps_find, keeps_program, keeps_read_all}
 
@@ -36,7 +36,7 @@ keeps_next_stage : (go : Option ℕ → List ℕ → Shell StartedStages) → ((
 keeps_next_stage go k before children r w (Child n) = next (say (close w)) _ (keeps_say (close w) tt) (next (close_end before) _ (keeps_close_end before) (k (Some r) (children ++ n ∷ [])))
 keeps_next_stage go k before children r w (NoChild why) = next (say (close w)) _ (keeps_say (close w) tt) (next (say (close r)) _ (keeps_say (close r) tt) (keeps_no_stages before children why))
 
-keeps_stage_with : (go : Option ℕ → List ℕ → Shell StartedStages) → ((h : Option ℕ) (children : List ℕ) → Keeps (go h children)) → (slots : Slots) (body : Node cmd) → IsScript body → (slot : ℕ) (before : Option ℕ) (children : List ℕ) (o : Option (ℕ × ℕ))
+keeps_stage_with : (go : Option ℕ → List ℕ → Shell StartedStages) → ((h : Option ℕ) (children : List ℕ) → Keeps (go h children)) → (slots : Slots) (body : Node cmd) → IsProperTree body → (slot : ℕ) (before : Option ℕ) (children : List ℕ) (o : Option (ℕ × ℕ))
     → Keeps (stage_with go slots body slot before children o)
 keeps_stage_with go k slots body b slot before children None = keeps_no_stages before children (codes "cannot pipe")
 keeps_stage_with go k slots body b slot before children (Some (r, w)) =
@@ -46,7 +46,7 @@ keeps_stages : (slots : Slots) (stages : Many stage) → AreParts stages → (be
 keeps_stages slots none p before children = keeps_pure (Running before children)
 keeps_stages slots (more (Stage body slot) rest) p before children =
     let k = one_many (Stage body slot) rest p in
-    bind (call make_pipe) _ (keeps_call make_pipe tt) (λ a. keeps_stage_with (stages_from slots rest) (keeps_stages slots rest k.1) slots body (script_of (behind (is_output slot) k.0)) slot before children (as_pair a))
+    bind (call make_pipe) _ (keeps_call make_pipe tt) (λ a. keeps_stage_with (stages_from slots rest) (keeps_stages slots rest k.1) slots body (script_of (without_first (is_output slot) k.0)) slot before children (as_pair a))
 
 pub keeps_start_stages : (slots : Slots) (stages : Many stage) → AreParts stages → Keeps (start_stages slots stages)
 keeps_start_stages slots stages p = keeps_stages slots stages p None []
@@ -59,8 +59,8 @@ keeps_end_stages h children =
 -- a body that is called is a tree that a shell holds
 abbrev pub CallsScript : Called → Type 0
 CallsScript Finished = Unit {0}
-CallsScript (Body c) = IsScript c
-CallsScript (BodyWith args c) = IsScript c
+CallsScript (Body c) = IsProperTree c
+CallsScript (BodyWith args c) = IsProperTree c
 
 gives_finished : (m : Shell (Unit {0})) → Keeps m → Gives CallsScript (finished m)
 gives_finished m k = next m (pure Finished) k (gives_pure Finished tt)
@@ -72,14 +72,14 @@ gives_usage : Gives CallsScript usage
 gives_usage = gives_ends (codes "usage")
 
 -- texts that are run
-tree_is_script : (text : List ℕ) (c : Node cmd) → tree_of text ≡ Some c → IsScript c
+tree_is_script : (text : List ℕ) (c : Node cmd) → tree_of text ≡ Some c → IsProperTree c
 tree_is_script text c e = accepted_are_scripts text c ((finds_the_tree text c).0 e)
 
-gives_body : (o : Option (Node cmd)) → ((c : Node cmd) → o ≡ Some c → IsScript c) → Gives CallsScript (as_body o)
+gives_body : (o : Option (Node cmd)) → ((c : Node cmd) → o ≡ Some c → IsProperTree c) → Gives CallsScript (as_body o)
 gives_body (Some c) h = gives_pure (Body c) (h c refl)
 gives_body None h = gives_ends (codes "syntax error")
 
-gives_body_with : (args : List (List ℕ)) (o : Option (Node cmd)) → ((c : Node cmd) → o ≡ Some c → IsScript c) → Gives CallsScript (as_body_with args o)
+gives_body_with : (args : List (List ℕ)) (o : Option (Node cmd)) → ((c : Node cmd) → o ≡ Some c → IsProperTree c) → Gives CallsScript (as_body_with args o)
 gives_body_with args (Some c) h = gives_pure (BodyWith args c) (h c refl)
 gives_body_with args None h = gives_ends (codes "syntax error")
 
@@ -203,15 +203,15 @@ gives_without slots [] = gives_usage
 gives_without slots (name ∷ args) = gives_command slots (without_functions slots args) (gives_without slots args) name args (builtin_named name)
 
 -- the body of a function
-body_if : (f : List ℕ × Node cmd) (fs : List (List ℕ × Node cmd)) (name : List ℕ) (c : Node cmd) → IsScript f.1 → (lookup (bytes_eq name) fs ≡ Some c → IsScript c) → (t : Bool) → (if t then Some f.1 else lookup (bytes_eq name) fs) ≡ Some c → IsScript c
-body_if f fs name c b h true e = let same : f.1 ≡ c = cc in subst IsScript same b
+body_if : (f : List ℕ × Node cmd) (fs : List (List ℕ × Node cmd)) (name : List ℕ) (c : Node cmd) → IsProperTree f.1 → (lookup (bytes_eq name) fs ≡ Some c → IsProperTree c) → (t : Bool) → (if t then Some f.1 else lookup (bytes_eq name) fs) ≡ Some c → IsProperTree c
+body_if f fs name c b h true e = let same : f.1 ≡ c = cc in subst IsProperTree same b
 body_if f fs name c b h false e = h e
 
-body_is_script : (fs : List (List ℕ × Node cmd)) (name : List ℕ) (c : Node cmd) → AllScripts fs → lookup (bytes_eq name) fs ≡ Some c → IsScript c
+body_is_script : (fs : List (List ℕ × Node cmd)) (name : List ℕ) (c : Node cmd) → AllProperTrees fs → lookup (bytes_eq name) fs ≡ Some c → IsProperTree c
 body_is_script [] name c h e = absurd cc
 body_is_script (f ∷ fs) name c h e = body_if f fs name c h.0 (λ g. body_is_script fs name c h.1 g) (bytes_eq name f.0) e
 
-gives_named : (slots : Slots) (name : List ℕ) (args : List (List ℕ)) (o : Option (Node cmd)) → ((c : Node cmd) → o ≡ Some c → IsScript c) → Gives CallsScript (run_named slots name args o)
+gives_named : (slots : Slots) (name : List ℕ) (args : List (List ℕ)) (o : Option (Node cmd)) → ((c : Node cmd) → o ≡ Some c → IsProperTree c) → Gives CallsScript (run_named slots name args o)
 gives_named slots name args (Some body) h = gives_pure (BodyWith args body) (h body refl)
 gives_named slots name args None h = gives_without slots (name ∷ args)
 

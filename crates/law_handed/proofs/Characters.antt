@@ -10,7 +10,7 @@ use Rattle.rc_model.specs.Syntax.Grammar.{Level, Out, Phrase, past_blanks, conca
 use Rattle.rc_model.specs.Syntax.Grammar as g
 use Rattle.rc_model.specs.Mirrors.Spelling.{IsText, IsWord, IsName, AreSpelled}
 use Rattle.rc_model.specs.Handed.TreeSpelling.{has_characters}
-use Rattle.rc_model.specs.Handed.HandedLaws.{AcceptedAreScripts}
+use Rattle.rc_model.specs.Handed.HandedLaws.{AcceptedAreProper}
 use Rattle.law_grammar.proofs.Passed.{past_newlines_spelled, past_blanks_spelled, past_caret_spelled, after_caret_spelled}
 use Rattle.law_acceptance.proofs.Decided.{accepted_formed, are_spelled}
 use Rattle.law_handed.proofs.Bodies.{all_have, name_utf8, pieces_whole}
@@ -205,7 +205,7 @@ whole_of (g.one_branch {ts = ts} kw p e q r) w =
     let d = whole_of r c.1 in
     (both (both b.0 c.0) d.0, d.1)
 
-pub accepted_are_scripts : AcceptedAreScripts
+pub accepted_are_scripts : AcceptedAreProper
 accepted_are_scripts text c a =
     let items = (whole_of a.tree_is.script.1 (are_spelled a.has)).0 in
     let whole : IsWhole (t.Seq a.tree_is.script.0) = items in

@@ -17,9 +17,9 @@ use Rattle.rc_model.specs.Run.Acts.{check, value_words, concat_words, match_stat
 use Rattle.rc_model.specs.Run.Builtins.{Called, Finished, Body, BodyWith, run_words}
 use Rattle.rc_model.specs.Run.Meaning.{checked, Runner, Caller, local_end, file_end, pipe_end, piped, called, if_true, linked, if_means, if_not_means, condition, turns, each_more, each, bound, if_so, cmd_means, arg_means, args_mean, parts_mean, more_parts_mean, items_mean, pairs_mean, redirs_mean, links_mean, branches_mean, meaning}
 use Rattle.rc_model.specs.Run.Script.{waits, whole}
-use Rattle.rc_model.specs.Handed.Proper.{IsScript, IsProper}
+use Rattle.rc_model.specs.Handed.Proper.{IsProperTree, IsProper}
 use Rattle.law_image.proofs.Proper.{proper_set, proper_push, proper_pop, proper_undefine}
-use Rattle.law_handed.proofs.Parts.{IsPart, AreParts, behind, down, two, one_many, many_one, three, script_of, part_of}
+use Rattle.law_handed.proofs.Parts.{IsPart, AreParts, without_first, down, two, one_many, many_one, three, script_of, part_of}
 use Rattle.law_handed.proofs.Safe.{Safe, safe_under, EndsSo, Anything, Keeps, bind_so, bind, next, keeps_pure, keeps_skip, gives_exits, gives_stops, keeps_say, keeps_change, keeps_other, keeps_status, gives_choice, keeps_scope}
 use Rattle.law_handed.proofs.Acts.{gives_variable, keeps_value_words, keeps_count_words, keeps_flat_words, keeps_selected_words, keeps_concat, keeps_define, keeps_open_one, keeps_open_here, keeps_expanded, keeps_subshell, keeps_background, keeps_back}
 use Rattle.law_handed.proofs.Builtins.{keeps_start_stages, keeps_end_stages, CallsScript, gives_words}
@@ -104,7 +104,7 @@ keeps_checked : (g : Bool) (m : Runner) → Keeps m → Keeps (checked g m)
 keeps_checked true m k = k
 keeps_checked false m k = next m check k keeps_check
 
-module _ (call : Caller) (kc : (slots : Slots) (c : Node cmd) → IsScript c → Keeps (call slots c)) (n : ℕ) where
+module _ (call : Caller) (kc : (slots : Slots) (c : Node cmd) → IsProperTree c → Keeps (call slots c)) (n : ℕ) where
   keeps_called : (slots : Slots) (c : Called) → CallsScript c → Keeps (called call slots c)
   keeps_called slots Finished b = keeps_skip
   keeps_called slots (Body c) b = kc slots c b
@@ -115,19 +115,19 @@ module _ (call : Caller) (kc : (slots : Slots) (c : Node cmd) → IsScript c →
     keeps_cmd Empty g slots p = keeps_skip
     keeps_cmd (Seq items) g slots p = keeps_items items g slots (down p)
     keeps_cmd (Simple words) g slots p =
-        bind (args_mean words call n slots []) _ (keeps_args words slots [] (behind (has_some words) (down p)))
+        bind (args_mean words call n slots []) _ (keeps_args words slots [] (without_first (has_some words) (down p)))
         (λ v. bind (expanded v) _ (keeps_expanded v) (λ w. keeps_checked g _ (bind_so (run_words slots (word_texts w)) (called call slots) (gives_words slots (word_texts w)) (keeps_called slots))))
     keeps_cmd (Assign pairs body) g slots p =
-        let k = many_one pairs body (behind (has_some pairs) (down p)) in
+        let k = many_one pairs body (without_first (has_some pairs) (down p)) in
         keeps_pairs pairs (is_empty body) (cmd_means body g call n slots) slots k.0 (keeps_cmd body g slots k.1)
     keeps_cmd (Redirect redirs body) g slots p =
-        let k = many_one redirs body (behind (has_some redirs) (down p)) in
+        let k = many_one redirs body (without_first (has_some redirs) (down p)) in
         keeps_redirs redirs (cmd_means body g call n) k.0 (λ slots. keeps_cmd body g slots k.1) slots
     keeps_cmd (Pipeline stages last) g slots p =
-        let k = many_one stages last (behind (has_stages stages) (down p)) in
+        let k = many_one stages last (without_first (has_stages stages) (down p)) in
         bind (start_stages slots stages) (piped slots (cmd_means last g call n)) (keeps_start_stages slots stages k.0) (keeps_piped slots (cmd_means last g call n) (λ slots. keeps_cmd last g slots k.1))
     keeps_cmd (AndOr first links) g slots p =
-        let k = one_many first links (behind (has_some links) (down p)) in
+        let k = one_many first links (without_first (has_some links) (down p)) in
         next (cmd_means first (guards links g) call n slots) _ (keeps_cmd first (guards links g) slots k.0) (keeps_links links g slots k.1)
     keeps_cmd (Not body) g slots p = next (cmd_means body true call n slots) _ (keeps_cmd body true slots (down p)) (keeps_other inverted (λ s. refl) (λ s. refl))
     keeps_cmd (Subshell body) g slots p = keeps_subshell slots body (script_of (down p))
@@ -153,14 +153,14 @@ module _ (call : Caller) (kc : (slots : Slots) (c : Node cmd) → IsScript c →
         let k = one_many word patterns (down p) in
         bind (arg_means word call n slots) _ (keeps_arg word slots k.0) (λ v. bind (args_mean patterns call n slots []) _ (keeps_args patterns slots [] k.1) (λ ps. keeps_status (match_status (subject v) ps)))
     keeps_cmd (Define names body) g slots p =
-        let k = many_one names body (behind (has_some names) (down p)) in
+        let k = many_one names body (without_first (has_some names) (down p)) in
         bind (args_mean names call n slots []) _ (keeps_args names slots [] k.0) (λ v. keeps_define slots (word_texts v) body (script_of k.1))
-    keeps_cmd (Undefine names) g slots p = bind (args_mean names call n slots []) _ (keeps_args names slots [] (behind (has_some names) (down p))) (λ v. keeps_change (λ s. undefine s (word_texts v)) (λ s q. proper_undefine s (word_texts v) q))
+    keeps_cmd (Undefine names) g slots p = bind (args_mean names call n slots []) _ (keeps_args names slots [] (without_first (has_some names) (down p))) (λ v. keeps_change (λ s. undefine s (word_texts v)) (λ s q. proper_undefine s (word_texts v) q))
     keeps_cmd (Brace body) g slots p = keeps_cmd body g slots (down p)
 
     keeps_arg : (w : Node arg) (slots : Slots) → IsPart w → Keeps (arg_means w call n slots)
     keeps_arg (Lit text quoted) slots p = keeps_pure (written text quoted ∷ [])
-    keeps_arg (Concat parts) slots p = keeps_parts parts slots (behind (has_several parts) (down p))
+    keeps_arg (Concat parts) slots p = keeps_parts parts slots (without_first (has_several parts) (down p))
     keeps_arg (Paren words) slots p = keeps_args words slots [] (down p)
     keeps_arg (Var name) slots p = bind (arg_means name call n slots) _ (keeps_arg name slots (down p)) (keeps_value_words slots)
     keeps_arg (Count name) slots p = bind (arg_means name call n slots) _ (keeps_arg name slots (down p)) (keeps_count_words slots)
@@ -203,7 +203,7 @@ module _ (call : Caller) (kc : (slots : Slots) (c : Node cmd) → IsScript c →
     keeps_redirs none body p kb slots = kb slots
     keeps_redirs (more (Open mode slot path) rest) body p kb slots =
         let k = one_many (Open mode slot path) rest p in
-        bind (arg_means path call n slots) _ (keeps_arg path slots (behind (opens mode slot) k.0))
+        bind (arg_means path call n slots) _ (keeps_arg path slots (without_first (opens mode slot) k.0))
         (λ v. bind (expanded v) _ (keeps_expanded v) (λ w. keeps_within (open_one slots mode (word_texts w)) slots slot (redirs_mean rest body call n) (keeps_open_one slots mode (word_texts w)) (keeps_redirs rest body k.1 kb)))
     keeps_redirs (more (Copy to from) rest) body p kb slots = keeps_redirs rest body (one_many (Copy to from) rest p).1 kb (with_slot slots to (slot_of slots from))
     keeps_redirs (more (Here pieces) rest) body p kb slots = keeps_within (open_here slots pieces) slots 0 (redirs_mean rest body call n) (keeps_open_here slots pieces) (keeps_redirs rest body (one_many (Here pieces) rest p).1 kb)
@@ -222,7 +222,7 @@ module _ (call : Caller) (kc : (slots : Slots) (c : Node cmd) → IsScript c →
         bind (args_mean patterns call n slots []) _ (keeps_args patterns slots [] l.0)
         (λ ps. keeps_if_so (matched word ps) (cmd_means body g call n slots) (branches_mean rest g word call n slots) (keeps_cmd body g slots l.1) (keeps_branches rest g word slots k.1))
 
-keeps_meaning : (n : ℕ) (slots : Slots) (c : Node cmd) → IsScript c → Keeps (meaning n slots c)
+keeps_meaning : (n : ℕ) (slots : Slots) (c : Node cmd) → IsProperTree c → Keeps (meaning n slots c)
 keeps_meaning zero slots c s = keeps_cmd (λ slots d. stops) (λ slots d b. gives_stops) zero c false slots (part_of s)
 keeps_meaning (suc n) slots c s = keeps_cmd (meaning n) (keeps_meaning n) (suc n) c false slots (part_of s)
 
@@ -231,5 +231,5 @@ safe_waits : (s : State) (owed : List ℕ) → IsProper s → Safe (waits s owed
 safe_waits s [] p = p
 safe_waits s (n ∷ ns) p = (tt, λ x. safe_waits s ns p)
 
-pub safe_whole : (n : ℕ) (c : Node cmd) (s : State) → IsScript c → IsProper s → Safe (whole n c s) IsProper
+pub safe_whole : (n : ℕ) (c : Node cmd) (s : State) → IsProperTree c → IsProper s → Safe (whole n c s) IsProper
 safe_whole n c s b p = safe_under (meaning n plain c s) _ _ (EndsSo Anything) IsProper ((keeps_meaning n plain c b).by s p) (λ x t h. h.1) (λ t owed h. safe_waits t owed h)

@@ -5,7 +5,7 @@ use Rattle.std.proofs.lemmas.Bool.Decides.{nat_tests}
 use Rattle.rc_model.specs.Syntax.Tree.{Sort, Node, Many, cmd}
 use Rattle.rc_model.specs.Syntax.WellFormed.{is_sound, are_sound, depth, depths}
 use Rattle.rc_model.specs.Handed.TreeSpelling.{has_characters}
-use Rattle.rc_model.specs.Handed.Proper.{IsScript}
+use Rattle.rc_model.specs.Handed.Proper.{IsProperTree}
 use Rattle.law_handed.proofs.Bodies.{all_have}
 
 -- sizes and texts are right, and so many levels are not too many
@@ -22,8 +22,8 @@ abbrev pub AreParts : {s : Sort} → Many s → Type 0
 AreParts ns = Right (are_sound ns) (all_have ns) (depths ns)
 
 -- a part beside a test of sizes
-pub behind : (t : Bool) {a b : Bool} {m : ℕ} → Right (t && a) b m → Right a b m
-behind t {a} r = record { sound = (and_parts t a r.sound).1; characters = r.characters; levels = r.levels }
+pub without_first : (t : Bool) {a b : Bool} {m : ℕ} → Right (t && a) b m → Right a b m
+without_first t {a} r = record { sound = (and_parts t a r.sound).1; characters = r.characters; levels = r.levels }
 
 -- one level down
 pub down : {a b : Bool} {m : ℕ} → Right a b (suc m) → Right a b m
@@ -56,8 +56,8 @@ is_short : (n m : ℕ) → n ≤ m → nat_le n m ≡ true
 is_short n m h = grind (arith, nat_tests)
 
 -- a command that is a part is a tree that a shell holds
-pub script_of : {c : Node cmd} → IsPart c → IsScript c
+pub script_of : {c : Node cmd} → IsPart c → IsProperTree c
 script_of {c = c} r = record { sound = and_from (is_sound c) (nat_le (depth c) 200) r.sound (is_short (depth c) 200 r.levels); characters = r.characters }
 
-pub part_of : {c : Node cmd} → IsScript c → IsPart c
+pub part_of : {c : Node cmd} → IsProperTree c → IsPart c
 part_of {c = c} s = let k = and_parts (is_sound c) (nat_le (depth c) 200) s.sound in record { sound = k.0; characters = s.characters; levels = leb-true (depth c) 200 k.1 }

@@ -1,12 +1,12 @@
 //! What a script hands over: each shell that it starts reads back what it was handed.
 #![tactic(auto)]
 
-ghost use Rattle.rc_model.specs.Handed.HandedLaws.{AcceptedAreScripts, EndsAreProper, ScriptsReadBack};
+ghost use Rattle.rc_model.specs.Handed.HandedLaws.{AcceptedAreProper, EndsAreProper, ScriptsReadBack};
 ghost use Rattle.rc_model.specs.Handed.HandedLaws.{TracesEndProper, TracesReadBack};
 
 /// The tree of an accepted text is one that a shell holds.
 pub fn accepted_are_scripts()
-    ensures { AcceptedAreScripts }
+    ensures { AcceptedAreProper }
 {}
 
 /// Whatever the answers, each shell that a script starts reads back what it is handed.

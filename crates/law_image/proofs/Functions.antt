@@ -13,7 +13,7 @@ use Rattle.rc_model.specs.Run.State.{visible, is_function_name}
 use Rattle.rc_model.specs.Handed.Image.{is_kept, value_text, image, with_binding, handed_values, with_functions}
 use Rattle.rc_model.specs.Handed.TreeReading.{read_tree}
 use Rattle.rc_model.specs.Handed.Environment.{variables_in, status_in, is_function, with_function, functions_in}
-use Rattle.rc_model.specs.Handed.Proper.{Above, Ordered, IsScript, AllScripts, is_own_name}
+use Rattle.rc_model.specs.Handed.Proper.{Above, Ordered, IsProperTree, AllProperTrees, is_own_name}
 use Rattle.rc_model.specs.Run.Numbers.{greatest_number}
 use Rattle.rc_model.specs.Syntax.WellFormed.{well_formed}
 use Rattle.rc_model.specs.Handed.TreeSpelling.{has_characters, within}
@@ -186,7 +186,7 @@ names_functions (f ∷ fs) others n h =
 short_image : (c : Node cmd) → length (image c) ≤ 100000 → length (node_image c) ≤ greatest_number
 short_image c h = omega (arith, length-append (codes "rc1;") (node_image c))
 
-pub writable : (c : Node cmd) → IsScript c → length (image c) ≤ 100000 → Writable c
+pub writable : (c : Node cmd) → IsProperTree c → length (image c) ≤ 100000 → Writable c
 writable c t h = record { sound = t.sound; characters = t.characters; sizes = within_of c greatest_number (short_image c h) }
 
 short_entry : (b : List ℕ × List ℕ) → IsTrue (is_short (entry b)) → length b.1 ≤ 100000
@@ -204,11 +204,11 @@ all_fns : (Q : List ℕ × List ℕ → Bool) (bs : List (List ℕ × List ℕ))
 all_fns Q [] h = refl
 all_fns Q (b ∷ bs) h = let k = and_parts (Q b) (list_all Q bs) h in fns_if Q b (fns bs) (is_function b.0) k.0 (all_fns Q bs k.1)
 
-all_writable : (fs : List (List ℕ × Node cmd)) → AllScripts fs → IsTrue (list_all (λ b. is_short (entry b)) (map fn_binding fs)) → AllWritable fs
+all_writable : (fs : List (List ℕ × Node cmd)) → AllProperTrees fs → IsTrue (list_all (λ b. is_short (entry b)) (map fn_binding fs)) → AllWritable fs
 all_writable [] t h = tt
 all_writable (f ∷ fs) t h =
     let k = and_parts (is_short (entry (fn_binding f))) (list_all (λ b. is_short (entry b)) (map fn_binding fs)) h in
     (writable f.1 t.0 (short_entry (fn_binding f) k.0), all_writable fs t.1 k.1)
 
-pub handed_writable : (fs : List (List ℕ × Node cmd)) (bs : List (List ℕ × List ℕ)) → fns bs ≡ map fn_binding fs → AllScripts fs → IsTrue (list_all is_short (map entry bs)) → AllWritable fs
+pub handed_writable : (fs : List (List ℕ × Node cmd)) (bs : List (List ℕ × List ℕ)) → fns bs ≡ map fn_binding fs → AllProperTrees fs → IsTrue (list_all is_short (map entry bs)) → AllWritable fs
 handed_writable fs bs e t h = all_writable fs t (subst (λ z. IsTrue (list_all (λ b. is_short (entry b)) z)) e (all_fns (λ b. is_short (entry b)) bs (all_map bs h)))

@@ -15,7 +15,7 @@ use Rattle.rc_model.specs.Handed.Image.{node_image, image_words, handed_words, s
 use Rattle.rc_model.specs.Handed.TreeReading.{ImageFault, ◌>>=◌}
 use Rattle.rc_model.specs.Handed.Environment.{bindings, is_function, variables_in, status_in, functions_in, with_args, fresh_state, read_state}
 use Rattle.rc_model.specs.Handed.Arguments.{as_option, reads, reads_by, options, read_image, entry_state, flat}
-use Rattle.rc_model.specs.Handed.Proper.{IsScript, IsProper, is_own_name}
+use Rattle.rc_model.specs.Handed.Proper.{IsProperTree, IsProper, is_own_name}
 use Rattle.rc_model.specs.Handed.HandedLaws.{HandedReadsBack}
 use Rattle.law_image.proofs.Words.{words_read_back}
 use Rattle.law_image.proofs.Members.{bindings_back, no_equals, members_back}
@@ -72,7 +72,7 @@ state_back s p w =
     ∙ ap (λ z. Ok (fresh_state (flat s.variables) s.functions z)) (status_of s)
 
 -- the words of the image, and what they leave
-image_back : (c : Node cmd) (s : State) (words : List (List ℕ)) → IsScript c → image_words c ≡ Some words → IsProper s → AllWritable s.functions
+image_back : (c : Node cmd) (s : State) (words : List (List ℕ)) → IsProperTree c → image_words c ≡ Some words → IsProper s → AllWritable s.functions
     → read_image s.strict (words ++ value_of s (codes "*")) (entries s) ≡ Ok (c, entry_state s)
 image_back c s words t e p w =
     let args = value_of s (codes "*") in
@@ -99,7 +99,7 @@ written_by c args None e h =
     let one = sym (in_one_word c k.0) ∙ e in absurd (cc)
 written_by c args (Some words) e h = record { words = words; are = e; handed = ap (λ o. unwrap_or o (one_word (node_image c))) e }
 
-reads_launch : (c : Node cmd) (s : State) → IsScript c → Written c → IsProper s → AllWritable s.functions → reads (shell_args c s) (entries s) ≡ Some (c, entry_state s)
+reads_launch : (c : Node cmd) (s : State) → IsProperTree c → Written c → IsProper s → AllWritable s.functions → reads (shell_args c s) (entries s) ≡ Some (c, entry_state s)
 reads_launch c s t w p ws =
     ap (λ z. reads_by (options (strict_option s.strict ++ (codes "-S" ∷ (z ++ value_of s (codes "*"))))) (entries s)) w.handed
     ∙ ap (λ z. reads_by z (entries s)) (options_back s.strict (w.words ++ value_of s (codes "*")))
@@ -114,7 +114,7 @@ after_options : (strict : Bool) (words : List (List ℕ)) → IsTrue (list_all i
 after_options true words h = h
 after_options false words h = h
 
-pub launch_reads_back : (c : Node cmd) (s : State) → IsScript c → IsProper s → IsTrue (is_fit (shell_launch plain c s)) → reads (shell_args c s) (entries s) ≡ Some (c, entry_state s)
+pub launch_reads_back : (c : Node cmd) (s : State) → IsProperTree c → IsProper s → IsTrue (is_fit (shell_launch plain c s)) → reads (shell_args c s) (entries s) ≡ Some (c, entry_state s)
 launch_reads_back c s t p h =
     let k = and_parts (list_all is_short (shell_args c s)) (list_all is_short (entries s)) h in
     let w = written_by c (value_of s (codes "*")) (image_words c) refl (after_options s.strict (handed_words c ++ value_of s (codes "*")) k.0) in

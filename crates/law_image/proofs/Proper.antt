@@ -14,7 +14,7 @@ use Rattle.rc_model.specs.Syntax.Text.{text_cmp}
 use Rattle.rc_model.specs.Syntax.Tree.{Node, cmd}
 use Rattle.rc_model.specs.Run.State.{State, new_state, visible, covered, values_of, status_name, is_name, is_function_name, put_values, set_value, push_local, end_local, pop_local, define, undefine}
 use Rattle.rc_model.specs.Handed.Arguments.{with_top, flat, entry_state}
-use Rattle.rc_model.specs.Handed.Proper.{Above, Ordered, IsScript, AllScripts, is_own_name, IsProper}
+use Rattle.rc_model.specs.Handed.Proper.{Above, Ordered, IsProperTree, AllProperTrees, is_own_name, IsProper}
 use Rattle.law_image.proofs.Entries.{by_order, keys_hold}
 
 above_after : {X : Type 0} (x k : List ℕ) (es : List (List ℕ × X)) → text_cmp x k ≡ Less → Above k es → Above x es
@@ -89,7 +89,7 @@ with_values s t e p v = record {
   ordered = v.ordered;
   function_names = subst (λ fs. IsTrue (list_all (λ f. is_function_name f.0) fs)) (sym e) p.function_names;
   functions_ordered = subst Ordered (sym e) p.functions_ordered;
-  bodies = subst AllScripts (sym e) p.bodies;
+  bodies = subst AllProperTrees (sym e) p.bodies;
 }
 
 own_name : (name : List ℕ) → IsTrue (is_name name) → bytes_eq name status_name ≡ false → IsTrue (is_own_name name)
@@ -121,15 +121,15 @@ proper_end s (name ∷ names) p =
 pub proper_pop : (s : State) → IsProper s → IsProper (pop_local s)
 proper_pop s p = proper_end s s.locals p
 
-pub scripts_insert : (fs : List (List ℕ × Node cmd)) (name : List ℕ) (body : Node cmd) → IsScript body → AllScripts fs → AllScripts (insert_entry text_cmp fs name body)
+pub scripts_insert : (fs : List (List ℕ × Node cmd)) (name : List ℕ) (body : Node cmd) → IsProperTree body → AllProperTrees fs → AllProperTrees (insert_entry text_cmp fs name body)
 scripts_insert [] name body b h = (b, tt)
-scripts_insert (f ∷ fs) name body b h = by_order (λ (z : List (List ℕ × Node cmd)). AllScripts z) (text_cmp name f.0) _ _ _ (λ o. (b, h)) (λ o. (b, h.1)) (λ o. (h.0, scripts_insert fs name body b h.1))
+scripts_insert (f ∷ fs) name body b h = by_order (λ (z : List (List ℕ × Node cmd)). AllProperTrees z) (text_cmp name f.0) _ _ _ (λ o. (b, h)) (λ o. (b, h.1)) (λ o. (h.0, scripts_insert fs name body b h.1))
 
-scripts_remove : (test : List ℕ → Bool) (fs : List (List ℕ × Node cmd)) → AllScripts fs → AllScripts (remove_entry test fs)
+scripts_remove : (test : List ℕ → Bool) (fs : List (List ℕ × Node cmd)) → AllProperTrees fs → AllProperTrees (remove_entry test fs)
 scripts_remove test [] h = tt
-scripts_remove test (f ∷ fs) h = remove_if (λ (z : List (List ℕ × Node cmd)). AllScripts z) (test f.0) _ _ h.1 (h.0, scripts_remove test fs h.1)
+scripts_remove test (f ∷ fs) h = remove_if (λ (z : List (List ℕ × Node cmd)). AllProperTrees z) (test f.0) _ _ h.1 (h.0, scripts_remove test fs h.1)
 
-pub proper_define : (s : State) (name : List ℕ) (body : Node cmd) → IsTrue (is_function_name name) → IsScript body → IsProper s → IsProper (define s name body)
+pub proper_define : (s : State) (name : List ℕ) (body : Node cmd) → IsTrue (is_function_name name) → IsProperTree body → IsProper s → IsProper (define s name body)
 proper_define s name body n b p = record {
   names = p.names;
   ordered = p.ordered;

@@ -11,7 +11,7 @@ use Rattle.rc_model.specs.Run.State.{State, status_name, is_name, is_function_na
 use Rattle.rc_model.specs.Handed.TreeReading.{ImageFault, ◌>>=◌, read_tree}
 use Rattle.rc_model.specs.Handed.WordsReading.{read_pieces}
 use Rattle.rc_model.specs.Handed.Environment.{Bindings, Variables, Functions, bindings, members_of, is_variable, variables_in, is_function, with_function, functions_in, with_args, own_functions, own_status, fresh_state, read_state}
-use Rattle.rc_model.specs.Handed.Proper.{Ordered, IsScript, AllScripts, is_own_name, IsProper}
+use Rattle.rc_model.specs.Handed.Proper.{Ordered, IsProperTree, AllProperTrees, is_own_name, IsProper}
 use Rattle.rc_model.specs.Handed.HandedLaws.{ReadsProper, ReadsScripts}
 use Rattle.law_image.proofs.Exact.{ok_inj, bind_back}
 use Rattle.law_image.proofs.Trees.{reads_spellings}
@@ -20,7 +20,7 @@ use Rattle.law_image.proofs.Words.{reads_words}
 use Rattle.law_image.proofs.Entries.{keys_hold}
 use Rattle.law_image.proofs.Proper.{ProperValues, ordered_insert, scripts_insert, proper_same}
 
-pub read_script : (text : List ℕ) (c : Node cmd) → read_tree text ≡ Ok c → IsScript c
+pub read_script : (text : List ℕ) (c : Node cmd) → read_tree text ≡ Ok c → IsProperTree c
 read_script text c h = let s = (reads_spellings text c).0 h in record { sound = s.1; characters = (text_of c s.0.back s.0.second).characters }
 
 -- variables
@@ -52,12 +52,12 @@ args_proper (a ∷ args) vs p = with_value vs (codes "*") ((a ∷ args) ∷ []) 
 record ProperFunctions (fs : Functions) : Type 0 where
   names : IsTrue (list_all (λ f. is_function_name f.0) fs)
   ordered : Ordered fs
-  bodies : AllScripts fs
+  bodies : AllProperTrees fs
 
 no_functions : ProperFunctions []
 no_functions = record { names = refl; ordered = tt; bodies = tt }
 
-with_body : (fs : Functions) (name : List ℕ) (body : Node cmd) → IsTrue (is_function_name name) → IsScript body → ProperFunctions fs → ProperFunctions (insert_entry text_cmp fs name body)
+with_body : (fs : Functions) (name : List ℕ) (body : Node cmd) → IsTrue (is_function_name name) → IsProperTree body → ProperFunctions fs → ProperFunctions (insert_entry text_cmp fs name body)
 with_body fs name body n b p = record {
   names = keys_hold is_function_name fs name body p.names n;
   ordered = ordered_insert fs name body p.ordered;
@@ -99,7 +99,7 @@ reads_proper own args entries s h =
     subst IsProper (ok_inj (fresh_state (with_args args (variables_in (bindings entries))) f.0 (own_status own (bindings entries))) s f.2)
     (fresh_proper (with_args args (variables_in (bindings entries))) f.0 (own_status own (bindings entries)) (args_proper args (variables_in (bindings entries)) (variables_proper (bindings entries))) (own_proper own (bindings entries) f.0 f.1))
 
-read_words_script : (words : List (List ℕ)) (c : Node cmd) (n : ℕ) → read_pieces words ≡ Ok (c, n) → IsScript c
+read_words_script : (words : List (List ℕ)) (c : Node cmd) (n : ℕ) → read_pieces words ≡ Ok (c, n) → IsProperTree c
 read_words_script words c n h = let r = (reads_words words c n).0 h in record { sound = r.2; characters = (text_of c r.1.text r.1.spelled).characters }
 
 pub reads_scripts : ReadsScripts
@@ -107,5 +107,5 @@ reads_scripts strict words entries x h =
     let i = bind_back (read_pieces words) (λ image. read_state true (drop image.1 words) entries >>= λ s. Ok (image.0, record s { strict = strict })) x h in
     let r = bind_back (read_state true (drop i.0.1 words) entries) (λ s. Ok (i.0.0, record s { strict = strict })) x i.2 in
     let e = ok_inj (i.0.0, record (r.0) { strict = strict }) x r.2 in
-    subst (λ (z : Node cmd × State). IsScript z.0 × IsProper z.1) e
+    subst (λ (z : Node cmd × State). IsProperTree z.0 × IsProper z.1) e
     (read_words_script words i.0.0 i.0.1 i.1, proper_same r.0 (record (r.0) { strict = strict }) refl refl (reads_proper true (drop i.0.1 words) entries r.0 r.1))

@@ -12,9 +12,9 @@ use Rattle.rc_model.specs.declared.call.Mode.TheVariants.{Read, Write, Append}
 use Rattle.rc_model.specs.declared.syntax.Logic.{Logic}
 use Rattle.rc_model.specs.declared.syntax.Logic.TheVariants.{And, Or}
 use Rattle.rc_model.specs.Run.Numbers.{is_digit}
+use Rattle.rc_model.specs.Syntax.Text.{without_zero}
 use Rattle.rc_model.specs.Syntax.Tree.{Sort, Node, Many, none, more, count}
 use Rattle.rc_model.specs.Syntax.Tree as t
-use Rattle.rc_model.specs.Syntax.WellFormed.{without_zero}
 use Rattle.rc_model.specs.Handed.Image.{literal_mark, item_mark, logic_mark}
 use Rattle.rc_model.specs.Handed.TreeSpelling.{◌⨾◌, Is, Output, Crossing, Texted, Listed, Opened, Spells, SpellsAll, all_in_many, has_characters}
 use Rattle.law_image.proofs.OneSpelling.{output_cases, copies_small}

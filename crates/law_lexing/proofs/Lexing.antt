@@ -3,6 +3,7 @@ use Rattle.std.proofs.Common.{◌≡◌, ℕ, suc, Bool, true, false, cond, not,
 use Rattle.std.specs.Prelude.{Option, Some, None, Result, Ok, Err, unwrap_or, ◌&&◌}
 use Rattle.std.specs.Str.{chars}
 use Rattle.std.proofs.lemmas.Bool.{eqb-true}
+use Rattle.rc_model.specs.Syntax.Text.{without_zero}
 use Rattle.rc_model.specs.Syntax.Tokens as t
 use Rattle.rc_model.specs.Syntax.Tokens.{Token, Place, Outcome}
 use Rattle.rc_model.specs.declared.fault.SyntaxFault.{SyntaxFault}
@@ -16,33 +17,33 @@ record ZeroAt (p : Place) (cs : List ℕ) (line : ℕ) : Type 0 where
   pub front : List ℕ
   pub rest : List ℕ
   pub is : cs ≡ front ++ 0 ∷ rest
-  pub none : t.has_no_zero front ≡ true
+  pub none : without_zero front ≡ true
   pub at : (t.after_chars p front).line ≡ line
 
-zero_free : (line : ℕ) (cs : List ℕ) → t.has_no_zero cs ≡ true → zero_line line cs ≡ None
+zero_free : (line : ℕ) (cs : List ℕ) → without_zero cs ≡ true → zero_line line cs ≡ None
 zero_free line [] h = refl
 zero_free line (c ∷ cs) h = by (c == 0) h (zero_free (cond (c == 10) (suc line) line) cs)
   where
-    by : (b : Bool) → (not b && t.has_no_zero cs) ≡ true → (t.has_no_zero cs ≡ true → zero_line (cond (c == 10) (suc line) line) cs ≡ None) →
+    by : (b : Bool) → (not b && without_zero cs) ≡ true → (without_zero cs ≡ true → zero_line (cond (c == 10) (suc line) line) cs ≡ None) →
         cond b (Some line) (zero_line (cond (c == 10) (suc line) line) cs) ≡ None
     by true h' g = absurd cc
     by false h' g = g h'
 
-zero_found : (p : Place) (cs rest : List ℕ) → t.has_no_zero cs ≡ true → zero_line p.line (cs ++ 0 ∷ rest) ≡ Some (t.after_chars p cs).line
+zero_found : (p : Place) (cs rest : List ℕ) → without_zero cs ≡ true → zero_line p.line (cs ++ 0 ∷ rest) ≡ Some (t.after_chars p cs).line
 zero_found p [] rest h = refl
 zero_found p (c ∷ cs) rest h = by (c == 0) h (zero_found (t.after_char p c) cs rest)
   where
-    by : (b : Bool) → (not b && t.has_no_zero cs) ≡ true → (t.has_no_zero cs ≡ true → zero_line (t.after_char p c).line (cs ++ 0 ∷ rest) ≡ Some (t.after_chars (t.after_char p c) cs).line) →
+    by : (b : Bool) → (not b && without_zero cs) ≡ true → (without_zero cs ≡ true → zero_line (t.after_char p c).line (cs ++ 0 ∷ rest) ≡ Some (t.after_chars (t.after_char p c) cs).line) →
         cond b (Some p.line) (zero_line (t.after_char p c).line (cs ++ 0 ∷ rest)) ≡ Some (t.after_chars (t.after_char p c) cs).line
     by true h' g = absurd cc
     by false h' g = g h'
 
-no_zero_found : (p : Place) (cs : List ℕ) → zero_line p.line cs ≡ None → t.has_no_zero cs ≡ true
+no_zero_found : (p : Place) (cs : List ℕ) → zero_line p.line cs ≡ None → without_zero cs ≡ true
 no_zero_found p [] h = refl
 no_zero_found p (c ∷ cs) h = by (c == 0) h (no_zero_found (t.after_char p c) cs)
   where
-    by : (b : Bool) → cond b (Some p.line) (zero_line (t.after_char p c).line cs) ≡ None → (zero_line (t.after_char p c).line cs ≡ None → t.has_no_zero cs ≡ true) →
-        (not b && t.has_no_zero cs) ≡ true
+    by : (b : Bool) → cond b (Some p.line) (zero_line (t.after_char p c).line cs) ≡ None → (zero_line (t.after_char p c).line cs ≡ None → without_zero cs ≡ true) →
+        (not b && without_zero cs) ≡ true
     by true h' g = absurd cc
     by false h' g = g h'
 
@@ -55,7 +56,7 @@ zero_at p (c ∷ cs) line h = by (c == 0) refl h (zero_at (t.after_char p c) cs 
     by true e h' g = record { front = []; rest = cs; is = ap (λ z. z ∷ cs) (eqb-true c 0 e); none = refl; at = ap (λ o. unwrap_or o line) h' }
     by false e h' g =
         let z = g h' in
-        record { front = c ∷ z.front; rest = z.rest; is = ap (λ x. c ∷ x) z.is; none = ap (λ b. not b && t.has_no_zero z.front) e ∙ z.none; at = z.at }
+        record { front = c ∷ z.front; rest = z.rest; is = ap (λ x. c ∷ x) z.is; none = ap (λ b. not b && without_zero z.front) e ∙ z.none; at = z.at }
 
 found_by : (text : List ℕ) (z : Option ℕ) → zero_line 1 (chars text) ≡ z → t.Lexes text (unless_zero z (run (Between t.Apart) [] t.first_place (chars text)))
 found_by text None e =

@@ -7,9 +7,10 @@ use Rattle.std.specs.Str.{chars}
 use Rattle.std.proofs.lemmas.Bool.{and_parts, and_from}
 use Rattle.std.proofs.lemmas.Str.{chars-encodes, scalars-chars}
 use lib.Utf8.{scalar, scalars, encodes}
+use Rattle.rc_model.specs.Syntax.Text.{without_zero}
 use Rattle.rc_model.specs.Syntax.Tokens.{Lexeme, Token, Place, Before, Spells, Cuts, Lexes, Outcome, Run, Class, InQuotes, Bodies, word_goes_on}
 use Rattle.rc_model.specs.Syntax.Tokens.{name_goes_on, is_in_word, class_of, is_name_char}
-use Rattle.rc_model.specs.Syntax.Tokens.{has_no_zero, doubled_quotes, unquoted_text, meant, names, joins, tokens_of, token, join, filled}
+use Rattle.rc_model.specs.Syntax.Tokens.{doubled_quotes, unquoted_text, meant, names, joins, tokens_of, token, join, filled}
 use Rattle.rc_model.specs.Syntax.Tokens.{with_body, result_of, operators}
 use Rattle.rc_model.specs.Syntax.Tokens as k
 use Rattle.rc_model.specs.Mirrors.Spelling.{IsSpelled, AreSpelled, IsText, SpellingLaw}
@@ -40,19 +41,19 @@ record Undoubled (cs : List ℕ) : Type 0 where
   inner : List ℕ
   doubled : doubled_quotes inner ≡ cs
   scalar : scalars inner ≡ true
-  clean : has_no_zero inner ≡ true
+  clean : without_zero inner ≡ true
 
-undoubled : (cs : List ℕ) → InQuotes cs → scalars cs ≡ true → has_no_zero cs ≡ true → Undoubled cs
+undoubled : (cs : List ℕ) → InQuotes cs → scalars cs ≡ true → without_zero cs ≡ true → Undoubled cs
 undoubled [] k.nothing s z = record { inner = []; doubled = refl; scalar = refl; clean = refl }
 undoubled (c ∷ cs) (k.plain _ _ e q) s z =
     let p = and_parts (scalar c) (scalars cs) s in
-    let o = and_parts (not (c == 0)) (has_no_zero cs) z in
+    let o = and_parts (not (c == 0)) (without_zero cs) z in
     let u = undoubled cs q p.1 o.1 in
     record {
       inner = c ∷ u.inner;
       doubled = rw e (ap (λ l. c ∷ l) u.doubled);
       scalar = and_from (scalar c) (scalars u.inner) p.0 u.scalar;
-      clean = and_from (not (c == 0)) (has_no_zero u.inner) o.0 u.clean;
+      clean = and_from (not (c == 0)) (without_zero u.inner) o.0 u.clean;
     }
 undoubled (_ ∷ _ ∷ cs) (k.doubled _ q) s z =
     let u = undoubled cs q s z in
@@ -87,7 +88,7 @@ meant_spelled prev rest l w = w
 operators_spelled : AreSpelledOperators operators
 operators_spelled = search rules depth 40
 
-lexeme_spelled : (prev : Before) (cs rest : List ℕ) (l : Lexeme) → Spells prev cs rest l → scalars cs ≡ true → has_no_zero cs ≡ true → IsSpelled l
+lexeme_spelled : (prev : Before) (cs rest : List ℕ) (l : Lexeme) → Spells prev cs rest l → scalars cs ≡ true → without_zero cs ≡ true → IsSpelled l
 lexeme_spelled _ _ _ _ (k.word prev c cs rest b r) s z =
     let w : Run word_goes_on (chars (encodes (c ∷ cs))) [] = subst (λ x. Run word_goes_on x []) (sym (chars-encodes (c ∷ cs) s)) (run_off (c ∷ cs) rest r) in
     (text_of (c ∷ cs) s z, (some_text c cs s, w))
@@ -134,7 +135,7 @@ texts_append : (xs ys : List (List ℕ)) → AreTexts xs → AreTexts ys → Are
 texts_append [] ys w v = v
 texts_append (x ∷ xs) ys w v = (w.0, texts_append xs ys w.1 v)
 
-bodies_texts : {due : List k.Due} {cs rest : List ℕ} {bodies : List (List ℕ)} → Bodies due cs rest bodies → scalars cs ≡ true → has_no_zero cs ≡ true → AreTexts bodies
+bodies_texts : {due : List k.Due} {cs rest : List ℕ} {bodies : List (List ℕ)} → Bodies due cs rest bodies → scalars cs ≡ true → without_zero cs ≡ true → AreTexts bodies
 bodies_texts (k.all _) s z = tt
 bodies_texts (k.one d due body end cs rest bodies b r) s z =
     let text = text_of body (scalars_front body end (scalars_front (body ++ end) cs s)) (clean_front body end (clean_front (body ++ end) cs z)) in
@@ -149,7 +150,7 @@ join_spelled ts bodies (Ok read) w b v = (spelled_append ts read.0 w v.0, texts_
 join_spelled ts bodies (Err f) w b v = tt
 
 cut_spelled : {prev : Before} {due : List k.Due} {p : Place} {cs : List ℕ} {o : Outcome} → Cuts prev due p cs o → scalars cs ≡ true →
-    has_no_zero cs ≡ true → IsSpelledOutcome o
+    without_zero cs ≡ true → IsSpelledOutcome o
 cut_spelled (k.finish _ _ _) s z = (tt, tt)
 cut_spelled (k.open_here _ _ _ _ _) s z = tt
 cut_spelled (k.blank _ _ _ c cs _ _ r) s z = cut_spelled r (scalars_back (c ∷ []) cs s) (clean_back (c ∷ []) cs z)

@@ -33,10 +33,10 @@ run_from more h c cs e = let s = run_of more h cs in record { front = s.front; r
 
 -- a quoted word, or one that is open
 pub record QuotedAt (front rest : List ℕ) : Type 0 where
-  pub behind : List ℕ
-  pub is : rest ≡ 39 ∷ behind
+  pub after : List ℕ
+  pub is : rest ≡ 39 ∷ after
   pub inside : t.InQuotes front
-  pub ends : begins_with (39 ∷ []) behind ≡ false
+  pub ends : begins_with (39 ∷ []) after ≡ false
 
 abbrev QuotedOrOpen : List ℕ → Type 0
 QuotedOrOpen cs = Split QuotedAt cs ⊎ t.InQuotes cs
@@ -49,11 +49,11 @@ eq_flip a b h = by (b == a) refl
     by false e = e
 
 plain_at : (c : ℕ) (cs : List ℕ) → (c == 39) ≡ false → QuotedOrOpen cs → QuotedOrOpen (c ∷ cs)
-plain_at c cs e (inl s) = inl (record { front = c ∷ s.front; rest = s.rest; is = ap (λ z. c ∷ z) s.is; has = record { behind = s.has.behind; is = s.has.is; inside = t.plain c s.front e s.has.inside; ends = s.has.ends } })
+plain_at c cs e (inl s) = inl (record { front = c ∷ s.front; rest = s.rest; is = ap (λ z. c ∷ z) s.is; has = record { after = s.has.after; is = s.has.is; inside = t.plain c s.front e s.has.inside; ends = s.has.ends } })
 plain_at c cs e (inr i) = inr (t.plain c cs e i)
 
 doubled_at : (cs : List ℕ) → QuotedOrOpen cs → QuotedOrOpen (39 ∷ 39 ∷ cs)
-doubled_at cs (inl s) = inl (record { front = 39 ∷ 39 ∷ s.front; rest = s.rest; is = ap (λ z. 39 ∷ 39 ∷ z) s.is; has = record { behind = s.has.behind; is = s.has.is; inside = t.doubled s.front s.has.inside; ends = s.has.ends } })
+doubled_at cs (inl s) = inl (record { front = 39 ∷ 39 ∷ s.front; rest = s.rest; is = ap (λ z. 39 ∷ 39 ∷ z) s.is; has = record { after = s.has.after; is = s.has.is; inside = t.doubled s.front s.has.inside; ends = s.has.ends } })
 doubled_at cs (inr i) = inr (t.doubled cs i)
 
 quoted_or_open : (cs : List ℕ) → QuotedOrOpen cs
@@ -61,7 +61,7 @@ quoted_or_open [] = inr t.nothing
 quoted_or_open (c ∷ []) = by (c == 39) refl
   where
     by : (b : Bool) → (c == 39) ≡ b → QuotedOrOpen (c ∷ [])
-    by true e = inl (record { front = []; rest = c ∷ []; is = refl; has = record { behind = []; is = ap (λ z. z ∷ []) (eqb-true c 39 e); inside = t.nothing; ends = refl } })
+    by true e = inl (record { front = []; rest = c ∷ []; is = refl; has = record { after = []; is = ap (λ z. z ∷ []) (eqb-true c 39 e); inside = t.nothing; ends = refl } })
     by false e = inr (t.plain c [] e t.nothing)
 quoted_or_open (c ∷ d ∷ ds) = by (c == 39) (d == 39) refl refl (quoted_or_open (d ∷ ds)) (quoted_or_open ds)
   where
@@ -69,7 +69,7 @@ quoted_or_open (c ∷ d ∷ ds) = by (c == 39) (d == 39) refl refl (quoted_or_op
     by false b e f next nextnext = plain_at c (d ∷ ds) e next
     by true true e f next nextnext = subst QuotedOrOpen (sym (ap (λ z. z ∷ d ∷ ds) (eqb-true c 39 e) ∙ ap (λ z. 39 ∷ z ∷ ds) (eqb-true d 39 f))) (doubled_at ds nextnext)
     by true false e f next nextnext =
-        inl (record { front = []; rest = c ∷ d ∷ ds; is = refl; has = record { behind = d ∷ ds; is = ap (λ z. z ∷ d ∷ ds) (eqb-true c 39 e); inside = t.nothing; ends = ap (λ v. v && true) (eq_flip d 39 f) } })
+        inl (record { front = []; rest = c ∷ d ∷ ds; is = refl; has = record { after = d ∷ ds; is = ap (λ z. z ∷ d ∷ ds) (eqb-true c 39 e); inside = t.nothing; ends = ap (λ v. v && true) (eq_flip d 39 f) } })
 
 -- the longest beginning of an operator
 pub record Longest (acc front rest : List ℕ) : Type 0 where
@@ -247,8 +247,8 @@ quote_at n ih prev due p cs h = by (quoted_or_open cs)
     by (inr i) = record { outcome = Err (t.fault OpenQuote p.line); cut = t.open_quote prev due p cs i }
     by (inl s) =
         let q = s.has in
-        lexeme_at n ih prev due p 39 cs (s.front ++ 39 ∷ []) q.behind (t.Quoted (t.unquoted_text (encode_utf8_all (39 ∷ s.front ++ 39 ∷ []))))
-        (s.is ∙ ap (λ z. s.front ++ z) q.is ∙ sym (append_assoc s.front (39 ∷ []) q.behind)) h (t.quoted prev s.front q.behind q.inside q.ends)
+        lexeme_at n ih prev due p 39 cs (s.front ++ 39 ∷ []) q.after (t.Quoted (t.unquoted_text (encode_utf8_all (39 ∷ s.front ++ 39 ∷ []))))
+        (s.is ∙ ap (λ z. s.front ++ z) q.is ∙ sym (append_assoc s.front (39 ∷ []) q.after)) h (t.quoted prev s.front q.after q.inside q.ends)
 
 comment_at : (n : ℕ) → Shorter n → (prev : Before) (due : List Due) (p : Place) (cs : List ℕ) → length cs ≤ n → t.awaits_mark prev ≡ false → CutAt prev due p (35 ∷ cs)
 comment_at n ih prev due p cs h a =

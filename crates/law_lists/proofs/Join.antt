@@ -4,7 +4,7 @@ use Rattle.std.specs.Prelude.{◌↔◌, Result, Ok, Err}
 use Rattle.std.proofs.lemmas.Bool.{eqb-true, ne_eqb}
 use Rattle.rc_model.specs.Syntax.Words.{Word}
 use Rattle.rc_model.specs.Run.Lists.{ListFault, EmptyConcat, CountMismatch, pairwise, distributed, concatenated}
-use Rattle.rc_model.specs.Run.Joining.{Pairs, none, pair, Joins, pairs, before, behind, left_empty, right_empty, mismatch}
+use Rattle.rc_model.specs.Run.Joining.{Pairs, none, pair, Joins, pairs, before, after, left_empty, right_empty, mismatch}
 
 Pairs-counts : {xs ys zs : List Word} → Pairs xs ys zs → length xs ≡ length ys
 Pairs-counts none = refl
@@ -32,7 +32,7 @@ apart [] (b ∷ bs) h = left_empty refl (filled b bs)
 apart (a ∷ as') [] h = right_empty refl (filled a as')
 apart (a ∷ []) (b ∷ []) h = absurd (h refl)
 apart (a ∷ []) (b ∷ d ∷ bs) h = before a refl (filled b (d ∷ bs)) (several b d bs)
-apart (a ∷ c ∷ as') (b ∷ []) h = behind b refl (filled a (c ∷ as')) (several a c as')
+apart (a ∷ c ∷ as') (b ∷ []) h = after b refl (filled a (c ∷ as')) (several a c as')
 apart (a ∷ c ∷ as') (b ∷ d ∷ bs) h = mismatch h (filled a (c ∷ as')) (filled b (d ∷ bs)) (several a c as') (several b d bs)
 
 joins_by : (xs ys : List Word) (b : Bool) → eqb (length xs) (length ys) ≡ b → Joins xs ys (cond b (Ok (pairwise xs ys)) (distributed xs ys))
@@ -77,7 +77,7 @@ Joins-concatenated : {xs ys : List Word} {r : Result (List Word) ListFault} → 
 Joins-concatenated {xs} {ys} (pairs zs p) = ap Ok (Pairs-pairwise p) ∙ sym (same_counts xs ys (Pairs-counts p))
 Joins-concatenated {xs} {ys} (before a q ne more) =
     sym (other_counts xs ys (λ h. more (sym h ∙ ap length q)) ∙ ap (λ z. distributed z ys) q ∙ one_before a ys ne)
-Joins-concatenated {xs} {ys} (behind b q ne more) =
+Joins-concatenated {xs} {ys} (after b q ne more) =
     sym (other_counts xs ys (λ h. more (h ∙ ap length q)) ∙ ap (distributed xs) q ∙ one_after b xs ne more)
 Joins-concatenated {xs} {ys} (left_empty q ne) = sym (other_counts xs ys (λ h. no_count ys ne (sym (ap length q) ∙ h)) ∙ ap (λ z. distributed z ys) q ∙ none_first ys)
 Joins-concatenated {xs} {ys} (right_empty q ne) = sym (other_counts xs ys (λ h. no_count xs ne (sym (ap length q) ∙ sym h)) ∙ ap (distributed xs) q ∙ none_second xs)

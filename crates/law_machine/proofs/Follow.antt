@@ -17,7 +17,7 @@ use Rattle.rc_model.specs.Code.Layout as op
 use Rattle.rc_model.specs.Code.Machine.{Config, Scope, InLocal, InRedirection, Step, goes, end_locals, end_redirs}
 use Rattle.law_machine.proofs.Place.{stands_first, stands_code}
 use Rattle.law_machine.proofs.Run.{Point, at, mid, Comes, Runs, does, runs_at, settle_runs, leads_comes, comes_same}
-use Rattle.law_machine.proofs.Legs.{Words, spot, before, behind, Leg, Does, leg_then, leg_nothing, leg_do, leg_keep, leg_pure, leg_at, leg_first, leg_last, comes_op, puts_runs, acts_runs, tree_runs, pieces_runs}
+use Rattle.law_machine.proofs.Legs.{Words, spot, before, afterwards, Leg, Does, leg_then, leg_nothing, leg_do, leg_keep, leg_pure, leg_at, leg_first, leg_last, comes_op, puts_runs, acts_runs, tree_runs, pieces_runs}
 use Rattle.law_machine.proofs.Forms.{Acts, leg_local, leg_file, leg_copied, body, end_of, CallsRun, run_leg, if_leg, if_not_leg, link_leg, condition_leg, branch_leg, while_leg, looping, each_leg, piping, pipe_leg}
 
 -- ** single instructions
@@ -58,7 +58,7 @@ assign_leg : (n : ℕ) (c : Config) (bare : Bool) (count : ℕ) (wrap : Bool →
     → ((scopes : List Scope) → Acts n (record c { scopes = scopes }) part m)
     → Acts n c (wrap bare (part ⨾ unlocal bare count)) (mean bare m)
 assign_leg n c true count wrap mean part m bare local l =
-    bare (part ⨾ Nothing) (behind c (λ a. c.words)) m (leg_last (l c.scopes) (λ p k h x s.
+    bare (part ⨾ Nothing) (afterwards c (λ a. c.words)) m (leg_last (l c.scopes) (λ p k h x s.
     let e : p ≡ p + 0 = omega arith in
     subst (λ q. Comes (at (spot c p c.words s)) (at (spot c q c.words s))) e (comes_same (at (spot c p c.words s)))))
 assign_leg n c false count wrap mean part m bare local l =

@@ -19,7 +19,7 @@ use Rattle.rc_model.specs.Code.Layout as op
 use Rattle.rc_model.specs.Code.Machine.{act, last_stage, Scope, InLocal, InRedirection, InPipeline, InLoop, Config, Step, goes, unwind, enter, frame_of}
 use Rattle.law_machine.proofs.Place.{past_then, Stands, HasAt, has_front, has_back, past, kept_past, stands_first, stands_second, stands_code}
 use Rattle.law_machine.proofs.Run.{Point, at, mid, Leads, Comes, Runs, does, after_leads, then_runs, runs_at, runs_exit, runs_ask, runs_under, runs_bind, settle_then, fewer, further, leads_comes}
-use Rattle.law_machine.proofs.Legs.{Words, spot, before, behind, Leg, Does, to_place, leg_then, leg_do, leg_past, acts_runs, stages_runs}
+use Rattle.law_machine.proofs.Legs.{Words, spot, before, afterwards, Leg, Does, to_place, leg_then, leg_do, leg_past, acts_runs, stages_runs}
 
 -- a command: nothing is left on the stack
 abbrev pub Acts : ℕ → Config → Part → Runner → Type 0
@@ -173,7 +173,7 @@ module _ (n : ℕ) (c : Config) where
             let at_first = has_front c.code.ops (p + 1) a rest h.0.1 in
             let at_rest = has_back c.code.ops (p + 1) a rest h.0.1 in
             let len : e ≡ past (Either Case first second) p k = omega (arith, length-append a rest) in
-            to_place (behind c (λ a. v ∷ words)) e (past (Either Case first second) p k) (if_so (matched v ps) m o s) len (
+            to_place (afterwards c (λ a. v ∷ words)) e (past (Either Case first second) p k) (if_so (matched v ps) m o s) len (
             then_runs _ (does (spot c p (ps ∷ v ∷ words) s) (Case q) h.0.0) (
             choice p q e s
             (λ s1. further (m s1) (lm.by (p + 1) k (at_first, has_front c.code.kept k (kept_of first) (kept_of second) h.1) s1)
@@ -222,7 +222,7 @@ module _ (n : ℕ) (c : Config) where
             let len : e ≡ past (Loop test IfFalse body) p k = omega (arith, length-append t rest, length-append b (Jump p ∷ [])) in
             let kept_test = has_front c.code.kept k (kept_of test) (kept_of body) h.1 in
             let kept_body = has_back c.code.kept k (kept_of test) (kept_of body) h.1 in
-            to_place (behind c (λ a. c.words)) e (past (Loop test IfFalse body) p k) (turns n mt mb s) len (
+            to_place (afterwards c (λ a. c.words)) e (past (Loop test IfFalse body) p k) (turns n mt mb s) len (
             while_runs p q (q + 1 + length b) e mt mb at_rest.0 (has_back c.code.ops (q + 1) b (Jump p ∷ []) at_rest.1).0
             (lt.by p k (has_front c.code.ops p t rest h.0, kept_test))
             (lb.by (q + 1) j (has_front c.code.ops (q + 1) b (Jump p ∷ []) at_rest.1, kept_body)) n (omega arith) s);
@@ -256,7 +256,7 @@ module _ (n : ℕ) (c : Config) where
       (λ s1 owed. runs_exit (pop_local s1) owed))
 
   pub each_leg : (x : List ℕ) (vs : List (List ℕ)) (body : Part) (m : Runner) → ((vs : List (List ℕ)) → Acts n (looping x vs true) body m)
-      → Leg n c.code (Loop Nothing op.Next body) (before (looping x vs false) c.words) (behind c (λ a. c.words)) c.scopes (each x vs m)
+      → Leg n c.code (Loop Nothing op.Next body) (before (looping x vs false) c.words) (afterwards c (λ a. c.words)) c.scopes (each x vs m)
   each_leg x vs body m l =
       record {
         by = λ p k h s.
@@ -269,7 +269,7 @@ module _ (n : ℕ) (c : Config) where
             subst (λ q. HasAt c.code.ops (p + 1) (ops_of body (q + 1) (k + 0) ++ Jump p ∷ [])) same_p h.0.1) in
             let at_body = has_front c.code.ops (p + 1) b (Jump p ∷ []) stands in
             let len : e ≡ past (Loop Nothing op.Next body) p k = omega (arith, length-append (ops_of body (p + 0 + 1) (k + 0)) (Jump p ∷ [])) in
-            to_place (behind c (λ a. c.words)) e (past (Loop Nothing op.Next body) p k) (each x vs m s) len (
+            to_place (afterwards c (λ a. c.words)) e (past (Loop Nothing op.Next body) p k) (each x vs m s) len (
             each_runs p (p + 1 + length b) e x m h.0.0 (has_back c.code.ops (p + 1) b (Jump p ∷ []) stands).0
             (λ vs. (l vs).by (p + 1) k (at_body, h.1)) vs s);
       }
@@ -294,7 +294,7 @@ module _ (n : ℕ) (c : Config) where
             let pe = past last (p + 1) (k + 1) in
             let len : q ≡ past (PastKeep op.Stages (KeptStages stages) inner) p k = omega arith in
             let near : pe + 1 ≡ q = omega (arith, length-append (ops_of last (p + 1) (k + 1)) (EndPipe ∷ [])) in
-            to_place (behind c (λ a. c.words)) q (past (PastKeep op.Stages (KeptStages stages) inner) p k) (under (start_stages c.slots stages s) (piped c.slots m) leaves) len (
+            to_place (afterwards c (λ a. c.words)) q (past (PastKeep op.Stages (KeptStages stages) inner) p k) (under (start_stages c.slots stages s) (piped c.slots m) leaves) len (
             then_runs _ (does (spot c p c.words s) (op.Stages k q) h.0.0) (
             stages_runs (spot c p c.words s) (slice_get c.code.kept k) stages _ h.1.0 (
             settle_then (start_stages c.slots stages s) _ (piped c.slots m) (begun p q pe near at_end (λ r cs. (l r cs).by (p + 1) (k + 1) at_last)))));
@@ -306,7 +306,7 @@ module _ (n : ℕ) (c : Config) where
           → (st : StartedStages) (s : State) → Runs n (mid (last_stage (spot c p c.words s) q st s)) (λ a s1. at (spot c q c.words s1)) c.scopes (piped c.slots m st s)
       begun p q pe near at_end r Refused s = runs_at tt s
       begun p q pe near at_end r (Running h cs) s =
-          to_place (behind c (λ a. c.words)) (pe + 1) q (piped c.slots m (Running h cs) s) near (
+          to_place (afterwards c (λ a. c.words)) (pe + 1) q (piped c.slots m (Running h cs) s) near (
           runs_under c.scopes (m (from_pipe h c.slots) s) _ _ (r h cs s)
           (λ a s1. then_runs _ (does (spot (piping h cs) pe c.words s1) EndPipe at_end) (acts_runs c pe c.words c.words (end_stages h cs) s1))
           (λ s1 owed. runs_close h _ _ (runs_exit s1 (owed ++ cs))))

@@ -22,8 +22,8 @@ spot c place words s = record c { place = place; words = words; state = s }
 abbrev pub before : Config → Words → ℕ → State → Point
 before c words p s = at (spot c p words s)
 
-abbrev pub behind : {A : Type 0} → Config → (A → Words) → ℕ → A → State → Point
-behind c words p a s = at (spot c p (words a) s)
+abbrev pub afterwards : {A : Type 0} → Config → (A → Words) → ℕ → A → State → Point
+afterwards c words p a s = at (spot c p (words a) s)
 
 -- Wherever a part stands in the code, it does what the meaning says.
 pub record Leg {A : Type 0} (n : ℕ) (code : Code) (part : Part) (from : ℕ → State → Point) (to : ℕ → A → State → Point) (scopes : List Scope) (m : Shell A) : Type 0 where
@@ -31,7 +31,7 @@ pub record Leg {A : Type 0} (n : ℕ) (code : Code) (part : Part) (from : ℕ �
 
 -- the usual one: with some words before, and with some after, by the value
 abbrev pub Does : {A : Type 0} → ℕ → Config → Part → Words → (A → Words) → Shell A → Type 0
-Does n c part words words' m = Leg n c.code part (before c words) (behind c words') c.scopes m
+Does n c part words words' m = Leg n c.code part (before c words) (afterwards c words') c.scopes m
 
 -- the place at the end, under another name
 pub to_place : {A : Type 0} {n : ℕ} {f : Point} (to : ℕ → A → State → Point) {scopes : List Scope} (p q : ℕ) (m : Plan (Result A)) → p ≡ q

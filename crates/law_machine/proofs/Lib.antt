@@ -7,5 +7,5 @@ pub mod Forms
 pub mod Follow
 pub mod Turns
 pub mod Ends
-pub mod Told
+pub mod Recorded
 pub mod Reached

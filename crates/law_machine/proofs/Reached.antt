@@ -8,7 +8,7 @@ use Rattle.rc_model.specs.Run.State.{State}
 use Rattle.rc_model.specs.Code.Machine.{Config, Step, On, Over, step, after, exec, begin}
 use Rattle.rc_model.specs.Run.Script.{EndsAsMeant, HaltsAsMeant, IsBegunAsMeant, StopsAtLimit}
 use Rattle.law_plans.proofs.Goes.{goes_append, goes_then}
-use Rattle.law_machine.proofs.Told.{ended_as_meant, halted_as_meant, stopped_at_limit, begun_as_meant}
+use Rattle.law_machine.proofs.Recorded.{ended_as_meant, halted_as_meant, stopped_at_limit, begun_as_meant}
 
 -- after i instructions, by these events, the machine stands here
 pub record Reached (i : ℕ) (start : Config) (trace : List Event) (now : Config) : Type 0 where

@@ -8,7 +8,7 @@ use Rattle.std.proofs.lemmas.Bool.{eqb-true}
 use Rattle.rc_model.specs.Syntax.Words.{Word, word_text, has_pattern, is_pattern, is_pattern_char}
 use Rattle.rc_model.specs.Run.Patterns.{matches}
 use Rattle.rc_model.specs.Run.Calls.{Call, Answer, list_names, as_names}
-use Rattle.rc_model.specs.Run.FileNames.{components, is_no_name, ordered, folder, fitting_names, or_itself, names_of}
+use Rattle.rc_model.specs.Run.FileNames.{components, is_no_name, ordered, directory, fitting_names, or_itself, names_of}
 use Rattle.rc_model.specs.Run.PathNames.{IsIn, names_in, is_there, StandsFor, IsChosen, Chosen, ends_plain, Named, Expands, found, itself}
 use Rattle.law_patterns.proofs.Steps.{both_true}
 use Rattle.law_patterns.proofs.Computed.{matches-is}
@@ -38,51 +38,51 @@ none_of : (a b : Bool) → (a || b) ≡ false → (a ≡ false) × (b ≡ false)
 none_of true b h = false_true (sym h)
 none_of false b h = (refl, h)
 
-module _ (tells : Call → Answer) where
+module _ (answers : Call → Answer) where
   -- after a path with no final slash
   record From (cs : List Word) (path p : List ℕ) : Type 0 where
     pub texts : List (List ℕ)
-    pub chosen : Chosen tells (path ++ codes "/") cs texts
+    pub chosen : Chosen answers (path ++ codes "/") cs texts
     pub joined : p ≡ path ++ tail texts
-    pub checked : ends_plain cs ≡ true → is_there tells p ≡ true
+    pub checked : ends_plain cs ≡ true → is_there answers p ≡ true
 
   record Step (c : Word) (cs : List Word) (path p : List ℕ) : Type 0 where
     pub text : List ℕ
-    pub first : IsChosen tells path c text
+    pub first : IsChosen answers path c text
     pub rest : From cs (path ++ text) p
 
-  fitting_to : (c : Word) (path n : List ℕ) → IsIn n (fitting_names c (as_names (tells (list_names (folder path))))) → StandsFor tells path c n
+  fitting_to : (c : Word) (path n : List ℕ) → IsIn n (fitting_names c (as_names (answers (list_names (directory path))))) → StandsFor answers path c n
   fitting_to c path n x =
-      let f = from_filter (λ m. not (is_no_name m) && matches c (chars m) true) n (names_in tells path) (from_ordered n _ x) in
+      let f = from_filter (λ m. not (is_no_name m) && matches c (chars m) true) n (names_in answers path) (from_ordered n _ x) in
       let b = both_true (not (is_no_name n)) (matches c (chars n) true) f.1 in
       record { listed = f.0; a_name = not_so (is_no_name n) b.0; matches = (matches-is true c (chars n)).0 b.1 }
 
-  fitting_from : (c : Word) (path n : List ℕ) → StandsFor tells path c n → IsIn n (fitting_names c (as_names (tells (list_names (folder path)))))
+  fitting_from : (c : Word) (path n : List ℕ) → StandsFor answers path c n → IsIn n (fitting_names c (as_names (answers (list_names (directory path)))))
   fitting_from c path n x =
-      to_ordered n _ (to_filter (λ m. not (is_no_name m) && matches c (chars m) true) n (names_in tells path) x.listed
+      to_ordered n _ (to_filter (λ m. not (is_no_name m) && matches c (chars m) true) n (names_in answers path) x.listed
       (ap (λ b. b && matches c (chars n) true) (is_not (is_no_name n) x.a_name) ∙ (matches-is true c (chars n)).1 x.matches))
 
   abbrev To : List Word → Type 0
-  To cs = (path p : List ℕ) → IsIn p (found_from tells cs path) → From cs path p
+  To cs = (path p : List ℕ) → IsIn p (found_from answers cs path) → From cs path p
 
   abbrev Back : List Word → Type 0
-  Back cs = (path p : List ℕ) → From cs path p → IsIn p (found_from tells cs path)
+  Back cs = (path p : List ℕ) → From cs path p → IsIn p (found_from answers cs path)
 
   step_to : (c : Word) (cs : List Word) (path p : List ℕ) (b : Bool) → has_pattern c ≡ b → To cs →
-      IsIn p (cond b (names_found tells c (found_from tells cs) path) (found_from tells cs (path ++ word_text c))) → Step c cs path p
+      IsIn p (cond b (names_found answers c (found_from answers cs) path) (found_from answers cs (path ++ word_text c))) → Step c cs path p
   step_to c cs path p true h hyp x =
-      let f = from_flat (λ n. found_from tells cs (path ++ n)) p (fitting_names c (as_names (tells (list_names (folder path))))) x in
+      let f = from_flat (λ n. found_from answers cs (path ++ n)) p (fitting_names c (as_names (answers (list_names (directory path))))) x in
       record { text = f.0; first = record { itself = λ k. false_true (sym k ∙ h); pattern = λ k. fitting_to c path f.0 f.1 }; rest = hyp (path ++ f.0) p f.2 }
   step_to c cs path p false h hyp x =
       record { text = word_text c; first = record { itself = λ k. refl; pattern = λ k. false_true (sym h ∙ k) }; rest = hyp (path ++ word_text c) p x }
 
   step_back : (c : Word) (cs : List Word) (path p : List ℕ) (b : Bool) → has_pattern c ≡ b → Back cs → Step c cs path p →
-      IsIn p (cond b (names_found tells c (found_from tells cs) path) (found_from tells cs (path ++ word_text c)))
+      IsIn p (cond b (names_found answers c (found_from answers cs) path) (found_from answers cs (path ++ word_text c)))
   step_back c cs path p true h hyp x =
-      to_flat (λ n. found_from tells cs (path ++ n)) x.text p (fitting_names c (as_names (tells (list_names (folder path))))) (fitting_from c path x.text (x.first.pattern h)) (hyp (path ++ x.text) p x.rest)
-  step_back c cs path p false h hyp x = subst (λ t. IsIn p (found_from tells cs (path ++ t))) (x.first.itself h) (hyp (path ++ x.text) p x.rest)
+      to_flat (λ n. found_from answers cs (path ++ n)) x.text p (fitting_names c (as_names (answers (list_names (directory path))))) (fitting_from c path x.text (x.first.pattern h)) (hyp (path ++ x.text) p x.rest)
+  step_back c cs path p false h hyp x = subst (λ t. IsIn p (found_from answers cs (path ++ t))) (x.first.itself h) (hyp (path ++ x.text) p x.rest)
 
-  -- a pattern character in the components: the last one tells
+  -- a pattern character in the components: the last one decides
   ends_more : (c : Word) (cs : List Word) → list_any has_pattern (c ∷ cs) ≡ true → ends_plain (c ∷ cs) ≡ ends_plain cs
   ends_more c [] h = ap not (last_one (has_pattern c) h)
     where
@@ -95,13 +95,13 @@ module _ (tells : Call → Answer) where
   ends_none c [] h = is_not (has_pattern c) (none_of (has_pattern c) false h).0
   ends_none c (d ∷ cs) h = ends_none d cs (none_of (has_pattern c) (list_any has_pattern (d ∷ cs)) h).1
 
-  all_plain : (cs : List Word) (path : List ℕ) → list_any has_pattern cs ≡ false → Chosen tells path cs (map word_text cs)
+  all_plain : (cs : List Word) (path : List ℕ) → list_any has_pattern cs ≡ false → Chosen answers path cs (map word_text cs)
   all_plain [] path h = tt
   all_plain (c ∷ cs) path h =
       let b = none_of (has_pattern c) (list_any has_pattern cs) h in
       (record { itself = λ k. refl; pattern = λ k. false_true (sym b.0 ∙ k) }, all_plain cs ((path ++ word_text c) ++ codes "/") b.1)
 
-  only_plain : (cs : List Word) (path : List ℕ) (ts : List (List ℕ)) → list_any has_pattern cs ≡ false → Chosen tells path cs ts → ts ≡ map word_text cs
+  only_plain : (cs : List Word) (path : List ℕ) (ts : List (List ℕ)) → list_any has_pattern cs ≡ false → Chosen answers path cs ts → ts ≡ map word_text cs
   only_plain [] path [] h x = refl
   only_plain [] path (t ∷ ts) h x = absurd x
   only_plain (c ∷ cs) path [] h x = absurd x
@@ -117,7 +117,7 @@ module _ (tells : Call → Answer) where
     checked = λ k. x.rest.checked (sym (ends_more c cs h) ∙ k);
   }
 
-  step_from : (c : Word) (cs : List Word) (path p : List ℕ) (ts : List (List ℕ)) → list_any has_pattern (c ∷ cs) ≡ true → Chosen tells (path ++ codes "/") (c ∷ cs) ts → p ≡ path ++ tail ts → (ends_plain (c ∷ cs) ≡ true → is_there tells p ≡ true) →
+  step_from : (c : Word) (cs : List Word) (path p : List ℕ) (ts : List (List ℕ)) → list_any has_pattern (c ∷ cs) ≡ true → Chosen answers (path ++ codes "/") (c ∷ cs) ts → p ≡ path ++ tail ts → (ends_plain (c ∷ cs) ≡ true → is_there answers p ≡ true) →
       Step c cs (path ++ codes "/") p
   step_from c cs path p [] h x q k = absurd x
   step_from c cs path p (t ∷ ts) h x q k = record {
@@ -131,24 +131,24 @@ module _ (tells : Call → Answer) where
     };
   }
 
-  there_to : (p q : List ℕ) (b : Bool) → is_there tells q ≡ b → IsIn p (cond b (q ∷ []) []) → (q ≡ p) × (is_there tells q ≡ true)
+  there_to : (p q : List ℕ) (b : Bool) → is_there answers q ≡ b → IsIn p (cond b (q ∷ []) []) → (q ≡ p) × (is_there answers q ≡ true)
   there_to p q true h (inl x) = (x, h)
   there_to p q true h (inr x) = absurd x
   there_to p q false h x = absurd x
 
-  there_from : (p q : List ℕ) → q ≡ p → is_there tells q ≡ true → IsIn p (found_there tells q)
+  there_from : (p q : List ℕ) → q ≡ p → is_there answers q ≡ true → IsIn p (found_there answers q)
   there_from p q e h = subst (λ b. IsIn p (cond b (q ∷ []) [])) (sym h) (inl e)
 
   found_to_by : (c : Word) (cs : List Word) (path p : List ℕ) (b : Bool) → list_any has_pattern (c ∷ cs) ≡ b → To cs →
-      IsIn p (cond b (found_step tells c (found_from tells cs) (path ++ codes "/")) (found_there tells (path ++ 47 ∷ join_with_byte 47 (map word_text (c ∷ cs))))) → From (c ∷ cs) path p
+      IsIn p (cond b (found_step answers c (found_from answers cs) (path ++ codes "/")) (found_there answers (path ++ 47 ∷ join_with_byte 47 (map word_text (c ∷ cs))))) → From (c ∷ cs) path p
   found_to_by c cs path p true h hyp x = from_step c cs path p h (step_to c cs (path ++ codes "/") p (has_pattern c) refl hyp x)
   found_to_by c cs path p false h hyp x =
-      let t = there_to p (path ++ 47 ∷ join_with_byte 47 (map word_text (c ∷ cs))) (is_there tells (path ++ 47 ∷ join_with_byte 47 (map word_text (c ∷ cs)))) refl x in
+      let t = there_to p (path ++ 47 ∷ join_with_byte 47 (map word_text (c ∷ cs))) (is_there answers (path ++ 47 ∷ join_with_byte 47 (map word_text (c ∷ cs)))) refl x in
       record {
         texts = map word_text (c ∷ cs);
         chosen = all_plain (c ∷ cs) (path ++ codes "/") h;
         joined = sym t.0 ∙ ap (λ z. path ++ (47 ∷ z)) (join_tail (word_text c) (map word_text cs));
-        checked = λ k. subst (λ z. is_there tells z ≡ true) t.0 t.1;
+        checked = λ k. subst (λ z. is_there answers z ≡ true) t.0 t.1;
       }
 
   found_to : (cs : List Word) → To cs
@@ -157,14 +157,14 @@ module _ (tells : Call → Answer) where
   found_to (c ∷ cs) path p x = found_to_by c cs path p (list_any has_pattern (c ∷ cs)) refl (found_to cs) x
 
   found_back_by : (c : Word) (cs : List Word) (path p : List ℕ) (b : Bool) → list_any has_pattern (c ∷ cs) ≡ b → Back cs → From (c ∷ cs) path p →
-      IsIn p (cond b (found_step tells c (found_from tells cs) (path ++ codes "/")) (found_there tells (path ++ 47 ∷ join_with_byte 47 (map word_text (c ∷ cs)))))
+      IsIn p (cond b (found_step answers c (found_from answers cs) (path ++ codes "/")) (found_there answers (path ++ 47 ∷ join_with_byte 47 (map word_text (c ∷ cs)))))
   found_back_by c cs path p true h hyp x = step_back c cs (path ++ codes "/") p (has_pattern c) refl hyp (step_from c cs path p x.texts h x.chosen x.joined x.checked)
   found_back_by c cs path p false h hyp x =
       let e : path ++ 47 ∷ join_with_byte 47 (map word_text (c ∷ cs)) ≡ p =
       ap (λ z. path ++ (47 ∷ z)) (join_tail (word_text c) (map word_text cs)) ∙ ap (λ z. path ++ tail z) (sym (only_plain (c ∷ cs) (path ++ codes "/") x.texts h x.chosen)) ∙ sym x.joined in
-      there_from p (path ++ 47 ∷ join_with_byte 47 (map word_text (c ∷ cs))) e (subst (λ z. is_there tells z ≡ true) (sym e) (x.checked (ends_none c cs h)))
+      there_from p (path ++ 47 ∷ join_with_byte 47 (map word_text (c ∷ cs))) e (subst (λ z. is_there answers z ≡ true) (sym e) (x.checked (ends_none c cs h)))
 
-  empty_back : (path p : List ℕ) (ts : List (List ℕ)) → Chosen tells (path ++ codes "/") [] ts → p ≡ path ++ tail ts → IsIn p (path ∷ [])
+  empty_back : (path p : List ℕ) (ts : List (List ℕ)) → Chosen answers (path ++ codes "/") [] ts → p ≡ path ++ tail ts → IsIn p (path ∷ [])
   empty_back path p [] x q = inl (sym (q ∙ append-nil path))
   empty_back path p (t ∷ ts) x q = absurd x
 
@@ -175,11 +175,11 @@ module _ (tells : Call → Answer) where
   -- the components of a word with a pattern character
   record Whole (cs : List Word) (p : List ℕ) : Type 0 where
     pub texts : List (List ℕ)
-    pub chosen : Chosen tells [] cs texts
+    pub chosen : Chosen answers [] cs texts
     pub joined : p ≡ join_with_byte 47 texts
-    pub checked : ends_plain cs ≡ true → is_there tells p ≡ true
+    pub checked : ends_plain cs ≡ true → is_there answers p ≡ true
 
-  whole_to : (cs : List Word) (p : List ℕ) → list_any has_pattern cs ≡ true → IsIn p (found_of tells cs) → Whole cs p
+  whole_to : (cs : List Word) (p : List ℕ) → list_any has_pattern cs ≡ true → IsIn p (found_of answers cs) → Whole cs p
   whole_to [] p h x = absurd x
   whole_to (c ∷ cs) p h x =
       let s = step_to c cs [] p (has_pattern c) refl (found_to cs) x in
@@ -190,11 +190,11 @@ module _ (tells : Call → Answer) where
         checked = λ k. s.rest.checked (sym (ends_more c cs h) ∙ k);
       }
 
-  whole_step : (c : Word) (cs : List Word) (p : List ℕ) (ts : List (List ℕ)) → list_any has_pattern (c ∷ cs) ≡ true → Chosen tells [] (c ∷ cs) ts → p ≡ join_with_byte 47 ts → (ends_plain (c ∷ cs) ≡ true → is_there tells p ≡ true) → Step c cs [] p
+  whole_step : (c : Word) (cs : List Word) (p : List ℕ) (ts : List (List ℕ)) → list_any has_pattern (c ∷ cs) ≡ true → Chosen answers [] (c ∷ cs) ts → p ≡ join_with_byte 47 ts → (ends_plain (c ∷ cs) ≡ true → is_there answers p ≡ true) → Step c cs [] p
   whole_step c cs p [] h x q k = absurd x
   whole_step c cs p (t ∷ ts) h x q k = record { text = t; first = x.0; rest = record { texts = ts; chosen = x.1; joined = q ∙ join_tail t ts; checked = λ e. k (ends_more c cs h ∙ e) } }
 
-  whole_back : (cs : List Word) (p : List ℕ) → list_any has_pattern cs ≡ true → Whole cs p → IsIn p (found_of tells cs)
+  whole_back : (cs : List Word) (p : List ℕ) → list_any has_pattern cs ≡ true → Whole cs p → IsIn p (found_of answers cs)
   whole_back [] p h x = false_true h
   whole_back (c ∷ cs) p h x = step_back c cs [] p (has_pattern c) refl (found_back cs) (whole_step c cs p x.texts h x.chosen x.joined x.checked)
 
@@ -223,25 +223,25 @@ components_pattern : (w : Word) → list_any has_pattern (components w) ≡ has_
 components_pattern [] = refl
 components_pattern (m ∷ w) = components_by m w (m.0 == 47) refl (components_pattern w)
 
-expands_by : (tells : Call → Answer) (w : Word) → has_pattern w ≡ true → (l : List (List ℕ)) → found_of tells (components w) ≡ l → Expands tells w (or_itself w l)
-expands_by tells w h [] q = itself (λ p x. nothing_in p (whole_back tells (components w) p (components_pattern w ∙ h) (record { texts = x.texts; chosen = x.chosen; joined = x.joined; checked = x.checked })))
+expands_by : (answers : Call → Answer) (w : Word) → has_pattern w ≡ true → (l : List (List ℕ)) → found_of answers (components w) ≡ l → Expands answers w (or_itself w l)
+expands_by answers w h [] q = itself (λ p x. nothing_in p (whole_back answers (components w) p (components_pattern w ∙ h) (record { texts = x.texts; chosen = x.chosen; joined = x.joined; checked = x.checked })))
   where
-    nothing_in : (p : List ℕ) → IsIn p (found_of tells (components w)) → ⊥
+    nothing_in : (p : List ℕ) → IsIn p (found_of answers (components w)) → ⊥
     nothing_in p y = subst (IsIn p) q y
-expands_by tells w h (p ∷ ps) q = found (ordered (p ∷ ps)) (λ r. (to_named r, from_named r)) (ordered_sorted (p ∷ ps)) filled
+expands_by answers w h (p ∷ ps) q = found (ordered (p ∷ ps)) (λ r. (to_named r, from_named r)) (ordered_sorted (p ∷ ps)) filled
   where
-    to_named : (r : List ℕ) → IsIn r (ordered (p ∷ ps)) → Named tells w r
+    to_named : (r : List ℕ) → IsIn r (ordered (p ∷ ps)) → Named answers w r
     to_named r x =
-        let y = whole_to tells (components w) r (components_pattern w ∙ h) (subst (IsIn r) (sym q) (from_ordered r (p ∷ ps) x)) in
+        let y = whole_to answers (components w) r (components_pattern w ∙ h) (subst (IsIn r) (sym q) (from_ordered r (p ∷ ps) x)) in
         record { texts = y.texts; chosen = y.chosen; joined = y.joined; checked = y.checked }
 
-    from_named : (r : List ℕ) → Named tells w r → IsIn r (ordered (p ∷ ps))
+    from_named : (r : List ℕ) → Named answers w r → IsIn r (ordered (p ∷ ps))
     from_named r x =
-        to_ordered r (p ∷ ps) (subst (IsIn r) q (whole_back tells (components w) r (components_pattern w ∙ h) (record { texts = x.texts; chosen = x.chosen; joined = x.joined; checked = x.checked })))
+        to_ordered r (p ∷ ps) (subst (IsIn r) q (whole_back answers (components w) r (components_pattern w ∙ h) (record { texts = x.texts; chosen = x.chosen; joined = x.joined; checked = x.checked })))
 
     filled : ordered (p ∷ ps) ≢ []
     filled e = subst (IsIn p) e (to_ordered p (p ∷ ps) (inl refl))
 
 -- where each call has one answer, the calls of expansion give what the word stands for
-pub expansion-is : (tells : Call → Answer) (w : Word) → has_pattern w ≡ true → Gives tells (names_of w) (or_itself w (found_of tells (components w))) × Expands tells w (or_itself w (found_of tells (components w)))
-expansion-is tells w h = (gives_names tells w, expands_by tells w h (found_of tells (components w)) refl)
+pub expansion-is : (answers : Call → Answer) (w : Word) → has_pattern w ≡ true → Gives answers (names_of w) (or_itself w (found_of answers (components w))) × Expands answers w (or_itself w (found_of answers (components w)))
+expansion-is answers w h = (gives_names answers w, expands_by answers w h (found_of answers (components w)) refl)

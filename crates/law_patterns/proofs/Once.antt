@@ -19,7 +19,7 @@ use Rattle.rc_model.specs.declared.call.Fault.TheVariants.{Other}
 use Rattle.rc_model.specs.Run.Plans.{Plan, done_with, ask, cut, Goes}
 use Rattle.rc_model.specs.Run.State.{State}
 use Rattle.rc_model.specs.Run.Shell.{Result, Next, Exit, Shell, under, leaves, ◌>>=◌, pure}
-use Rattle.rc_model.specs.Run.FileNames.{components, is_no_name, folder, fitting_names, each_name, if_there, listed, step, walk, paths_of, or_itself, names_of}
+use Rattle.rc_model.specs.Run.FileNames.{components, is_no_name, directory, fitting_names, each_name, if_there, listed, step, walk, paths_of, or_itself, names_of}
 use Rattle.rc_model.specs.Run.PathNames.{IsIn, Agreeing}
 use Rattle.law_patterns.proofs.Steps.{both_true}
 use Rattle.law_patterns.proofs.Sorted.{ordered_sorted, from_ordered, from_filter}
@@ -190,9 +190,9 @@ longer n true h k = no_way (sym k)
 longer [] false h k = no_way (sym h)
 longer (c ∷ n) false h k = omega arith
 
-apart_folder : (q : List ℕ) (ns : List (List ℕ)) → Clean ns → (d : Call) → Among q ns d → d ≡ list_names (folder q) → ⊥
-apart_folder q ns k d x e =
-    let f : ((q ++ x.0) ++ codes "/") ++ x.2.rest ≡ folder q = sym x.2.path ∙ ap path_of e in
+apart_directory : (q : List ℕ) (ns : List (List ℕ)) → Clean ns → (d : Call) → Among q ns d → d ≡ list_names (directory q) → ⊥
+apart_directory q ns k d x e =
+    let f : ((q ++ x.0) ++ codes "/") ++ x.2.rest ≡ directory q = sym x.2.path ∙ ap path_of e in
     let a = folder_by q (length q == 0) in
     let b = longer x.0 (length x.0 == 0) refl (clean_name x.0 (k x.0 x.1)).0 in
     let l1 = length-append ((q ++ x.0) ++ codes "/") x.2.rest in
@@ -203,13 +203,13 @@ apart_folder q ns k d x e =
 
 step_by : (c : Word) (w : Walk) → Below w → EachOnce w → (q : List ℕ) (s : State) (b : Bool) → Once (cond b (listed c w q) (w (q ++ word_text c)) s)
 step_by c w h o q s true = λ a. (
-  all_map (Among q (fitting_names c (as_names a))) (λ d. d ≡ list_names (folder q) → ⊥) (each_name w q (fitting_names c (as_names a)) s) (apart_folder q (fitting_names c (as_names a)) (fitting_clean c a)) (each_all w h q (fitting_names c (as_names a)) s),
+  all_map (Among q (fitting_names c (as_names a))) (λ d. d ≡ list_names (directory q) → ⊥) (each_name w q (fitting_names c (as_names a)) s) (apart_directory q (fitting_names c (as_names a)) (fitting_clean c a)) (each_all w h q (fitting_names c (as_names a)) s),
   each_once w h o q (fitting_names c (as_names a)) s (ordered_sorted (filter (λ n. not (is_no_name n) && matches c (chars n) true) (unwrap_or (as_names a) []))) (fitting_clean c a),
 )
 step_by c w h o q s false = o (q ++ word_text c) s
 
-folder_path : (path : List ℕ) → folder (path ++ codes "/") ≡ path ++ codes "/"
-folder_path path = ap (λ b. cond b (codes ".") (path ++ codes "/")) (ne_eqb (length (path ++ codes "/")) 0 (λ h. let l = length-append path (codes "/") in absurd (omega arith)))
+directory_path : (path : List ℕ) → directory (path ++ codes "/") ≡ path ++ codes "/"
+directory_path path = ap (λ b. cond b (codes ".") (path ++ codes "/")) (ne_eqb (length (path ++ codes "/")) 0 (λ h. let l = length-append path (codes "/") in absurd (omega arith)))
 
 append_nothing : (q : List ℕ) → q ≡ q ++ []
 append_nothing [] = refl
@@ -217,7 +217,7 @@ append_nothing (c ∷ q) = ap (λ z. c ∷ z) (append_nothing q)
 
 step_below : (c : Word) (w : Walk) → Below w → (path : List ℕ) (s : State) (b : Bool) → AllCalls (IsUnder (path ++ codes "/")) (cond b (listed c w (path ++ codes "/")) (w ((path ++ codes "/") ++ word_text c)) s)
 step_below c w h path s true = (
-  record { rest = []; path = folder_path path ∙ append_nothing (path ++ codes "/"); look = refl },
+  record { rest = []; path = directory_path path ∙ append_nothing (path ++ codes "/"); look = refl },
   λ a. all_map (Among (path ++ codes "/") (fitting_names c (as_names a))) (IsUnder (path ++ codes "/")) (each_name w (path ++ codes "/") (fitting_names c (as_names a)) s) (from_among (path ++ codes "/") (fitting_names c (as_names a)))
       (each_all w h (path ++ codes "/") (fitting_names c (as_names a)) s),
 )
@@ -323,5 +323,5 @@ recall_agrees [] d l = tt
 recall_agrees (e ∷ es) d l = (ap (λ b. cond b e.answer (recall es e.call)) (same_itself e.call l.0), agree_more e es es d.0 (recall_agrees es d.1 l.1))
 
 -- for each trace of an expansion there is a world in which each call has one answer, and it is the trace's
-pub one_answer_each : (w : Word) (s : State) (trace : List Event) (q : Plan (Result (List Word))) → Goes (names_of w s) trace q → (tells : Call → Answer) × Agreeing tells trace
+pub one_answer_each : (w : Word) (s : State) (trace : List Event) (q : Plan (Result (List Word))) → Goes (names_of w s) trace q → (answers : Call → Answer) × Agreeing answers trace
 one_answer_each w s trace q g = (recall trace, recall_agrees trace (goes_once (names_of w s) trace q (names_once w s) g) (goes_all Looks (names_of w s) trace q (names_look w s) g))

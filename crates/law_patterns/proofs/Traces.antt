@@ -10,17 +10,17 @@ use Rattle.rc_model.specs.Run.PathNames.{follow, Agreeing, Expands}
 use Rattle.law_patterns.proofs.Walking.{found_of}
 use Rattle.law_patterns.proofs.Found.{expansion-is}
 
-follow_goes : {X : Type 0} (tells : Call → Answer) (p : Plan X) (trace : List Event) (q : Plan X) → Goes p trace q → Agreeing tells trace → follow tells p ≡ follow tells q
-follow_goes tells (done_with x) [] q g h = ap (follow tells) g
-follow_goes tells (ask c go) [] q g h = ap (follow tells) g
-follow_goes tells cut [] q g h = ap (follow tells) g
-follow_goes tells (done_with x) (e ∷ es) q g h = absurd g
-follow_goes tells (ask c go) (e ∷ es) q g h = ap (λ a. follow tells (go a)) (ap tells (sym g.0) ∙ h.0) ∙ follow_goes tells (go e.answer) es q g.2 h.1
-follow_goes tells cut (e ∷ es) q g h = absurd g
+follow_goes : {X : Type 0} (answers : Call → Answer) (p : Plan X) (trace : List Event) (q : Plan X) → Goes p trace q → Agreeing answers trace → follow answers p ≡ follow answers q
+follow_goes answers (done_with x) [] q g h = ap (follow answers) g
+follow_goes answers (ask c go) [] q g h = ap (follow answers) g
+follow_goes answers cut [] q g h = ap (follow answers) g
+follow_goes answers (done_with x) (e ∷ es) q g h = absurd g
+follow_goes answers (ask c go) (e ∷ es) q g h = ap (λ a. follow answers (go a)) (ap answers (sym g.0) ∙ h.0) ∙ follow_goes answers (go e.answer) es q g.2 h.1
+follow_goes answers cut (e ∷ es) q g h = absurd g
 
-pub expansion_by_trace : (w : Word) (s : State) (trace : List Event) (r : Result (List Word)) (tells : Call → Answer) → has_pattern w ≡ true → Goes (names_of w s) trace (done_with r) → Agreeing tells trace →
-    (ws : List Word) × (r ≡ Next ws s) × Expands tells w ws
-expansion_by_trace w s trace r tells h g a =
-    let x = expansion-is tells w h in
-    let e : Some (Next (or_itself w (found_of tells (components w))) s) ≡ Some r = sym (x.0.by s) ∙ follow_goes tells (names_of w s) trace (done_with r) g a in
-    (or_itself w (found_of tells (components w)), cc, x.1)
+pub expansion_by_trace : (w : Word) (s : State) (trace : List Event) (r : Result (List Word)) (answers : Call → Answer) → has_pattern w ≡ true → Goes (names_of w s) trace (done_with r) → Agreeing answers trace →
+    (ws : List Word) × (r ≡ Next ws s) × Expands answers w ws
+expansion_by_trace w s trace r answers h g a =
+    let x = expansion-is answers w h in
+    let e : Some (Next (or_itself w (found_of answers (components w))) s) ≡ Some r = sym (x.0.by s) ∙ follow_goes answers (names_of w s) trace (done_with r) g a in
+    (or_itself w (found_of answers (components w)), cc, x.1)

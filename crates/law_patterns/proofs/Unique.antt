@@ -1,4 +1,4 @@
--- The answers to its calls tell what a word becomes.
+-- The answers to its calls decide what a word becomes.
 use Rattle.std.proofs.Common.{◌≡◌, ◌≢◌, List, [], ◌∷◌, refl, sym, ap, ◌∙◌, inl, inr, ℕ}
 use Rattle.std.specs.List.{AllByRecursion}
 use Rattle.std.specs.List.Sorted.{IsStrictlySortedBy}
@@ -44,8 +44,8 @@ none_named : (ps : List (List ℕ)) → ps ≢ [] → ((p : List ℕ) → IsIn p
 none_named [] ne h = ne refl
 none_named (p ∷ ps) ne h = h p (inl refl)
 
-pub one_expansion : (tells : Call → Answer) (w : Word) (us vs : List Word) → Expands tells w us → Expands tells w vs → us ≡ vs
-one_expansion tells w us vs (found ps f s n) (found qs g t m) = ap plain_words (same_sorted ps qs s t (λ p i. (g p).1 ((f p).0 i)) (λ p i. (f p).1 ((g p).0 i)))
-one_expansion tells w us vs (found ps f s n) (itself k) = absurd (none_named ps n (λ p i. k p ((f p).0 i)))
-one_expansion tells w us vs (itself k) (found qs g t m) = absurd (none_named qs m (λ p i. k p ((g p).0 i)))
-one_expansion tells w us vs (itself k) (itself l) = refl
+pub one_expansion : (answers : Call → Answer) (w : Word) (us vs : List Word) → Expands answers w us → Expands answers w vs → us ≡ vs
+one_expansion answers w us vs (found ps f s n) (found qs g t m) = ap plain_words (same_sorted ps qs s t (λ p i. (g p).1 ((f p).0 i)) (λ p i. (f p).1 ((g p).0 i)))
+one_expansion answers w us vs (found ps f s n) (itself k) = absurd (none_named ps n (λ p i. k p ((f p).0 i)))
+one_expansion answers w us vs (itself k) (found qs g t m) = absurd (none_named qs m (λ p i. k p ((g p).0 i)))
+one_expansion answers w us vs (itself k) (itself l) = refl

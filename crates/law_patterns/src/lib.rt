@@ -25,16 +25,16 @@ pub fn greedy_matches()
 
 /// The calls of expansion give the names that the word stands for by their answers.
 pub fn names_by_rule()
-    ensures { (w : Word) (s : State) (trace : List Event) (r : Result (List Word)) (tells : Call → Answer) →
-        has_pattern w ≡ true → Goes (names_of w s) trace (done_with r) → Agreeing tells trace →
-        (ws : List Word) × (r ≡ Next ws s) × Expands tells w ws }
+    ensures { (w : Word) (s : State) (trace : List Event) (r : Result (List Word)) (answers : Call → Answer) →
+        has_pattern w ≡ true → Goes (names_of w s) trace (done_with r) → Agreeing answers trace →
+        (ws : List Word) × (r ≡ Next ws s) × Expands answers w ws }
 {}
 
 /// Expansion makes no call twice: for each of its traces there is a world in which each call has one answer, that of
 /// the trace.
 pub fn names_ask_once()
     ensures { (w : Word) (s : State) (trace : List Event) (q : Plan (Result (List Word))) →
-        Goes (names_of w s) trace q → (tells : Call → Answer) × Agreeing tells trace }
+        Goes (names_of w s) trace q → (answers : Call → Answer) × Agreeing answers trace }
 {}
 
 /// Words are expanded from left to right, each to what it stands for by the answers to its own calls.
@@ -45,6 +45,6 @@ pub fn expanded_by_rule()
 
 /// The answers determine what a word becomes.
 pub fn one_expansion()
-    ensures { (tells : Call → Answer) (w : Word) (us vs : List Word) →
-        Expands tells w us → Expands tells w vs → us ≡ vs }
+    ensures { (answers : Call → Answer) (w : Word) (us vs : List Word) →
+        Expands answers w us → Expands answers w vs → us ≡ vs }
 {}

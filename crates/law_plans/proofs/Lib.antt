@@ -1,4 +1,4 @@
 pub mod Goes
 pub mod Plays
-pub mod Tellings
+pub mod Recordings
 pub mod Runs

@@ -1,32 +1,32 @@
 -- Runs of plans between two records of a world: how they join.
 use Rattle.std.proofs.Common.{◌≡◌, refl, ◌∙◌, ap, List, [], ◌∷◌, ◌++◌, ℕ, Option}
 use Rattle.std.specs.Prelude.{true, if◌then◌else◌}
-use Rattle.rc_model.specs.Run.Calls.{Call, Answer, Event, event, extend, told_by, was_made, refused}
+use Rattle.rc_model.specs.Run.Calls.{Call, Answer, Event, event, extend, recorded_by, was_made, refused}
 use Rattle.rc_model.specs.declared.call.Fault.TheVariants.{Halt}
 use Rattle.rc_model.specs.Run.Plans.{Plan, done_with, ask, and_then, IsAnswered, Ran, Halted}
 use Rattle.rc_model.specs.Run.State.{State}
 use Rattle.rc_model.specs.Run.Shell.{Result, Next, Exit, under}
 use Rattle.law_plans.proofs.Goes.{goes_append, goes_then, goes_under}
-use Rattle.law_plans.proofs.Tellings.{extend_nil, told_append, told_further}
+use Rattle.law_plans.proofs.Recordings.{extend_nil, told_append, told_further}
 
 -- nothing was called
 pub ran_none : {X : Type 0} (a : Option (List Event)) (p : Plan X) → Ran a a p p
-ran_none a p = record { trace = []; told = extend_nil a; goes = refl }
+ran_none a p = record { trace = []; recorded = extend_nil a; goes = refl }
 
 -- one call was made and answered
 pub ran_call : {X : Type 0} (a b : Option (List Event)) (call : Call) (x : Answer) (go : Answer → Plan X) →
-    was_made x ≡ true → IsAnswered call x → b ≡ extend a (told_by call x) → Ran a b (ask call go) (go x)
+    was_made x ≡ true → IsAnswered call x → b ≡ extend a (recorded_by call x) → Ran a b (ask call go) (go x)
 ran_call a b call x go made answered h =
     record {
       trace = event call x ∷ [];
-      told = h ∙ ap (λ m. extend a (if m then event call x ∷ [] else [])) made;
+      recorded = h ∙ ap (λ m. extend a (if m then event call x ∷ [] else [])) made;
       goes = (refl, answered, refl);
     }
 
 -- a call was not answered
 pub halted_call : {X : Type 0} (a b : Option (List Event)) (call : Call) (go : Answer → Plan X) →
     b ≡ extend a (event call (refused Halt) ∷ []) → Halted a b (ask call go)
-halted_call a b call go h = record { trace = []; call = call; go = go; told = h; goes = refl }
+halted_call a b call go h = record { trace = []; call = call; go = go; recorded = h; goes = refl }
 
 -- ** one run after another
 
@@ -34,7 +34,7 @@ pub ran_join : {X : Type 0} (a b c : Option (List Event)) (p q r : Plan X) → R
 ran_join a b c p q r f g =
     record {
       trace = f.trace ++ g.trace;
-      told = told_append a b c f.trace g.trace f.told g.told;
+      recorded = told_append a b c f.trace g.trace f.recorded g.recorded;
       goes = goes_append p f.trace q g.trace r f.goes g.goes;
     }
 
@@ -44,14 +44,14 @@ halted_join a b c p q f g =
       trace = f.trace ++ g.trace;
       call = g.call;
       go = g.go;
-      told = told_further a b c f.trace g.trace (event g.call (refused Halt)) f.told g.told;
+      recorded = told_further a b c f.trace g.trace (event g.call (refused Halt)) f.recorded g.recorded;
       goes = goes_append p f.trace q g.trace (ask g.call g.go) f.goes g.goes;
     }
 
 -- ** the first of two plans
 
 pub ran_then : {X Y : Type 0} (a b : Option (List Event)) (p q : Plan X) (next : X → Plan Y) → Ran a b p q → Ran a b (and_then p next) (and_then q next)
-ran_then a b p q next f = record { trace = f.trace; told = f.told; goes = goes_then p f.trace q next f.goes }
+ran_then a b p q next f = record { trace = f.trace; recorded = f.recorded; goes = goes_then p f.trace q next f.goes }
 
 pub halted_then : {X Y : Type 0} (a b : Option (List Event)) (p : Plan X) (next : X → Plan Y) → Halted a b p → Halted a b (and_then p next)
 halted_then a b p next f =
@@ -59,7 +59,7 @@ halted_then a b p next f =
       trace = f.trace;
       call = f.call;
       go = λ x. and_then (f.go x) next;
-      told = f.told;
+      recorded = f.recorded;
       goes = goes_then p f.trace (ask f.call f.go) next f.goes;
     }
 
@@ -72,7 +72,7 @@ ran_bind a b c p x next q f g = ran_join a b c (and_then p next) (next x) q (ran
 
 pub ran_under : {A X : Type 0} (a b : Option (List Event)) (p q : Plan (Result A)) (go : A → State → Plan X) (leave : State → List ℕ → Plan X) →
     Ran a b p q → Ran a b (under p go leave) (under q go leave)
-ran_under a b p q go leave f = record { trace = f.trace; told = f.told; goes = goes_under p f.trace q go leave f.goes }
+ran_under a b p q go leave f = record { trace = f.trace; recorded = f.recorded; goes = goes_under p f.trace q go leave f.goes }
 
 pub halted_under : {A X : Type 0} (a b : Option (List Event)) (p : Plan (Result A)) (go : A → State → Plan X) (leave : State → List ℕ → Plan X) →
     Halted a b p → Halted a b (under p go leave)
@@ -81,7 +81,7 @@ halted_under a b p go leave f =
       trace = f.trace;
       call = f.call;
       go = λ x. under (f.go x) go leave;
-      told = f.told;
+      recorded = f.recorded;
       goes = goes_under p f.trace (ask f.call f.go) go leave f.goes;
     }
 

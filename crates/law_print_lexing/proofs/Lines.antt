@@ -5,7 +5,7 @@ use Rattle.rc_model.specs.Syntax.Tree as t
 use Rattle.rc_model.specs.Syntax.Tokens.{Lexeme}
 use Rattle.rc_model.specs.Syntax.Printing as p
 use Rattle.law_print_lexing.specs.Lexemes.{LexemeLine, ended, parting, listed, body_lines}
-use Rattle.law_print_lexing.proofs.Pieces.{Piece, IsApart, IsCalm, Ends, behind, calmed, empty, between}
+use Rattle.law_print_lexing.proofs.Pieces.{Piece, IsApart, IsCalm, Ends, followed, calmed, empty, between}
 use Rattle.law_print_lexing.proofs.Fixed.{space, space_ends, semicolon, semicolon_ends, ampersand, ampersand_ends}
 
 -- the texts of lines with their lexemes
@@ -21,7 +21,7 @@ lines_append (line b q l) r = line b q (lines_append l r)
 
 ended_piece : {text : List ℕ} {ls : List Lexeme} (background : Bool) → Piece IsApart IsCalm Ends text ls →
     Piece IsApart IsCalm Ends (p.ended (text, background)) (ended (ls, background))
-ended_piece true q = calmed (behind q ampersand (λ rest e. ampersand_ends rest))
+ended_piece true q = calmed (followed q ampersand (λ rest e. ampersand_ends rest))
 ended_piece false q = q
 
 before_next : {text rest : List ℕ} {ls ms : List Lexeme} (background : Bool) → Piece IsApart IsCalm Ends text ls → Piece IsApart IsCalm Ends rest ms →

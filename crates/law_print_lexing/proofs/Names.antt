@@ -7,8 +7,8 @@ use Rattle.std.proofs.lemmas.Str.{encodes-append}
 use Rattle.std.specs.List.{list_all}
 use Rattle.std.specs.Str.{chars}
 use lib.Utf8.{encode, encodes, scalars, low_scalar}
-use Rattle.rc_model.specs.Syntax.Text.{begins_with}
-use Rattle.rc_model.specs.Syntax.Tokens.{has_no_zero, Lexeme, Run, name_goes_on, is_name_char, begins_operator, goes_on, names, Before, Apart}
+use Rattle.rc_model.specs.Syntax.Text.{begins_with, without_zero}
+use Rattle.rc_model.specs.Syntax.Tokens.{Lexeme, Run, name_goes_on, is_name_char, begins_operator, goes_on, names, Before, Apart}
 use Rattle.rc_model.specs.Syntax.Tokens.{DollarBefore, NameBefore}
 use Rattle.rc_model.specs.Syntax.Tokens as k
 use Rattle.law_lexing.proofs.Texts.{name_char_low, name_encodes}
@@ -47,7 +47,7 @@ pub record NamePiece (text : List ℕ) (ls : List Lexeme) : Type 0 where
   pub chars : List ℕ
   pub spelled : encodes chars ≡ text
   pub scalar : scalars chars ≡ true
-  pub clean : has_no_zero chars ≡ true
+  pub clean : without_zero chars ≡ true
   pub stands : (rest : List ℕ) → names (chars ++ rest) ≡ true
   pub alone : (rest : List ℕ) → goes_on (36 ∷ []) (chars ++ rest) ≡ false
   pub cuts : (rest : List ℕ) (more : List Lexeme) → NameEnds rest → Gives NameBefore rest more → Gives DollarBefore (chars ++ rest) (ls ++ more)
@@ -69,7 +69,7 @@ name_scalars (c ∷ cs) e =
 name_char_clean : (c : ℕ) → is_name_char c ≡ true → not (c == 0) ≡ true
 name_char_clean c e = grind (arith, nat_tests)
 
-name_clean : (text : List ℕ) → list_all is_name_char text ≡ true → has_no_zero text ≡ true
+name_clean : (text : List ℕ) → list_all is_name_char text ≡ true → without_zero text ≡ true
 name_clean [] e = refl
 name_clean (c ∷ cs) e =
     let p = and_parts (is_name_char c) (list_all is_name_char cs) e in
@@ -97,7 +97,7 @@ bare_name (c ∷ cs) ne e = record {
     first : is_name_char c ≡ true
     first = (and_parts (is_name_char c) (list_all is_name_char cs) e).0
 
-pub quoted_name : (text : List ℕ) → IsUtf8 text → has_no_zero (chars text) ≡ true → NamePiece (k.quoted_text text) (k.Quoted text ∷ [])
+pub quoted_name : (text : List ℕ) → IsUtf8 text → without_zero (chars text) ≡ true → NamePiece (k.quoted_text text) (k.Quoted text ∷ [])
 quoted_name text u z = record {
   chars = quoted_chars text;
   spelled = quoted_spelled text u;

@@ -3,7 +3,8 @@ use Rattle.std.proofs.Common.{◌≡◌, refl, ap, sym, ◌∙◌, subst, ℕ, t
 use Rattle.std.proofs.lemmas.Bool.{and_parts}
 use Rattle.std.proofs.lemmas.Str.{encodes-append}
 use lib.Utf8.{scalar, scalars, encodes}
-use Rattle.rc_model.specs.Syntax.Tokens.{has_no_zero, Lexeme, Before, Apart, WordBefore, QuotedBefore, NameBefore}
+use Rattle.rc_model.specs.Syntax.Text.{without_zero}
+use Rattle.rc_model.specs.Syntax.Tokens.{Lexeme, Before, Apart, WordBefore, QuotedBefore, NameBefore}
 use Rattle.law_print_lexing.proofs.Gives.{Gives}
 
 -- nothing that matters stands before; no `$` and no `<<` does
@@ -34,7 +35,7 @@ pub record Piece (before after : Before → Type 0) (follows : List ℕ → Type
   pub chars : List ℕ
   pub spelled : encodes chars ≡ text
   pub scalar : scalars chars ≡ true
-  pub clean : has_no_zero chars ≡ true
+  pub clean : without_zero chars ≡ true
   pub cuts : {prev : Before} → before prev → (rest : List ℕ) (more : List Lexeme) → follows rest → ((next : Before) → after next → Gives next rest more) →
       Gives prev (chars ++ rest) (ls ++ more)
 
@@ -42,14 +43,14 @@ pub scalars-append : (xs ys : List ℕ) → scalars xs ≡ true → scalars ys �
 scalars-append [] ys e f = f
 scalars-append (x ∷ xs) ys e f = let p = and_parts (scalar x) (scalars xs) e in rw p.0 (scalars-append xs ys p.1 f)
 
-pub clean-append : (xs ys : List ℕ) → has_no_zero xs ≡ true → has_no_zero ys ≡ true → has_no_zero (xs ++ ys) ≡ true
+pub clean-append : (xs ys : List ℕ) → without_zero xs ≡ true → without_zero ys ≡ true → without_zero (xs ++ ys) ≡ true
 clean-append [] ys e f = f
-clean-append (x ∷ xs) ys e f = let p = and_parts (not (x == 0)) (has_no_zero xs) e in rw p.0 (clean-append xs ys p.1 f)
+clean-append (x ∷ xs) ys e f = let p = and_parts (not (x == 0)) (without_zero xs) e in rw p.0 (clean-append xs ys p.1 f)
 
 -- one piece after another
-unfoldable pub behind : {A B C : Before → Type 0} {F G : List ℕ → Type 0} {x y : List ℕ} {ls ms : List Lexeme} (p : Piece A B F x ls) (q : Piece B C G y ms) →
+unfoldable pub followed : {A B C : Before → Type 0} {F G : List ℕ → Type 0} {x y : List ℕ} {ls ms : List Lexeme} (p : Piece A B F x ls) (q : Piece B C G y ms) →
     ((rest : List ℕ) → G rest → F (q.chars ++ rest)) → Piece A C G (x ++ y) (ls ++ ms)
-behind {x = x} {y = y} {ls = ls} {ms = ms} p q fits = record {
+followed {x = x} {y = y} {ls = ls} {ms = ms} p q fits = record {
   chars = p.chars ++ q.chars;
   spelled = encodes-append p.chars q.chars ∙ ap (λ t. t ++ encodes q.chars) p.spelled ∙ ap (λ t. x ++ t) q.spelled;
   scalar = scalars-append p.chars q.chars p.scalar q.scalar;
@@ -95,34 +96,34 @@ no_tail = record {
 -- a mark and a piece after it
 pub marked : {x y : List ℕ} {ls ms : List Lexeme} (p : Piece IsCalm IsApart Anything x ls) → ((rest : List ℕ) → Ends (p.chars ++ rest)) →
     Piece IsApart IsCalm Ends y ms → Tail (x ++ y) (ls ++ ms)
-unfolding behind
+unfolding followed
 marked p starts q = record {
-  piece = behind p q (λ rest e. tt);
+  piece = followed p q (λ rest e. tt);
   fits = λ rest e. subst Ends (sym (append_assoc p.chars q.chars rest)) (starts (q.chars ++ rest));
 }
 
 pub both : {x y : List ℕ} {ls ms : List Lexeme} → Tail x ls → Tail y ms → Tail (x ++ y) (ls ++ ms)
-unfolding behind
+unfolding followed
 both p q = record {
-  piece = behind p.piece q.piece q.fits;
+  piece = followed p.piece q.piece q.fits;
   fits = λ rest e. subst Ends (sym (append_assoc p.piece.chars q.piece.chars rest)) (p.fits (q.piece.chars ++ rest) (q.fits rest e));
 }
 
 -- a piece with a tail
 pub tailed : {A : Before → Type 0} {x y : List ℕ} {ls ms : List Lexeme} → Piece A IsCalm Ends x ls → Tail y ms → Piece A IsCalm Ends (x ++ y) (ls ++ ms)
-tailed p q = behind p q.piece q.fits
+tailed p q = followed p q.piece q.fits
 
 -- a piece after one that anything may follow
 pub led : {A B C : Before → Type 0} {G : List ℕ → Type 0} {x y : List ℕ} {ls ms : List Lexeme} → Piece A B Anything x ls → Piece B C G y ms →
     Piece A C G (x ++ y) (ls ++ ms)
-led p q = behind p q (λ rest g. tt)
+led p q = followed p q (λ rest g. tt)
 
 -- a piece, a mark and what is after it
 pub between : {A B C : Before → Type 0} {F G : List ℕ → Type 0} {x y z : List ℕ} {ls ms ns : List Lexeme} → Piece A IsCalm Ends x ls →
     (p : Piece IsCalm B F y ms) → ((rest : List ℕ) → Ends (p.chars ++ rest)) → (q : Piece B C G z ns) → ((rest : List ℕ) → G rest → F (q.chars ++ rest)) →
     Piece A C G (x ++ (y ++ z)) (ls ++ (ms ++ ns))
-unfolding behind
-between o p starts q fits = behind o (behind p q fits) (λ rest g. subst Ends (sym (append_assoc p.chars q.chars rest)) (starts (q.chars ++ rest)))
+unfolding followed
+between o p starts q fits = followed o (followed p q fits) (λ rest g. subst Ends (sym (append_assoc p.chars q.chars rest)) (starts (q.chars ++ rest)))
 
 pub calmed : {A : Before → Type 0} {F : List ℕ → Type 0} {x : List ℕ} {ls : List Lexeme} → Piece A IsApart F x ls → Piece A IsCalm F x ls
 calmed p = record {

@@ -4,8 +4,8 @@ use Rattle.std.proofs.lemmas.Bool.{and_parts}
 use Rattle.std.proofs.lemmas.Str.{encodes-chars, scalars-chars}
 use Rattle.std.specs.Str.{chars}
 use lib.Utf8.{encodes, scalar, scalars}
-use Rattle.rc_model.specs.Syntax.Text.{begins_with}
-use Rattle.rc_model.specs.Syntax.Tokens.{has_no_zero, Lexeme, doubled_quotes, quoted_text, unquoted_text, InQuotes}
+use Rattle.rc_model.specs.Syntax.Text.{begins_with, without_zero}
+use Rattle.rc_model.specs.Syntax.Tokens.{Lexeme, doubled_quotes, quoted_text, unquoted_text, InQuotes}
 use Rattle.rc_model.specs.Syntax.Tokens as k
 use Rattle.law_lexing.proofs.Quotes.{quoted_text_chars, unquoted}
 use Rattle.law_print_lexing.proofs.Gives.{Gives, lexeme}
@@ -28,11 +28,11 @@ scalars_doubled (c ∷ cs) s = let p = and_parts (scalar c) (scalars cs) s in go
     go true e here ih = rw e ih
     go false e here ih = rw (e, here) ih
 
-clean_doubled : (cs : List ℕ) → has_no_zero cs ≡ true → has_no_zero (doubled_quotes cs) ≡ true
+clean_doubled : (cs : List ℕ) → without_zero cs ≡ true → without_zero (doubled_quotes cs) ≡ true
 clean_doubled [] s = refl
-clean_doubled (c ∷ cs) s = let p = and_parts (not (c == 0)) (has_no_zero cs) s in go (c == 39) refl p.0 (clean_doubled cs p.1)
+clean_doubled (c ∷ cs) s = let p = and_parts (not (c == 0)) (without_zero cs) s in go (c == 39) refl p.0 (clean_doubled cs p.1)
   where
-    go : (q : Bool) → (c == 39) ≡ q → not (c == 0) ≡ true → has_no_zero (doubled_quotes cs) ≡ true → has_no_zero (doubled_quotes (c ∷ cs)) ≡ true
+    go : (q : Bool) → (c == 39) ≡ q → not (c == 0) ≡ true → without_zero (doubled_quotes cs) ≡ true → without_zero (doubled_quotes (c ∷ cs)) ≡ true
     go true e here ih = rw e ih
     go false e here ih = rw (e, here) ih
 
@@ -55,7 +55,7 @@ quoted_spelled text u = quoted_text_chars (chars text) ∙ ap quoted_text (encod
 pub quoted_scalar : (text : List ℕ) → IsUtf8 text → scalars (quoted_chars text) ≡ true
 quoted_scalar text u = scalars-append (doubled_quotes (chars text)) (39 ∷ []) (scalars_doubled (chars text) (scalars-chars text u)) refl
 
-pub quoted_clean : (text : List ℕ) → has_no_zero (chars text) ≡ true → has_no_zero (quoted_chars text) ≡ true
+pub quoted_clean : (text : List ℕ) → without_zero (chars text) ≡ true → without_zero (quoted_chars text) ≡ true
 quoted_clean text z = clean-append (doubled_quotes (chars text)) (39 ∷ []) (clean_doubled (chars text) z) refl
 
 -- they say the text, wherever they stand
@@ -65,7 +65,7 @@ quoted_spells prev text rest u e =
     subst (λ w. k.Spells prev (quoted_chars text) rest (k.Quoted w)) (ap unquoted_text (quoted_spelled text u) ∙ unquoted text)
     (k.quoted prev (doubled_quotes (chars text)) rest (in_quotes (chars text)) e)
 
-pub quoted_piece : (text : List ℕ) → IsUtf8 text → has_no_zero (chars text) ≡ true → Piece IsApart IsCalm Ends (quoted_text text) (k.Quoted text ∷ [])
+pub quoted_piece : (text : List ℕ) → IsUtf8 text → without_zero (chars text) ≡ true → Piece IsApart IsCalm Ends (quoted_text text) (k.Quoted text ∷ [])
 quoted_piece text u z = record {
   chars = quoted_chars text;
   spelled = quoted_spelled text u;

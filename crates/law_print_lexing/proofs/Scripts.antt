@@ -2,11 +2,11 @@
 use Rattle.std.proofs.Common.{ℕ, List, map, Ok, IsUtf8}
 use Rattle.rc_model.specs.Syntax.Tree.{Node, cmd}
 use Rattle.rc_model.specs.Syntax.Tokens.{Token, Lexes}
-use Rattle.rc_model.specs.Syntax.Grammar.{IsScript}
+use Rattle.rc_model.specs.Syntax.Grammar.{HaveTree}
 use Rattle.law_print_lexing.specs.Lexemes.{IsWritable}
 use Rattle.law_lexing.proofs.Spelled.{spelled_tokens}
 use Rattle.law_print_lexing.proofs.Written.{script_written}
 
 pub written_trees : (text : List ℕ) (tokens : List Token) (c : Node cmd) → IsUtf8 text → Lexes text (Ok tokens) →
-    IsScript (map (λ t. t.lexeme) tokens) c → IsWritable c
+    HaveTree (map (λ t. t.lexeme) tokens) c → IsWritable c
 written_trees text tokens c u r s = script_written (map (λ t. t.lexeme) tokens) c s (spelled_tokens text tokens u r)

@@ -2,8 +2,9 @@
 use Rattle.std.proofs.Common.{◌≡◌, refl, ap, sym, ◌∙◌, subst, true, false, List, [], ◌∷◌, ◌++◌, map, Ok, append-nil}
 use Rattle.std.proofs.lemmas.Str.{chars-encodes}
 use Rattle.std.specs.Str.{chars}
+use Rattle.rc_model.specs.Syntax.Text.{without_zero}
 use Rattle.rc_model.specs.Syntax.Tree.{Node, cmd}
-use Rattle.rc_model.specs.Syntax.Tokens.{Token, Apart, Cuts, Lexes, first_place, has_no_zero, result_of, filled}
+use Rattle.rc_model.specs.Syntax.Tokens.{Token, Apart, Cuts, Lexes, first_place, result_of, filled}
 use Rattle.rc_model.specs.Syntax.Tokens as k
 use Rattle.rc_model.specs.Syntax.Printing.{cmd_text, printed}
 use Rattle.law_print_lexing.specs.Lexemes.{IsWritable, cmd_lexemes}
@@ -31,7 +32,7 @@ printed_tokens c w =
     subst (λ cs. Gives Apart cs (cmd_lexemes c false)) (append-nil q.chars)
     (subst (λ ls. Gives Apart (q.chars ++ []) ls) (append-nil (cmd_lexemes c false)) (q.cuts apart [] [] at_end at_the_end)) in
     let whole = cut gives first_place in
-    let clean : has_no_zero (chars (cmd_text c false)) ≡ true = subst (λ cs. has_no_zero cs ≡ true) (sym same) q.clean in
+    let clean : without_zero (chars (cmd_text c false)) ≡ true = subst (λ cs. without_zero cs ≡ true) (sym same) q.clean in
     let cuts : Cuts Apart [] first_place (chars (cmd_text c false)) (Ok (whole.tokens, [])) =
     subst (λ cs. Cuts Apart [] first_place cs (Ok (whole.tokens, []))) (sym same) whole.cuts in
     (whole.tokens, (subst (λ ts. Lexes (cmd_text c false) (Ok ts)) (none_due whole.tokens) (k.cut (Ok (whole.tokens, [])) clean cuts), whole.lexemes))

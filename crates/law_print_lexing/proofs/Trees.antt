@@ -19,7 +19,7 @@ use Rattle.law_print_lexing.specs.Lexemes.{IsWritable, IsWritableName, AreWritab
 use Rattle.law_print_lexing.specs.Lexemes.{name_lexemes, redir_lexemes}
 use Rattle.law_print_lexing.specs.Lexemes.{args_lexemes, first_part, further_parts, pairs_lexemes, redirs_lexemes, stages_lexemes, links_lexemes}
 use Rattle.law_print_lexing.specs.Lexemes as x
-use Rattle.law_print_lexing.proofs.Pieces.{Piece, IsApart, IsCalm, Anything, Ends, behind, settled, empty, nothing_yet, Tail, no_tail, marked}
+use Rattle.law_print_lexing.proofs.Pieces.{Piece, IsApart, IsCalm, Anything, Ends, followed, settled, empty, nothing_yet, Tail, no_tail, marked}
 use Rattle.law_print_lexing.proofs.Pieces.{both, tailed, led, between}
 use Rattle.law_print_lexing.proofs.Words.{word_piece, case_word}
 use Rattle.law_print_lexing.proofs.Quotes.{quoted_piece}
@@ -122,26 +122,26 @@ mutual
       (between (args_piece words w.1.0) f.close_head f.close_head_ends (cmd_piece body false w.1.1) (λ rest e. tt)) (λ rest e. tt))
   cmd_piece (t.Switch subject branches) begins w =
       settled (led f.switch_word (between (arg_piece subject w.0) f.brace_after f.brace_after_ends
-      (behind (listed_piece (branches_lines branches w.1)) f.close_brace (λ rest e. f.close_brace_ends rest)) (λ rest e. tt)))
+      (followed (listed_piece (branches_lines branches w.1)) f.close_brace (λ rest e. f.close_brace_ends rest)) (λ rest e. tt)))
   cmd_piece (t.Match subject patterns) begins w = led f.match_word (tailed (arg_piece subject w.0) (args_tail patterns w.1))
   cmd_piece (t.Define names body) begins w =
       settled (led f.fn_word (between (args_piece names w.0) f.brace_after f.brace_after_ends
-      (behind (cmd_piece body false w.1) f.close_brace (λ rest e. f.close_brace_ends rest)) (λ rest e. tt)))
+      (followed (cmd_piece body false w.1) f.close_brace (λ rest e. f.close_brace_ends rest)) (λ rest e. tt)))
   cmd_piece (t.Undefine names) begins w = led f.fn_word (args_piece names w)
-  cmd_piece (t.Brace body) begins w = settled (led f.open_brace (behind (cmd_piece body false w) f.close_brace (λ rest e. f.close_brace_ends rest)))
+  cmd_piece (t.Brace body) begins w = settled (led f.open_brace (followed (cmd_piece body false w) f.close_brace (λ rest e. f.close_brace_ends rest)))
 
   pub arg_piece : (a : Node t.arg) → IsWritable a → Piece IsApart IsCalm Ends (arg_text a) (arg_lexemes a)
   arg_piece (t.Lit text true) w = quoted_piece text w.0 w.1
   arg_piece (t.Lit text false) w = word_piece text w.0.0 w.0.1 w.1.0 w.1.1
   arg_piece (t.Concat parts) w = parts_piece parts w
-  arg_piece (t.Paren words) w = settled (led f.open_paren (behind (args_piece words w) f.close_paren (λ rest e. f.close_paren_ends rest)))
+  arg_piece (t.Paren words) w = settled (led f.open_paren (followed (args_piece words w) f.close_paren (λ rest e. f.close_paren_ends rest)))
   arg_piece (t.Var name) w = var_piece (name_piece name w)
   arg_piece (t.Count name) w = count_piece (name_piece name w)
   arg_piece (t.Flat name) w = flat_piece (name_piece name w)
   arg_piece (t.Sub name subscripts) w =
       retext (ap (λ l. 36 ∷ l) (append_assoc (arg_text name) (codes "(") (joined (codes " ") (arg_texts subscripts) ++ codes ")")))
-      (settled (led (subscript_piece (name_piece name w.0)) (behind (args_piece subscripts w.1) f.close_paren (λ rest e. f.close_paren_ends rest))))
-  arg_piece (t.Back body) w = settled (led f.back_brace (behind (cmd_piece body false w) f.close_brace (λ rest e. f.close_brace_ends rest)))
+      (settled (led (subscript_piece (name_piece name w.0)) (followed (args_piece subscripts w.1) f.close_paren (λ rest e. f.close_paren_ends rest))))
+  arg_piece (t.Back body) w = settled (led f.back_brace (followed (cmd_piece body false w) f.close_brace (λ rest e. f.close_brace_ends rest)))
 
   name_piece : (a : Node t.arg) → IsWritableName a → NamePiece (arg_text a) (name_lexemes a)
   name_piece (t.Lit text true) w = quoted_name text w.0 w.1
@@ -196,7 +196,7 @@ mutual
   redirs_before none w = nothing_yet
   redirs_before (more r rs) w =
       relex (ap (λ l. l ++ redirs_lexemes rs) (append-nil (redir_lexemes r)))
-      (led (behind (redir_piece r w.0) f.space (λ rest e. f.space_ends rest)) (redirs_before rs w.1))
+      (led (followed (redir_piece r w.0) f.space (λ rest e. f.space_ends rest)) (redirs_before rs w.1))
 
   stages_piece : (ss : Many t.stage) (begins : Bool) → AreWritable ss → Piece IsApart IsApart Anything (stages_text ss begins) (stages_lexemes ss begins)
   stages_piece none begins w = nothing_yet

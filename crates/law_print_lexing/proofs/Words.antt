@@ -3,7 +3,8 @@ use Rattle.std.proofs.Common.{◌≡◌, ◌≢◌, refl, ap, sym, ◌∙◌, su
 use Rattle.std.proofs.lemmas.Str.{encodes-chars, scalars-chars}
 use Rattle.std.specs.Str.{chars}
 use lib.Utf8.{encode, encodes}
-use Rattle.rc_model.specs.Syntax.Tokens.{has_no_zero, Lexeme, Class, Run, word_goes_on, name_goes_on, is_in_word, is_name_char, at_newline}
+use Rattle.rc_model.specs.Syntax.Text.{without_zero}
+use Rattle.rc_model.specs.Syntax.Tokens.{Lexeme, Class, Run, word_goes_on, name_goes_on, is_in_word, is_name_char, at_newline}
 use Rattle.rc_model.specs.Syntax.Tokens.{class_of, begins_operator, goes_on, names, Apart, WordBefore}
 use Rattle.rc_model.specs.Syntax.Tokens as k
 use Rattle.law_print_lexing.proofs.Gives.{Gives, lexeme}
@@ -48,7 +49,7 @@ word_gives : (cs : List ℕ) → cs ≢ [] → Run word_goes_on cs [] → (rest 
 word_gives [] ne r rest more e g = absurd (ne refl)
 word_gives (c ∷ cs) ne r rest more e g = lexeme {cs = c ∷ cs} {rest = rest} refl refl (k.word Apart c cs rest refl (run_on (c ∷ cs) rest e r)) g
 
-pub word_piece : (text : List ℕ) → IsUtf8 text → has_no_zero (chars text)
+pub word_piece : (text : List ℕ) → IsUtf8 text → without_zero (chars text)
     ≡ true → text ≢ [] → Run word_goes_on (chars text) [] → Piece IsApart IsCalm Ends text (k.Word text ∷ [])
 word_piece text u z ne r = record {
   chars = chars text;

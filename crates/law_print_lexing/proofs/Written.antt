@@ -176,6 +176,6 @@ written (g.one_branch {ts = ts} kw p e q r) w =
     (((b.0, c.0), d.0), d.1)
 
 -- a script's tree can be written
-pub script_written : (ts : List Lexeme) (c : Node t.cmd) → g.IsScript ts c → AreSpelled ts → IsWritable c
+pub script_written : (ts : List Lexeme) (c : Node t.cmd) → g.HaveTree ts c → AreSpelled ts → IsWritable c
 unfolding IsWritable
 script_written ts c s w = subst IsWritable (sym s.2) (written s.1 w).0

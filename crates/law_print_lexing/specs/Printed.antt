@@ -2,7 +2,7 @@
 use Rattle.std.specs.Prelude.{◌≡◌, ℕ, false, List, Ok, map, IsUtf8}
 use Rattle.rc_model.specs.Syntax.Tree.{Node, cmd}
 use Rattle.rc_model.specs.Syntax.Tokens.{Token, Lexes}
-use Rattle.rc_model.specs.Syntax.Grammar.{IsScript}
+use Rattle.rc_model.specs.Syntax.Grammar.{HaveTree}
 use Rattle.rc_model.specs.Syntax.Printing.{printed}
 use Rattle.law_print_lexing.specs.Lexemes.{IsWritable, cmd_lexemes}
 
@@ -16,4 +16,4 @@ PrintedTokensLaw =
 abbrev pub WrittenTreesLaw : Type 0
 WrittenTreesLaw =
     (text : List ℕ) (tokens : List Token) (c : Node cmd) → IsUtf8 text → Lexes text (Ok tokens) →
-    IsScript (map (λ t. t.lexeme) tokens) c → IsWritable c
+    HaveTree (map (λ t. t.lexeme) tokens) c → IsWritable c

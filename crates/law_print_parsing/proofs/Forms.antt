@@ -227,15 +227,15 @@ pub more_values : {rest : List Lexeme} (a v : Node t.arg) (x : Many t.pair × No
 unfolding pairs_lexemes
 more_values a v x first p w q = record {
   phrase = λ us f.
-      let behind : List Lexeme = cmd_lexemes x.1 false ++ us in
-      let mid : List Lexeme = pairs_lexemes x.0 ++ behind in
+      let follow : List Lexeme = cmd_lexemes x.1 false ++ us in
+      let mid : List Lexeme = pairs_lexemes x.0 ++ follow in
       let next : List Lexeme = arg_lexemes v ++ mid in
-      at (pair_row (arg_lexemes a) (arg_lexemes v) (pairs_lexemes x.0) behind)
+      at (pair_row (arg_lexemes a) (arg_lexemes v) (pairs_lexemes x.0) follow)
       (g.another_value (first (Equals ∷ next)) (p.phrase false (Equals ∷ next) equals_apart) (w.phrase false mid (q.apart us (fits_operand f))) (q.phrase us f));
   apart = λ us e.
-      let behind : List Lexeme = cmd_lexemes x.1 false ++ us in
-      subst EndsArg (sym (pair_row (arg_lexemes a) (arg_lexemes v) (pairs_lexemes x.0) behind))
-      (opened (arg_open (arg_open_on (Equals ∷ (arg_lexemes v ++ (pairs_lexemes x.0 ++ behind))) p.opens))).apart;
+      let follow : List Lexeme = cmd_lexemes x.1 false ++ us in
+      subst EndsArg (sym (pair_row (arg_lexemes a) (arg_lexemes v) (pairs_lexemes x.0) follow))
+      (opened (arg_open (arg_open_on (Equals ∷ (arg_lexemes v ++ (pairs_lexemes x.0 ++ follow))) p.opens))).apart;
 }
 
 assign_lexemes : (ps : Many t.pair) (c : Node t.cmd) (begins : Bool) → cmd_lexemes (t.Assign ps c) begins ≡ pairs_lexemes ps ++ cmd_lexemes c false
@@ -254,11 +254,11 @@ assign_prints begins ts a v x first o p w q =
     let e = assign_lexemes (more (t.Pair a v) x.0) x.1 begins in
     record {
       phrase = λ us f.
-          let behind : List Lexeme = cmd_lexemes x.1 false ++ us in
-          let mid : List Lexeme = pairs_lexemes x.0 ++ behind in
+          let follow : List Lexeme = cmd_lexemes x.1 false ++ us in
+          let mid : List Lexeme = pairs_lexemes x.0 ++ follow in
           let next : List Lexeme = arg_lexemes v ++ mid in
           at (ap (λ z. z ++ us) e ∙ append_assoc (pairs_lexemes (more (t.Pair a v) x.0)) (cmd_lexemes x.1 false) us
-          ∙ pair_row (arg_lexemes a) (arg_lexemes v) (pairs_lexemes x.0) behind)
+          ∙ pair_row (arg_lexemes a) (arg_lexemes v) (pairs_lexemes x.0) follow)
           (g.assignment (first (Equals ∷ next)) (p.phrase false (Equals ∷ next) equals_apart) (w.phrase false mid (q.apart us (fits_operand f))) (q.phrase us f));
       opens = rw e (open_on (cmd_lexemes x.1 false) o2);
       redir = λ h. rw e (redir_on o2 (cmd_lexemes x.1 false) ∙ redir_on o1 (pairs_lexemes x.0) ∙ redir_on o value ∙ arg_redir p.opens);
@@ -279,9 +279,9 @@ pub and_links : (ts us : List Lexeme) {mid : List Lexeme} (c : Node t.cmd) (ls :
 unfolding links_lexemes
 and_links ts us c ls p q = record {
   phrase = λ us e.
-      let behind : List Lexeme = links_lexemes ls ++ us in
+      let follow : List Lexeme = links_lexemes ls ++ us in
       at (ap (λ z. AndAnd ∷ z) (append_assoc (cmd_lexemes c false) (links_lexemes ls) us))
-      (g.and_link {ts = cmd_lexemes c false ++ behind} (at (opened (open_on behind p.opens)).apart.newlines (p.phrase behind (q.fits us e))) (q.phrase us e));
+      (g.and_link {ts = cmd_lexemes c false ++ follow} (at (opened (open_on follow p.opens)).apart.newlines (p.phrase follow (q.fits us e))) (q.phrase us e));
   fits = λ us e. as_operand refl at_and;
 }
 
@@ -290,9 +290,9 @@ pub or_links : (ts us : List Lexeme) {mid : List Lexeme} (c : Node t.cmd) (ls : 
 unfolding links_lexemes
 or_links ts us c ls p q = record {
   phrase = λ us e.
-      let behind : List Lexeme = links_lexemes ls ++ us in
+      let follow : List Lexeme = links_lexemes ls ++ us in
       at (ap (λ z. OrOr ∷ z) (append_assoc (cmd_lexemes c false) (links_lexemes ls) us))
-      (g.or_link {ts = cmd_lexemes c false ++ behind} (at (opened (open_on behind p.opens)).apart.newlines (p.phrase behind (q.fits us e))) (q.phrase us e));
+      (g.or_link {ts = cmd_lexemes c false ++ follow} (at (opened (open_on follow p.opens)).apart.newlines (p.phrase follow (q.fits us e))) (q.phrase us e));
   fits = λ us e. as_operand refl at_or;
 }
 

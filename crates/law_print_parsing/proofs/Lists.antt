@@ -37,21 +37,21 @@ flag background after_if = if background then false else after_if
 
 -- what is printed after an item
 record After (in_switch after_if background : Bool) (text : List Lexeme) (is : Many t.item) (lines : List LexemeLine) (end : List Lexeme) : Type 0 where
-  behind : List Lexeme
-  stops : Ends behind
-  same : listed ((text, background) ∷ (item_lines is in_switch in_switch ++ lines)) ++ end ≡ text ++ behind
-  phrase : Phrase (g.after in_switch after_if) behind (background, is) (listed lines ++ end)
+  follow : List Lexeme
+  stops : Ends follow
+  same : listed ((text, background) ∷ (item_lines is in_switch in_switch ++ lines)) ++ end ≡ text ++ follow
+  phrase : Phrase (g.after in_switch after_if) follow (background, is) (listed lines ++ end)
 
 after_line : (in_switch after_if : Bool) (text : List Lexeme) (is : Many t.item) (lines : List LexemeLine) (end : List Lexeme) → Closing end →
     Phrase (g.items in_switch after_if) (listed (item_lines is in_switch in_switch ++ lines) ++ end) is (listed lines ++ end) →
     After in_switch after_if false text is lines end
 unfolding item_lines
 after_line in_switch after_if text none [] end e p =
-    record { behind = end; stops = at_close e; same = refl; phrase = g.after_last (closing_closes e) }
+    record { follow = end; stops = at_close e; same = refl; phrase = g.after_last (closing_closes e) }
 after_line in_switch after_if text none (l ∷ ls) end e p =
-    record { behind = Semicolon ∷ (listed (l ∷ ls) ++ end); stops = at_semicolon; same = line_before text l ls end; phrase = g.after_semicolon p }
+    record { follow = Semicolon ∷ (listed (l ∷ ls) ++ end); stops = at_semicolon; same = line_before text l ls end; phrase = g.after_semicolon p }
 after_line in_switch after_if text (more (t.Item c b) is) lines end e p = record {
-  behind = Semicolon ∷ (listed (item_lines (more (t.Item c b) is) in_switch in_switch ++ lines) ++ end);
+  follow = Semicolon ∷ (listed (item_lines (more (t.Item c b) is) in_switch in_switch ++ lines) ++ end);
   stops = at_semicolon;
   same = line_before text (cmd_lexemes c in_switch, b) (item_lines is in_switch in_switch ++ lines) end;
   phrase = g.after_semicolon p;
@@ -61,7 +61,7 @@ after_item : (in_switch after_if background : Bool) (text : List Lexeme) (is : M
     Phrase (g.items in_switch (flag background after_if)) (listed (item_lines is in_switch in_switch ++ lines) ++ end) is (listed lines ++ end) →
     After in_switch after_if background text is lines end
 after_item in_switch after_if true text is lines end e p = record {
-  behind = Ampersand ∷ (listed (item_lines is in_switch in_switch ++ lines) ++ end);
+  follow = Ampersand ∷ (listed (item_lines is in_switch in_switch ++ lines) ++ end);
   stops = at_ampersand;
   same = background_line text (item_lines is in_switch in_switch ++ lines) end;
   phrase = g.after_background p;
@@ -73,7 +73,7 @@ pub more_items : (in_switch after_if background : Bool) (c : Node t.cmd) (is : M
 unfolding item_lines
 more_items in_switch after_if background c is p q lines end e h =
     let after = after_item in_switch (is_if c) background (cmd_lexemes c in_switch) is lines end e (q lines end e h) in
-    at after.same (g.one_item {x = (background, is)} (opened (open_on after.behind p.opens)).goes_on (p.phrase after.behind after.stops) after.phrase)
+    at after.same (g.one_item {x = (background, is)} (opened (open_on after.follow p.opens)).goes_on (p.phrase after.follow after.stops) after.phrase)
 
 -- lists in braces and in parentheses, and whole scripts
 all_items : (is : Many t.item) (end : List Lexeme) →

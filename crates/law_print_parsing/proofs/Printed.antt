@@ -3,7 +3,7 @@ use Rattle.std.proofs.Common.{◌≡◌, refl, sym, subst, Bool, true, false, no
 use Rattle.rc_model.specs.Syntax.Tokens.{Lexeme, Word}
 use Rattle.rc_model.specs.Syntax.Tree.{Node, Many, none, more}
 use Rattle.rc_model.specs.Syntax.Tree as t
-use Rattle.rc_model.specs.Syntax.Grammar.{Phrase, Level, Out, IsScript, past_newlines, past_caret, ends, is_if, begins_redir, redirect, concat_of}
+use Rattle.rc_model.specs.Syntax.Grammar.{Phrase, Level, Out, HaveTree, past_newlines, past_caret, ends, is_if, begins_redir, redirect, concat_of}
 use Rattle.rc_model.specs.Syntax.Grammar as g
 use Rattle.rc_model.specs.Syntax.Printing.{has_here, have_here, begins_with_case}
 use Rattle.law_print_lexing.specs.Lexemes.{cmd_lexemes}
@@ -199,7 +199,7 @@ prints (g.one_branch {as' = as'} {is = is} {bs = bs} k q e r s) = λ h.
     (prints s (or_second (have_here as' || have_here is) (have_here bs) h))
 
 -- a tree of a script is that of its print
-pub script_prints : (ts : List Lexeme) (c : Node t.cmd) → IsScript ts c → has_here c ≡ false → IsScript (cmd_lexemes c false) c
+pub script_prints : (ts : List Lexeme) (c : Node t.cmd) → HaveTree ts c → has_here c ≡ false → HaveTree (cmd_lexemes c false) c
 script_prints ts c s h =
     let items = s.0 in
     let none_here : have_here items ≡ false = subst (λ z. has_here z ≡ false) s.2 h in

@@ -4,7 +4,7 @@ use Rattle.std.proofs.lemmas.Bool.{leb-true}
 use Rattle.std.proofs.lemmas.Str.{is_utf8-from_IsUtf8}
 use Rattle.rc_model.specs.Syntax.Tree.{Node, cmd}
 use Rattle.rc_model.specs.Syntax.Tokens.{Token, Lexes}
-use Rattle.rc_model.specs.Syntax.Grammar.{IsScript}
+use Rattle.rc_model.specs.Syntax.Grammar.{HaveTree}
 use Rattle.rc_model.specs.Syntax.WellFormed.{depth, is_sound, well_formed}
 use Rattle.rc_model.specs.Syntax.Printing.{has_here, printed}
 use Rattle.rc_model.specs.Syntax.Accepted.{IsAccepted, lexemes, longest_script}
@@ -18,7 +18,7 @@ use Rattle.law_print_parsing.proofs.Printed.{script_prints}
 printed_text : (c : Node cmd) → IsWritable c → IsUtf8 (printed c)
 printed_text c w = let q = cmd_piece c false w in (q.chars, (q.scalar, q.spelled))
 
-pub round_trip : (text : List ℕ) (tokens : List Token) (tree : Node cmd) → IsUtf8 text → Lexes text (Ok tokens) → IsScript (lexemes tokens) tree →
+pub round_trip : (text : List ℕ) (tokens : List Token) (tree : Node cmd) → IsUtf8 text → Lexes text (Ok tokens) → HaveTree (lexemes tokens) tree →
     well_formed tree ≡ true → has_here tree ≡ false → length (printed tree) ≤ longest_script → IsAccepted (printed tree) tree
 round_trip text tokens tree u r s formed none_here short =
     let w = written_trees text tokens tree u r s in
@@ -27,7 +27,7 @@ round_trip text tokens tree u r s formed none_here short =
       tokens = again.0;
       has = record { short = short; text = is_utf8-from_IsUtf8 (printed tree) (printed_text tree w); cut = again.1.0 };
       tree_is = record {
-        script = subst (λ ls. IsScript ls tree) (sym again.1.1) (script_prints (lexemes tokens) tree s none_here);
+        script = subst (λ ls. HaveTree ls tree) (sym again.1.1) (script_prints (lexemes tokens) tree s none_here);
         shallow = leb-true (depth tree) 200 (and_second (is_sound tree) (nat_le (depth tree) 200) formed);
         narrow = formed_narrow tree formed;
       };

@@ -11,7 +11,7 @@ use Rattle.rc_model.specs.Run.Plans.{done_with}
 use Rattle.rc_model.specs.Run.State.{State, got, is_name, is_readable, is_function_name, define}
 use Rattle.rc_model.specs.Run.Shell.{Shell, Exit, under, leaves, pure, call, get, change}
 use Rattle.rc_model.specs.Run.Acts.{one_name, variable, value, value_words, count_words, flat_words, selected_words, joined_lists, concat_words, define_each}
-use Rattle.rc_model.specs.Run.FileNames.{components, fitting_names, folder, each_name, listed, step, walk, paths_of, or_itself, names_of, expanded_word, expanded}
+use Rattle.rc_model.specs.Run.FileNames.{components, fitting_names, directory, each_name, listed, step, walk, paths_of, or_itself, names_of, expanded_word, expanded}
 use Rattle.rc_model.specs.Run.Meaning.{Runner}
 use Rattle.rc_model.specs.Family.Accounts.{Account}
 use Rattle.law_traces.proofs.Keep.{Keeps, keeps_under, Held, Kid, Rest}
@@ -95,7 +95,7 @@ clean_each_name go k path (n ∷ ns) = clean_bind (go (path ++ n)) _ (k (path ++
 
 clean_step : {slots : Slots} (c : Word) (go : List ℕ → Shell (List (List ℕ))) → ((path : List ℕ) → Clean slots (go path)) → (path : List ℕ) → Clean slots (step c go path)
 clean_step c go k path = clean_if (has_pattern c) (listed c go path) (go (path ++ word_text c))
-    (clean_bind (call (list_names (folder path))) _ (clean_names (folder path)) (λ a. clean_each_name go k path (fitting_names c (as_names a)))) (k (path ++ word_text c))
+    (clean_bind (call (list_names (directory path))) _ (clean_names (directory path)) (λ a. clean_each_name go k path (fitting_names c (as_names a)))) (k (path ++ word_text c))
 
 clean_walk : {slots : Slots} (cs : List Word) (path : List ℕ) → Clean slots (walk cs path)
 clean_walk [] path = clean_pure (path ∷ [])

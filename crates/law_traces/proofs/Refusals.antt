@@ -1,5 +1,5 @@
 -- Scripts whose calls are refused, one after the other, computed: nothing is lost, and nothing is left.
-use Rattle.std.proofs.Common.{◌≡◌, ℕ, List, [], ◌∷◌, refl, ap, arith}
+use Rattle.std.proofs.Common.{◌≡◌, ℕ, List, [], ◌∷◌, refl, arith}
 use Rattle.std.proofs.Math.Utf8.{encode}
 use Rattle.std.specs.Prelude.{codes, false}
 use Rattle.std.specs.Str.{chars}

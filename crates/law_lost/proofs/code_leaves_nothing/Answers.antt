@@ -1,5 +1,5 @@
 use Rattle.law_traces.proofs.Traces.{ended_leaves_nothing}
-use Rattle.law_machine.proofs.Told.{ended_as_meant}
+use Rattle.law_machine.proofs.Recorded.{ended_as_meant}
 use Rattle.law_lost.proofs.code_leaves_nothing.Goals as goal
 
 pub returns : goal.returns

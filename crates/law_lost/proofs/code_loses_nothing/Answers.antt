@@ -1,5 +1,5 @@
 use Rattle.law_traces.proofs.Traces.{begun_loses_nothing}
-use Rattle.law_machine.proofs.Told.{begun_as_meant}
+use Rattle.law_machine.proofs.Recorded.{begun_as_meant}
 use Rattle.law_lost.proofs.code_loses_nothing.Goals as goal
 
 pub returns : goal.returns

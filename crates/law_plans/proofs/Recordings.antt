@@ -3,11 +3,11 @@ use Rattle.std.proofs.Common.{◌≡◌, refl, sym, ◌∙◌, ap, List, [], ◌
 use Rattle.std.proofs.lemmas.List.{append_assoc, append-nil}
 use Rattle.rc_model.specs.Run.Calls.{Event, extend}
 
-pub extend_append : (told : Option (List Event)) (es fs : List Event) → extend (extend told es) fs ≡ extend told (es ++ fs)
+pub extend_append : (recorded : Option (List Event)) (es fs : List Event) → extend (extend recorded es) fs ≡ extend recorded (es ++ fs)
 extend_append None es fs = refl
 extend_append (Some before) es fs = ap Some (append_assoc before es fs)
 
-pub extend_nil : (told : Option (List Event)) → told ≡ extend told []
+pub extend_nil : (recorded : Option (List Event)) → recorded ≡ extend recorded []
 extend_nil None = refl
 extend_nil (Some before) = ap Some (sym (append-nil before))
 
