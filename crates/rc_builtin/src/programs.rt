@@ -12,9 +12,8 @@ ghost use Rattle.rc_builtin.specs.Starts.{path_of, paths_in, started_of};
 ghost use Rattle.rc_scope.specs.States.{state_of};
 
 use crate::environment::entries;
-use crate::texts::copy;
 use rc_model::limits::LONGEST_ARGUMENT;
-use rc_scope::State;
+use rc_scope::{State, copy_texts};
 use rc_world::{ChildNo, Ending, Kind, Launch, Program, Slots, Stop, World, calls};
 use std::alloc::{AllocError, Global};
 
@@ -40,15 +39,15 @@ pub fn report<W: World>(
     Ok(())
 }
 
-/// Whether a program's name is its path.
-pub(crate) fn is_path(name: &str) -> bool
+/// Whether a name is its own path.
+pub fn is_path(name: &str) -> bool
     ensures { result ≡ is_path name.now }
 {
     name.starts_with("/") || name.starts_with("./") || name.starts_with("../")
 }
 
-/// Where a program may be.
-fn candidate(alloc: Global, dir: &str, name: &str) -> Result<String, AllocError>
+/// Where a program or a file of commands may be.
+pub fn candidate(alloc: Global, dir: &str, name: &str) -> Result<String, AllocError>
     ensures { IfOk result (λ path. string_bytes path ≡ candidate dir.now name.now) }
 {
     if dir.is_empty() || dir == "." {
@@ -157,7 +156,8 @@ fn is_short(text: &str) -> bool
     text.len() <= LONGEST_ARGUMENT
 }
 
-fn are_short(texts: &[String]) -> bool
+/// Whether these can be the arguments or the entries of a launch.
+pub fn are_short(texts: &[String]) -> bool
     ensures { result ≡ list_all (λ text. is_short (string_bytes text)) texts.now }
 {
     texts.iter().all(|text| is_short(text))
@@ -220,7 +220,7 @@ fn launch(
     ensures { IfOk result (λ launch. launch_of launch
         ≡ program_launch slots (string_bytes path) (map string_bytes args.now) (state_of state.now)) }
 {
-    let args = copy(alloc, args)?;
+    let args = copy_texts(alloc, args)?;
     let env = entries(alloc, state)?;
     Ok(Launch {
         program: Program::Path(path),

@@ -7,8 +7,7 @@ ghost use Rattle.rc_model.specs.Run.Shell.{Next};
 ghost use Rattle.rc_model.specs.Run.State.{set_value, value_of};
 ghost use Rattle.rc_scope.specs.States.{state_of};
 
-use crate::texts::copy;
-use rc_scope::State;
+use rc_scope::{State, copy_texts};
 use rc_text::number_of;
 use std::alloc::{AllocError, Global};
 
@@ -18,7 +17,7 @@ fn args_after(alloc: Global, state: &State, count: usize) -> Result<Vec<String>,
         ≡ drop count (value_of (state_of state.now) (codes "*"))) }
 {
     let args = state.value("*");
-    copy(alloc, &args[count.min(args.len())..])
+    copy_texts(alloc, &args[count.min(args.len())..])
 }
 
 /// Takes the first of this count from `$*`; with no count nothing is taken.

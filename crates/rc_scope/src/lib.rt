@@ -10,4 +10,5 @@ mod variables;
 
 pub use names::{is_function_name, is_name};
 pub use state::{SetError, State};
+pub use texts::copy_texts;
 pub use variables::Binding;

@@ -15,7 +15,7 @@ ghost use Rattle.rc_scope.specs.States.{numbers};
 use crate::children::place_of;
 use crate::functions::{Function, names};
 use crate::names::{is_function_name, is_name, is_status};
-use crate::texts::{copy, join};
+use crate::texts::{copy_texts, join};
 use crate::variables::{Binding, Variables};
 use rc_model::ChildNo;
 use rc_tree_types::Cmd;
@@ -99,7 +99,7 @@ impl State {
     pub fn get(&self, name: &str) -> Result<Vec<String>, AllocError>
         ensures { IfOk result (λ value. map string_bytes value.items ≡ value_of (state_of self.now) name.now) }
     {
-        copy(*self.status.allocator(), self.value(name))
+        copy_texts(*self.status.allocator(), self.value(name))
     }
 
     /// Assigns to a variable. An `Err` changes nothing.

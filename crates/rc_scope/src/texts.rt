@@ -23,7 +23,7 @@ pub fn join(alloc: Global, texts: &[String]) -> Result<String, AllocError>
 }
 
 /// A copy of the texts.
-pub fn copy(alloc: Global, texts: &[String]) -> Result<Vec<String>, AllocError>
+pub fn copy_texts(alloc: Global, texts: &[String]) -> Result<Vec<String>, AllocError>
     ensures { IfOk result (λ copy. map string_bytes copy.items ≡ map string_bytes texts.now) }
 {
     let mut copy = Vec::new(alloc);

@@ -17,4 +17,4 @@ returns c =
     let xs = c.value-args.result.now in
     let value : map string_bytes xs ≡ value_of (state_of c.args.state.now) (codes "*") = c.value-args.ensures in
     let rest = ap (λ n. map string_bytes (take (length xs - n) (drop n xs))) c.min.ensures ∙ texts_after c.args.count xs ∙ ap (drop c.args.count) value in
-    rw rest at c.copy.ensures
+    rw rest at c.copy_texts.ensures
