@@ -92,25 +92,25 @@ one_fails e word h k = subst (Fails e) (sym (one_read word h)) (fails_counted 1 
 pub ruleset ones = (one_long, one_is, one_fails, common_steps)
 
 -- in pieces
-abbrev told : List ℕ → List (List ℕ) → Bool → Taken
-told text pieces t = if t then counted (suc (length pieces)) (read_spelling text) else Err m.BadLength
+abbrev recorded : List ℕ → List (List ℕ) → Bool → Taken
+recorded text pieces t = if t then counted (suc (length pieces)) (read_spelling text) else Err m.BadLength
 
 in_pieces_is : (first text : List ℕ) (pieces : List (List ℕ)) (t : Bool) → text ≡ concat pieces → are_these (written text) (first ∷ pieces) ≡ t →
-    in_pieces first pieces ≡ told text pieces t
+    in_pieces first pieces ≡ recorded text pieces t
 unfolding in_pieces written
 in_pieces_is first text pieces t e h =
-    ap (λ x. told x pieces (are_these (words_of longest_word x) (first ∷ pieces))) (sym e) ∙ ap (told text pieces) h
+    ap (λ x. recorded x pieces (are_these (words_of longest_word x) (first ∷ pieces))) (sym e) ∙ ap (recorded text pieces) h
 
 are_by : (o : Option (List (List ℕ))) (words all : List (List ℕ)) (t : Bool) → o ≡ Some words → t ≡ pointwise bytes_eq words all → are_these o all ≡ t
 are_by o words all t e h = ap (λ x. are_these x all) e ∙ sym h
 
 pub several_other : (first text : List ℕ) (pieces words : List (List ℕ)) (t : Bool) → text ≡ concat pieces → written text ≡ Some words →
     t ≡ pointwise bytes_eq words (first ∷ pieces) → t ≡ false → in_pieces first pieces ≡ Err m.BadLength
-several_other first text pieces words t e w h f = in_pieces_is first text pieces t e (are_by (written text) words (first ∷ pieces) t w h) ∙ ap (told text pieces) f
+several_other first text pieces words t e w h f = in_pieces_is first text pieces t e (are_by (written text) words (first ∷ pieces) t w h) ∙ ap (recorded text pieces) f
 
 several_read : (first text : List ℕ) (pieces words : List (List ℕ)) (t : Bool) → text ≡ concat pieces → written text ≡ Some words →
     t ≡ pointwise bytes_eq words (first ∷ pieces) → t ≡ true → in_pieces first pieces ≡ counted (suc (length pieces)) (read_spelling text)
-several_read first text pieces words t e w h f = in_pieces_is first text pieces t e (are_by (written text) words (first ∷ pieces) t w h) ∙ ap (told text pieces) f
+several_read first text pieces words t e w h f = in_pieces_is first text pieces t e (are_by (written text) words (first ∷ pieces) t w h) ∙ ap (recorded text pieces) f
 
 pub several_is : (first text : List ℕ) (pieces : List (String Global)) (words : List (List ℕ)) (t : Bool) (c : Node cmd) → text ≡ concat (map string_bytes pieces) →
     written text ≡ Some words → t ≡ pointwise bytes_eq words (first ∷ map string_bytes pieces) → t ≡ true → read_spelling text ≡ Ok c →

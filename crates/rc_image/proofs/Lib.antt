@@ -6,4 +6,5 @@ pub mod Faults
 pub mod Lengths
 pub mod Puts
 pub mod Denoted
-pub mod Handed
+pub mod States
+pub mod Launches

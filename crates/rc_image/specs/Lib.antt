@@ -1,3 +1,4 @@
 pub mod Conversions
 pub mod Images
 pub mod Entries
+pub mod Launches

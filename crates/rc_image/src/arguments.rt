@@ -1,6 +1,6 @@
 //! Reads what a shell is handed: arguments and the entries of an environment.
 
-ghost use Rattle.std.specs.Prelude.{◌≡◌, IfOk, OnOk, map, string_bytes};
+ghost use Rattle.std.specs.Prelude.{◌≡◌, OnOk, map, string_bytes};
 ghost use Rattle.rc_model.specs.Handed.Arguments.{read_image};
 ghost use Rattle.rc_model.specs.Handed.Environment.{read_state};
 ghost use Rattle.rc_tree_types.specs.View.{cmd_tree};
@@ -11,20 +11,9 @@ ghost use Rattle.rc_image.specs.Entries.{with_arguments};
 use crate::ImageFault;
 use crate::environment::{read_env, set_value};
 use crate::words::read_pieces;
-use rc_scope::State;
+use rc_scope::{State, copy_texts};
 use rc_tree::Cmd;
 use std::alloc::{AllocError, Global};
-
-/// A copy of the texts.
-fn copy(alloc: Global, texts: &[String]) -> Result<Vec<String>, AllocError>
-    ensures { IfOk result (λ copy. map string_bytes copy.items ≡ map string_bytes texts.now) }
-{
-    let mut copy = Vec::new(alloc);
-    for text in texts {
-        copy.push(text.clone()?)?;
-    }
-    Ok(copy)
-}
 
 /// Makes these arguments `$*`, where there are any.
 fn set_arguments(alloc: Global, state: &mut State, args: &[String]) -> Result<(), AllocError>
@@ -34,7 +23,7 @@ fn set_arguments(alloc: Global, state: &mut State, args: &[String]) -> Result<()
     if args.is_empty() {
         return Ok(());
     }
-    set_value(state, "*", copy(alloc, args)?)
+    set_value(state, "*", copy_texts(alloc, args)?)
 }
 
 /// The state that arguments and entries denote. Functions and the status are read only if these are `own`, from a

@@ -11,13 +11,16 @@ mod beginning;
 mod entries;
 mod environment;
 mod fault;
+mod launch;
 mod pieces;
+mod texts;
 mod words;
 
 pub use arguments::{read_image, read_state};
 use beginning::{beginning_fault, begins};
 pub use environment::read_env;
 pub use fault::ImageFault;
+pub use launch::{Handover, handed};
 pub use pieces::write_pieces;
 use rc_model::limits::LONGEST_ARGUMENT;
 use rc_reading::read_spelling;

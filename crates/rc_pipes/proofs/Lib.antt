@@ -1,5 +1,6 @@
 pub mod Acts
 pub mod InOrder
+pub mod Opening
 pub mod Outputs
 pub mod Pipelines
 pub mod Readings

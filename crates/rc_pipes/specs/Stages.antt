@@ -1,28 +1,19 @@
--- What the stages of a pipeline are handed, and what their start gave.
-use Rattle.std.specs.Prelude.{◌≡◌, ℕ, List, [], ◌∷◌, ◌++◌, Option, Some, None, Result, option_map}
+-- What the start of the stages of a pipeline gave.
+use Rattle.std.specs.Prelude.{ℕ, List, [], ◌∷◌, ◌++◌, Option, Some, None, Result, option_map}
 use Rattle.std.specs.Result.{MatchResult}
 use Rattle.rc_model.specs.Run.Acts as acts
 use Rattle.rc_model.specs.Run.Calls.{Event}
 use Rattle.rc_model.specs.Run.Plans.{Plan, done_with, Ran}
 use Rattle.rc_model.specs.Run.Shell as shell
 use Rattle.rc_model.specs.Run.State.{State}
-use Rattle.rc_model.specs.Syntax.Tree.{Many, stage, none, more, Stage}
+use Rattle.rc_model.specs.Syntax.Tree.{Many, stage}
 use Rattle.rc_model.specs.declared.call.Slots.{Slots}
 use Rattle.rc_scope.specs.States.{numbers}
 use Rattle.rc_world.specs.Comes.{Left}
 use Rattle.rc_world.specs.declared.types.Stop.{Stop}
-use Rattle.rc_pipes.specs.Launches.{IsImage}
 use Rattle.rc_pipes.specs.declared.stages.StageStart.{StageStart}
 use Rattle.rc_pipes.specs.declared.stages.StageStart.TheVariants.{Running, Refused}
-use Rattle.rc_pipes.specs.declared.stages.StageWords.{StageWords}
 use Rattle.rc_pipes.specs.declared.stages.StartedStages.{StartedStages}
-
--- these are the stages, by the words of their images
-abbrev pub AreStages : List StageWords → Many stage → Type 0
-AreStages [] none = Unit {0}
-AreStages [] (more node nodes) = ⊥
-AreStages (x ∷ xs) none = ⊥
-AreStages (x ∷ xs) (more (Stage body number) nodes) = IsImage x.words body × (x.number ≡ number) × AreStages xs nodes
 
 -- what follows the start of a stage: the next one, or the waits after a refusal
 abbrev pub after_stage : Slots → Many stage → List ℕ → State → StageStart → Plan (shell.Result acts.StartedStages)

@@ -3,11 +3,10 @@
 ghost use Rattle.std.specs.Prelude.{◌≡◌, IfOk, map, string_bytes};
 ghost use Rattle.std.specs.List.{concat};
 ghost use Rattle.rc_model.specs.Run.Acts.{backquote, back_child, members_of};
-ghost use Rattle.rc_model.specs.Syntax.Tree.{Node, cmd};
+ghost use Rattle.rc_tree_types.specs.View.{cmd_tree};
 ghost use Rattle.rc_world.specs.Comes.{Does};
 ghost use Rattle.rc_builtin.specs.Starts.{started_of};
 ghost use Rattle.rc_scope.specs.States.{state_of};
-ghost use Rattle.rc_pipes.specs.Launches.{IsImage};
 
 use crate::children::wait_child;
 use crate::launches::start_shell;
@@ -15,6 +14,7 @@ use crate::reading::{longest_output, read_all};
 use rc_builtin::Started;
 use rc_scope::State;
 use rc_text::{lossy, split};
+use rc_tree_types::Cmd;
 use rc_world::{Handle, Slot, Slots, Stop, World, calls};
 use std::alloc::{AllocError, Global};
 
@@ -68,17 +68,16 @@ fn back_child<W: World>(
     Ok(members)
 }
 
-/// What a command writes, as words, by the words of its image: `None` where they are too many.
+/// What a command writes, as words.
 pub fn backquote<W: World>(
     alloc: Global,
     world: &mut W,
     state: &mut State,
     slots: Slots,
-    words: Option<&[String]>,
+    body: &Cmd,
 ) -> Result<Vec<String>, Stop>
-    ensures { (body : Node cmd) → IsImage words.entry body →
-        Does W.events world.old world.new state_of state.old state.new (backquote slots body)
-        (λ members. map string_bytes members.items) result }
+    ensures { Does W.events world.old world.new state_of state.old state.new
+        (backquote slots (cmd_tree body.now)) (λ members. map string_bytes members.items) result }
 {
     let Some((read_end, write_end)) = calls::pipe(world)? else {
         state.set_status("cannot pipe")?;
@@ -88,6 +87,6 @@ pub fn backquote<W: World>(
         output: Slot::To(write_end),
         ..slots
     };
-    let started = start_shell(alloc, world, state, inner, words)?;
+    let started = start_shell(alloc, world, state, inner, body)?;
     back_child(alloc, world, state, read_end, write_end, started)
 }

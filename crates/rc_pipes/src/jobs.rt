@@ -7,12 +7,11 @@ ghost use Rattle.rc_model.specs.Run.Builtins.{Finished, wait_child, wait_all, wa
 ghost use Rattle.rc_model.specs.Run.State as model;
 ghost use Rattle.rc_model.specs.Run.Plans.{done_with};
 ghost use Rattle.rc_model.specs.Run.Shell.{Next};
-ghost use Rattle.rc_model.specs.Syntax.Tree.{Node, cmd};
+ghost use Rattle.rc_tree_types.specs.View.{cmd_tree};
 ghost use Rattle.rc_world.specs.Comes.{Does};
 ghost use Rattle.rc_world.specs.declared.types.Stop.TheVariants.{NoMemory};
 ghost use Rattle.rc_builtin.specs.Starts.{started_of};
 ghost use Rattle.rc_scope.specs.States.{numbers, state_of};
-ghost use Rattle.rc_pipes.specs.Launches.{IsImage};
 ghost use Rattle.rc_pipes.specs.Jobs.{arguments_of};
 
 use crate::children::wait_child as waited;
@@ -20,6 +19,7 @@ use crate::launches::start_shell;
 use rc_builtin::Started;
 use rc_scope::State;
 use rc_text::number_of;
+use rc_tree_types::Cmd;
 use rc_world::{ChildNo, Handle, Mode, Slot, Slots, Stop, World, calls};
 use std::alloc::Global;
 
@@ -54,39 +54,38 @@ fn background_with<W: World>(
     state: &mut State,
     slots: Slots,
     file: Handle,
-    words: Option<&[String]>,
+    body: &Cmd,
 ) -> Result<(), Stop>
-    ensures { (body : Node cmd) → IsImage words.entry body →
-        Does W.events world.old world.new state_of state.old state.new
-        (background_with slots body (Some file.0)) (λ x. x) result }
+    ensures { Does W.events world.old world.new state_of state.old state.new
+        (background_with slots (cmd_tree body.now) (Some file.0)) (λ x. x) result }
 {
     let inner = Slots {
         input: Slot::To(file),
         ..slots
     };
-    let started = start_shell(alloc, world, state, inner, words)?;
+    let started = start_shell(alloc, world, state, inner, body)?;
     calls::close(world, file)?;
     keep_child(alloc, state, started)?;
     Ok(())
 }
 
-/// Starts a command in the background, by the words of its image: `None` where they are too many.
+/// Starts a command in the background.
 #[tactic(auto, using(crate::proofs::Acts::acting))]
 pub fn background<W: World>(
     alloc: Global,
     world: &mut W,
     state: &mut State,
     slots: Slots,
-    words: Option<&[String]>,
+    body: &Cmd,
 ) -> Result<(), Stop>
-    ensures { (body : Node cmd) → IsImage words.entry body →
-        Does W.events world.old world.new state_of state.old state.new (background slots body) (λ x. x) result }
+    ensures { Does W.events world.old world.new state_of state.old state.new
+        (background slots (cmd_tree body.now)) (λ x. x) result }
 {
     let Some(file) = calls::open(world, "/dev/null", Mode::Read)? else {
         state.set_status("cannot open")?;
         return Ok(());
     };
-    background_with(alloc, world, state, slots, file, words)
+    background_with(alloc, world, state, slots, file, body)
 }
 
 /// Waits for a child in the background, which is taken out of the list first: the status is how it ended.

@@ -1,8 +1,9 @@
-//! Pipelines, subshells and children in the background, and the pipes between them.
+//! Pipelines, subshells and children in the background, and the pipes between them; files of commands are read.
 #![tactic(auto)]
 
 mod backquotes;
 mod children;
+mod files;
 mod jobs;
 mod launches;
 mod reading;
@@ -10,7 +11,8 @@ mod stages;
 
 pub use backquotes::backquote;
 pub use children::{end_refused, end_stages, wait_child, wait_stages};
+pub use files::read_file;
 pub use jobs::{background, wait_for};
 pub use launches::subshell;
 pub use reading::{ReadBytes, read_all};
-pub use stages::{StageWords, StartedStages, start_stages};
+pub use stages::{StartedStages, start_stages};

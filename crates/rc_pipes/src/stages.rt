@@ -4,25 +4,18 @@ ghost use Rattle.std.specs.Prelude.{◌≡◌, ℕ, List, option_map};
 ghost use Rattle.rc_model.specs.Run.Acts.{close_end, from_pipe, stages_from, start_stages};
 ghost use Rattle.rc_model.specs.Run.Calls.{with_slot, to_file};
 ghost use Rattle.rc_model.specs.Run.State as model;
-ghost use Rattle.rc_model.specs.Syntax.Tree.{Node, Many, cmd, stage, more, Stage};
+ghost use Rattle.rc_model.specs.Syntax.Tree.{Many, stage, more};
+ghost use Rattle.rc_tree_types.specs.View.{stage_tree, stages_tree};
 ghost use Rattle.rc_world.specs.Comes.{Reads};
 ghost use Rattle.rc_scope.specs.States.{state_of};
-ghost use Rattle.rc_pipes.specs.Launches.{IsImage};
-ghost use Rattle.rc_pipes.specs.Stages.{AreStages, GoesOn, after_stage, after_stages};
+ghost use Rattle.rc_pipes.specs.Stages.{GoesOn, after_stage, after_stages};
 
 use crate::launches::start_shell;
 use rc_builtin::Started;
 use rc_scope::State;
+use rc_tree_types::Stage;
 use rc_world::{ChildNo, Handle, Slot, Slots, Stop, World, calls};
 use std::alloc::Global;
-
-/// A stage but the last: the words of its image, `None` where they are too many, and the descriptor
-/// that goes into the pipe.
-#[derive(Clone, Copy)]
-pub struct StageWords<'a> {
-    pub words: Option<&'a [String]>,
-    pub number: u8,
-}
 
 /// What became of a stage.
 #[derive(Clone, Copy)]
@@ -81,10 +74,10 @@ fn start_stage<W: World>(
     state: &State,
     slots: Slots,
     before: Option<Handle>,
-    next: StageWords<'_>,
+    next: &Stage,
 ) -> Result<StageStart, Stop>
-    ensures { (body : Node cmd) (rest : Many stage) (children : List ℕ) → IsImage next.entry.words body →
-        let all = more (Stage body next.entry.number) rest in
+    ensures { (rest : Many stage) (children : List ℕ) →
+        let all = more (stage_tree next.now) rest in
         let stages = stages_from slots all (option_map (λ end. end.0) before) children in
         GoesOn (W.events world.old) (W.events world.new) (stages (state_of state.now))
         (after_stage slots rest children (state_of state.now)) result }
@@ -93,8 +86,8 @@ fn start_stage<W: World>(
         close_end(world, before)?;
         return Ok(StageStart::Refused("cannot pipe"));
     };
-    let inner = stage_slots(slots, before, next.number, write_end);
-    let started = start_shell(alloc, world, state, inner, next.words)?;
+    let inner = stage_slots(slots, before, next.slot, write_end);
+    let started = start_shell(alloc, world, state, inner, &next.cmd)?;
     calls::close(world, write_end)?;
     match started {
         Started::Child(child) => {
@@ -115,16 +108,16 @@ pub fn start_stages<W: World>(
     world: &mut W,
     state: &State,
     slots: Slots,
-    stages: &[StageWords<'_>],
+    stages: &[Stage],
 ) -> Result<StartedStages, Stop>
-    ensures { (all : Many stage) → AreStages stages.now all →
-        GoesOn (W.events world.old) (W.events world.new) (start_stages slots all (state_of state.now))
+    ensures { GoesOn (W.events world.old) (W.events world.new)
+        (start_stages slots (stages_tree stages.now) (state_of state.now))
         (after_stages (state_of state.now)) result }
 {
     let mut children = Vec::with_capacity(alloc, stages.len())?;
     let mut read = None;
     for stage in stages {
-        match start_stage(alloc, world, state, slots, read, *stage)? {
+        match start_stage(alloc, world, state, slots, read, stage)? {
             StageStart::Running(read_end, child) => {
                 read = Some(read_end);
                 children.push(child)?;

@@ -1,6 +1,6 @@
 use Rattle.std.proofs.Common.{map, string_bytes}
 use Rattle.rc_scope.specs.States.{state_of}
-use Rattle.rc_image.proofs.Handed.{state_read}
+use Rattle.rc_image.proofs.States.{state_read}
 use Rattle.rc_image.proofs.arguments.read_state.Goals as goal
 
 pub returns : goal.returns

@@ -4,33 +4,38 @@ use Rattle.rc_model.specs.Run.Acts.{background_with}
 use Rattle.rc_model.specs.Run.Calls.{open_file, as_file}
 use Rattle.rc_model.specs.declared.call.Mode.TheVariants.{Read}
 use Rattle.rc_scope.specs.States.{state_of}
+use Rattle.rc_tree_types.specs.View.{cmd_tree}
 use Rattle.rc_world.specs.declared.types.Stop.TheVariants.{NoMemory}
 use Rattle.rc_world.proofs.Joins.{comes_answered, left_answered, left_asked, left_here, passed_up, ran_answered}
 use Rattle.law_plans.proofs.Runs.{ran_none}
 use Rattle.rc_pipes.proofs.jobs.background.Goals as goal
 
 pub returns-in_err-file : goal.returns-in_err-file
-returns-in_err-file g c = λ body h.
+returns-in_err-file g c =
+    let body = cmd_tree c.args.body.now in
     let s = state_of c.args.state.now in
     passed_up _ _ _ _ c.from_residual.result c.in_err-file.field-0.0 c.from_residual.ensures.1
     (left_asked _ _ _ (open_file (codes "/dev/null") Read) as_file (λ file. background_with c.args.slots body file s) c.in_err-file.ensures)
 
 pub returns-in_err-set_status : goal.returns-in_err-set_status
-returns-in_err-set_status g c = λ body h.
+returns-in_err-set_status g c =
+    let body = cmd_tree c.args.body.now in
     let s = state_of c.args.state.now in
     passed_up _ _ _ _ c.from_residual-in_err-set_status.result NoMemory c.from_residual-in_err-set_status.ensures.1
     (left_answered _ _ _ _ (open_file (codes "/dev/null") Read) as_file None (λ file. background_with c.args.slots body file s)
     (rw c.in_default.is at c.in_ok-file.ensures) (left_here _ _ _ _ (ran_none _ _)))
 
 pub returns-in_default : goal.returns-in_default
-returns-in_default g c = λ body h.
+returns-in_default g c =
+    let body = cmd_tree c.args.body.now in
     let s = state_of c.args.state.now in
     rw c.in_ok-set_status.ensures.ok
     (ran_answered _ _ _ (open_file (codes "/dev/null") Read) as_file None (λ file. background_with c.args.slots body file s) _
     (rw c.in_default.is at c.in_ok-file.ensures) (ran_none _ _))
 
 pub returns : goal.returns
-returns g c = λ body h.
+returns g c =
+    let body = cmd_tree c.args.body.now in
     let s = state_of c.args.state.now in
     comes_answered _ _ _ (open_file (codes "/dev/null") Read) as_file (Some c.in-Some.file.0) (λ file. background_with c.args.slots body file s) _ c.background_with.result
-    (rw c.in-Some.is at c.in_ok-file.ensures) (c.background_with.ensures body h)
+    (rw c.in-Some.is at c.in_ok-file.ensures) (c.background_with.ensures)

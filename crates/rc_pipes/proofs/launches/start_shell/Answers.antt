@@ -4,5 +4,4 @@ use Rattle.law_plans.proofs.Runs.{ran_none}
 use Rattle.rc_pipes.proofs.launches.start_shell.Goals as goal
 
 pub returns-in_err-launch : goal.returns-in_err-launch
-returns-in_err-launch g c = λ body h.
-    passed_up _ _ _ _ c.from_residual.result NoMemory c.from_residual.ensures.1 (left_here _ _ _ _ (ran_none _ _))
+returns-in_err-launch g c = passed_up _ _ _ _ c.from_residual.result NoMemory c.from_residual.ensures.1 (left_here _ _ _ _ (ran_none _ _))

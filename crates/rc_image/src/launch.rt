@@ -1,0 +1,54 @@
+//! Writes what a shell is handed: the arguments and the entries of its launch.
+
+ghost use Rattle.std.specs.Prelude.{◌≡◌, IfOk, map, string_bytes};
+ghost use Rattle.rc_model.specs.Handed.Arguments.{handed};
+ghost use Rattle.rc_tree_types.specs.View.{cmd_tree};
+ghost use Rattle.rc_scope.specs.States.{state_of};
+ghost use Rattle.rc_image.specs.Images.{Writes};
+ghost use Rattle.rc_image.specs.Launches.{args_with, handed_of};
+
+use crate::ImageFault;
+use crate::pieces::write_pieces;
+use crate::texts::push_copies;
+use rc_builtin::are_short;
+use rc_builtin::environment::entries;
+use rc_scope::State;
+use rc_tree::Cmd;
+use std::alloc::{AllocError, Global};
+
+/// The arguments and the entries of a launch.
+#[derive(Drop)]
+pub struct Handover {
+    pub args: Vec<String>,
+    pub entries: Vec<String>,
+}
+
+/// The arguments of a shell that is handed its command in these words.
+fn shell_args(alloc: Global, state: &State, words: &[String]) -> Result<Vec<String>, AllocError>
+    ensures { IfOk result (λ args. map string_bytes args.items
+        ≡ args_with (map string_bytes words.now) (state_of state.now)) }
+{
+    let mut args = Vec::new(alloc);
+    if state.strict() {
+        args.push(String::from_str(alloc, "-e")?)?;
+    }
+    args.push(String::from_str(alloc, "-S")?)?;
+    push_copies(&mut args, words)?;
+    push_copies(&mut args, state.value("*"))?;
+    Ok(args)
+}
+
+/// What a shell is handed that is to run a command in a state. It is too large where an argument or an entry would be
+/// too long, or the image in too many pieces.
+pub fn handed(alloc: Global, cmd: &Cmd, state: &State) -> Result<Handover, ImageFault>
+    ensures { Writes (λ h. handed_of h) result (handed (cmd_tree cmd.now) (state_of state.now)) }
+{
+    let words = write_pieces(alloc, cmd)?;
+    let args = shell_args(alloc, state, &words)?;
+    let entries = entries(alloc, state)?;
+    if are_short(&args) && are_short(&entries) {
+        Ok(Handover { args, entries })
+    } else {
+        Err(ImageFault::TooLarge)
+    }
+}

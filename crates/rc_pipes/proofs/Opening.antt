@@ -1,0 +1,29 @@
+-- The search for a file that opens, path by path.
+use Rattle.std.proofs.Common.{List, ◌∷◌, ℕ, Option, Some, None}
+use Rattle.rc_model.specs.Run.Builtins.{open_first, opened_or}
+use Rattle.rc_model.specs.Run.Calls.{Event, open_file, as_file}
+use Rattle.rc_model.specs.Run.Plans.{Plan, done_with, asks, Ran}
+use Rattle.rc_model.specs.Run.Shell.{Result, Next}
+use Rattle.rc_model.specs.Run.State.{State}
+use Rattle.rc_model.specs.declared.call.Mode.TheVariants.{Read}
+use Rattle.rc_world.specs.Comes.{Left}
+use Rattle.rc_world.specs.declared.types.Stop.{Stop}
+use Rattle.rc_world.proofs.Joins.{left_asked, ran_answered}
+use Rattle.law_plans.proofs.Runs.{ran_none}
+
+module _ (path : List ℕ) (paths : List (List ℕ)) (s : State) (a b : Option (List Event)) where
+  -- what follows the call
+  abbrev next : Option ℕ → Plan (Result (Option ℕ))
+  next file = opened_or (open_first paths) file s
+
+  pub ran_opened : (n : ℕ) → Ran a b (asks (open_file path Read) as_file) (done_with (Some n)) →
+      Ran a b (open_first (path ∷ paths) s) (done_with (Next (Some n) s))
+  ran_opened n f = ran_answered a b b (open_file path Read) as_file (Some n) next _ f (ran_none b _)
+
+  pub ran_unopened : Ran a b (asks (open_file path Read) as_file) (done_with None) →
+      Ran a b (open_first (path ∷ paths) s) (open_first paths s)
+  ran_unopened f = ran_answered a b b (open_file path Read) as_file None next _ f (ran_none b _)
+
+  pub left_opening : (stop : Stop) → Left a b (asks (open_file path Read) as_file) stop →
+      Left a b (open_first (path ∷ paths) s) stop
+  left_opening stop f = left_asked a b stop (open_file path Read) as_file next f

@@ -1,0 +1,85 @@
+//! Files of commands: the first that a name stands for is read.
+
+ghost use Rattle.std.specs.Prelude.{◌≡◌, ◌∷◌, ℕ, List, Some, IfOk, map, option_map, string_bytes};
+ghost use Rattle.rc_builtin.specs.Starts.{paths_in};
+ghost use Rattle.rc_model.specs.Run.Acts.{candidates};
+ghost use Rattle.rc_model.specs.Run.Builtins.{dot, open_first, run_file};
+ghost use Rattle.rc_model.specs.Run.State as model;
+ghost use Rattle.rc_world.specs.Comes.{Reads};
+ghost use Rattle.rc_scope.specs.States.{state_of};
+ghost use Rattle.rc_pipes.specs.Readings.{after_file};
+ghost use Rattle.rc_pipes.specs.Stages.{GoesOn};
+
+use crate::reading::{ReadBytes, longest_file, read_all};
+use rc_builtin::{candidate, is_path};
+use rc_scope::State;
+use rc_world::{Handle, Mode, Stop, World, calls};
+use std::alloc::{AllocError, Global};
+
+/// Where a file of this name may be, by these directories.
+fn paths_in(alloc: Global, name: &str, dirs: &[String]) -> Result<Vec<String>, AllocError>
+    ensures { IfOk result (λ paths. map string_bytes paths.items ≡ paths_in name.now dirs.now) }
+{
+    let mut paths = Vec::new(alloc);
+    for dir in dirs {
+        paths.push(candidate(alloc, dir, name)?)?;
+    }
+    Ok(paths)
+}
+
+/// The paths by which a name is looked for.
+fn candidates(alloc: Global, state: &State, name: &str) -> Result<Vec<String>, AllocError>
+    ensures { IfOk result (λ paths. map string_bytes paths.items ≡ candidates (state_of state.now) name.now) }
+{
+    let mut paths = Vec::new(alloc);
+    if name.is_empty() {
+        return Ok(paths);
+    }
+    if is_path(name) {
+        paths.push(String::from_str(alloc, name)?)?;
+        return Ok(paths);
+    }
+    paths_in(alloc, name, state.value("path"))
+}
+
+/// The file at the first of these paths that opens.
+fn open_first<W: World>(world: &mut W, paths: &[String]) -> Result<Option<Handle>, Stop>
+    ensures { (s : model.State) → Reads W.events world.old world.new s
+        (open_first (map string_bytes paths.now)) (option_map (λ file. file.0)) result }
+{
+    for path in paths {
+        if let Some(file) = calls::open(world, path, Mode::Read)? {
+            return Ok(Some(file));
+        }
+    }
+    Ok(None)
+}
+
+/// Reads a file of commands, and closes it.
+fn read_and_close<W: World>(alloc: Global, world: &mut W, file: Handle) -> Result<ReadBytes, Stop>
+    ensures { (args : List (List ℕ)) (s : model.State) → GoesOn (W.events world.old) (W.events world.new)
+        (run_file args (Some file.0) s) (λ read. after_file args s (Some read)) result }
+{
+    let read = read_all(alloc, world, file, longest_file())?;
+    calls::close(world, file)?;
+    Ok(read)
+}
+
+/// Reads the first file of this name that opens, by `$path` where the name is no path; `None` where
+/// none opens.
+pub fn read_file<W: World>(
+    alloc: Global,
+    world: &mut W,
+    state: &State,
+    name: &str,
+) -> Result<Option<ReadBytes>, Stop>
+    ensures { (args : List (List ℕ)) → GoesOn (W.events world.old) (W.events world.new)
+        (dot (name.now ∷ args) (state_of state.now)) (after_file args (state_of state.now)) result }
+{
+    let paths = candidates(alloc, state, name)?;
+    let Some(file) = open_first(world, &paths)? else {
+        return Ok(None);
+    };
+    let read = read_and_close(alloc, world, file)?;
+    Ok(Some(read))
+}
