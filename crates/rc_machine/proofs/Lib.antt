@@ -8,6 +8,7 @@ pub mod Opened
 pub mod Places
 pub mod Redirected
 pub mod Runs
+pub mod Shells
 pub mod Stacks
 pub mod Unwinding
 pub mod Waits

@@ -1,40 +1,22 @@
 //! The built-in commands, and programs.
 
-ghost use Rattle.std.specs.Prelude.{IfOk, List, Ok, Option, map, string_bytes};
-ghost use Rattle.rc_model.specs.Mirrors.TreeOfText.{tree_of};
-ghost use Rattle.rc_model.specs.Run.Builtins.{Called, as_body, exec, finished, run_builtin, without_functions};
+ghost use Rattle.std.specs.Prelude.{◌≢◌, map, string_bytes};
+ghost use Rattle.rc_model.specs.Run.Builtins.{Called, Finished, exec, finished, run_builtin, wait_for};
+ghost use Rattle.rc_model.specs.Run.Builtins.{without_functions};
 ghost use Rattle.rc_model.specs.Run.Acts.{run_program};
-ghost use Rattle.rc_model.specs.Run.Calls.{Event};
+ghost use Rattle.rc_model.specs.declared.builtin.Builtin.TheVariants.{BuiltinWord};
 ghost use Rattle.rc_model.specs.Run.Shell.{Shell};
-ghost use Rattle.rc_model.specs.Syntax.Text.{spaced};
 ghost use Rattle.rc_machine.specs.Outcomes.{RunsWords};
 ghost use Rattle.rc_scope.specs.States.{state_of};
+ghost use Rattle.rc_world.specs.Comes.{Does};
 
 use crate::commands::Outcome;
+use crate::scripts::{dot, eval};
 use rc_builtin::{Builtin, change_dir, exit_status, run_program, shift, whatis};
-use rc_code::compile;
-use rc_parser::{InputError, parse};
+use rc_pipes::wait_for;
 use rc_scope::State;
-use rc_text::flat;
 use rc_world::{Slots, Stop, World};
-use std::alloc::{AllocError, Global};
-
-/// `eval`: the words, joined by spaces, are a script that is run.
-fn eval(alloc: Global, state: &mut State, words: &[String]) -> Result<Outcome, AllocError>
-    ensures { IfOk result (λ outcome. (told : Option (List Event)) → RunsWords told told
-        (as_body (tree_of (spaced (map string_bytes words.now))) (state_of state.old))
-        (state_of state.new) (Ok outcome)) }
-{
-    let text = flat(alloc, words)?;
-    match parse(alloc, text.as_bytes()) {
-        Ok(cmd) => Ok(Outcome::Body(compile(alloc, &cmd)?)),
-        Err(InputError::Fault(_)) => {
-            state.set_status("syntax error")?;
-            Ok(Outcome::Finished)
-        }
-        Err(InputError::NoMemory) => Err(AllocError),
-    }
-}
+use std::alloc::Global;
 
 /// `exec`: the shell ends with the status of a program.
 #[tactic(auto, using(crate::proofs::Left::words_refused))]
@@ -56,6 +38,26 @@ fn exec<W: World>(
     Ok(Outcome::Exit)
 }
 
+/// `wait`: all children in the background are waited for, or that of a number.
+fn wait<W: World>(
+    alloc: Global,
+    world: &mut W,
+    state: &mut State,
+    args: &[String],
+) -> Result<(), Stop>
+    ensures { Does W.events world.old world.new state_of state.old state.new
+        (wait_for (map string_bytes args.now)) (λ x. Finished) result }
+{
+    match args {
+        [] => wait_for(alloc, world, state, None),
+        [number] => wait_for(alloc, world, state, Some(number)),
+        _ => {
+            state.set_status("usage")?;
+            Ok(())
+        }
+    }
+}
+
 /// Runs a built-in command other than `builtin`.
 #[tactic(auto, using(crate::proofs::Left::words_refused))]
 fn run_builtin<W: World>(
@@ -66,10 +68,12 @@ fn run_builtin<W: World>(
     builtin: Builtin,
     args: &[String],
 ) -> Result<Outcome, Stop>
+    requires { builtin ≢ BuiltinWord }
     ensures { (again : Shell Called) → RunsWords (W.events world.old) (W.events world.new)
         (run_builtin again slots builtin (map string_bytes args.now) (state_of state.old)) (state_of state.new) result }
 {
     match builtin {
+        Builtin::Dot => return dot(alloc, world, state, args),
         Builtin::Eval => return Ok(eval(alloc, state, args)?),
         Builtin::Exec => return exec(alloc, world, state, slots, args),
         Builtin::Exit => {
@@ -79,7 +83,8 @@ fn run_builtin<W: World>(
         Builtin::Cd => change_dir(alloc, world, state, args)?,
         Builtin::Shift => shift(alloc, state, args)?,
         Builtin::Whatis => whatis(alloc, world, state, slots, args)?,
-        Builtin::BuiltinWord | Builtin::Dot | Builtin::Wait => return Ok(Outcome::NotYet),
+        Builtin::Wait => wait(alloc, world, state, args)?,
+        Builtin::BuiltinWord => unreachable!(),
     }
     Ok(Outcome::Finished)
 }

@@ -1,6 +1,6 @@
 //! What the words of a simple command run.
 
-ghost use Rattle.std.specs.Prelude.{◌≡◌, ◌<◌, ◌^◌, IfOk, Some, map, string_bytes};
+ghost use Rattle.std.specs.Prelude.{◌<◌, ◌^◌, Some, map, string_bytes};
 ghost use Rattle.rc_model.specs.Code.Machine.{act};
 ghost use Rattle.rc_model.specs.Code.Layout as op;
 ghost use Rattle.rc_model.specs.Run.Builtins.{run_words};
@@ -12,9 +12,9 @@ use crate::machine::{Machine, Move};
 use crate::values::texts;
 use rc_builtin::fault;
 use rc_code::{Code, compile};
-use rc_scope::State;
+use rc_scope::{State, copy_texts};
 use rc_world::{Slots, Stop, World};
-use std::alloc::{AllocError, Global};
+use std::alloc::Global;
 
 /// What became of the words of a simple command.
 #[derive(Drop)]
@@ -27,19 +27,6 @@ pub enum Outcome {
     Call { args: Vec<String>, body: Code },
     /// The shell ends.
     Exit,
-    /// What they run can't be run yet.
-    NotYet,
-}
-
-/// Texts as a list of their own.
-fn copy(alloc: Global, texts: &[String]) -> Result<Vec<String>, AllocError>
-    ensures { IfOk result (λ copies. map string_bytes copies.items ≡ map string_bytes texts.now) }
-{
-    let mut copies = Vec::new(alloc);
-    for text in texts {
-        copies.push(text.clone()?)?;
-    }
-    Ok(copies)
 }
 
 /// Runs the words of a simple command.
@@ -61,7 +48,7 @@ fn run_words<W: World>(
     if let Some(body) = state.function(name) {
         let body = compile(alloc, body)?;
         return Ok(Outcome::Call {
-            args: copy(alloc, args)?,
+            args: copy_texts(alloc, args)?,
             body,
         });
     }
@@ -101,7 +88,6 @@ impl Machine {
                 Ok(Move::On)
             }
             Outcome::Exit => self.unwind(alloc, world),
-            Outcome::NotYet => Ok(Move::NotYet),
         }
     }
 }

@@ -2,6 +2,7 @@
 #![tactic(auto)]
 
 mod builtins;
+mod children;
 mod commands;
 mod endings;
 mod functions;
@@ -12,6 +13,7 @@ mod nest;
 mod parts;
 mod redirections;
 mod scopes;
+mod scripts;
 mod values;
 mod variables;
 mod words;

@@ -1,5 +1,4 @@
 use Rattle.std.proofs.Common.{rules, ◌≡◌, ap, Ok, map, string_bytes}
-use Rattle.law_plans.proofs.Runs.{ran_none}
 use Rattle.rc_model.specs.Run.Builtins.{run_builtin}
 use Rattle.rc_model.specs.declared.builtin.Builtin.TheVariants.{Eval}
 use Rattle.rc_scope.specs.States.{state_of}
@@ -9,9 +8,6 @@ use Rattle.rc_machine.proofs.builtins.run_builtin.Goals as goal
 pub returns-in-Eval : goal.returns-in-Eval
 returns-in-Eval g c again =
     let is : c.args.builtin ≡ Eval = search rules in
-    let told = g.W.World.events c.args.world.now in
-    words_as told told _ _ (state_of c.eval.new.state) (Ok c.in_ok-eval-in-Eval.field-0)
-    (ap (λ b. run_builtin again c.args.slots b (map string_bytes c.args.args.now) (state_of c.args.state.now)) is) (c.in_ok-eval-in-Eval.ensures told)
-
-pub returns-in-BuiltinWord : goal.returns-in-BuiltinWord
-returns-in-BuiltinWord g c again = (_, ran_none _ _)
+    let recorded = g.W.World.events c.args.world.now in
+    words_as recorded recorded _ _ (state_of c.eval.new.state) (Ok c.in_ok-eval-in-Eval.field-0)
+    (ap (λ b. run_builtin again c.args.slots b (map string_bytes c.args.args.now) (state_of c.args.state.now)) is) (c.in_ok-eval-in-Eval.ensures recorded)

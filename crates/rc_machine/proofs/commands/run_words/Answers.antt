@@ -1,15 +1,13 @@
-use Rattle.std.proofs.Common.{rules, ◌≡◌, None, length, map, string_bytes, ap, ◌∙◌}
+use Rattle.std.proofs.Common.{rules, ◌≡◌, length, ap}
 use Rattle.std.specs.Prelude.{codes}
-use Rattle.rc_model.specs.Run.Acts.{fault, run_program}
-use Rattle.rc_model.specs.Run.Builtins.{Finished, builtin_named, run_words}
-use Rattle.rc_model.specs.Run.State.{function_of}
-use Rattle.rc_model.specs.Run.Shell.{exits, leaves, pure}
+use Rattle.rc_model.specs.Run.Acts.{fault}
+use Rattle.rc_model.specs.Run.Builtins.{run_words}
+use Rattle.rc_model.specs.Run.Shell.{exits, leaves}
 use Rattle.law_plans.proofs.Runs.{ran_next, ran_none}
 use Rattle.rc_world.proofs.Joins.{left_as, ran_as}
 use Rattle.rc_world.proofs.Shells.{left_under}
 use Rattle.rc_scope.specs.States.{state_of}
 use Rattle.rc_machine.proofs.Left.{no_texts, words_left}
-use Rattle.rc_machine.proofs.Runs.{begun_as, begun_under}
 use Rattle.rc_machine.proofs.commands.run_words.Goals as goal
 
 pub returns-in_err-fault : goal.returns-in_err-fault

@@ -1,4 +1,4 @@
-use Rattle.std.proofs.Common.{rules, ◌≡◌, Some, false, map, string_bytes}
+use Rattle.std.proofs.Common.{rules, ◌≡◌, Some, false}
 use Rattle.rc_code.specs.Views.{tree_at}
 use Rattle.rc_model.specs.Syntax.Words.{word_texts}
 use Rattle.rc_scope.specs.States.{state_of}

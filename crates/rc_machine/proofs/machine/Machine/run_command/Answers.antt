@@ -1,4 +1,4 @@
-use Rattle.std.proofs.Common.{rules, ◌≡◌, [], Ok, Some, false, map, string_bytes, refl, ap, sym, subst, ◌∙◌}
+use Rattle.std.proofs.Common.{rules, ◌≡◌, [], Some, false, map, string_bytes, refl, ap, sym, subst, ◌∙◌}
 use Rattle.rc_model.specs.Code.Layout as op
 use Rattle.rc_model.specs.Code.Machine.{On, act, enter, unwind}
 use Rattle.rc_model.specs.Code.Layout.{code}
@@ -16,7 +16,7 @@ use Rattle.rc_world.proofs.Shells.{left_under}
 use Rattle.rc_machine.specs.Configs.{config_of}
 use Rattle.rc_machine.proofs.Acts.{runs_top}
 use Rattle.rc_machine.proofs.Left.{step_left}
-use Rattle.rc_machine.proofs.Runs.{begun_as, begun_under, steps_after}
+use Rattle.rc_machine.proofs.Runs.{steps_after}
 use Rattle.rc_scope.specs.States.{state_of}
 use Rattle.rc_machine.proofs.machine.Machine.run_command.Goals as goal
 
@@ -48,8 +48,8 @@ returns-in-Finished g c =
     (ran_next _ _ _ (run_words m.redirs.slots (word_texts v) (state_of m.state)) Finished (state_of c.run_words.new.state) (λ d s. enter (config_of m) rest d s) (unwind (config_of m).scopes) _
     (rw (c.in-Finished.is, texts, own) at c.in_ok-run_words.ensures) (ran_none _ _))
 
-pub returns-in-Exit : goal.returns-in-Exit
-returns-in-Exit g c =
+pub returns : goal.returns
+returns g c =
     let m = c.args.self.now in
     let v = c.in-Some.words.now in
     let rest = c.drop_top.new.self in
@@ -133,15 +133,3 @@ returns-in_err-call-in-Call g c =
     (for_memory _ (ran_as _ _ _ _ _ (runs_top (config_of m) m.words v refl top rest _ c.drop_top.ensures)
     (ran_next _ _ _ (run_words m.redirs.slots (word_texts v) (state_of m.state)) (BodyWith args f.0) (state_of c.run_words.new.state) (λ x s. enter (config_of m) rest x s)
     (unwind (config_of m).scopes) _ f.2 (ran_none _ _))))
-
-pub returns : goal.returns
-returns g c =
-    let m = c.args.self.now in
-    let v = c.in-Some.words.now in
-    let rest = c.drop_top.new.self in
-    let top : top_of m.words ≡ Some v = search rules in
-    let texts : map string_bytes c.deref.result.now ≡ word_texts v = search rules in
-    let own : c.slots.result ≡ m.redirs.slots = search rules in
-    let f = rw (c.in-NotYet.is, texts, own) at c.in_ok-run_words.ensures in
-    begun_as (runs_top (config_of m) m.words v refl top rest _ c.drop_top.ensures)
-    (begun_under (run_words m.redirs.slots (word_texts v) (state_of m.state)) (λ d s. enter (config_of m) rest d s) (unwind (config_of m).scopes) f)
