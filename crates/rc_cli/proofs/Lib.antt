@@ -1,3 +1,3 @@
 pub mod Decimals
-pub mod Told
-pub mod Untold
+pub mod Recorded
+pub mod Unrecorded

@@ -10,6 +10,7 @@ abbrev pub asked_source : Source → model.Source
 asked_source source.Input = model.Input
 asked_source (source.Text text) = model.Text text.now
 asked_source (source.File name) = model.File name.now
+asked_source source.Image = model.Image
 
 -- the request, as the definitions have it
 abbrev pub asked : Request → model.Request

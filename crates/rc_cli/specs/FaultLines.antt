@@ -2,14 +2,15 @@
 use Rattle.std.specs.Prelude.{ℕ, List, ◌++◌, codes}
 use Rattle.rc_model.specs.Syntax.Faults.{fault_words}
 use Rattle.rc_cli.specs.declared.fault.RunFault.{RunFault}
-use Rattle.rc_cli.specs.declared.fault.RunFault.TheVariants.{Usage, CannotRead, Syntax, NoMemory, Limit, Halted, NotYet}
+use Rattle.rc_cli.specs.declared.fault.RunFault.TheVariants.{Usage, CannotRead, Syntax, BadImage}
+use Rattle.rc_cli.specs.declared.fault.RunFault.TheVariants.{NoMemory, Limit, Halted}
 
 -- the line itself, without its newline
 abbrev pub fault_line : RunFault → List ℕ
 fault_line Usage = codes "rc: usage: rc [-e] [-c text | file] [arg ...]"
 fault_line (CannotRead name) = codes "rc: cannot read " ++ name.now
 fault_line (Syntax fault) = codes "rc: " ++ fault_words fault
+fault_line BadImage = codes "rc: bad image"
 fault_line NoMemory = codes "rc: no memory"
 fault_line Limit = codes "rc: limit"
 fault_line Halted = codes "rc: halted"
-fault_line NotYet = codes "rc: not yet"

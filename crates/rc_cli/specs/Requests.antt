@@ -2,19 +2,22 @@
 use Rattle.std.specs.Prelude.{ℕ, List, [], ◌∷◌, Bool, true, false, ◌==◌, if◌then◌else◌, Option, Some, None, codes}
 use Rattle.std.specs.Str.{bytes_eq}
 
--- where the script comes from: standard input, an argument, or the file of this name
+-- where the script comes from: standard input, an argument, the file of this name, or an image
 pub data Source : Type 0 where
   Input : Source
   Text : List ℕ → Source
   File : List ℕ → Source
+  Image : Source
 
 -- the name of what is read, where something is
 abbrev pub name_of : Source → Option (List ℕ)
 name_of Input = Some (codes "standard input")
 name_of (Text text) = None
 name_of (File name) = Some name
+name_of Image = None
 
--- a script, its arguments, and whether a simple command that fails ends the shell
+-- a script, its arguments, and whether a simple command that fails ends the shell; the words of an image come first
+-- among the arguments
 pub record Request : Type 0 where
   pub strict : Bool
   pub source : Source
@@ -30,11 +33,12 @@ abbrev pub request_of_text : Bool → List (List ℕ) → Option Request
 request_of_text strict [] = None
 request_of_text strict (text ∷ others) = Some (record { strict = strict; source = Text text; arguments = others })
 
--- `[-c text | file] [arg ...]`: any other option is none of the shell's
+-- `[-c text | file] [arg ...]`, or `-S` and the words of an image: any other option is none of the shell's
 abbrev pub request_of_script : Bool → List (List ℕ) → Option Request
 request_of_script strict [] = Some (record { strict = strict; source = Input; arguments = [] })
 request_of_script strict (first ∷ others) =
     if bytes_eq first (codes "-c") then request_of_text strict others
+    else if bytes_eq first (codes "-S") then Some (record { strict = strict; source = Image; arguments = others })
     else if is_option first then None
     else Some (record { strict = strict; source = File first; arguments = others })
 

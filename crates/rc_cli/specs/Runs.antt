@@ -1,52 +1,92 @@
--- What a run of the program does, by what its arguments ask for and the script that it reads.
+-- What a run of the program does, by what its arguments ask for, its environment and the script that it reads.
 use Rattle.std.specs.Prelude.{◌≡◌, ℕ, ◌^◌, List, take, Option, Some, None, IfSome, Result, Ok, Err}
+use Rattle.rc_model.specs.Handed.Arguments.{read_image}
+use Rattle.rc_model.specs.Handed.TreeReading.{ImageFault}
 use Rattle.rc_model.specs.Run.Calls.{Event}
 use Rattle.rc_model.specs.Syntax.Accepted.{IsAccepted, IsRefused}
-use Rattle.rc_model.specs.Run.Script.{Told, StopsAtLimit}
+use Rattle.rc_model.specs.Run.Script.{Recorded, StopsAtLimit}
 use Rattle.rc_model.specs.Run.State.{State}
 use Rattle.rc_model.specs.Syntax.Tree.{Node, cmd}
-use Rattle.rc_model.specs.declared.fault.SyntaxFault.{SyntaxFault}
+use Rattle.rc_scope.specs.States.{state_of}
 use Rattle.rc_shell.specs.Executed.{EndsWithin, HaltsWithin, IsBegunWithin}
-use Rattle.rc_cli.specs.Requests.{Request, Source, Input, Text, File, name_of}
+use Rattle.rc_shell.specs.declared.run.Ran.{Ran}
+use Rattle.rc_shell.specs.declared.run.Ran.TheVariants as ran
+use Rattle.rc_shell.specs.declared.run.ShellFault.{ShellFault}
+use Rattle.rc_shell.specs.declared.run.ShellFault.TheVariants as shell
+use Rattle.rc_cli.specs.Requests.{Request, Source, Input, Text, File, Image, name_of}
 use Rattle.rc_cli.specs.Start.{first_state}
 use Rattle.rc_cli.specs.Statuses.{IsProcessStatus}
 use Rattle.rc_cli.specs.declared.fault.RunFault.{RunFault}
-use Rattle.rc_cli.specs.declared.fault.RunFault.TheVariants.{Usage, CannotRead, Syntax, NoMemory, Limit, Halted, NotYet}
-
--- the script of an input whose bytes are known: at most one byte more than a script may have
-abbrev pub IsScriptOf : Option (List ℕ) → List ℕ → Type 0
-IsScriptOf known script = IfSome known (λ bytes. script ≡ take 1048577 bytes)
-
--- the script has a tree, and this was recorded of its run
-abbrev pub ToldOf : Option (List Event) → Option (List Event) → List ℕ → (Node cmd → List Event → Type 0) → Type 0
-ToldOf before after script P = (t : Node cmd) × IsAccepted script t × Told before after (P t)
+use Rattle.rc_cli.specs.declared.fault.RunFault.TheVariants.{Usage, CannotRead, Syntax, BadImage}
+use Rattle.rc_cli.specs.declared.fault.RunFault.TheVariants.{NoMemory, Limit, Halted}
 
 -- the most instructions that a script may take
 abbrev pub most_instructions : ℕ
 most_instructions = 2 ^ 62
+
+-- ** what is run
+
+-- the text of a script, with the state that it begins in, or what the words of an image and the entries denote
+pub data Program : Type 0 where
+  text_from : List ℕ → State → Program
+  handed : Result (Node cmd × State) ImageFault → Program
+
+-- this tree is run from this state
+abbrev pub IsRun : Program → Node cmd → State → Type 0
+IsRun (text_from script start) t s = IsAccepted script t × (s ≡ start)
+IsRun (handed read) t s = read ≡ Ok (t, s)
+
+-- nothing is run, for this reason
+abbrev pub IsNotRun : Program → RunFault → Type 0
+IsNotRun (text_from script start) (Syntax fault) = IsRefused script fault
+IsNotRun (handed read) BadImage = (fault : ImageFault) × (read ≡ Err fault)
+IsNotRun p _ = ⊥
+
+-- ** a run
+
+-- there is a tree to run, and this was recorded of its run
+abbrev pub RecordedOf : Option (List Event) → Option (List Event) → Program →
+    (Node cmd → State → List Event → Type 0) → Type 0
+RecordedOf before after p P = (t : Node cmd) × (s : State) × IsRun p t s × Recorded before after (P t s)
 
 -- the number that the process ends with is that of the status with which the meaning ends
 abbrev pub EndsWith : Node cmd → State → List Event → ℕ → Type 0
 EndsWith t start trace status =
     (end : State) × EndsWithin most_instructions t start trace end × IsProcessStatus end.status status
 
--- a run by its result: what its world recorded of it, with the script that was read
-abbrev pub RunsAsMeant : Option (List Event) → Option (List Event) → Request → List ℕ → Result ℕ RunFault → Type 0
-RunsAsMeant before after r script (Ok status) =
-    ToldOf before after script (λ t trace. EndsWith t (first_state r) trace status)
-RunsAsMeant before after r script (Err Usage) = ⊥
-RunsAsMeant before after r script (Err (CannotRead name)) = (name_of r.source ≡ Some name.now) × (after ≡ before)
-RunsAsMeant before after r script (Err (Syntax fault)) = IsRefused script fault × (after ≡ before)
-RunsAsMeant before after r script (Err Halted) =
-    ToldOf before after script (λ t trace. HaltsWithin most_instructions t (first_state r) trace)
-RunsAsMeant before after r script (Err Limit) =
-    ToldOf before after script (λ t trace. StopsAtLimit most_instructions t (first_state r) trace)
-RunsAsMeant before after r script (Err NotYet) =
-    ToldOf before after script (λ t trace. IsBegunWithin most_instructions t (first_state r) trace)
-RunsAsMeant before after r script (Err NoMemory) =
-    ((t : Node cmd) → IsAccepted script t →
-    Told before after (λ trace. IsBegunWithin most_instructions t (first_state r) trace))
-    × ((fault : SyntaxFault) → IsRefused script fault → after ≡ before)
+-- a run by its result: what its world recorded of it
+abbrev pub RunsAsMeant : Option (List Event) → Option (List Event) → Source → Program → Result ℕ RunFault → Type 0
+RunsAsMeant before after source p (Ok status) = RecordedOf before after p (λ t s trace. EndsWith t s trace status)
+RunsAsMeant before after source p (Err Usage) = ⊥
+RunsAsMeant before after source p (Err (CannotRead name)) = (name_of source ≡ Some name.now) × (after ≡ before)
+RunsAsMeant before after source p (Err (Syntax fault)) = IsNotRun p (Syntax fault) × (after ≡ before)
+RunsAsMeant before after source p (Err BadImage) = IsNotRun p BadImage × (after ≡ before)
+RunsAsMeant before after source p (Err Halted) =
+    RecordedOf before after p (λ t s trace. HaltsWithin most_instructions t s trace)
+RunsAsMeant before after source p (Err Limit) =
+    RecordedOf before after p (λ t s trace. StopsAtLimit most_instructions t s trace)
+RunsAsMeant before after source p (Err NoMemory) =
+    ((t : Node cmd) (s : State) → IsRun p t s →
+    Recorded before after (λ trace. IsBegunWithin most_instructions t s trace))
+    × ((fault : RunFault) → IsNotRun p fault → after ≡ before)
+
+-- ** where the script comes from
+
+-- the script of an input whose bytes are known: at most one byte more than a script may have
+abbrev pub IsScriptOf : Option (List ℕ) → List ℕ → Type 0
+IsScriptOf known script = IfSome known (λ bytes. script ≡ take 1048577 bytes)
+
+-- a run of the script that a request has
+abbrev pub RunsScript : Option (List Event) → Option (List Event) → Request → (entries : List (List ℕ)) →
+    List ℕ → Result ℕ RunFault → Type 0
+RunsScript before after r entries script result =
+    RunsAsMeant before after r.source (text_from script (first_state r entries)) result
+
+-- a run of what the words and the entries denote
+abbrev pub RunsImage : Option (List Event) → Option (List Event) → Request → (entries : List (List ℕ)) →
+    Result ℕ RunFault → Type 0
+RunsImage before after r entries result =
+    RunsAsMeant before after r.source (handed (read_image r.strict r.arguments entries)) result
 
 -- nothing is run where the input of a script couldn't be opened, and the fault names it
 abbrev pub IsUnread : Option (List Event) → Option (List Event) → Request → Result ℕ RunFault → Type 0
@@ -55,19 +95,32 @@ IsUnread before after r _ = ⊥
 
 -- a run of the script that an input has
 abbrev pub RunsInput : Option (Option (List ℕ)) → Option (List Event) → Option (List Event) → Request →
-    Result ℕ RunFault → Type 0
-RunsInput None before after r result = IsUnread before after r result
-RunsInput (Some known) before after r result =
-    (script : List ℕ) × IsScriptOf known script × RunsAsMeant before after r script result
+    (entries : List (List ℕ)) → Result ℕ RunFault → Type 0
+RunsInput None before after r entries result = IsUnread before after r result
+RunsInput (Some known) before after r entries result =
+    (script : List ℕ) × IsScriptOf known script × RunsScript before after r entries script result
 
--- a run of what is asked for: the script is the text that is given, or else that of the input
+-- a run of what is asked for: the script is the text that is given, or that of the input, or an image
 abbrev RunsSource : Source → Option (Option (List ℕ)) → Option (List Event) → Option (List Event) → Request →
-    Result ℕ RunFault → Type 0
-RunsSource Input input before after r result = RunsInput input before after r result
-RunsSource (Text text) input before after r result = RunsAsMeant before after r text result
-RunsSource (File name) input before after r result = RunsInput input before after r result
+    (entries : List (List ℕ)) → Result ℕ RunFault → Type 0
+RunsSource Input input before after r entries result = RunsInput input before after r entries result
+RunsSource (Text text) input before after r entries result = RunsScript before after r entries text result
+RunsSource (File name) input before after r entries result = RunsInput input before after r entries result
+RunsSource Image input before after r entries result = RunsImage before after r entries result
 
--- the run of a request, with the bytes of its input, where it could be opened
-abbrev pub RunsRequest : Option (Option (List ℕ)) → Option (List Event) → Option (List Event) → Result ℕ RunFault →
-    Request → Type 0
-RunsRequest input before after result r = RunsSource r.source input before after r result
+-- the run of a request, with the bytes of its input, where it could be opened, and the entries of the environment
+abbrev pub RunsRequest : Option (Option (List ℕ)) → (entries : List (List ℕ)) → Option (List Event) →
+    Option (List Event) → Result ℕ RunFault → Request → Type 0
+RunsRequest input entries before after result r = RunsSource r.source input before after r entries result
+
+-- ** how the shell's answer is shown
+
+-- the answer of the program, by that of the shell
+abbrev pub Answers : Result Ran ShellFault → Result ℕ RunFault → Type 0
+Answers (Ok (ran.Ended end)) result =
+    (status : ℕ) × (result ≡ Ok status) × IsProcessStatus (state_of end).status status
+Answers (Ok ran.Limit) result = result ≡ Err Limit
+Answers (Ok ran.Halted) result = result ≡ Err Halted
+Answers (Err (shell.Syntax fault)) result = result ≡ Err (Syntax fault)
+Answers (Err (shell.Image fault)) result = result ≡ Err BadImage
+Answers (Err shell.NoMemory) result = result ≡ Err NoMemory

@@ -18,13 +18,13 @@ pub enum RunFault<'a> {
     /// What has this name couldn't be read: the script's file, or `standard input`.
     CannotRead(&'a str),
     Syntax(SyntaxFault),
+    /// What was handed over doesn't read back.
+    BadImage,
     NoMemory,
     /// The script took too many instructions.
     Limit,
     /// The world did not answer.
     Halted,
-    /// The script came to what can't be run yet.
-    NotYet,
 }
 
 impl<'a> From<AllocError> for RunFault<'a> {
@@ -60,10 +60,10 @@ impl fmt::Display for RunFault<'_> {
             RunFault::Usage => f.write_str("rc: usage: rc [-e] [-c text | file] [arg ...]"),
             RunFault::CannotRead(name) => write!(f, "rc: cannot read {name}"),
             RunFault::Syntax(fault) => write!(f, "rc: {fault}"),
+            RunFault::BadImage => f.write_str("rc: bad image"),
             RunFault::NoMemory => f.write_str("rc: no memory"),
             RunFault::Limit => f.write_str("rc: limit"),
             RunFault::Halted => f.write_str("rc: halted"),
-            RunFault::NotYet => f.write_str("rc: not yet"),
         }
     }
 }

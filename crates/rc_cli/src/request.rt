@@ -12,6 +12,8 @@ pub enum Source<'a> {
     Text(&'a str),
     /// The file of this name.
     File(&'a str),
+    /// An image. Its words come first among the arguments.
+    Image,
 }
 
 /// A script with its arguments.
@@ -29,7 +31,7 @@ fn is_option(word: &str) -> bool
     word.as_bytes().first() == Some(&b'-')
 }
 
-/// What `[-c text | file] [arg ...]` asks for.
+/// What `[-c text | file] [arg ...]` asks for, or `-S` and the words of an image.
 fn request_of_script(strict: bool, words: &[String]) -> Option<Request<'_>>
     ensures { option_map asked result ≡ request_of_script strict (map string_bytes words.now) }
 {
@@ -39,6 +41,7 @@ fn request_of_script(strict: bool, words: &[String]) -> Option<Request<'_>>
             let (text, arguments) = others.split_first()?;
             (Source::Text(text), arguments)
         }
+        [first, arguments @ ..] if first.as_str() == "-S" => (Source::Image, arguments),
         [first, ..] if is_option(first) => return None,
         [file, arguments @ ..] => (Source::File(file), arguments),
     };

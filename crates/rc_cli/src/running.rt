@@ -2,41 +2,42 @@
 ghost use Rattle.std.specs.Prelude.{◌≡◌, ◌≢◌, ◌↔◌, Err, None, Some, IfSome, map, option_map, string_bytes};
 ghost use Rattle.rc_cli.specs.Asked.{asked};
 ghost use Rattle.rc_cli.specs.Requests.{request_of, name_of};
-ghost use Rattle.rc_cli.specs.Runs.{RunsAsMeant, RunsInput, RunsRequest};
+ghost use Rattle.rc_cli.specs.Runs.{Answers, RunsImage, RunsInput, RunsRequest, RunsScript};
 
 use crate::fault::RunFault;
 use crate::reading::read_script;
 use crate::request::{Request, Source, request_of};
 use crate::start::first_state;
 use crate::status::process_status;
-use rc_shell::{Ran, ShellFault, execute};
+use rc_model::limits::MOST_INSTRUCTIONS;
+use rc_shell::{Ran, ShellFault, execute, execute_image};
 use rc_world::World;
 use std::alloc::Global;
 use std::io::Read;
 
-/// The most instructions that a script may take.
-const LIMIT: u64 = 1 << 62;
-
-/// Runs the script that the arguments ask for, and answers the number that the process ends with. The input is that of
-/// the script's file, if it could be opened, or else standard input.
+/// Runs what the arguments ask for, with these entries of the environment, and answers the number that the process ends
+/// with. The input is that of the script's file, if it could be opened, or else standard input.
 pub fn run_rc<'a, W: World, R: Read + Drop>(
     alloc: Global,
     world: &mut W,
     words: &'a [String],
+    entries: &[String],
     input: Option<R>,
 ) -> Result<u8, RunFault<'a>>
     ensures usage { (result ≡ Err RunFault.Usage) ↔ (request_of (map string_bytes words.now) ≡ None) }
     ensures unchanged { result ≡ Err RunFault.Usage → W.events world.new ≡ W.events world.old }
     ensures meant { IfSome (request_of (map string_bytes words.now))
-        (RunsRequest (option_map (λ r. R.remaining r) input) (W.events world.old) (W.events world.new) result) }
+        (RunsRequest (option_map (λ r. R.remaining r) input) (map string_bytes entries.now)
+        (W.events world.old) (W.events world.new) result) }
 {
     let Some(request) = request_of(words) else {
         return Err(RunFault::Usage);
     };
     match request.source {
-        Source::Input => run_input(alloc, world, request, input, "standard input"),
-        Source::Text(text) => run_script(alloc, world, request, text.as_bytes()),
-        Source::File(name) => run_input(alloc, world, request, input, name),
+        Source::Input => run_input(alloc, world, request, entries, input, "standard input"),
+        Source::Text(text) => run_script(alloc, world, request, entries, text.as_bytes()),
+        Source::File(name) => run_input(alloc, world, request, entries, input, name),
+        Source::Image => run_image(alloc, world, request, entries),
     }
 }
 
@@ -45,34 +46,67 @@ fn run_input<'a, W: World, R: Read + Drop>(
     alloc: Global,
     world: &mut W,
     request: Request<'a>,
+    entries: &[String],
     input: Option<R>,
     name: &'a str,
 ) -> Result<u8, RunFault<'a>>
     requires { name_of (asked request).source ≡ Some name.now }
     ensures usage { result ≢ Err RunFault.Usage }
     ensures meant { RunsInput (option_map (λ r. R.remaining r) input) (W.events world.old) (W.events world.new)
-        (asked request.entry) result }
+        (asked request.entry) (map string_bytes entries.now) result }
 {
     let script = read_script(alloc, input, name)?;
-    run_script(alloc, world, request, &script)
+    run_script(alloc, world, request, entries, &script)
 }
 
 fn run_script<'a, W: World>(
     alloc: Global,
     world: &mut W,
     request: Request<'a>,
+    entries: &[String],
     script: &[u8],
 ) -> Result<u8, RunFault<'a>>
     ensures usage { result ≢ Err RunFault.Usage }
-    ensures meant { RunsAsMeant (W.events world.old) (W.events world.new) (asked request.entry) script.now result }
+    ensures meant { RunsScript (W.events world.old) (W.events world.new)
+        (asked request.entry) (map string_bytes entries.now) script.now result }
 {
-    let state = first_state(alloc, request)?;
-    match execute(alloc, world, script, state, LIMIT) {
+    let state = first_state(alloc, request, entries)?;
+    answer(execute(alloc, world, script, state, MOST_INSTRUCTIONS))
+}
+
+/// Runs what the words of an image and the entries denote.
+fn run_image<'a, W: World>(
+    alloc: Global,
+    world: &mut W,
+    request: Request<'a>,
+    entries: &[String],
+) -> Result<u8, RunFault<'a>>
+    ensures usage { result ≢ Err RunFault.Usage }
+    ensures meant { RunsImage (W.events world.old) (W.events world.new)
+        (asked request.entry) (map string_bytes entries.now) result }
+{
+    let words = request.arguments;
+    answer(execute_image(
+        alloc,
+        world,
+        request.strict,
+        words,
+        entries,
+        MOST_INSTRUCTIONS,
+    ))
+}
+
+/// The answer of the program, by that of the shell.
+fn answer<'a>(ran: Result<Ran, ShellFault>) -> Result<u8, RunFault<'a>>
+    ensures usage { result ≢ Err RunFault.Usage }
+    ensures answers { Answers ran result }
+{
+    match ran {
         Ok(Ran::Ended { state }) => Ok(process_status(state.status())),
         Ok(Ran::Limit) => Err(RunFault::Limit),
         Ok(Ran::Halted) => Err(RunFault::Halted),
-        Ok(Ran::NotYet) => Err(RunFault::NotYet),
         Err(ShellFault::Syntax(fault)) => Err(RunFault::Syntax(fault)),
+        Err(ShellFault::Image(_)) => Err(RunFault::BadImage),
         Err(ShellFault::NoMemory) => Err(RunFault::NoMemory),
     }
 }

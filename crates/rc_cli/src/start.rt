@@ -1,44 +1,66 @@
 //! The state that a script begins in.
-ghost use Rattle.std.specs.Prelude.{◌≡◌, IfOk, map, string_bytes};
+ghost use Rattle.std.specs.Prelude.{◌≡◌, IfOk, OnOk, map, string_bytes};
 ghost use Rattle.rc_scope.specs.States.{state_of};
 ghost use Rattle.rc_cli.specs.Asked.{asked};
-ghost use Rattle.rc_cli.specs.Start.{default_state, first_state};
+ghost use Rattle.rc_cli.specs.Start.{first_state, given_state, with_default, with_defaults};
 
 use crate::request::Request;
+use rc_image::read_state;
 use rc_scope::State;
 use std::alloc::{AllocError, Global};
 
-/// The state that the script of this request begins in.
-pub fn first_state(alloc: Global, request: Request<'_>) -> Result<State, AllocError>
-    ensures { IfOk result (λ state. state_of state ≡ first_state (asked request.entry)) }
+/// The state that the script of this request begins in, with these entries of the environment.
+#[tactic(auto, unfolding(crate::specs::Start::first_state))]
+pub fn first_state(
+    alloc: Global,
+    request: Request<'_>,
+    entries: &[String],
+) -> Result<State, AllocError>
+    ensures { IfOk result (λ state. state_of state
+        ≡ first_state (asked request.entry) (map string_bytes entries.now)) }
 {
-    let mut state = default_state(alloc)?;
-    let arguments = copy(alloc, request.arguments)?;
-    state.set("*", arguments).map_err(|_| AllocError)?;
+    let mut state = given_state(alloc, request.arguments, entries)?;
+    set_defaults(alloc, &mut state)?;
     state.set_strict(request.strict);
     Ok(state)
 }
 
-/// A state with the variables that every script begins with.
-fn default_state(alloc: Global) -> Result<State, AllocError>
-    ensures { IfOk result (λ state. state_of state ≡ default_state) }
+/// The state that arguments and the entries of any program denote.
+#[tactic(auto, unfolding(crate::specs::Start::given_state))]
+fn given_state(alloc: Global, arguments: &[String], entries: &[String]) -> Result<State, AllocError>
+    ensures { IfOk result (λ state. state_of state
+        ≡ given_state (map string_bytes arguments.now) (map string_bytes entries.now)) }
+{
+    match read_state(alloc, false, arguments, entries) {
+        Ok(state) => Ok(state),
+        // No function is read, and so no image is at fault.
+        Err(_) => Err(AllocError),
+    }
+}
+
+/// Sets what the environment leaves out.
+#[tactic(auto, unfolding(crate::specs::Start::with_defaults))]
+fn set_defaults(alloc: Global, state: &mut State) -> Result<(), AllocError>
+    ensures { OnOk result (state_of state.new ≡ with_defaults (state_of state.old)) }
 {
     let ifs = value(alloc, &[" \t\n"])?;
     let path = value(alloc, &["/bin", "/usr/bin"])?;
-    let mut state = State::new(alloc);
-    state.set("ifs", ifs).map_err(|_| AllocError)?;
-    state.set("path", path).map_err(|_| AllocError)?;
-    Ok(state)
+    let home = state.get("HOME")?;
+    set_default(state, "ifs", ifs)?;
+    set_default(state, "path", path)?;
+    set_default(state, "home", home)
 }
 
-fn copy(alloc: Global, words: &[String]) -> Result<Vec<String>, AllocError>
-    ensures { IfOk result (λ copy. map string_bytes copy.items ≡ map string_bytes words.now) }
+/// Sets a variable that has no members.
+#[tactic(auto, unfolding(crate::specs::Start::with_default))]
+fn set_default(state: &mut State, name: &str, value: Vec<String>) -> Result<(), AllocError>
+    ensures { OnOk result (state_of state.new
+        ≡ with_default name.now (map string_bytes value.items) (state_of state.old)) }
 {
-    let mut copy = Vec::new(alloc);
-    for word in words {
-        copy.push(word.clone()?)?;
+    if value.is_empty() || !state.value(name).is_empty() {
+        return Ok(());
     }
-    Ok(copy)
+    state.set(name, value).map_err(|_| AllocError)
 }
 
 fn value(alloc: Global, members: &[&str]) -> Result<Vec<String>, AllocError>

@@ -2,7 +2,7 @@
 #![tactic(auto)]
 
 use rc_cli::{RunFault, Source, report, request_of, run_rc};
-use rc_host::{ArgumentsFault, HostWorld, arguments, open_standard, own_path};
+use rc_host::{ArgumentsFault, HostWorld, arguments, entries, open_standard, own_path};
 use std::fs;
 use std::process::ExitCode;
 
@@ -13,11 +13,15 @@ fn run<'a>(rt: HostRuntime, words: &'a [String]) -> Result<u8, RunFault<'a>> {
     };
     open_standard(&rt).map_err(|_| RunFault::CannotRead("standard input"))?;
     let shell = own_path(&rt)?;
+    let entries = entries(&rt)?;
     let mut world = HostWorld::new(rt, shell);
     match request.source {
-        Source::File(name) => run_rc(rt.alloc(), &mut world, words, fs::open(&rt, name).ok()),
-        Source::Input | Source::Text(_) => {
-            run_rc(rt.alloc(), &mut world, words, Some(rt.reader()))
+        Source::File(name) => {
+            let file = fs::open(&rt, name).ok();
+            run_rc(rt.alloc(), &mut world, words, &entries, file)
+        }
+        Source::Input | Source::Text(_) | Source::Image => {
+            run_rc(rt.alloc(), &mut world, words, &entries, Some(rt.reader()))
         }
     }
 }

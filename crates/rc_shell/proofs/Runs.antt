@@ -5,14 +5,14 @@ use Rattle.rc_model.specs.declared.call.Fault.TheVariants.{Halt as halt}
 use Rattle.rc_model.specs.Code.Machine.{Config, exec, begin}
 use Rattle.rc_model.specs.Run.Plans.{Plan, done_with, ask, cut, calls_made, Goes, Ran, Halted}
 use Rattle.rc_model.specs.Code.Layout.{Code, code}
-use Rattle.rc_model.specs.Run.Script.{Told, IsPrefix, StopsAtLimit, run, script}
+use Rattle.rc_model.specs.Run.Script.{Recorded, IsPrefix, StopsAtLimit, run, script}
 use Rattle.rc_model.specs.Run.State.{State}
 use Rattle.rc_model.specs.Syntax.Tree.{Node, cmd}
-use Rattle.law_machine.proofs.Told as told
+use Rattle.law_machine.proofs.Recorded as recorded
 use Rattle.law_plans.proofs.Plays.{ends_over, waits_over, cut_over, halts_over}
 use Rattle.rc_machine.specs.Outcomes.{Begun, Reached}
 use Rattle.rc_shell.specs.Executed.{EndsWithin, HaltsWithin, IsBegunWithin}
-use Rattle.law_plans.proofs.Tellings.{extend_nil}
+use Rattle.law_plans.proofs.Recordings.{extend_nil}
 
 -- the calls of a run that was left somewhere are the first ones of the whole run
 begins_run : (limit : ℕ) (t : Node cmd) (s : State) (trace : List Event) (p : Plan State) → Goes (exec limit (begin t s)) trace p
@@ -22,32 +22,32 @@ begins_run limit t s trace (ask call go) g = record { rest = call ∷ []; is = a
 begins_run limit t s trace cut g = record { rest = []; is = ap calls_made (cut_over (exec limit (begin t s)) trace g) ∙ sym (append-nil (calls trace)) }
 
 module _ (limit : ℕ) (t : Node cmd) (s : State) (a b : Option (List Event)) where
-  pub told_ended : (end : State) → Ran a b (exec limit (begin t s)) (done_with end) → Told a b (λ trace. EndsWithin limit t s trace end)
+  pub told_ended : (end : State) → Ran a b (exec limit (begin t s)) (done_with end) → Recorded a b (λ trace. EndsWithin limit t s trace end)
   told_ended end f =
-      (f.trace, f.told, record { ran = ends_over (exec limit (begin t s)) f.trace end f.goes; meant = told.ended_as_meant limit t s end f.trace f.goes })
+      (f.trace, f.recorded, record { ran = ends_over (exec limit (begin t s)) f.trace end f.goes; meant = recorded.ended_as_meant limit t s end f.trace f.goes })
 
-  pub told_limit : (now : Config) → Reached a b limit (begin t s) now → Told a b (λ trace. StopsAtLimit limit t s trace)
+  pub told_limit : (now : Config) → Reached a b limit (begin t s) now → Recorded a b (λ trace. StopsAtLimit limit t s trace)
   told_limit now here =
       let e : limit + 0 ≡ limit = omega arith in
       let f : Ran a b (exec limit (begin t s)) cut = subst (λ n. Ran a b (exec n (begin t s)) cut) e (here 0) in
-      (f.trace, f.told, told.stopped_at_limit limit t s f.trace f.goes)
+      (f.trace, f.recorded, recorded.stopped_at_limit limit t s f.trace f.goes)
 
-  pub told_halted : Halted a b (exec limit (begin t s)) → Told a b (λ trace. HaltsWithin limit t s trace)
+  pub told_halted : Halted a b (exec limit (begin t s)) → Recorded a b (λ trace. HaltsWithin limit t s trace)
   told_halted f = (
     f.trace ++ event f.call (refused halt) ∷ [],
-    f.told,
-    record { ran = halts_over (exec limit (begin t s)) f.trace f.call f.go f.goes; meant = told.halted_as_meant limit t s f.trace f.call f.go f.goes },
+    f.recorded,
+    record { ran = halts_over (exec limit (begin t s)) f.trace f.call f.go f.goes; meant = recorded.halted_as_meant limit t s f.trace f.call f.go f.goes },
   )
 
-  pub told_begun : Begun a b (exec limit (begin t s)) → Told a b (λ trace. IsBegunWithin limit t s trace)
+  pub told_begun : Begun a b (exec limit (begin t s)) → Recorded a b (λ trace. IsBegunWithin limit t s trace)
   told_begun f = (
     f.1.trace,
-    f.1.told,
-    record { ran = begins_run limit t s f.1.trace f.0 f.1.goes; meant = told.begun_as_meant limit t s f.1.trace f.0 f.1.goes },
+    f.1.recorded,
+    record { ran = begins_run limit t s f.1.trace f.0 f.1.goes; meant = recorded.begun_as_meant limit t s f.1.trace f.0 f.1.goes },
   )
 
   -- nothing was called
-  pub told_nothing : Told a a (λ trace. IsBegunWithin limit t s trace)
+  pub told_nothing : Recorded a a (λ trace. IsBegunWithin limit t s trace)
   told_nothing = (
     [],
     extend_nil a,

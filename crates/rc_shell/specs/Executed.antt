@@ -1,20 +1,24 @@
 -- How the run of a script ends, by the instructions that it may take and by what the script means.
-use Rattle.std.specs.Prelude.{◌≡◌, ℕ, List, [], Option, Result, Ok, Err}
+use Rattle.std.specs.Prelude.{◌≡◌, ℕ, List, [], Bool, Option, Result, Ok, Err, String, map, string_bytes}
+use Rattle.std.specs.declared.alloc.Global.{Global}
 use Rattle.rc_model.specs.Run.Calls.{Event, calls, answers}
 use Rattle.rc_model.specs.Run.Plans.{Ends, Waits, calls_made}
-use Rattle.rc_model.specs.Run.Script.{Told, run, IsPrefix, EndsAsMeant, HaltsAsMeant, IsBegunAsMeant, StopsAtLimit}
+use Rattle.rc_model.specs.Run.Script.{Recorded, run, IsPrefix, EndsAsMeant, HaltsAsMeant, IsBegunAsMeant, StopsAtLimit}
 use Rattle.rc_model.specs.Run.State as model
 use Rattle.rc_model.specs.Syntax.Accepted.{IsAccepted}
 use Rattle.rc_model.specs.Syntax.Tree.{Node, cmd}
+use Rattle.rc_model.specs.Handed.Arguments.{read_image}
 use Rattle.rc_model.specs.Handed.Proper.{IsProper}
+use Rattle.rc_model.specs.Handed.TreeReading as reading
+use Rattle.rc_image.specs.declared.fault.ImageFault.{ImageFault}
 use Rattle.rc_model.specs.Handed.HandedLaws.{AllReadBack}
 use Rattle.rc_model.specs.Family.Accounts.{IsFresh, NothingLost, NothingLeft}
 use Rattle.rc_model.specs.declared.fault.SyntaxFault.{SyntaxFault}
 use Rattle.rc_scope.specs.States.{state_of}
-use Rattle.rc_shell.specs.declared.script.Ran.{Ran}
-use Rattle.rc_shell.specs.declared.script.Ran.TheVariants.{Ended, Limit, Halted, NotYet}
-use Rattle.rc_shell.specs.declared.script.ShellFault.{ShellFault}
-use Rattle.rc_shell.specs.declared.script.ShellFault.TheVariants.{Syntax, NoMemory}
+use Rattle.rc_shell.specs.declared.run.Ran.{Ran}
+use Rattle.rc_shell.specs.declared.run.Ran.TheVariants.{Ended, Limit, Halted}
+use Rattle.rc_shell.specs.declared.run.ShellFault.{ShellFault}
+use Rattle.rc_shell.specs.declared.run.ShellFault.TheVariants.{Syntax, Image, NoMemory}
 
 -- at most `limit` instructions end in this state, and so does the meaning
 pub record EndsWithin (limit : ℕ) (t : Node cmd) (s : model.State) (trace : List Event)
@@ -37,9 +41,9 @@ abbrev pub RunsAsMeant : (limit : ℕ) → Node cmd → model.State → List Eve
 RunsAsMeant limit t s trace (Ok (Ended end)) = EndsWithin limit t s trace (state_of end)
 RunsAsMeant limit t s trace (Ok Limit) = StopsAtLimit limit t s trace
 RunsAsMeant limit t s trace (Ok Halted) = HaltsWithin limit t s trace
-RunsAsMeant limit t s trace (Ok NotYet) = IsBegunWithin limit t s trace
 RunsAsMeant limit t s trace (Err NoMemory) = IsBegunWithin limit t s trace
 RunsAsMeant limit t s trace (Err (Syntax fault)) = ⊥
+RunsAsMeant limit t s trace (Err (Image fault)) = ⊥
 
 -- over fresh answers nothing is lost
 abbrev pub LosesNothing : model.State → List Event → Type 0
@@ -54,16 +58,35 @@ LeavesNothing s _ trace = Unit {0}
 abbrev pub HandsOver : model.State → List Event → Type 0
 HandsOver s trace = IsProper s → AllReadBack (calls trace)
 
--- and the state at the end is proper
-abbrev pub EndsProper : model.State → Result Ran ShellFault → Type 0
-EndsProper s (Ok (Ended end)) = IsProper s → IsProper (state_of end)
-EndsProper s _ = Unit {0}
+-- a fact of the state at the end, where there is one
+abbrev pub IfEnded : Result Ran ShellFault → (model.State → Type 0) → Type 0
+IfEnded (Ok (Ended end)) P = P (state_of end)
+IfEnded _ P = Unit {0}
 
--- where the script is accepted, this was told between two records of a world
+-- where the script is accepted, a world recorded this between two moments
 abbrev pub IfAccepted : List ℕ → Option (List Event) → Option (List Event) → (List Event → Type 0) → Type 0
-IfAccepted script before after P = (t : Node cmd) → IsAccepted script t → Told before after P
+IfAccepted script before after P = (t : Node cmd) → IsAccepted script t → Recorded before after P
 
 -- a fact for a fault of the script
 abbrev pub IfSyntax : ShellFault → (SyntaxFault → Type 0) → Type 0
 IfSyntax (Syntax fault) P = P fault
+IfSyntax (Image fault) P = ⊥
 IfSyntax NoMemory P = Unit {0}
+
+-- ** what was handed over
+
+-- the tree and the state that words and entries denote
+abbrev pub denoted : (strict : Bool) → List (String Global) → List (String Global) →
+    Result (Node cmd × model.State) reading.ImageFault
+denoted strict words entries = read_image strict (map string_bytes words) (map string_bytes entries)
+
+-- where a tree and a state are denoted, a world recorded this of them between two moments
+abbrev pub IfDenoted : Result (Node cmd × model.State) reading.ImageFault → Option (List Event) →
+    Option (List Event) → (Node cmd → model.State → List Event → Type 0) → Type 0
+IfDenoted read before after P = (t : Node cmd) (s : model.State) → read ≡ Ok (t, s) → Recorded before after (P t s)
+
+-- a fact for a fault of what was handed over
+abbrev pub IfImage : ShellFault → (ImageFault → Type 0) → Type 0
+IfImage (Syntax fault) P = ⊥
+IfImage (Image fault) P = P fault
+IfImage NoMemory P = Unit {0}

@@ -1,7 +1,8 @@
 use Rattle.std.specs.Prelude.{Err}
+use Rattle.law_handed.proofs.Characters.{accepted_are_scripts}
 use Rattle.rc_tree_types.specs.View.{cmd_tree}
 use Rattle.rc_scope.specs.States.{state_of}
-use Rattle.rc_shell.specs.declared.script.ShellFault.TheVariants.{NoMemory}
+use Rattle.rc_shell.specs.declared.run.ShellFault.TheVariants.{NoMemory}
 use Rattle.rc_shell.proofs.Kept.{ends_proper, hands_over, leaves_nothing, loses_nothing}
 use Rattle.rc_shell.proofs.Runs.{told_nothing}
 use Rattle.rc_shell.proofs.Scripts.{meant_by, not_refused}
@@ -17,31 +18,33 @@ returns-in-Ok-clause-meant g c =
 
 pub returns-in-Ok-clause-lost : goal.returns-in-Ok-clause-lost
 returns-in-Ok-clause-lost g c =
-    loses_nothing (g.W.World.events c.args.world.now) (g.W.World.events c.run_tree.new.world) c.args.limit c.args.script.now (state_of c.args.state) c.run_tree.result (returns-in-Ok-clause-meant g c)
+    λ t a. loses_nothing (g.W.World.events c.args.world.now) (g.W.World.events c.run_tree.new.world) c.args.limit t (state_of c.args.state) c.run_tree.result (returns-in-Ok-clause-meant g c t a)
 
 pub returns-in-Ok-clause-left : goal.returns-in-Ok-clause-left
 returns-in-Ok-clause-left g c =
-    leaves_nothing (g.W.World.events c.args.world.now) (g.W.World.events c.run_tree.new.world) c.args.limit c.args.script.now (state_of c.args.state) c.run_tree.result (returns-in-Ok-clause-meant g c)
+    λ t a. leaves_nothing (g.W.World.events c.args.world.now) (g.W.World.events c.run_tree.new.world) c.args.limit t (state_of c.args.state) c.run_tree.result (returns-in-Ok-clause-meant g c t a)
 
 pub returns-in-Ok-clause-handed : goal.returns-in-Ok-clause-handed
 returns-in-Ok-clause-handed g c =
-    hands_over (g.W.World.events c.args.world.now) (g.W.World.events c.run_tree.new.world) c.args.limit c.args.script.now (state_of c.args.state) c.run_tree.result (returns-in-Ok-clause-meant g c)
+    λ t a. hands_over (g.W.World.events c.args.world.now) (g.W.World.events c.run_tree.new.world) c.args.limit t (state_of c.args.state) c.run_tree.result (accepted_are_scripts c.args.script.now t a) (returns-in-Ok-clause-meant g c t a)
 
 pub returns-in-Ok-clause-proper : goal.returns-in-Ok-clause-proper
 returns-in-Ok-clause-proper g c =
-    ends_proper (g.W.World.events c.args.world.now) (g.W.World.events c.run_tree.new.world) c.args.limit c.args.script.now (state_of c.args.state) c.run_tree.result (cmd_tree c.in-Ok.cmd) c.in-Ok.ensures.accepted (returns-in-Ok-clause-meant g c)
+    let t = cmd_tree c.in-Ok.cmd in
+    let a = c.in-Ok.ensures.accepted in
+    ends_proper (g.W.World.events c.args.world.now) (g.W.World.events c.run_tree.new.world) c.args.limit t (state_of c.args.state) c.run_tree.result (accepted_are_scripts c.args.script.now t a) (returns-in-Ok-clause-meant g c t a)
 
 pub returns-clause-meant : goal.returns-clause-meant
 returns-clause-meant g c = let before = g.W.World.events c.args.world.now in λ t accepted. told_nothing c.args.limit t (state_of c.args.state) before before
 
 pub returns-clause-lost : goal.returns-clause-lost
-returns-clause-lost g c = let before = g.W.World.events c.args.world.now in loses_nothing before before c.args.limit c.args.script.now (state_of c.args.state) (Err NoMemory) (returns-clause-meant g c)
+returns-clause-lost g c = let before = g.W.World.events c.args.world.now in λ t a. loses_nothing before before c.args.limit t (state_of c.args.state) (Err NoMemory) (returns-clause-meant g c t a)
 
 pub returns-clause-left : goal.returns-clause-left
-returns-clause-left g c = let before = g.W.World.events c.args.world.now in leaves_nothing before before c.args.limit c.args.script.now (state_of c.args.state) (Err NoMemory) (returns-clause-meant g c)
+returns-clause-left g c = let before = g.W.World.events c.args.world.now in λ t a. leaves_nothing before before c.args.limit t (state_of c.args.state) (Err NoMemory) (returns-clause-meant g c t a)
 
 pub returns-clause-handed : goal.returns-clause-handed
-returns-clause-handed g c = let before = g.W.World.events c.args.world.now in hands_over before before c.args.limit c.args.script.now (state_of c.args.state) (Err NoMemory) (returns-clause-meant g c)
+returns-clause-handed g c = let before = g.W.World.events c.args.world.now in λ t a. hands_over before before c.args.limit t (state_of c.args.state) (Err NoMemory) (accepted_are_scripts c.args.script.now t a) (returns-clause-meant g c t a)
 
 pub returns-in-Err-Fault-clause-meant : goal.returns-in-Err-Fault-clause-meant
 returns-in-Err-Fault-clause-meant g c = λ t accepted. not_refused c.args.script.now t accepted c.in-Err-Fault.fault (rw c.in-Err-Fault.field-0-is at c.in-Err-Fault.ensures.refused)

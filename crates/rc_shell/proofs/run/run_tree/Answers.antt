@@ -5,7 +5,7 @@ use Rattle.rc_model.specs.Code.Machine.{begin}
 use Rattle.rc_scope.specs.States.{state_of}
 use Rattle.rc_tree_types.specs.View.{cmd_tree}
 use Rattle.rc_shell.proofs.Runs.{begins, told_begun, told_ended, told_halted, told_limit, told_nothing}
-use Rattle.rc_shell.proofs.script.run_tree.Goals as goal
+use Rattle.rc_shell.proofs.run.run_tree.Goals as goal
 
 pub returns-in_default : goal.returns-in_default
 returns-in_default g c = let before = g.W.World.events c.args.world.now in told_nothing c.args.limit (cmd_tree c.args.cmd.now) (state_of c.args.state) before before
@@ -30,13 +30,6 @@ returns-in-Ok-Halted g c =
     let s = state_of c.args.state in
     let start : config_of c.new-machine.result ≡ begin t s = begins t s (code_of c.in-Ok.code) (config_of c.new-machine.result) c.new-machine.ensures.begins c.in-Ok.ensures in
     told_halted c.args.limit t s _ _ (rw (c.in-Ok-Halted.field-0-is, start) at (c.in-Ok-Halted.ensures.runs c.new-machine.ensures.running))
-
-pub returns-in-Ok-NotYet : goal.returns-in-Ok-NotYet
-returns-in-Ok-NotYet g c =
-    let t = cmd_tree c.args.cmd.now in
-    let s = state_of c.args.state in
-    let start : config_of c.new-machine.result ≡ begin t s = begins t s (code_of c.in-Ok.code) (config_of c.new-machine.result) c.new-machine.ensures.begins c.in-Ok.ensures in
-    told_begun c.args.limit t s _ _ (rw (c.in-Ok-NotYet.field-0-is, start) at (c.in-Ok-NotYet.ensures.runs c.new-machine.ensures.running))
 
 pub returns-in-Err : goal.returns-in-Err
 returns-in-Err g c =

@@ -1,0 +1,65 @@
+//! Runs a tree from a state.
+
+ghost use Rattle.rc_model.specs.Run.Script.{Recorded};
+ghost use Rattle.rc_scope.specs.States.{state_of};
+ghost use Rattle.rc_shell.specs.Executed.{RunsAsMeant};
+ghost use Rattle.rc_tree_types.specs.View.{cmd_tree};
+
+use rc_code::compile;
+use rc_image::ImageFault;
+use rc_machine::{Machine, Progress};
+use rc_model::SyntaxFault;
+use rc_scope::State;
+use rc_tree::Cmd;
+use rc_world::World;
+use std::alloc::{AllocError, Global};
+use thiserror::Error;
+
+/// How the run of a script ended.
+#[derive(Drop)]
+pub enum Ran {
+    /// At its end, with the state there.
+    Ended { state: State },
+    /// Its instructions were used up.
+    Limit,
+    /// A call was not answered.
+    Halted,
+}
+
+/// Why a script was not run to its end.
+#[derive(Debug, Drop, Error)]
+pub enum ShellFault {
+    /// The script is not accepted. No call was made.
+    #[error("not a script")]
+    Syntax(SyntaxFault),
+    /// What was handed over doesn't read back. No call was made.
+    #[error("not an image")]
+    Image(ImageFault),
+    #[error("out of memory")]
+    NoMemory,
+}
+
+/// Runs a command that is a script of its own.
+pub fn run_tree<W: World>(
+    alloc: Global,
+    world: &mut W,
+    cmd: &Cmd,
+    state: State,
+    limit: u64,
+) -> Result<Ran, ShellFault>
+    ensures { Recorded (W.events world.old) (W.events world.new)
+        (λ trace. RunsAsMeant limit (cmd_tree cmd.now) (state_of state) trace result) }
+{
+    let Ok(code) = compile(alloc, cmd) else {
+        return Err(ShellFault::NoMemory);
+    };
+    let mut machine = Machine::new(alloc, code, state);
+    match machine.run(alloc, world, limit) {
+        Ok(Progress::Ended) => Ok(Ran::Ended {
+            state: machine.into_state(),
+        }),
+        Ok(Progress::Limit) => Ok(Ran::Limit),
+        Ok(Progress::Halted) => Ok(Ran::Halted),
+        Err(AllocError) => Err(ShellFault::NoMemory),
+    }
+}
