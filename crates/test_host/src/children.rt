@@ -1,10 +1,12 @@
 //! Children.
 use crate::host::{
-    PLAIN, enter_fresh_directory, granted, host, launch, leave_directory, read_all, run,
-    run_script, script,
+    enter_fresh_directory, granted, host, launch, leave_directory, read_all, run, run_script,
+    script,
 };
 use rc_host::HostWorld;
-use rc_world::{ChildNo, Ending, Fault, Handle, Kind, Launch, Mode, Program, Slot, Slots, World};
+use rc_world::{
+    ChildNo, Ending, Fault, Handle, Kind, Launch, Mode, PLAIN_SLOTS, Program, Slot, Slots, World,
+};
 use std::alloc::{AllocError, Global};
 use std::test::Fail;
 
@@ -21,13 +23,13 @@ fn starts_children_and_waits(rt: HostRuntime) -> Result<(), Fail> {
     ] {
         assert!(rt; run_script(alloc, &mut host, text)? == want, "{text}");
     }
-    let mut shell = launch(alloc, "", &[], &[], PLAIN)?;
+    let mut shell = launch(alloc, "", &[], &[], PLAIN_SLOTS)?;
     shell.program = Program::Shell;
     assert!(rt;
         run(&mut host, &shell)? == Ending::Code(1),
         "the shell is /bin/false"
     );
-    let child = launch(alloc, "/bin/true", &[], &[], PLAIN)?;
+    let child = launch(alloc, "/bin/true", &[], &[], PLAIN_SLOTS)?;
     for number in 0..3u32 {
         assert!(rt; granted(host.start(&child))? == ChildNo(number));
     }
@@ -54,20 +56,20 @@ fn hands_on_arguments_and_entries(rt: HostRuntime) -> Result<(), Fail> {
     let args = ["-c", text, "sh", "a b", "", "$x", "é\n"];
     let copied = Slots {
         errors: Slot::Own(1),
-        ..PLAIN
+        ..PLAIN_SLOTS
     };
-    for slots in [PLAIN, copied] {
+    for slots in [PLAIN_SLOTS, copied] {
         assert!(rt;
             run(&mut host, &launch(alloc, "/bin/sh", &args, &[], slots)?)? == Ending::Code(0)
         );
     }
     let text = "test \"$(/usr/bin/tr '\\0' , </proc/$$/environ)\" = a=1,b=x=y,c=,";
     let entries = ["a=1", "b=x=y", "c="];
-    for slots in [PLAIN, copied] {
+    for slots in [PLAIN_SLOTS, copied] {
         let launch = launch(alloc, "/bin/sh", &["-c", text], &entries, slots)?;
         assert!(rt; run(&mut host, &launch)? == Ending::Code(0));
     }
-    let no_entry = launch(alloc, "/bin/true", &[], &["a"], PLAIN)?;
+    let no_entry = launch(alloc, "/bin/true", &[], &["a"], PLAIN_SLOTS)?;
     assert!(rt; host.start(&no_entry) == Err(Fault::Other));
     Ok(())
 }
@@ -87,18 +89,18 @@ fn refuses_launches(rt: HostRuntime) -> Result<(), Fail> {
         ("./plain/x", Fault::Other),
     ] {
         assert!(rt;
-            host.start(&launch(alloc, path, &[], &[], PLAIN)?) == Err(want),
+            host.start(&launch(alloc, path, &[], &[], PLAIN_SLOTS)?) == Err(want),
             "{path}"
         );
     }
     let stranger = Slots {
         errors: Slot::To(Handle(0)),
-        ..PLAIN
+        ..PLAIN_SLOTS
     };
     let exchanged = Slots {
         output: Slot::Own(2),
         errors: Slot::Own(1),
-        ..PLAIN
+        ..PLAIN_SLOTS
     };
     for slots in [stranger, exchanged] {
         let launch = launch(alloc, "/bin/true", &[], &[], slots)?;
@@ -106,7 +108,7 @@ fn refuses_launches(rt: HostRuntime) -> Result<(), Fail> {
     }
     let copied = Slots {
         errors: Slot::Own(1),
-        ..PLAIN
+        ..PLAIN_SLOTS
     };
     let by_sh = launch(alloc, "./none", &[], &[], copied)?;
     assert!(rt;
@@ -127,13 +129,13 @@ fn runs_children_at_once(rt: HostRuntime) -> Result<(), Fail> {
         "n=0; while test $n -lt 1000000; do test -e made && exit; n=$((n + 1)); done; exit 1";
     let slots = Slots {
         output: Slot::To(writer),
-        ..PLAIN
+        ..PLAIN_SLOTS
     };
     let first = granted(host.start(&script(alloc, looks, "sh", slots)?))?;
     granted(host.close(writer))?;
     let slots = Slots {
         input: Slot::To(reader),
-        ..PLAIN
+        ..PLAIN_SLOTS
     };
     let second = granted(host.start(&script(alloc, ": >made", "sh", slots)?))?;
     assert!(rt; host.wait(second) == Ok(Ending::Code(0)));
@@ -145,12 +147,12 @@ fn runs_children_at_once(rt: HostRuntime) -> Result<(), Fail> {
 /// The calls of a pipeline of the shell and a program.
 fn run_pipeline(alloc: Global, host: &mut HostWorld, last: &str) -> Result<(), Fail> {
     let (reader, writer) = granted(host.pipe())?;
-    let mut shell = launch(alloc, "", &["-S"], &["a=b"], PLAIN)?;
+    let mut shell = launch(alloc, "", &["-S"], &["a=b"], PLAIN_SLOTS)?;
     shell.program = Program::Shell;
     shell.slots.output = Slot::To(writer);
     let first = granted(host.start(&shell))?;
     granted(host.close(writer))?;
-    let mut program = launch(alloc, last, &[], &[], PLAIN)?;
+    let mut program = launch(alloc, last, &[], &[], PLAIN_SLOTS)?;
     program.slots.input = Slot::To(reader);
     let _ = host.probe(last);
     if let Ok(second) = host.start(&program) {
@@ -210,7 +212,13 @@ fn out_of_memory_is_answered(rt: HostRuntime) -> Result<(), Fail> {
     let alloc = rt.alloc();
     let mut host = host(rt)?;
     let (reader, writer) = granted(host.pipe())?;
-    let mut child = launch(alloc, "/bin/echo", &["a", "b"], &["a=1", "b=2"], PLAIN)?;
+    let mut child = launch(
+        alloc,
+        "/bin/echo",
+        &["a", "b"],
+        &["a=1", "b=2"],
+        PLAIN_SLOTS,
+    )?;
     child.slots.output = Slot::To(writer);
     let started = granted(host.start(&child))?;
     granted(host.close(writer))?;

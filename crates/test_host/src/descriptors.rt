@@ -1,11 +1,11 @@
 //! The descriptors of a process and of its children: a test starts itself again, with files of its
 //! own as descriptors 1 and 2.
 use crate::host::{
-    PLAIN, again, contents, enter_fresh_directory, granted, host, is_started_again,
-    leave_directory, run, script,
+    again, contents, enter_fresh_directory, granted, host, is_started_again, leave_directory, run,
+    script,
 };
 use rc_host::{HostWorld, own_path};
-use rc_world::{Ending, Fault, Mode, Slot, Slots, World};
+use rc_world::{Ending, Fault, Mode, PLAIN_SLOTS, Slot, Slots, World};
 use std::alloc::Global;
 use std::test::Fail;
 
@@ -39,7 +39,7 @@ fn speak(alloc: Global, host: &mut HostWorld) -> Result<(), Fail> {
         let slots = Slots {
             output,
             errors,
-            ..PLAIN
+            ..PLAIN_SLOTS
         };
         says(alloc, host, name, slots)?;
     }

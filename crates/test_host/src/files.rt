@@ -1,10 +1,9 @@
 //! Files, pipes and directories.
 use crate::host::{
-    PLAIN, contents, enter_fresh_directory, granted, host, leave_directory, read_all, run_script,
-    script,
+    contents, enter_fresh_directory, granted, host, leave_directory, read_all, run_script, script,
 };
 use rc_host::HostWorld;
-use rc_world::{Ending, Fault, Handle, Kind, Mode, Slot, Slots, World};
+use rc_world::{Ending, Fault, Handle, Kind, Mode, PLAIN_SLOTS, Slot, Slots, World};
 use std::alloc::Global;
 use std::rt::HostRuntime;
 use std::test::Fail;
@@ -81,7 +80,7 @@ fn writes_long_texts(rt: HostRuntime) -> Result<(), Fail> {
     let (reader, writer) = granted(host.pipe())?;
     let slots = Slots {
         input: Slot::To(reader),
-        ..PLAIN
+        ..PLAIN_SLOTS
     };
     let counts = script(alloc, "test $(wc -c) = 300000", "sh", slots)?;
     let child = granted(host.start(&counts))?;

@@ -1,6 +1,6 @@
 //! A host, and what is launched on it.
 use rc_host::{HostWorld, entries};
-use rc_world::{Ending, Fault, Handle, Launch, Mode, Program, Slot, Slots, World};
+use rc_world::{Ending, Fault, Handle, Launch, Mode, PLAIN_SLOTS, Program, Slots, World};
 use std::alloc::{AllocError, Global};
 use std::process;
 use std::rt::HostRuntime;
@@ -8,13 +8,6 @@ use std::test::Fail;
 
 /// The entry that says that this process was started by its own test.
 const AGAIN: &str = "RC_HOST_TEST=again";
-
-/// Each descriptor is that of this process.
-pub const PLAIN: Slots = Slots {
-    input: Slot::Own(0),
-    output: Slot::Own(1),
-    errors: Slot::Own(2),
-};
 
 /// A host that has opened and started nothing.
 pub fn host(rt: HostRuntime) -> Result<HostWorld, AllocError> {
@@ -73,7 +66,7 @@ pub fn run(host: &mut HostWorld, launch: &Launch) -> Result<Ending, Fail> {
 
 /// How a script of `/bin/sh` ends, with the descriptors of this process.
 pub fn run_script(alloc: Global, host: &mut HostWorld, text: &str) -> Result<Ending, Fail> {
-    run(host, &script(alloc, text, "sh", PLAIN)?)
+    run(host, &script(alloc, text, "sh", PLAIN_SLOTS)?)
 }
 
 /// What is left to read of a file or a pipe, which is closed.

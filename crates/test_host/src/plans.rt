@@ -1,7 +1,7 @@
 //! The plans of launches.
-use crate::host::{PLAIN, launch};
+use crate::host::launch;
 use rc_host::plan;
-use rc_world::{Fault, Handle, Program, Slot, Slots};
+use rc_world::{Fault, Handle, PLAIN_SLOTS, Program, Slot, Slots};
 use std::alloc::Global;
 use std::test::Fail;
 
@@ -76,12 +76,12 @@ fn plans_launches(rt: HostRuntime) -> Result<(), Fail> {
             "{path}"
         );
     }
-    let mut shell = launch(alloc, "", &["-S", "rc1;e"], &["a=b"], PLAIN)?;
+    let mut shell = launch(alloc, "", &["-S", "rc1;e"], &["a=b"], PLAIN_SLOTS)?;
     shell.program = Program::Shell;
     let Ok(plan) = plan(alloc, &shell, "/bin/rc") else {
         panic!(rt; "the shell has no plan");
     };
-    assert!(rt; plan.program.as_str() == "/bin/rc" && plan.slots == PLAIN);
+    assert!(rt; plan.program.as_str() == "/bin/rc" && plan.slots == PLAIN_SLOTS);
     assert!(rt; plan.args.len() == 2 && plan.args[1].as_str() == "rc1;e");
     assert!(rt; plan.env.len() == 1 && plan.env[0].as_str() == "a=b");
     Ok(())

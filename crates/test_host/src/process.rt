@@ -1,7 +1,7 @@
 //! What a program takes from its process: the test starts itself again, by way of `/bin/sh`.
-use crate::host::{PLAIN, again, granted, host, is_started_again, run, run_script};
+use crate::host::{again, granted, host, is_started_again, run, run_script};
 use rc_host::{ArgumentsFault, arguments, entries, open_standard, own_path};
-use rc_world::{Ending, Mode, World};
+use rc_world::{Ending, Mode, PLAIN_SLOTS, World};
 use std::test::Fail;
 
 /// Descriptors 0 and 2 are closed, an argument and an entry are not UTF-8.
@@ -29,7 +29,13 @@ fn is_taken(rt: HostRuntime) -> Result<(), Fail> {
     let words = arguments(&rt)?;
     assert!(rt; words.len() == 1 && words[0].as_str() == "process::is_taken");
     let this = own_path(&rt)?;
-    let again = again(alloc, &mut host, "/bin/sh", &["-c", START, &this], PLAIN)?;
+    let again = again(
+        alloc,
+        &mut host,
+        "/bin/sh",
+        &["-c", START, &this],
+        PLAIN_SLOTS,
+    )?;
     assert!(rt; run(&mut host, &again)? == Ending::Code(0));
     Ok(())
 }

@@ -1,12 +1,14 @@
 //! Runs of the shell as a process of its own: how it ends, and what it writes. With arguments, this
-//! program is itself the shell, with the arguments after the first.
+//! program is itself the shell: after a first word `rc` with the others, and else with all of them,
+//! as it is started where a shell starts itself.
 #![tactic(auto)]
 
+mod children;
 mod runs;
 
 use anyhow::Result;
 use rc_cli::{RunFault, Source, report, request_of, run_rc};
-use rc_host::{ArgumentsFault, HostWorld, arguments, open_standard, own_path};
+use rc_host::{ArgumentsFault, HostWorld, arguments, entries, open_standard, own_path};
 use runs::show_all;
 use std::fs;
 use std::process::ExitCode;
@@ -17,11 +19,15 @@ fn shell<'a>(rt: HostRuntime, words: &'a [String]) -> Result<u8, RunFault<'a>> {
     };
     open_standard(&rt).map_err(|_| RunFault::CannotRead("standard input"))?;
     let shell = own_path(&rt)?;
+    let entries = entries(&rt)?;
     let mut world = HostWorld::new(rt, shell);
     match request.source {
-        Source::File(name) => run_rc(rt.alloc(), &mut world, words, fs::open(&rt, name).ok()),
-        Source::Input | Source::Text(_) => {
-            run_rc(rt.alloc(), &mut world, words, Some(rt.reader()))
+        Source::File(name) => {
+            let file = fs::open(&rt, name).ok();
+            run_rc(rt.alloc(), &mut world, words, &entries, file)
+        }
+        Source::Input | Source::Text(_) | Source::Image => {
+            run_rc(rt.alloc(), &mut world, words, &entries, Some(rt.reader()))
         }
     }
 }
@@ -37,6 +43,7 @@ fn main(rt: HostRuntime) -> Result<ExitCode> {
             show_all(&rt, &own_path(&rt)?)?;
             Ok(ExitCode::SUCCESS)
         }
-        [_, further @ ..] => Ok(report(&rt, shell(rt, further))),
+        [first, further @ ..] if first.as_str() == "rc" => Ok(report(&rt, shell(rt, further))),
+        all => Ok(report(&rt, shell(rt, all))),
     }
 }

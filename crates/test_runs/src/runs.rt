@@ -1,4 +1,5 @@
 //! The runs, and how each is shown.
+use crate::children::CHILDREN;
 use anyhow::Result;
 use std::alloc::{AllocError, AllocGlobal, Global};
 use std::fs;
@@ -8,7 +9,7 @@ use std::process::{Command, Output, Processes, Stdio};
 use std::rt::Files;
 
 /// Each run: what it shows, the text that its script repeats, and how often.
-const RUNS: [(&str, &[u8], usize); 14] = [
+const RUNS: [(&str, &[u8], usize); 13] = [
     ("a command", b"echo hello\n", 1),
     (
         "newlines and semicolons",
@@ -30,11 +31,10 @@ const RUNS: [(&str, &[u8], usize); 14] = [
     ("a script over that size", b" ", 1_048_577),
     ("a byte that is no text", b"true\ntrue \xff\n", 1),
     ("a token that fits no script", b"a | ;", 1),
-    ("a form that doesn't run yet", b"echo first; x=`{echo}", 1),
 ];
 
 /// Each further run: what it shows, its arguments, and its input.
-const ARGUMENTS: [(&str, &[&str], &[u8]); 25] = [
+const ARGUMENTS: [(&str, &[&str], &[u8]); 34] = [
     ("a text", &["-c", "echo a; echo b"], b""),
     (
         "a text with arguments",
@@ -61,6 +61,8 @@ const ARGUMENTS: [(&str, &[&str], &[u8]); 25] = [
     ("a status that is a list", &["-c", "status=(3 4)"], b""),
     ("a wrong option", &["-x", "arguments.rc"], b""),
     ("an option without its text", &["-e", "-c"], b""),
+    ("no image", &["-S"], b""),
+    ("a bad image", &["-S", "rc1;c1,w1:ab"], b""),
     (
         "a function",
         &[
@@ -110,6 +112,28 @@ const ARGUMENTS: [(&str, &[&str], &[u8]); 25] = [
     ("another directory", &["-c", "cd /; pwd"], b""),
     ("exec", &["-c", "exec echo last; echo never"], b""),
     (
+        "a full device",
+        &[
+            "-c",
+            "whatis cd >/dev/full; echo $status; nope >[2]/dev/full; echo $status",
+        ],
+        b"",
+    ),
+    ("a directory as a file", &["-c", "echo a >/; echo on"], b""),
+    (
+        "copies before and after files",
+        &[
+            "-c",
+            "sh says_both.sh >made >[2=1]; cat made; sh says_both.sh >[2=1] >made; cat made; \
+             sh says_both.sh >[1=2] >[2]made; cat made; rm made",
+        ],
+        b"",
+    ),
+    ("sixty redirections inside one another", &["nested.rc"], b""),
+    ("10,000 redirections", &["redirections.rc"], b""),
+    ("100,000 calls and 100,000 evals", &["loops.rc"], b""),
+    ("two hundred levels", &["levels.rc"], b""),
+    (
         "what names stand for",
         &["-c", "x=(a 'b c'); fn f {echo hi}; whatis x f cd"],
         b"",
@@ -119,11 +143,26 @@ const ARGUMENTS: [(&str, &[&str], &[u8]); 25] = [
 /// Starts the shell with an argument that isn't UTF-8.
 const NO_TEXT: &str = "exec \"$0\" rc -c 'echo a' \"$(printf '\\377')\"";
 
+/// Starts the shell with variables of the environment, one of which isn't UTF-8.
+const ENVIRONMENT: &str = "HOME=/h x=a y=\"$(printf '\\377')\" exec \"$0\" rc";
+
+/// What these variables are to a script.
+const GIVEN: &[u8] = b"echo $x $home $#y $path $#*";
+
+/// Starts the shell with an image, in a strict shell.
+const IMAGE: &str =
+    "path=/bin exec \"$0\" rc -e -S 'rc1;s2,;c3,w4:echo#w3:ifs$w1:*;c1,w5:false' p q";
+
 /// Starts the shell without a descriptor 2.
 const NO_ERRORS: &str = "exec \"$0\" rc 2>&-";
 
-/// What descriptor 2 is to a child of the shell.
-const PROBE_ERRORS: &[u8] = b"sh probes_errors.sh; nope";
+/// What descriptor 2 is to a child of the shell, and that no file of a script takes its place.
+const PROBE_ERRORS: &[u8] = b"sh probes_errors.sh; nope; nope >made; wc -c made; rm made";
+
+/// Starts the shell without a descriptor 0 or 1.
+const NO_INPUT: &str = "exec \"$0\" rc -c 'cat; echo read' 0<&-";
+
+const NO_OUTPUT: &str = "exec \"$0\" rc 1>&-";
 
 /// Shows each run: its status, what it wrote to descriptor 1, and what to descriptor 2.
 pub fn show_all<R: Print + Files<File = File> + Processes + AllocGlobal>(
@@ -133,33 +172,54 @@ pub fn show_all<R: Print + Files<File = File> + Processes + AllocGlobal>(
     for (what, text, times) in RUNS {
         show(rt, what, &with_text(rt, shell(rt.alloc())?, text, times)?)?;
     }
-    show_arguments(rt)?;
+    show_each(rt, &ARGUMENTS)?;
+    show_each(rt, &CHILDREN)?;
     let no_text = through_sh(rt.alloc(), NO_TEXT, own_path)?;
     show(
         rt,
         "an argument that isn't UTF-8",
         &with_text(rt, no_text, b"", 1)?,
     )?;
+    let given = through_sh(rt.alloc(), ENVIRONMENT, own_path)?;
+    show(rt, "the environment", &with_text(rt, given, GIVEN, 1)?)?;
+    let handed = through_sh(rt.alloc(), IMAGE, own_path)?;
+    show(rt, "an image", &with_text(rt, handed, b"", 1)?)?;
     let closed = through_sh(rt.alloc(), NO_ERRORS, own_path)?;
     show(
         rt,
         "descriptor 2 closed at the start",
         &with_text(rt, closed, PROBE_ERRORS, 1)?,
     )?;
+    let closed = through_sh(rt.alloc(), NO_INPUT, own_path)?;
+    show(
+        rt,
+        "descriptor 0 closed at the start",
+        &with_text(rt, closed, b"", 1)?,
+    )?;
+    let closed = through_sh(rt.alloc(), NO_OUTPUT, own_path)?;
+    show(
+        rt,
+        "descriptor 1 closed at the start",
+        &with_text(rt, closed, b"echo a; nope", 1)?,
+    )?;
     show(rt, "an input that can't be read", &with_directory(rt)?)
 }
 
-fn show_arguments<R: Print + Processes + AllocGlobal>(rt: &R) -> Result<()> {
-    for (what, arguments, input) in ARGUMENTS {
+fn show_each<R: Print + Processes + AllocGlobal>(
+    rt: &R,
+    runs: &[(&str, &[&str], &[u8])],
+) -> Result<()> {
+    for (what, arguments, input) in runs {
         let shell = with_arguments(rt.alloc(), arguments)?;
         show(rt, what, &with_text(rt, shell, input, 1)?)?;
     }
     Ok(())
 }
 
-/// The shell as a process.
+/// The shell as a process without an environment.
 fn shell(alloc: Global) -> Result<Command, AllocError> {
     let mut command = Command::new(alloc, "/proc/self/exe")?;
+    command.env_clear();
     command.arg("rc")?;
     Ok(command)
 }
@@ -173,9 +233,10 @@ fn with_arguments(alloc: Global, arguments: &[&str]) -> Result<Command, AllocErr
     Ok(command)
 }
 
-/// The shell as a process that another shell starts by this text.
+/// The shell as a process that another shell, without an environment, starts by this text.
 fn through_sh(alloc: Global, text: &str, own_path: &str) -> Result<Command, AllocError> {
     let mut command = Command::new(alloc, "/bin/sh")?;
+    command.env_clear();
     command.arg("-c")?;
     command.arg(text)?;
     command.arg(own_path)?;

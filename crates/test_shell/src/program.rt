@@ -1,17 +1,12 @@
 //! Runs over a tape.
 use rc_cli::{RunFault, Source, process_status, request_of, run_rc};
 use rc_model::{FaultKind, SyntaxFault};
-use rc_world::{Answer, Call, ChildNo, Ending, Kind, Program, Slot, Slots, Tape};
+use rc_world::{Answer, Call, ChildNo, Ending, Kind, Launch, PLAIN_SLOTS, Program, Tape};
 use std::alloc::{AllocError, Global};
 use std::io;
 use std::io::{ErrorKind, Read};
+use std::process::Abort;
 use std::test::Fail;
-
-const PLAIN: Slots = Slots {
-    input: Slot::Own(0),
-    output: Slot::Own(1),
-    errors: Slot::Own(2),
-};
 
 /// A reader that gives a text once and then fails.
 #[derive(Drop)]
@@ -51,7 +46,7 @@ fn syntax(kind: FaultKind, line: usize) -> RunFault<'static> {
 fn runs_a_command(rt: HostRuntime) -> Result<(), Fail> {
     let alloc = rt.alloc();
     let mut tape = one_program(alloc, Ending::Code(0))?;
-    let ended = run_rc(alloc, &mut tape, &[], Some(b"echo hello\n".as_slice()));
+    let ended = run_rc(alloc, &mut tape, &[], &[], Some(b"echo hello\n".as_slice()));
     assert_eq!(rt; ended, Ok(0));
     let [Call::Probe(path), Call::Start(launch), Call::Wait(child)] = tape.calls() else {
         panic!(rt; "other calls");
@@ -65,7 +60,7 @@ fn runs_a_command(rt: HostRuntime) -> Result<(), Fail> {
     for (entry, want) in launch.env.iter().zip(entries) {
         assert_eq!(rt; entry.as_str(), want);
     }
-    assert!(rt; launch.slots == PLAIN);
+    assert!(rt; launch.slots == PLAIN_SLOTS);
     assert!(rt; *child == ChildNo(7));
     Ok(())
 }
@@ -73,7 +68,7 @@ fn runs_a_command(rt: HostRuntime) -> Result<(), Fail> {
 #[test]
 fn out_of_memory_is_reported(rt: HostRuntime) -> Result<(), Fail> {
     let mut tape = no_answers(rt.alloc());
-    let ended = run_rc(rt.alloc(), &mut tape, &[], Some(b"c".as_slice()));
+    let ended = run_rc(rt.alloc(), &mut tape, &[], &[], Some(b"c".as_slice()));
     if ended == Err(RunFault::NoMemory) {
         assert!(rt; tape.calls().is_empty());
         return Err(Fail::from(AllocError));
@@ -92,12 +87,12 @@ fn ends_as_the_script(rt: HostRuntime) -> Result<(), Fail> {
         (Ending::Signal, 1),
     ] {
         let mut tape = one_program(rt.alloc(), ending)?;
-        let ended = run_rc(rt.alloc(), &mut tape, &[], Some(b"c".as_slice()));
+        let ended = run_rc(rt.alloc(), &mut tape, &[], &[], Some(b"c".as_slice()));
         assert_eq!(rt; ended, Ok(want));
     }
     let mut tape = no_answers(rt.alloc());
     assert_eq!(rt;
-        run_rc(rt.alloc(), &mut tape, &[], Some(b"# note".as_slice())),
+        run_rc(rt.alloc(), &mut tape, &[], &[], Some(b"# note".as_slice())),
         Ok(0)
     );
     assert!(rt; tape.calls().is_empty());
@@ -140,16 +135,16 @@ fn looks_for_faults_in_order(rt: HostRuntime) -> Result<(), Fail> {
     let mut tape = no_answers(alloc);
     let file = words(alloc, &["script"])?;
     let wrong = words(alloc, &["-x"])?;
-    let ended = run_rc(alloc, &mut tape, &wrong, Some(Broken { text: b"" }));
+    let ended = run_rc(alloc, &mut tape, &wrong, &[], Some(Broken { text: b"" }));
     assert_eq!(rt; ended, Err(RunFault::Usage));
-    let ended = run_rc(alloc, &mut tape, &file, Some(Broken { text: b"\xff" }));
+    let ended = run_rc(alloc, &mut tape, &file, &[], Some(Broken { text: b"\xff" }));
     assert_eq!(rt; ended, Err(RunFault::CannotRead("script")));
-    let ended = run_rc(alloc, &mut tape, &[], Some(Broken { text: b"\xff" }));
+    let ended = run_rc(alloc, &mut tape, &[], &[], Some(Broken { text: b"\xff" }));
     assert_eq!(rt; ended, Err(RunFault::CannotRead("standard input")));
-    let ended = run_rc(alloc, &mut tape, &file, Some(b"c\n\xff".as_slice()));
+    let ended = run_rc(alloc, &mut tape, &file, &[], Some(b"c\n\xff".as_slice()));
     assert_eq!(rt; ended, Err(syntax(FaultKind::NotText, 2)));
     assert!(rt; tape.calls().is_empty());
-    let ended = run_rc(alloc, &mut tape, &file, Some(b"c".as_slice()));
+    let ended = run_rc(alloc, &mut tape, &file, &[], Some(b"c".as_slice()));
     assert_eq!(rt; ended, Err(RunFault::Halted));
     assert_eq!(rt; tape.calls().len(), 1);
     Ok(())
@@ -157,12 +152,11 @@ fn looks_for_faults_in_order(rt: HostRuntime) -> Result<(), Fail> {
 
 #[test]
 fn refuses_a_wrong_use(rt: HostRuntime) -> Result<(), Fail> {
-    let wrong: [&[&str]; 8] = [
+    let wrong: [&[&str]; 7] = [
         &["-c"],
         &["-"],
         &["--", "file"],
         &["-x", "file"],
-        &["-S"],
         &["-e", "-e"],
         &["-e", "-c"],
         &["-ec", "c"],
@@ -171,7 +165,7 @@ fn refuses_a_wrong_use(rt: HostRuntime) -> Result<(), Fail> {
         let words = words(rt.alloc(), texts)?;
         assert!(rt; request_of(&words).is_none());
         let mut tape = no_answers(rt.alloc());
-        let ended = run_rc(rt.alloc(), &mut tape, &words, Some(b"c".as_slice()));
+        let ended = run_rc(rt.alloc(), &mut tape, &words, &[], Some(b"c".as_slice()));
         assert_eq!(rt; ended, Err(RunFault::Usage));
         assert!(rt; tape.calls().is_empty());
     }
@@ -197,7 +191,7 @@ fn hands_on_the_arguments(rt: HostRuntime) -> Result<(), Fail> {
     let alloc = rt.alloc();
     let words = words(alloc, &["-c", "echo $#* $2 $*", "-e", "", "b c"])?;
     let mut tape = one_program(alloc, Ending::Code(0))?;
-    let ended = run_rc(alloc, &mut tape, &words, Some(b"".as_slice()));
+    let ended = run_rc(alloc, &mut tape, &words, &[], Some(b"".as_slice()));
     assert_eq!(rt; ended, Ok(0));
     let [_, Call::Start(launch), _] = tape.calls() else {
         panic!(rt; "other calls");
@@ -214,11 +208,11 @@ fn hands_on_the_arguments(rt: HostRuntime) -> Result<(), Fail> {
 fn reads_nothing_of_a_file_that_was_not_opened(rt: HostRuntime) -> Result<(), Fail> {
     let file = words(rt.alloc(), &["-e", "lib/run", "-x"])?;
     let mut tape = no_answers(rt.alloc());
-    let ended = run_rc::<_, &[u8]>(rt.alloc(), &mut tape, &file, None);
+    let ended = run_rc::<_, &[u8]>(rt.alloc(), &mut tape, &file, &[], None);
     assert_eq!(rt; ended, Err(RunFault::CannotRead("lib/run")));
     assert!(rt; tape.calls().is_empty());
     let text = words(rt.alloc(), &["-c", "c"])?;
-    let ended = run_rc::<_, &[u8]>(rt.alloc(), &mut tape, &text, None);
+    let ended = run_rc::<_, &[u8]>(rt.alloc(), &mut tape, &text, &[], None);
     assert_eq!(rt; ended, Err(RunFault::Halted));
     Ok(())
 }
@@ -232,17 +226,162 @@ fn a_strict_shell_ends_at_a_failure(rt: HostRuntime) -> Result<(), Fail> {
     ] {
         let words = words(alloc, &texts)?;
         let mut tape = one_program(alloc, Ending::Code(2))?;
-        let ended = run_rc(alloc, &mut tape, &words, Some(b"".as_slice()));
+        let ended = run_rc(alloc, &mut tape, &words, &[], Some(b"".as_slice()));
         assert_eq!(rt; ended, want);
         assert_eq!(rt; tape.calls().len(), calls);
     }
     Ok(())
 }
 
+/// The launch of a run that looked for one program and found it.
+fn launch_of(tape: &Tape) -> Option<&Launch> {
+    match tape.calls() {
+        [Call::Probe(_), Call::Start(launch), Call::Wait(_)] => Some(launch),
+        _ => None,
+    }
+}
+
+/// Fails unless a run with these arguments and entries starts one program with these.
+fn check_launch(
+    rt: &(impl Abort + AllocGlobal),
+    texts: &[&str],
+    environment: &[&str],
+    args: &[&str],
+    env: &[&str],
+) -> Result<(), Fail> {
+    let alloc = rt.alloc();
+    let texts = words(alloc, texts)?;
+    let environment = words(alloc, environment)?;
+    let mut tape = one_program(alloc, Ending::Code(0))?;
+    let ended = run_rc::<_, &[u8]>(alloc, &mut tape, &texts, &environment, None);
+    assert_eq!(rt; ended, Ok(0));
+    let Some(launch) = launch_of(&tape) else {
+        panic!(rt; "other calls");
+    };
+    assert_eq!(rt; launch.args, words(alloc, args)?);
+    assert_eq!(rt; launch.env, words(alloc, env)?);
+    Ok(())
+}
+
+#[test]
+fn the_environment_gives_variables(rt: HostRuntime) -> Result<(), Fail> {
+    let environment = [
+        "",
+        "e",
+        "=d",
+        "a-b=c",
+        "12=x",
+        "*=z",
+        "x=a\u{1}b\u{2}A",
+        "x=c",
+        "ifs=:",
+        "path=/opt",
+    ];
+    let env = ["ifs=:", "path=/opt", "status=", "x=a\u{1}b\u{2}A"];
+    check_launch(
+        &rt,
+        &["-c", "c $x $path $ifs $#*"],
+        &environment,
+        &["a", "b\u{1}", "/opt", ":", "0"],
+        &env,
+    )
+}
+
+#[test]
+fn functions_and_the_status_of_another_program_are_ignored(rt: HostRuntime) -> Result<(), Fail> {
+    check_launch(
+        &rt,
+        &["-c", "f $#status $\"status"],
+        &["status=4", "fn#f=rc1;bs1,;c1,w4:exit", "fn#g=x"],
+        &["1", ""],
+        &["ifs= \t\n", "path=/bin\u{1}/usr/bin", "status="],
+    )
+}
+
+#[test]
+fn home_is_that_of_the_environment(rt: HostRuntime) -> Result<(), Fail> {
+    let homes: [(&[&str], &[&str]); 6] = [
+        (&[], &["0"]),
+        (&["HOME=/h", "HOME=/i"], &["1", "/h"]),
+        (&["HOME=/h", "home=/a"], &["1", "/a"]),
+        (&["HOME="], &["1", ""]),
+        (&["HOME=/h", "home="], &["1", ""]),
+        (&["HOME"], &["0"]),
+    ];
+    let alloc = rt.alloc();
+    for (environment, args) in homes {
+        let texts = words(alloc, &["-c", "c $#home $home"])?;
+        let environment = words(alloc, environment)?;
+        let mut tape = one_program(alloc, Ending::Code(0))?;
+        let ended = run_rc::<_, &[u8]>(alloc, &mut tape, &texts, &environment, None);
+        assert_eq!(rt; ended, Ok(0));
+        let Some(launch) = launch_of(&tape) else {
+            panic!(rt; "other calls");
+        };
+        assert_eq!(rt; launch.args, words(alloc, args)?);
+    }
+    Ok(())
+}
+
+#[test]
+fn an_image_begins_with_its_entries_alone(rt: HostRuntime) -> Result<(), Fail> {
+    check_launch(
+        &rt,
+        &["-S", "rc1;c2,w4:echo#w3:ifs", "p"],
+        &["path=/bin", "HOME=/h", "status="],
+        &["0"],
+        &["HOME=/h", "path=/bin", "status="],
+    )?;
+    check_launch(
+        &rt,
+        &["-e", "-S", "rc1;c2,w1:f$w1:*", "-S"],
+        &[
+            "path=/bin",
+            "fn#f=rc1;bs1,;c3,w4:echo$w1:*$w6:status",
+            "status=4",
+        ],
+        &["-S", "4"],
+        &[
+            "fn#f=rc1;bs1,;c3,w4:echo$w1:*$w6:status",
+            "path=/bin",
+            "status=4",
+        ],
+    )
+}
+
+#[test]
+fn a_bad_image_makes_no_call(rt: HostRuntime) -> Result<(), Fail> {
+    let alloc = rt.alloc();
+    let bad: [&[&str]; 5] = [
+        &["-S"],
+        &["-e", "-S"],
+        &["-S", "echo"],
+        &["-S", "rc1;c1,w1:ab"],
+        &["-S", "rc2;1", "c1,w1:a"],
+    ];
+    for texts in bad {
+        let words = words(alloc, texts)?;
+        let mut tape = no_answers(alloc);
+        let ended = run_rc(alloc, &mut tape, &words, &[], Some(Broken { text: b"" }));
+        assert_eq!(rt; ended, Err(RunFault::BadImage));
+        assert!(rt; tape.calls().is_empty());
+    }
+    let image = words(alloc, &["-S", "rc1;c1,w1:a"])?;
+    let entries = words(alloc, &["path=/bin", "fn#f=rc1;c1"])?;
+    let mut tape = no_answers(alloc);
+    let ended = run_rc::<_, &[u8]>(alloc, &mut tape, &image, &entries, None);
+    assert_eq!(rt; ended, Err(RunFault::BadImage));
+    assert!(rt; tape.calls().is_empty());
+    let ended = run_rc::<_, &[u8]>(alloc, &mut tape, &image, &[], None);
+    assert_eq!(rt; ended, Err(RunFault::Halted));
+    assert_eq!(rt; tape.calls().len(), 1);
+    Ok(())
+}
+
 #[test]
 fn reads_no_more_than_it_needs(rt: HostRuntime) {
     let mut tape = no_answers(rt.alloc());
-    let ended = run_rc(rt.alloc(), &mut tape, &[], Some(io::repeat(b' ')));
+    let ended = run_rc(rt.alloc(), &mut tape, &[], &[], Some(io::repeat(b' ')));
     assert_eq!(rt; ended, Err(syntax(FaultKind::TooLong, 0)));
 }
 
@@ -254,10 +393,10 @@ fn shows_faults(rt: HostRuntime) -> Result<(), Fail> {
             "rc: usage: rc [-e] [-c text | file] [arg ...]",
         ),
         (RunFault::CannotRead("a b"), "rc: cannot read a b"),
+        (RunFault::BadImage, "rc: bad image"),
         (RunFault::NoMemory, "rc: no memory"),
         (RunFault::Limit, "rc: limit"),
         (RunFault::Halted, "rc: halted"),
-        (RunFault::NotYet, "rc: not yet"),
         (syntax(FaultKind::OpenQuote, 1), "rc: line 1: open quote"),
         (
             syntax(FaultKind::OpenHere, 12),

@@ -9,15 +9,15 @@ use std::alloc::{AllocError, Global};
 use std::process::Abort;
 use std::test::Fail;
 
-const FOUND: Answer = Answer::Found(Kind::Program);
+pub const FOUND: Answer = Answer::Found(Kind::Program);
 
 const REFUSED: Answer = Answer::Refused(Fault::Denied);
 
 const FILE: Answer = Answer::File(Handle(4));
 
-const CHILD: Answer = Answer::Child(ChildNo(7));
+pub const CHILD: Answer = Answer::Child(ChildNo(7));
 
-const ENDED: Answer = Answer::Ended(Ending::Code(0));
+pub const ENDED: Answer = Answer::Ended(Ending::Code(0));
 
 const ECHO_HELLO: &str = r#"probe /bin/echo
 start /bin/echo ["hello"] ["path=/bin", "status="] 0 1 2
@@ -67,7 +67,7 @@ fn mode_name(mode: Mode) -> &'static str {
     }
 }
 
-fn write_call(out: &mut String, call: &Call) -> Result<(), AllocError> {
+pub fn write_call(out: &mut String, call: &Call) -> Result<(), AllocError> {
     match call {
         Call::Open(path, mode) => {
             let mode = mode_name(*mode);
@@ -85,18 +85,21 @@ fn write_call(out: &mut String, call: &Call) -> Result<(), AllocError> {
             out.push_str("write ")?;
             write_report(out, *slot, text.as_slice())?;
         }
-        _ => out.push_str("another call")?,
+        Call::Pipe => out.push_str("pipe")?,
+        Call::Read(file) => write!(out, "read {}", file.0)?,
+        Call::List(path) => write!(out, "list {path}")?,
+        Call::Chdir(path) => write!(out, "chdir {path}")?,
     }
     out.push('\n')
 }
 
-fn write_end(out: &mut String, ran: &Result<Ran, ShellFault>) -> Result<(), AllocError> {
+pub fn write_end(out: &mut String, ran: &Result<Ran, ShellFault>) -> Result<(), AllocError> {
     match ran {
         Ok(Ran::Ended { state }) => write!(out, "ended, {}", state.status()),
         Ok(Ran::Limit) => out.push_str("limit"),
         Ok(Ran::Halted) => out.push_str("halted"),
-        Ok(Ran::NotYet) => out.push_str("not yet"),
         Err(ShellFault::Syntax(fault)) => write!(out, "{:?} in line {}", fault.kind, fault.line),
+        Err(ShellFault::Image(fault)) => write!(out, "{fault}"),
         Err(ShellFault::NoMemory) => out.push_str("no memory"),
     }
 }
@@ -111,15 +114,24 @@ fn story<const N: usize>(
 ) -> Result<String, AllocError> {
     let mut tape = Tape::new(Vec::from_array(alloc, answers)?);
     let ran = execute(alloc, &mut tape, script, state, limit);
+    told(alloc, &tape, &ran)
+}
+
+/// The calls on a tape, each on a line, and how the run ended.
+pub fn told(
+    alloc: Global,
+    tape: &Tape,
+    ran: &Result<Ran, ShellFault>,
+) -> Result<String, AllocError> {
     let mut story = String::new(alloc);
     for call in tape.calls() {
         write_call(&mut story, call)?;
     }
-    write_end(&mut story, &ran)?;
+    write_end(&mut story, ran)?;
     Ok(story)
 }
 
-fn list(alloc: Global, members: &[&str]) -> Result<Vec<String>, AllocError> {
+pub fn list(alloc: Global, members: &[&str]) -> Result<Vec<String>, AllocError> {
     let mut list = Vec::new(alloc);
     for member in members {
         list.push(String::from_str(alloc, *member)?)?;
@@ -128,7 +140,7 @@ fn list(alloc: Global, members: &[&str]) -> Result<Vec<String>, AllocError> {
 }
 
 /// A state with `path=(/bin)`.
-fn with_path(alloc: Global) -> Result<State, SetError> {
+pub fn with_path(alloc: Global) -> Result<State, SetError> {
     let mut state = State::new(alloc);
     state.set("path", list(alloc, &["/bin"])?)?;
     Ok(state)
@@ -191,25 +203,6 @@ wait 7
         100,
         "probe /bin/if\nwrite 2 \"rc: if: not found\\n\"\n",
         "ended, not found",
-    )
-}
-
-/// Scripts of forms that do not run yet.
-const OTHER_FORMS: [&str; 6] = ["a `{b}", "a &", "a | b", "@ a", ". f", "wait"];
-
-/// A form that does not run yet stops the run when it is reached, and no sooner.
-#[test]
-fn other_forms_are_not_yet(rt: HostRuntime) -> Result<(), Fail> {
-    for script in OTHER_FORMS {
-        check(&rt, script.as_bytes(), [], 100, "", "not yet")?;
-    }
-    check(
-        &rt,
-        b"{'echo' hello}; a | b",
-        [FOUND, CHILD, ENDED],
-        100,
-        ECHO_HELLO,
-        "not yet",
     )
 }
 

@@ -1,24 +1,18 @@
 //! Each call once with ample memory, and what a tape makes of its answers.
 use rc_world::{
-    Answer, Call, ChildNo, Ending, Fault, Handle, Kind, Launch, Mode, Program, Slot, Slots, Stop,
-    Tape, World, calls,
+    Answer, Call, ChildNo, Ending, Fault, Handle, Kind, Launch, Mode, PLAIN_SLOTS, Program, Slot,
+    Stop, Tape, World, calls,
 };
 use std::alloc::{AllocError, Global};
 use std::process::Abort;
 use std::test::Fail;
-
-const PLAIN: Slots = Slots {
-    input: Slot::Own(0),
-    output: Slot::Own(1),
-    errors: Slot::Own(2),
-};
 
 fn echo_hello(alloc: Global) -> Result<Launch, AllocError> {
     Ok(Launch {
         program: Program::Path(String::from_str(alloc, "/bin/echo")?),
         args: vec![in alloc; String::from_str(alloc, "hello")?]?,
         env: vec![in alloc; String::from_str(alloc, "path=/bin")?]?,
-        slots: PLAIN,
+        slots: PLAIN_SLOTS,
     })
 }
 
