@@ -2,6 +2,7 @@
 #                and else what `make prove` builds
 # make prove     proves and builds ./rc
 # make release   proves and builds the program, and puts it and the hash of its sources into release/
+# make check     runs a table of one-line scripts and the examples on ./rc, in seconds
 # make test      proves, builds and tests everything from nothing, and compares the program with the release, where there is one
 # make install   copies the shell and its manual page to PREFIX
 
@@ -22,6 +23,9 @@ prove: build
 build:
 	cd crates/rc_main && $(RT) run < /dev/null
 
+check: rc
+	tests/check ./rc
+
 # The hash is taken before the build: sources that change meanwhile don't fit it.
 release: tracked
 	rm -f $(RELEASE)
@@ -41,10 +45,11 @@ test:
 	rm -f crates/test_scripts/data/*.rc
 	cp examples/*.rc crates/test_scripts/data
 	$(RT) ci
+	tests/check $(BUILT)
 	if [ -e $(RELEASE) ]; then cmp $(BUILT) $(RELEASE); fi
 
 install: rc
 	install -D -m 755 rc $(DESTDIR)$(PREFIX)/bin/rc
 	install -D -m 644 man/rc.1 $(DESTDIR)$(PREFIX)/share/man/man1/rc.1
 
-.PHONY: hello rc prove build release tracked test install
+.PHONY: hello rc prove build check release tracked test install
