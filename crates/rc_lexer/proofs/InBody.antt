@@ -6,29 +6,29 @@ use Rattle.std.proofs.lemmas.List.{append-nil, map-append}
 use Rattle.rc_model.specs.Syntax.Tokens as model
 use Rattle.rc_model.specs.Mirrors.Reading as reading
 use Rattle.rc_model.specs.Mirrors.Reading.{Step}
-use Rattle.rc_lexer.specs.declared.machine.State.{State}
+use Rattle.rc_lexer.specs.declared.state.State.{State}
 use Rattle.rc_lexer.specs.Views.{slice_at}
 use Rattle.rc_lexer.proofs.Steps.{line_step, slice_empty}
 use Rattle.std.proofs.Math.Seq.{take-add}
 use Rattle.std.proofs.lemmas.List.{drop-drop}
 use Rattle.std.specs.Str.{bytes_eq}
 use Rattle.rc_lexer.specs.declared.Span.{Span}
-use Rattle.rc_lexer.specs.declared.machine.Due.{Due}
-use Rattle.rc_lexer.specs.Machine.{body_of, after_first, line_of, state_of, due_after, due_of, after_step}
+use Rattle.rc_lexer.specs.declared.state.PendingHereDoc.{PendingHereDoc}
+use Rattle.rc_lexer.specs.Machine.{body_of, after_first, line_of, state_of, pending_after, pending_of, after_step}
 use Rattle.std.specs.Char.{encode_utf8}
 
--- the first of the here documents that are due
-pub record First (d : Due) (due : List Due) : Type 0 where
-  pub rest : List Due
-  pub is : due ≡ d ∷ rest
+-- the first pending here document
+pub record First (d : PendingHereDoc) (pending : List PendingHereDoc) : Type 0 where
+  pub rest : List PendingHereDoc
+  pub is : pending ≡ d ∷ rest
 
-pub first : (d d' : Due) (due : List Due) → 0 < length due → d ≡ slice_index_or due 0 d → First d due
+pub first : (d d' : PendingHereDoc) (pending : List PendingHereDoc) → 0 < length pending → d ≡ slice_index_or pending 0 d → First d pending
 first d d' [] h e = absurd (omega arith)
 first d d' (x ∷ xs) h e = record { rest = xs; is = ap (λ z. z ∷ xs) (sym e) }
 
 -- a newline after a line that is not the mark
 abbrev ended : Bool → model.Due → List ℕ → List ℕ → List model.Due → ℕ → Step
-ended b d body line due c = cond b (reading.begin_line [] (body ∷ []) due) (reading.goes [] (reading.Body d (body ++ line ++ encode_utf8 c) []) due)
+ended b d body line pending c = cond b (reading.begin_line [] (body ∷ []) pending) (reading.goes [] (reading.Body d (body ++ line ++ encode_utf8 c) []) pending)
 
 slices_join : (script : List ℕ) (a b c : ℕ) → a ≤ b → b ≤ c → slice_range script a b ++ slice_range script b c ≡ slice_range script a c
 slices_join script a b c h k =
@@ -36,54 +36,57 @@ slices_join script a b c h k =
     ∙ sym (take-add (b - a) (c - b) (drop a script)) ∙ ap (λ n. take n (drop a script)) (omega arith)
 
 -- a line that is not the mark
-pub other_line : (script : List ℕ) (body line place next : ℕ) (c : ℕ) (d : Due) (due : List Due) (ts : List model.Token) (bodies : List (List ℕ))
-    (p : model.Place) → First d due → body ≤ line → line ≤ place →
+pub other_line : (script : List ℕ) (body line place next : ℕ) (c : ℕ) (d : PendingHereDoc) (pending : List PendingHereDoc)
+    (ts : List model.Token) (bodies : List (List ℕ))
+    (p : model.Place) → First d pending → body ≤ line → line ≤ place →
     slice_range script body next ≡ slice_range script body place ++ encode_utf8 c → bytes_eq (slice_range script line place) d.mark.items ≡ false →
-    after_step ts bodies (reading.step (body_of due (slice_range script body line) (slice_range script line place)) (after_first due) p c model.LineEnd)
-    ≡ Ok (ts, bodies, body_of due (slice_range script body next) (slice_range script next next), after_first due)
-other_line script body line place next c d due ts bodies p f h k e n =
+    after_step ts bodies (reading.step (body_of pending (slice_range script body line) (slice_range script line place)) (after_first pending) p c model.LineEnd)
+    ≡ Ok (ts, bodies, body_of pending (slice_range script body next) (slice_range script next next), after_first pending)
+other_line script body line place next c d pending ts bodies p f h k e n =
     subst (λ z. after_step ts bodies (reading.step (body_of z (slice_range script body line) (slice_range script line place)) (after_first z) p c
     model.LineEnd)
     ≡ Ok (ts, bodies, body_of z (slice_range script body next) (slice_range script next next), after_first z)) (sym f.is)
-    (ap (λ v. after_step ts bodies (ended v (due_of d) (slice_range script body line) (slice_range script line place) (map due_of f.rest) c)) n
+    (ap (λ v. after_step ts bodies (ended v (pending_of d) (slice_range script body line) (slice_range script line place) (map pending_of f.rest) c)) n
     ∙ ap (λ z. Ok (
       z,
       bodies ++ [],
-      reading.Body (due_of d) (slice_range script body line ++ slice_range script line place ++ encode_utf8 c) [],
-      map due_of f.rest,
+      reading.Body (pending_of d) (slice_range script body line ++ slice_range script line place ++ encode_utf8 c) [],
+      map pending_of f.rest,
     )) (append-nil ts)
     ∙ ap (λ z. Ok (
       ts,
       z,
-      reading.Body (due_of d) (slice_range script body line ++ slice_range script line place ++ encode_utf8 c) [],
-      map due_of f.rest,
+      reading.Body (pending_of d) (slice_range script body line ++ slice_range script line place ++ encode_utf8 c) [],
+      map pending_of f.rest,
     )) (append-nil bodies)
-    ∙ ap (λ z. Ok (ts, bodies, reading.Body (due_of d) z [], map due_of f.rest)) (ap (λ z. z ++ encode_utf8 c) (slices_join script body line place h k) ∙ sym e)
-    ∙ ap (λ z. Ok (ts, bodies, reading.Body (due_of d) (slice_range script body next) z, map due_of f.rest)) (sym (slice_empty script next)))
+    ∙ ap (λ z. Ok (ts, bodies, reading.Body (pending_of d) z [], map pending_of f.rest))
+    (ap (λ z. z ++ encode_utf8 c) (slices_join script body line place h k) ∙ sym e)
+    ∙ ap (λ z. Ok (ts, bodies, reading.Body (pending_of d) (slice_range script body next) z, map pending_of f.rest)) (sym (slice_empty script next)))
 
 -- a line that is the mark
-pub mark_line : (script : List ℕ) (body line place next : ℕ) (c : ℕ) (d : Due) (due due' : List Due) (s : State) (dollars ts : List model.Token)
-    (bodies : List (List ℕ)) (bodies' : List (List ℕ)) (p : model.Place) → First d due →
-    bytes_eq (slice_range script line place) d.mark.items ≡ true → due' ≡ drop 1 due → s ≡ line_of due' next →
+pub mark_line : (script : List ℕ) (body line place next : ℕ) (c : ℕ) (d : PendingHereDoc) (pending pending' : List PendingHereDoc)
+    (s : State) (dollars ts : List model.Token)
+    (bodies : List (List ℕ)) (bodies' : List (List ℕ)) (p : model.Place) → First d pending →
+    bytes_eq (slice_range script line place) d.mark.items ≡ true → pending' ≡ drop 1 pending → s ≡ line_of pending' next →
     bodies' ≡ bodies ++ slice_range script body line ∷ [] →
-    after_step ts bodies (reading.step (body_of due (slice_range script body line) (slice_range script line place)) (after_first due) p c model.LineEnd)
-    ≡ Ok (ts, bodies', state_of script next dollars due' s, due_after due' s)
-mark_line script body line place next c d due due' s dollars ts bodies bodies' p f e g h b =
-    let r : due' ≡ f.rest = g ∙ ap (drop 1) f.is in
+    after_step ts bodies (reading.step (body_of pending (slice_range script body line) (slice_range script line place)) (after_first pending) p c model.LineEnd)
+    ≡ Ok (ts, bodies', state_of script next dollars pending' s, pending_after pending' s)
+mark_line script body line place next c d pending pending' s dollars ts bodies bodies' p f e g h b =
+    let r : pending' ≡ f.rest = g ∙ ap (drop 1) f.is in
     let is : s ≡ line_of f.rest next = h ∙ ap (λ z. line_of z next) r in
     ap (λ z. after_step ts bodies (reading.step (body_of z (slice_range script body line) (slice_range script line place)) (after_first z) p c
     model.LineEnd)) f.is
-    ∙ ap (λ v. after_step ts bodies (ended v (due_of d) (slice_range script body line) (slice_range script line place) (map due_of f.rest) c)) e
+    ∙ ap (λ v. after_step ts bodies (ended v (pending_of d) (slice_range script body line) (slice_range script line place) (map pending_of f.rest) c)) e
     ∙ line_step script next dollars f.rest ts [] bodies (slice_range script body line ∷ [])
     ∙ ap (λ z. Ok (
       z,
       bodies ++ slice_range script body line ∷ [],
       state_of script next dollars f.rest (line_of f.rest next),
-      due_after f.rest (line_of f.rest next),
+      pending_after f.rest (line_of f.rest next),
     )) (append-nil ts)
-    ∙ ap (λ z. Ok (ts, z, state_of script next dollars f.rest (line_of f.rest next), due_after f.rest (line_of f.rest next))) (sym b)
-    ∙ ap (λ z. Ok (ts, bodies', state_of script next dollars f.rest z, due_after f.rest z)) (sym is)
-    ∙ ap (λ z. Ok (ts, bodies', state_of script next dollars z s, due_after z s)) (sym r)
+    ∙ ap (λ z. Ok (ts, z, state_of script next dollars f.rest (line_of f.rest next), pending_after f.rest (line_of f.rest next))) (sym b)
+    ∙ ap (λ z. Ok (ts, bodies', state_of script next dollars f.rest z, pending_after f.rest z)) (sym is)
+    ∙ ap (λ z. Ok (ts, bodies', state_of script next dollars z s, pending_after z s)) (sym r)
 
 pub bodies_pushed : (script : List ℕ) (old new : List Span) (t : Span) → new ≡ old ++ t ∷ [] →
     map (slice_at script) new ≡ map (slice_at script) old ++ slice_at script t ∷ []

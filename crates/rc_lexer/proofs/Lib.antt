@@ -1,8 +1,8 @@
 pub mod Tables
 pub mod Steps
 pub mod Does
-pub mod Operates
-pub mod Operated
+pub mod OperatorBytes
+pub mod EndOperator
 pub mod InBody
 pub mod Filled
 pub mod Walk

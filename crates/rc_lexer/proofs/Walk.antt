@@ -16,10 +16,10 @@ use Rattle.law_lexing.proofs.Steps.{join_join}
 use Rattle.law_lexing.proofs.Lexing.{law}
 use Rattle.rc_lexer.specs.Answers.{LexError}
 use Rattle.rc_model.specs.declared.fault.InputError.TheVariants.{Fault, NoMemory}
-use Rattle.rc_lexer.specs.declared.operators.Class.{Class}
-use Rattle.rc_lexer.specs.declared.machine.Place.{Place}
-use Rattle.rc_lexer.specs.declared.machine.State.{State}
-use Rattle.rc_lexer.specs.declared.machine.Lexer.{Lexer}
+use Rattle.rc_lexer.specs.declared.classes.Class.{Class}
+use Rattle.rc_lexer.specs.declared.state.Place.{Place}
+use Rattle.rc_lexer.specs.declared.state.State.{State}
+use Rattle.rc_lexer.specs.declared.state.Lexer.{Lexer}
 use Rattle.rc_lexer.specs.declared.Token.{Token}
 use Rattle.rc_model.specs.declared.fault.FaultKind.TheVariants.{ZeroByte}
 use Rattle.rc_model.specs.Syntax.Faults.{fault}
@@ -27,7 +27,7 @@ use Rattle.std.specs.Prelude.{Vec}
 use Rattle.rc_lexer.specs.Answers.{Reads}
 use Rattle.rc_lexer.specs.Lexed.{ReadTo}
 use Rattle.rc_lexer.specs.Classes.{class_is}
-use Rattle.rc_lexer.specs.Machine.{place_of, tokens_in, bodies_in, state_in, due_left, after_step, IsHead, Does}
+use Rattle.rc_lexer.specs.Machine.{place_of, tokens_in, bodies_in, state_in, pending_left, after_step, IsCurrent, Does}
 
 -- no zero at a character, and one
 pub zero_past : (line c : ℕ) (cs : List ℕ) → c ≢ 0 → reading.zero_line line (c ∷ cs) ≡ reading.zero_line (cond (c == 10) (suc line) line) cs
@@ -55,14 +55,14 @@ slice_grows script more a at c next h k e n =
     ∙ ap (λ z. slice_range script a at ++ z) (ap (λ m. take m (encode_utf8 c ++ more)) (sym (length-encode c)) ∙ take-append_seam (encode_utf8 c) more)
 
 -- the character at hand stands in the script
-pub head_is : (script bs rest more : List ℕ) (c : ℕ) (class : Class) (place next : Place) → bs ≡ script → place.byte ≤ length script →
+pub current_is : (script bs rest more : List ℕ) (c : ℕ) (class : Class) (place next : Place) → bs ≡ script → place.byte ≤ length script →
     drop place.byte script ≡ rest → rest ≡ encode_utf8 c ++ more →
     place_of next ≡ model.after_char (place_of place) c → class_is class ≡ model.class_of c →
-    IsHead bs (record { c = c; class = class; place = place; next = next })
-head_is script bs rest more c class place next b h e f n k =
+    IsCurrent bs (record { c = c; class = class; place = place; next = next })
+current_is script bs rest more c class place next b h e f n k =
     let byte : next.byte ≡ place.byte + len_utf8 c = ap (λ z. z.byte) n in
     let d : drop place.byte script ≡ encode_utf8 c ++ more = e ∙ f in
-    subst (λ z. IsHead z (record { c = c; class = class; place = place; next = next })) (sym b)
+    subst (λ z. IsCurrent z (record { c = c; class = class; place = place; next = next })) (sym b)
     (record {
       next = n;
       reads = λ a j. slice_grows script more a place.byte c next.byte j h d byte;
@@ -79,22 +79,22 @@ join_follow ts bodies (Err e) f = refl
 pub step_reads : (script bs : List ℕ) (rest more : List ℕ) (c : ℕ) (class : Class) (place next : Place) (old new : Lexer) (s s' : State)
     (whole : model.Outcome) → bs ≡ script →
     chars rest ≡ c ∷ chars more → place_of next ≡ model.after_char (place_of place) c → class_is class ≡ model.class_of c →
-    Does bs next.byte old new (Ok s') (reading.step (state_in bs place.byte old s) (due_left old s) (place_of place) c (class_is class)) →
+    Does bs next.byte old new (Ok s') (reading.step (state_in bs place.byte old s) (pending_left old s) (place_of place) c (class_is class)) →
     model.join (tokens_in script old) (bodies_in script old)
-    (reading.run (state_in script place.byte old s) (due_left old s) (place_of place) (chars rest)) ≡ whole →
+    (reading.run (state_in script place.byte old s) (pending_left old s) (place_of place) (chars rest)) ≡ whole →
     model.join (tokens_in script new) (bodies_in script new)
-    (reading.run (state_in script next.byte new s') (due_left new s') (place_of next) (chars more)) ≡ whole
+    (reading.run (state_in script next.byte new s') (pending_left new s') (place_of next) (chars more)) ≡ whole
 step_reads script bs rest more c class place next old new s s' whole b e n k d w =
-    let d' : Does script next.byte old new (Ok s') (reading.step (state_in script place.byte old s) (due_left old s) (place_of place) c (class_is class)) =
-    subst (λ z. Does z next.byte old new (Ok s') (reading.step (state_in z place.byte old s) (due_left old s) (place_of place) c (class_is class))) b d in
-    let go : reading.State → List model.Due → model.Outcome = λ t due. reading.run t due (place_of next) (chars more) in
+    let d' : Does script next.byte old new (Ok s') (reading.step (state_in script place.byte old s) (pending_left old s) (place_of place) c (class_is class)) =
+    subst (λ z. Does z next.byte old new (Ok s') (reading.step (state_in z place.byte old s) (pending_left old s) (place_of place) c (class_is class))) b d in
+    let go : reading.State → List model.Due → model.Outcome = λ t pending. reading.run t pending (place_of next) (chars more) in
     let st = state_in script place.byte old s in
     sym (ap (λ z. reading.follow z go) d')
-    ∙ sym (join_follow (tokens_in script old) (bodies_in script old) (reading.step st (due_left old s) (place_of place) c (class_is class)) go)
-    ∙ ap (λ z. model.join (tokens_in script old) (bodies_in script old) (reading.follow (reading.step st (due_left old s) (place_of place) c z) go)) k
+    ∙ sym (join_follow (tokens_in script old) (bodies_in script old) (reading.step st (pending_left old s) (place_of place) c (class_is class)) go)
+    ∙ ap (λ z. model.join (tokens_in script old) (bodies_in script old) (reading.follow (reading.step st (pending_left old s) (place_of place) c z) go)) k
     ∙ ap (λ z. model.join (tokens_in script old) (bodies_in script old)
-    (reading.follow (reading.step st (due_left old s) (place_of place) c (model.class_of c)) (λ t due. reading.run t due z (chars more)))) n
-    ∙ ap (λ z. model.join (tokens_in script old) (bodies_in script old) (reading.run st (due_left old s) (place_of place) z)) (sym e)
+    (reading.follow (reading.step st (pending_left old s) (place_of place) c (model.class_of c)) (λ t pending. reading.run t pending z (chars more)))) n
+    ∙ ap (λ z. model.join (tokens_in script old) (bodies_in script old) (reading.run st (pending_left old s) (place_of place) z)) (sym e)
     ∙ w
 
 pub rest_past : (script rest more : List ℕ) (c : ℕ) (place next : Place) → drop place.byte script ≡ rest → rest ≡ encode_utf8 c ++ more →

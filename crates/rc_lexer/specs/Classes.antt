@@ -1,8 +1,8 @@
 -- How the definitions see the classes of characters.
 use Rattle.rc_model.specs.Syntax.Tokens as model
-use Rattle.rc_lexer.specs.declared.operators.Class.{Class}
-use Rattle.rc_lexer.specs.declared.operators.Class.TheVariants.{Operates, Blank, LineEnd, Hash, Quote, Backslash}
-use Rattle.rc_lexer.specs.declared.operators.Class.TheVariants.{Ordinary}
+use Rattle.rc_lexer.specs.declared.classes.Class.{Class}
+use Rattle.rc_lexer.specs.declared.classes.Class.TheVariants.{Operates, Blank, LineEnd, Hash, Quote, Backslash}
+use Rattle.rc_lexer.specs.declared.classes.Class.TheVariants.{Ordinary}
 
 -- a class of characters, as the definitions have it
 abbrev pub class_is : Class → model.Class

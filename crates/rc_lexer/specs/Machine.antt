@@ -8,15 +8,15 @@ use Rattle.rc_model.specs.Mirrors.Reading.{Step}
 use Rattle.rc_lexer.specs.declared.TokenKind.{TokenKind}
 use Rattle.rc_lexer.specs.Answers.{LexError}
 use Rattle.rc_model.specs.declared.fault.InputError.TheVariants.{Fault, NoMemory}
-use Rattle.rc_lexer.specs.declared.machine.Place.{Place}
-use Rattle.rc_lexer.specs.declared.machine.Before.{Before}
-use Rattle.rc_lexer.specs.declared.machine.Before.TheVariants as before
-use Rattle.rc_lexer.specs.declared.machine.State.{State}
-use Rattle.rc_lexer.specs.declared.machine.State.TheVariants.{Between, Comment, Backslash, WordBackslash, Word, Name}
-use Rattle.rc_lexer.specs.declared.machine.State.TheVariants.{Quoted, Closed, Operator, Body}
-use Rattle.rc_lexer.specs.declared.machine.Head.{Head}
-use Rattle.rc_lexer.specs.declared.machine.Due.{Due}
-use Rattle.rc_lexer.specs.declared.machine.Lexer.{Lexer}
+use Rattle.rc_lexer.specs.declared.state.Place.{Place}
+use Rattle.rc_lexer.specs.declared.state.Previous.{Previous}
+use Rattle.rc_lexer.specs.declared.state.Previous.TheVariants as previous
+use Rattle.rc_lexer.specs.declared.state.State.{State}
+use Rattle.rc_lexer.specs.declared.state.State.TheVariants.{Between, Comment, Backslash, WordBackslash, Word, Name}
+use Rattle.rc_lexer.specs.declared.state.State.TheVariants.{Quoted, Closed, Operator, Body}
+use Rattle.rc_lexer.specs.declared.state.CurrentChar.{CurrentChar}
+use Rattle.rc_lexer.specs.declared.state.PendingHereDoc.{PendingHereDoc}
+use Rattle.rc_lexer.specs.declared.state.Lexer.{Lexer}
 use Rattle.rc_lexer.specs.Views.{slice_at, tokens_of, lexeme_of}
 use Rattle.rc_lexer.specs.Classes.{class_is}
 
@@ -25,21 +25,21 @@ abbrev pub place_of : Place → model.Place
 place_of p = record { byte = p.byte; line = p.line }
 
 -- what stands before the next token, as the definitions have it
-abbrev pub before_of : Before → model.Before
-before_of before.Apart = model.Apart
-before_of before.Word = model.WordBefore
-before_of before.Quoted = model.QuotedBefore
-before_of before.Name = model.NameBefore
-before_of before.Dollar = model.DollarBefore
-before_of (before.Here p q) = model.HereBefore (place_of p) (place_of q)
+abbrev pub previous_of : Previous → model.Before
+previous_of previous.Apart = model.Apart
+previous_of previous.Word = model.WordBefore
+previous_of previous.Quoted = model.QuotedBefore
+previous_of previous.Name = model.NameBefore
+previous_of previous.Dollar = model.DollarBefore
+previous_of (previous.Here p q) = model.HereBefore (place_of p) (place_of q)
 
--- a here document that is due, as the definitions have it
-abbrev pub due_of : Due → model.Due
-due_of d = record { mark = d.mark.items; line = d.line }
+-- a pending here document, as the definitions have it
+abbrev pub pending_of : PendingHereDoc → model.Due
+pending_of d = record { mark = d.mark.items; line = d.line }
 
--- the here documents that are due
-abbrev pub due_in : Lexer → List model.Due
-due_in l = map due_of l.due.items
+-- the pending here documents
+abbrev pub pending_in : Lexer → List model.Due
+pending_in l = map pending_of l.pending.items
 
 -- the tokens so far
 abbrev pub tokens_in : List ℕ → Lexer → List model.Token
@@ -53,68 +53,73 @@ dollars_in script l = tokens_of script l.dollars.items
 abbrev pub bodies_in : List ℕ → Lexer → List (List ℕ)
 bodies_in script l = map (slice_at script) l.bodies.items
 
--- the state in the body of the first here document that is due, after these bytes of it and of its last line
-abbrev pub body_of : List Due → List ℕ → List ℕ → reading.State
+-- the state in the body of the first pending here document, after these bytes of it and of its last line
+abbrev pub body_of : List PendingHereDoc → List ℕ → List ℕ → reading.State
 body_of [] body line = reading.Between model.Apart
-body_of (d ∷ due) body line = reading.Body (due_of d) body line
+body_of (d ∷ pending) body line = reading.Body (pending_of d) body line
 
 -- the state of a lexer that has read this many bytes of the script, by what else it holds
-abbrev pub state_of : List ℕ → ℕ → List model.Token → List Due → State → reading.State
-state_of script end dollars due (Between b) = reading.Between (before_of b)
-state_of script end dollars due Comment = reading.Comment
-state_of script end dollars due (Backslash b) = reading.Backslash (before_of b.before) (place_of b.start)
-state_of script end dollars due (WordBackslash b q) =
-    reading.WordBackslash (before_of b.before) (place_of b.start) (slice_range script b.start.byte q.byte) (place_of q)
-state_of script end dollars due (Word b) =
-    reading.Word (before_of b.before) (place_of b.start) (slice_range script b.start.byte end)
-state_of script end dollars due (Name p) = reading.Name (place_of p) (slice_range script p.byte end)
-state_of script end dollars due (Quoted b) =
-    reading.Quoted (before_of b.before) (place_of b.start) (slice_range script b.start.byte end)
-state_of script end dollars due (Closed b) =
-    reading.Closed (before_of b.before) (place_of b.start) (slice_range script b.start.byte end)
-state_of script end dollars due (Operator b) =
-    reading.Operator (before_of b.before) dollars (place_of b.start) (slice_range script b.start.byte end)
-state_of script end dollars due (Body b l) = body_of due (slice_range script b l) (slice_range script l end)
+abbrev pub state_of : List ℕ → ℕ → List model.Token → List PendingHereDoc → State → reading.State
+state_of script end dollars pending (Between prev) = reading.Between (previous_of prev)
+state_of script end dollars pending Comment = reading.Comment
+state_of script end dollars pending (Backslash start) =
+    reading.Backslash (previous_of start.previous) (place_of start.place)
+state_of script end dollars pending (WordBackslash start q) =
+    reading.WordBackslash (previous_of start.previous) (place_of start.place)
+    (slice_range script start.place.byte q.byte) (place_of q)
+state_of script end dollars pending (Word start) =
+    reading.Word (previous_of start.previous) (place_of start.place) (slice_range script start.place.byte end)
+state_of script end dollars pending (Name p) = reading.Name (place_of p) (slice_range script p.byte end)
+state_of script end dollars pending (Quoted start) =
+    reading.Quoted (previous_of start.previous) (place_of start.place) (slice_range script start.place.byte end)
+state_of script end dollars pending (Closed start) =
+    reading.Closed (previous_of start.previous) (place_of start.place) (slice_range script start.place.byte end)
+state_of script end dollars pending (Operator start) =
+    reading.Operator (previous_of start.previous) dollars (place_of start.place)
+    (slice_range script start.place.byte end)
+state_of script end dollars pending (Body body line) =
+    body_of pending (slice_range script body line) (slice_range script line end)
 
--- the here documents that are due after the one whose body is read
-abbrev pub after_first : List Due → List model.Due
+-- the pending here documents after the one whose body is read
+abbrev pub after_first : List PendingHereDoc → List model.Due
 after_first [] = []
-after_first (d ∷ due) = map due_of due
+after_first (d ∷ pending) = map pending_of pending
 
--- the here documents that are due besides the one whose body is read, if one is
-abbrev pub due_after : List Due → State → List model.Due
-due_after due (Body b l) = after_first due
-due_after due s = map due_of due
+-- the pending here documents besides the one whose body is read, if one is
+abbrev pub pending_after : List PendingHereDoc → State → List model.Due
+pending_after pending (Body body line) = after_first pending
+pending_after pending s = map pending_of pending
 
 -- the state of a lexer that has read this many bytes of the script
 abbrev pub state_in : List ℕ → ℕ → Lexer → State → reading.State
-state_in script end l s = state_of script end (dollars_in script l) l.due.items s
+state_in script end l s = state_of script end (dollars_in script l) l.pending.items s
 
 -- the here documents that a lexer in this state has still to read after that one
-abbrev pub due_left : Lexer → State → List model.Due
-due_left l s = due_after l.due.items s
+abbrev pub pending_left : Lexer → State → List model.Due
+pending_left l s = pending_after l.pending.items s
 
 -- the state says what stands in the script before this byte
 abbrev pub Stands : List ℕ → ℕ → State → Type 0
-Stands script end (Backslash b) = (b.start.byte ≤ end) × (slice_range script b.start.byte end ≡ 92 ∷ [])
-Stands script end (WordBackslash b q) =
-    (b.start.byte ≤ q.byte) × (q.byte ≤ end) ×
-    (slice_range script b.start.byte end ≡ slice_range script b.start.byte q.byte ++ 92 ∷ [])
-Stands script end (Word b) = b.start.byte ≤ end
+Stands script end (Backslash start) = (start.place.byte ≤ end) × (slice_range script start.place.byte end ≡ 92 ∷ [])
+Stands script end (WordBackslash start q) =
+    (start.place.byte ≤ q.byte) × (q.byte ≤ end) ×
+    (slice_range script start.place.byte end ≡ slice_range script start.place.byte q.byte ++ 92 ∷ [])
+Stands script end (Word start) = start.place.byte ≤ end
 Stands script end (Name p) = p.byte ≤ end
-Stands script end (Quoted b) = b.start.byte ≤ end
-Stands script end (Closed b) = b.start.byte ≤ end
-Stands script end (Operator b) = (b.start.byte ≤ end) × (model.awaits_mark (before_of b.before) ≡ false)
-Stands script end (Body b l) = (b ≤ l) × (l ≤ end)
+Stands script end (Quoted start) = start.place.byte ≤ end
+Stands script end (Closed start) = start.place.byte ≤ end
+Stands script end (Operator start) =
+    (start.place.byte ≤ end) × (model.awaits_mark (previous_of start.previous) ≡ false)
+Stands script end (Body body line) = (body ≤ line) × (line ≤ end)
 Stands script end s = Unit {0}
 
--- the character at hand stands in the script between its places
-pub record IsHead (script : List ℕ) (head : Head) : Type 0 where
-  pub next : place_of head.next ≡ model.after_char (place_of head.place) head.c
-  pub reads : (a : ℕ) → a ≤ head.place.byte → slice_range script a head.next.byte ≡ slice_range script a head.place.byte
-      ++ encode_utf8 head.c
-  pub class : class_is head.class ≡ model.class_of head.c
-  pub within : head.next.byte ≤ length script
+-- the current character stands in the script between its places
+pub record IsCurrent (script : List ℕ) (current : CurrentChar) : Type 0 where
+  pub next : place_of current.next ≡ model.after_char (place_of current.place) current.c
+  pub reads : (a : ℕ) → a ≤ current.place.byte →
+      slice_range script a current.next.byte ≡ slice_range script a current.place.byte ++ encode_utf8 current.c
+  pub class : class_is current.class ≡ model.class_of current.c
+  pub within : current.next.byte ≤ length script
 
 -- a step, with tokens and bodies before it
 abbrev pub after_step : List model.Token → List (List ℕ) → Step → Step
@@ -125,25 +130,26 @@ after_step ts bodies (Err f) = Err f
 abbrev pub Does : List ℕ → ℕ → Lexer → Lexer → Result State LexError → Step → Type 0
 Does script end old new (Ok s) x =
     after_step (tokens_in script old) (bodies_in script old) x
-    ≡ Ok (tokens_in script new, bodies_in script new, state_in script end new s, due_left new s)
+    ≡ Ok (tokens_in script new, bodies_in script new, state_in script end new s, pending_left new s)
 Does script end old new (Err (Fault f)) x = x ≡ Err f
 Does script end old new (Err NoMemory) x = Unit {0}
 
--- the lexer has read a lexeme between two places, and this stands after it
-pub record Spelled (script : List ℕ) (before after : Before) (l : model.Lexeme) (p q : Place)
+-- the lexer has put a lexeme between two places behind its tokens, and this stands after it
+pub record Pushed (script : List ℕ) (previous after : Previous) (l : model.Lexeme) (p q : Place)
     (old new : Lexer) : Type 0 where
   pub tokens : tokens_in script new ≡ tokens_in script old
-      ++ model.tokens_of (before_of before) l (place_of p) (place_of q)
-  pub due : due_in new ≡ model.due_after (before_of before) l (due_in old)
-  pub after_token : before_of after ≡ model.as_before (before_of before) l
+      ++ model.tokens_of (previous_of previous) l (place_of p) (place_of q)
+  pub pending : pending_in new ≡ model.due_after (previous_of previous) l (pending_in old)
+  pub after_token : previous_of after ≡ model.as_before (previous_of previous) l
   pub dollars : new.dollars.items ≡ old.dollars.items
   pub bodies : new.bodies.items ≡ old.bodies.items
 
--- the lexer has read this lexeme, unless memory ran out
-abbrev pub IfSpelled : List ℕ → Before → model.Lexeme → Place → Place → Lexer → Lexer → Result Before LexError → Type 0
-IfSpelled script before l p q old new (Ok after) = Spelled script before after l p q old new
-IfSpelled script before l p q old new (Err (Fault f)) = ⊥
-IfSpelled script before l p q old new (Err NoMemory) = Unit {0}
+-- the lexer has put this lexeme there, unless memory ran out
+abbrev pub IfPushed : List ℕ → Previous → model.Lexeme → Place → Place → Lexer → Lexer → Result Previous LexError →
+    Type 0
+IfPushed script previous l p q old new (Ok after) = Pushed script previous after l p q old new
+IfPushed script previous l p q old new (Err (Fault f)) = ⊥
+IfPushed script previous l p q old new (Err NoMemory) = Unit {0}
 
 -- the lexer is at the end
 abbrev pub Ends : List ℕ → Lexer → Lexer → Result (Unit {0}) LexError → Outcome → Type 0
@@ -156,12 +162,12 @@ Ends script old new (Err NoMemory) o = Unit {0}
 pub record Keeps (old new : Lexer) : Type 0 where
   pub dollars : new.dollars.items ≡ old.dollars.items
   pub bodies : new.bodies.items ≡ old.bodies.items
-  pub due : new.due.items ≡ old.due.items
+  pub pending : new.pending.items ≡ old.pending.items
 
 -- the state at the beginning of a line
-abbrev pub line_of : List Due → ℕ → State
-line_of [] at = Between before.Apart
-line_of (d ∷ due) at = Body at at
+abbrev pub line_of : List PendingHereDoc → ℕ → State
+line_of [] at = Between previous.Apart
+line_of (d ∷ pending) at = Body at at
 
 -- a token between two places, with a `^` before it where it wants one
 abbrev pub lexeme_tokens : List ℕ → model.Before → TokenKind → Place → Place → List model.Token
@@ -169,23 +175,23 @@ lexeme_tokens script prev kind p q =
     let l = lexeme_of script kind (slice_range script p.byte q.byte) in
     model.caret prev l (place_of p) ++ model.token l (place_of p) (place_of q) ∷ []
 
--- the lexer has read a mark
-pub record Marked (quoted : Bool) (mark : List ℕ) (p q : Place) (old new : Lexer) : Type 0 where
+-- the lexer has put a here document with this mark there
+pub record PushedHereDoc (quoted : Bool) (mark : List ℕ) (p q : Place) (old new : Lexer) : Type 0 where
   pub tokens : (script : List ℕ) → tokens_in script new ≡ tokens_in script old
       ++ model.token (model.HereDoc quoted []) (place_of p) (place_of q) ∷ []
-  pub due : due_in new ≡ due_in old ++ record { mark = mark; line = p.line } ∷ []
+  pub pending : pending_in new ≡ pending_in old ++ record { mark = mark; line = p.line } ∷ []
   pub dollars : new.dollars.items ≡ old.dollars.items
   pub bodies : new.bodies.items ≡ old.bodies.items
 
--- the `$`s are tokens, so or so
-pub record Resolved (seen : List model.Token → List model.Token) (old new : Lexer) : Type 0 where
+-- the lexer has put its `$`s there, as these
+pub record PushedDollars (seen : List model.Token → List model.Token) (old new : Lexer) : Type 0 where
   pub tokens : (script : List ℕ) → tokens_in script new ≡ tokens_in script old ++ seen (dollars_in script old)
   pub dollars : new.dollars.items ≡ []
   pub bodies : new.bodies.items ≡ old.bodies.items
-  pub due : new.due.items ≡ old.due.items
+  pub pending : new.pending.items ≡ old.pending.items
 
--- no here document is due, or the first that is due is open
+-- no here document is pending, or the first pending one is open
 abbrev pub IsClosed : List model.Due → Result (Unit {0}) LexError → Type 0
-IsClosed due (Ok u) = reading.closed [] [] due ≡ Ok ([], [])
-IsClosed due (Err (Fault f)) = reading.closed [] [] due ≡ Err f
-IsClosed due (Err NoMemory) = ⊥
+IsClosed pending (Ok u) = reading.closed [] [] pending ≡ Ok ([], [])
+IsClosed pending (Err (Fault f)) = reading.closed [] [] pending ≡ Err f
+IsClosed pending (Err NoMemory) = ⊥

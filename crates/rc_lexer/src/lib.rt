@@ -9,13 +9,20 @@ ghost use Rattle.rc_lexer.specs.Answers.{Reads};
 ghost use Rattle.rc_lexer.specs.Lexed.{ReadTo};
 ghost use Rattle.rc_lexer.specs.Machine.{place_of};
 
+mod classes;
+mod dollars;
+mod here_docs;
 mod machine;
 mod operators;
+mod previous;
+mod state;
+mod tokens;
+mod words;
 
-use machine::{Before, Head, Lexer, Place, State, fault};
-use operators::class_of;
+use classes::class_of;
 use rc_model::{FaultKind, InputError, SyntaxFault};
 use rc_text::first_char;
+use state::{CurrentChar, Lexer, Place, Previous, State};
 use std::alloc::Global;
 
 /// A part of the script, in bytes.
@@ -74,6 +81,13 @@ pub struct Token {
 /// Why there are no tokens: the script's first fault, or memory was refused.
 pub type LexError = InputError<SyntaxFault>;
 
+/// The fault of this kind at this line.
+fn fault(kind: FaultKind, line: usize) -> LexError
+    ensures { result ≡ InputError.Fault (record { kind = kind; line = line }) }
+{
+    InputError::Fault(SyntaxFault { kind, line })
+}
+
 /// The greatest length of a text.
 const LONGEST: usize = isize::MAX as usize;
 
@@ -89,7 +103,7 @@ pub fn lex(alloc: Global, script: &str) -> Result<Vec<Token>, LexError>
         return Err(fault(FaultKind::ZeroByte, line));
     }
     let lexer = read(alloc, script)?;
-    Ok(lexer.tokens())
+    Ok(lexer.into_tokens())
 }
 
 /// The line of the first byte 0.
@@ -133,18 +147,18 @@ fn read(alloc: Global, script: &str) -> Result<Lexer, LexError>
         (chars script.now)) }
 {
     let mut lexer = Lexer::new(alloc);
-    let mut state = State::Between(Before::Apart);
+    let mut state = State::Between(Previous::Apart);
     let mut place = Place { byte: 0, line: 1 };
     let mut rest = script;
     while let Some((c, more)) = first_char(rest) {
-        let head = Head {
+        let current = CurrentChar {
             c,
             class: class_of(c),
             place,
             next: after_char(place, c),
         };
-        state = lexer.step(script.as_bytes(), state, head)?;
-        place = head.next;
+        state = lexer.step(script.as_bytes(), state, current)?;
+        place = current.next;
         rest = more;
     }
     lexer.finish(script.as_bytes(), state, place)?;

@@ -1,40 +1,19 @@
-//! How operators are written, and what a character begins.
-#![tactic(auto)]
+//! Operators: how they are written, and where they end.
 
-ghost use Rattle.std.specs.Prelude.{◌≡◌, ℕ, List, MatchOption, Some, None, []};
-ghost use Rattle.rc_model.specs.Syntax.Tokens.{begins_operator, operator, class_of};
+ghost use Rattle.std.specs.Prelude.{false, ◌≡◌, ℕ, ◌≤◌, List, MatchOption, Some, None, [], length, slice_range, IfOk};
+ghost use Rattle.rc_model.specs.Syntax.Tokens.{begins_operator, operator};
+ghost use Rattle.rc_model.specs.Syntax.Tokens as model;
+ghost use Rattle.rc_model.specs.Mirrors.Reading as reading;
 ghost use Rattle.rc_lexer.specs.Views.{lexeme_of};
 ghost use Rattle.rc_lexer.specs.Classes.{class_is};
+ghost use Rattle.rc_lexer.specs.Machine.{Does, Ends, IsCurrent, Stands};
+ghost use Rattle.rc_lexer.specs.Machine.{dollars_in, pending_in, place_of, previous_of};
 
-use crate::TokenKind;
-
-/// What a character is outside of quotes and comments.
-#[derive(Clone, Copy)]
-pub enum Class {
-    Operates,
-    Blank,
-    LineEnd,
-    Hash,
-    Quote,
-    Backslash,
-    Ordinary,
-}
-
-/// What the character is outside of quotes and comments.
-pub fn class_of(c: char) -> Class
-    ensures { class_is result ≡ class_of c }
-{
-    match c {
-        ';' | '&' | '|' | '^' | '=' | '(' | ')' | '{' | '}' | '`' | '>' | '<' | '$' =>
-            Class::Operates,
-        ' ' | '\t' => Class::Blank,
-        '\n' => Class::LineEnd,
-        '#' => Class::Hash,
-        '\'' => Class::Quote,
-        '\\' => Class::Backslash,
-        _ => Class::Ordinary,
-    }
-}
+use crate::previous::{after_token, meaning_after};
+use crate::state::{CurrentChar, Lexer, Place, Previous, State, TokenStart};
+use crate::tokens::token_between;
+use crate::{LexError, TokenKind, fault};
+use rc_model::FaultKind;
 
 /// How each operator is written.
 const OPERATORS: [(&str, TokenKind); 29] = [
@@ -92,4 +71,92 @@ pub fn operator(text: &[u8]) -> Option<TokenKind>
         }
     }
     None
+}
+
+impl Lexer {
+    /// The character after an operator that is read so far.
+    pub(crate) fn continue_operator(
+        &mut self,
+        script: &[u8],
+        start: TokenStart,
+        current: CurrentChar,
+    ) -> Result<State, LexError>
+        requires current { IsCurrent script.now current }
+        requires stands { Stands script.now current.place.byte (State.Operator start) }
+        ensures does { Does script.now current.next.byte self.old self.new result
+            (reading.step (reading.Operator (previous_of start.previous) (dollars_in script.now self.old)
+            (place_of start.place) (slice_range script.now start.place.byte current.place.byte))
+            (pending_in self.old) (place_of current.place) current.c (class_is current.class)) }
+        ensures stands { IfOk result (λ s. Stands script.now current.next.byte s) }
+    {
+        if begins_operator(&script[start.place.byte..current.next.byte]) {
+            return Ok(State::Operator(start));
+        }
+        self.end_operator(script, start, current)
+    }
+
+    /// The character after an operator that it ends.
+    fn end_operator(
+        &mut self,
+        script: &[u8],
+        start: TokenStart,
+        current: CurrentChar,
+    ) -> Result<State, LexError>
+        requires current { IsCurrent script.now current }
+        requires stands { Stands script.now current.place.byte (State.Operator start) }
+        ensures does { Does script.now current.next.byte self.old self.new result
+            (reading.operated (previous_of start.previous) (dollars_in script.now self.old) (place_of start.place)
+            (model.operator (slice_range script.now start.place.byte current.place.byte)) (pending_in self.old)
+            (place_of current.place) current.c (class_is current.class)) }
+        ensures stands { IfOk result (λ s. Stands script.now current.next.byte s) }
+    {
+        let TokenStart { previous, place } = start;
+        let stop = current.place;
+        let Some(kind) = operator(&script[place.byte..stop.byte]) else {
+            return Err(fault(FaultKind::BadDescriptor, place.line));
+        };
+        match kind {
+            TokenKind::BareHere => self.begin_token(script, Previous::Here(place, stop), current),
+            TokenKind::Dollar => {
+                self.push_dollar_caret(previous, place)?;
+                self.dollars.push(token_between(kind, place, stop))?;
+                self.continue_dollars(script, current)
+            }
+            TokenKind::DollarCount | TokenKind::DollarFlat => {
+                self.push_dollar_caret(previous, place)?;
+                self.push_bare_dollars()?;
+                self.dollars.push(token_between(kind, place, stop))?;
+                self.continue_dollars(script, current)
+            }
+            _ => {
+                let meaning = meaning_after(previous, kind);
+                self.push_token(previous, meaning, place, stop)?;
+                self.begin_token(script, after_token(previous, meaning), current)
+            }
+        }
+    }
+
+    /// The script ends after an operator.
+    pub(crate) fn finish_operator(
+        &mut self,
+        script: &[u8],
+        start: TokenStart,
+        place: Place,
+    ) -> Result<(), LexError>
+        requires order { start.place.byte ≤ place.byte }
+        requires within { place.byte ≤ length script.now }
+        requires apart { model.awaits_mark (previous_of start.previous) ≡ false }
+        ensures { Ends script.now self.old self.new result
+            (reading.operated_last (previous_of start.previous) (dollars_in script.now self.old)
+            (place_of start.place) (model.operator (slice_range script.now start.place.byte place.byte))
+            (pending_in self.old) (place_of place)) }
+    {
+        let Some(kind) = operator(&script[start.place.byte..place.byte]) else {
+            return Err(fault(FaultKind::BadDescriptor, start.place.line));
+        };
+        let meaning = meaning_after(start.previous, kind);
+        self.push_bare_dollars()?;
+        self.push_token(start.previous, meaning, start.place, place)?;
+        self.expect_none_pending()
+    }
 }

@@ -7,7 +7,7 @@ pub returns-in-Some : goal.returns-in-Some
 returns-in-Some c = zero_error {Z = Global} c.args.script.now _ c.fault.result c.in-Some.line refl c.fault.ensures c.in-Some.ensures
 
 pub returns : goal.returns
-returns c = tokens_are c.args.script.now _ _ _ c.in_default.ensures c.in_ok-lexer.ensures (c.tokens.ensures c.args.script.now)
+returns c = tokens_are c.args.script.now _ _ _ c.in_default.ensures c.in_ok-lexer.ensures (c.into_tokens.ensures c.args.script.now)
 
 pub returns-in_err-lexer : goal.returns-in_err-lexer
 returns-in_err-lexer c =

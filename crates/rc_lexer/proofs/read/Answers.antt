@@ -1,11 +1,11 @@
 use Rattle.std.proofs.Common.{subst}
 use Rattle.rc_lexer.specs.Machine.{Stands}
-use Rattle.rc_lexer.proofs.Walk.{head_is, step_reads, rest_past, lines_past, char_within}
+use Rattle.rc_lexer.proofs.Walk.{current_is, step_reads, rest_past, lines_past, char_within}
 use Rattle.rc_lexer.proofs.read.Goals as goal
 
-pub step-requires-clause-head : goal.step-requires-clause-head
-step-requires-clause-head c =
-    head_is c.args.script.now _ _ _ _ _ _ _ c.as_bytes.ensures.value c.loop-c.invariant.within c.loop-c.invariant.rest c.in-Some.ensures.bytes
+pub step-requires-clause-current : goal.step-requires-clause-current
+step-requires-clause-current c =
+    current_is c.args.script.now _ _ _ _ _ _ _ c.as_bytes.ensures.value c.loop-c.invariant.within c.loop-c.invariant.rest c.in-Some.ensures.bytes
     c.after_char.ensures c.class_of.ensures
 
 pub loop-c-preserved : goal.loop-c-preserved

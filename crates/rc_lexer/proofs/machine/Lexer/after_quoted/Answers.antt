@@ -1,5 +1,0 @@
-use Rattle.rc_lexer.proofs.Does.{ends_does}
-use Rattle.rc_lexer.proofs.machine.Lexer.after_quoted.Goals as goal
-
-pub returns-clause-does : goal.returns-clause-does
-returns-clause-does c = ends_does _ _ _ _ _ _ _ _ _ c.args.self.now c.quoted.new.self c.begin.new.self _ c.in_ok-after.ensures c.begin.ensures.does

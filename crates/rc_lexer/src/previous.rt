@@ -1,0 +1,91 @@
+//! What stands directly before a token, and what it makes of the token.
+
+ghost use Rattle.std.specs.Prelude.{false, ◌≡◌, ℕ, List, []};
+ghost use Rattle.rc_model.specs.Syntax.Tokens as model;
+ghost use Rattle.rc_model.specs.Mirrors.Reading as reading;
+ghost use Rattle.rc_lexer.specs.Views.{lexeme_of};
+ghost use Rattle.rc_lexer.specs.Machine.{previous_of};
+
+use crate::TokenKind;
+use crate::state::Previous;
+use rc_text::is_name_char;
+
+/// Whether a `^` is inserted before the token.
+pub fn wants_caret(previous: Previous, kind: TokenKind) -> bool
+    ensures { (script text : List ℕ) → result ≡ model.joins (previous_of previous) (lexeme_of script kind text) }
+{
+    let begins_part = matches!(
+        kind,
+        TokenKind::Quoted
+            | TokenKind::Backquote
+            | TokenKind::Dollar
+            | TokenKind::DollarCount
+            | TokenKind::DollarFlat
+            | TokenKind::BareDollar
+    );
+    match previous {
+        Previous::Word => begins_part,
+        Previous::Quoted | Previous::Name => begins_part || matches!(kind, TokenKind::Word),
+        _ => false,
+    }
+}
+
+/// What stands before the place after a blank.
+pub fn after_blank(previous: Previous) -> Previous
+    ensures { previous_of result ≡ model.after_blank (previous_of previous) }
+{
+    match previous {
+        Previous::Here(start, stop) => Previous::Here(start, stop),
+        _ => Previous::Apart,
+    }
+}
+
+/// The same where the mark of a `<<` no longer comes.
+pub fn without_here(previous: Previous) -> Previous
+    ensures value { previous_of result ≡ reading.without_here (previous_of previous) }
+    ensures apart { model.awaits_mark (previous_of result) ≡ false }
+{
+    match previous {
+        Previous::Here(_, _) => Previous::Apart,
+        _ => previous,
+    }
+}
+
+/// Whether the character begins the name of a `$`.
+pub fn begins_name(previous: Previous, c: char) -> bool
+    ensures { result ≡ model.begins_name (previous_of previous) c }
+{
+    match previous {
+        Previous::Dollar => is_name_char(c),
+        _ => false,
+    }
+}
+
+/// What the token is for what follows.
+pub fn after_token(previous: Previous, kind: TokenKind) -> Previous
+    ensures { (script text : List ℕ) → previous_of result
+        ≡ model.as_before (previous_of previous) (lexeme_of script kind text) }
+{
+    match (previous, kind) {
+        (Previous::Here(_, _), _) => Previous::Apart,
+        (Previous::Dollar, TokenKind::Quoted) => Previous::Name,
+        (_, TokenKind::Word) => Previous::Word,
+        (_, TokenKind::Quoted) => Previous::Quoted,
+        (_, TokenKind::Name) => Previous::Name,
+        (_, TokenKind::Dollar | TokenKind::DollarCount | TokenKind::DollarFlat) => Previous::Dollar,
+        _ => Previous::Apart,
+    }
+}
+
+/// What the operator means here, where no name follows.
+pub fn meaning_after(previous: Previous, kind: TokenKind) -> TokenKind
+    ensures { (script text : List ℕ) → lexeme_of script result text
+        ≡ model.meant (previous_of previous) [] (lexeme_of script kind text) }
+{
+    match (previous, kind) {
+        (Previous::Name, TokenKind::LeftParen) => TokenKind::Subscript,
+        (_, TokenKind::Dollar | TokenKind::DollarCount | TokenKind::DollarFlat) =>
+            TokenKind::BareDollar,
+        _ => kind,
+    }
+}

@@ -1,0 +1,99 @@
+//! What the lexer holds between two characters.
+
+ghost use Rattle.std.specs.Prelude.{◌≡◌, []};
+
+use crate::classes::Class;
+use crate::{Span, Token};
+use std::alloc::Global;
+use std::collections::VecDeque;
+
+/// A place in the script: how many bytes stand before it, and its line.
+#[derive(Clone, Copy)]
+pub struct Place {
+    pub byte: usize,
+    pub line: usize,
+}
+
+/// What stands directly before a place.
+#[derive(Clone, Copy)]
+pub enum Previous {
+    /// Nothing that matters to what follows.
+    Apart,
+    Word,
+    Quoted,
+    Name,
+    /// A `$` with its name still to come.
+    Dollar,
+    /// A `<<` between these places, with its mark still to come.
+    Here(Place, Place),
+}
+
+/// Where a token begins, and what stands directly before it.
+#[derive(Clone, Copy)]
+pub struct TokenStart {
+    pub previous: Previous,
+    pub place: Place,
+}
+
+/// What has begun and has not ended.
+#[derive(Clone, Copy)]
+pub enum State {
+    Between(Previous),
+    Comment,
+    /// A backslash, which makes a newline a blank.
+    Backslash(TokenStart),
+    /// A word with a backslash after it, at this place.
+    WordBackslash(TokenStart, Place),
+    Word(TokenStart),
+    Name(Place),
+    Quoted(TokenStart),
+    /// A quoted word after a quote that ends it if no other follows.
+    Closed(TokenStart),
+    Operator(TokenStart),
+    /// The body of the first pending here document: where it begins, and where the line begins.
+    Body(usize, usize),
+}
+
+/// The character that is read now, with the places before and after it.
+#[derive(Clone, Copy)]
+pub struct CurrentChar {
+    pub c: char,
+    pub class: Class,
+    pub place: Place,
+    pub next: Place,
+}
+
+/// A here document whose body is still to come.
+#[derive(Drop)]
+pub struct PendingHereDoc {
+    pub(crate) mark: Vec<u8>,
+    pub(crate) line: usize,
+}
+
+/// What is read so far.
+#[derive(Drop)]
+pub struct Lexer {
+    pub(crate) alloc: Global,
+    pub(crate) tokens: Vec<Token>,
+    /// The `$`s whose name is still to come.
+    pub(crate) dollars: Vec<Token>,
+    pub(crate) bodies: Vec<Span>,
+    pub(crate) pending: VecDeque<PendingHereDoc>,
+}
+
+impl Lexer {
+    /// Nothing is read yet.
+    pub fn new(alloc: Global) -> Self
+        ensures tokens { result.tokens.items ≡ [] }
+        ensures bodies { result.bodies.items ≡ [] }
+        ensures pending { result.pending.items ≡ [] }
+    {
+        Lexer {
+            alloc,
+            tokens: Vec::new(alloc),
+            dollars: Vec::new(alloc),
+            bodies: Vec::new(alloc),
+            pending: VecDeque::new(alloc),
+        }
+    }
+}
