@@ -1,8 +1,8 @@
 -- What the reading functions answer.
 use Rattle.rc_model.specs.Mirrors.Descent as d
 use Rattle.rc_tree_types.specs.View.{cmd_tree, arg_tree}
-use Rattle.rc_descent.specs.declared.read.Opening.{Opening}
-use Rattle.rc_descent.specs.declared.read.Opening.TheVariants as o
+use Rattle.rc_descent.specs.declared.stages.Opening.{Opening}
+use Rattle.rc_descent.specs.declared.stages.Opening.TheVariants as o
 
 -- a stage, or the name of an assignment
 abbrev pub opening_of : Opening → d.Opening

@@ -10,8 +10,16 @@ ghost use Rattle.rc_tree_types.specs.View.{cmd_tree};
 ghost use Rattle.rc_lexemes.specs.Lexemes.{lexemes_of};
 ghost use Rattle.rc_lexemes.specs.Reading.{Gives, HasFault};
 
-mod read;
+mod arguments;
+mod commands;
+mod controls;
+mod lists;
+mod prefixes;
+mod redirections;
+mod stages;
+mod switches;
 
+use lists::parse_list;
 pub use rc_lexemes::{Fault, Lexeme, TokenError, TokenFault};
 use rc_lexemes::{fault_at, seq};
 use rc_model::limits::MOST_LEVELS;
@@ -35,15 +43,15 @@ pub fn script(alloc: Global, lexemes: &[Lexeme]) -> Result<Cmd, TokenError>
     ensures levels { HasFault result Fault.TooDeep →
         (tree : Node cmd) → HaveTree (lexemes_of lexemes.now) tree → 200 < depth tree }
 {
-    tree(alloc, lexemes)
+    parse_script(alloc, lexemes)
 }
 
 /// The tree that the descent finds.
 #[tactic(auto, using(crate::proofs::Scripts::script_fits, crate::proofs::Scripts::script_unfit, crate::proofs::Scripts::script_fails, crate::proofs::Scripts::script_goes_on, std::proofs::lemmas::Grind::common_steps))]
-fn tree(alloc: Global, lexemes: &[Lexeme]) -> Result<Cmd, TokenError>
+fn parse_script(alloc: Global, lexemes: &[Lexeme]) -> Result<Cmd, TokenError>
     ensures { Gives (λ c. cmd_tree c) result (script_tree MOST_LEVELS (lexemes_of lexemes.now)) }
 {
-    let (items, rest) = read::list(alloc, MOST_LEVELS, false, lexemes)?;
+    let (items, rest) = parse_list(alloc, MOST_LEVELS, false, lexemes)?;
     if rest.len() != 0 {
         return Err(fault_at(Fault::Unexpected, rest));
     }

@@ -1,12 +1,14 @@
-//! What the grammar sees of the tokens, and the tests of the next one.
+//! What the grammar sees of the tokens, the tests of the next one, and what ends an item.
 
 ghost use Rattle.std.specs.Prelude.{◌≡◌, Option, option_map};
 ghost use Rattle.rc_model.specs.Syntax.Grammar.{keyword, is_case, begins_arg, begins_redir, begins_brace};
 ghost use Rattle.rc_model.specs.Syntax.Grammar.{begins_command, begins_link, closes, ends, ends_case, past_newlines};
 ghost use Rattle.rc_model.specs.Syntax.Grammar.{past_blanks, past_caret, after_caret};
-ghost use Rattle.rc_model.specs.Mirrors.Descent.{begins_leading};
+ghost use Rattle.rc_model.specs.Mirrors.Descent.{begins_leading, item_end};
 ghost use Rattle.rc_lexemes.specs.Lexemes.{lexemes_of};
+ghost use Rattle.rc_lexemes.specs.Reading.{Gives};
 
+use crate::fault::{Fault, TokenError, fault_at};
 use rc_model::{Keyword, Mode};
 
 /// A token with its text. A here document has its body.
@@ -226,5 +228,24 @@ pub fn after_caret(lexemes: &[Lexeme]) -> Option<&[Lexeme]>
         [Lexeme::Caret, rest @ ..] => Some(rest),
         [Lexeme::FreeCaret, rest @ ..] => Some(rest),
         _ => None,
+    }
+}
+
+/// What ends an item, and whether that is a `&`.
+#[tactic(auto, unfolding(rc_model::specs::Mirrors::Descent::item_end))]
+pub fn item_end(lexemes: &[Lexeme]) -> Result<(bool, &[Lexeme]), TokenError>
+    ensures { Gives (λ x. (x.0, lexemes_of x.1.now)) result (item_end (lexemes_of lexemes.now)) }
+{
+    match lexemes {
+        [Lexeme::Semicolon, rest @ ..] => Ok((false, rest)),
+        [Lexeme::Newline, rest @ ..] => Ok((false, rest)),
+        [Lexeme::Ampersand, rest @ ..] => Ok((true, rest)),
+        _ => {
+            if closes(lexemes) {
+                Ok((false, lexemes))
+            } else {
+                Err(fault_at(Fault::Unexpected, lexemes))
+            }
+        }
     }
 }

@@ -3,9 +3,9 @@ use Rattle.rc_descent.proofs.script.Goals as goal
 
 pub returns : goal.returns
 returns c = record {
-  found = found_by _ _ c.tree.ensures;
-  only = only_by _ _ c.tree.ensures;
-  none = none_by _ _ c.tree.ensures;
-  stages = stages_by _ _ c.tree.ensures;
-  levels = levels_by _ _ c.tree.ensures;
+  found = found_by _ _ c.parse_script.ensures;
+  only = only_by _ _ c.parse_script.ensures;
+  none = none_by _ _ c.parse_script.ensures;
+  stages = stages_by _ _ c.parse_script.ensures;
+  levels = levels_by _ _ c.parse_script.ensures;
 }

@@ -1,0 +1,158 @@
+//! The control forms.
+
+ghost use Rattle.rc_model.specs.Mirrors.Descent.{read, body_by, if_by, while_by, over_by, for_by, control_by};
+ghost use Rattle.rc_tree_types.specs.View.{cmd_tree, arg_tree};
+ghost use Rattle.rc_lexemes.specs.Lexemes.{lexemes_of};
+ghost use Rattle.rc_lexemes.specs.Reading.{Gives};
+
+use crate::arguments::{parse_argument, parse_members};
+use crate::commands::{parse_command, parse_inner_operand};
+use crate::lists::parse_paren;
+use rc_lexemes::{
+    Fault, Lexeme, TokenError, begins_command, begins_link, conditional, empty, fault_at, for_all,
+    for_each, if_not, keyword_named, not, past_caret, past_newlines, repeated, subshell,
+};
+use rc_model::Keyword;
+use rc_tree::{Arg, Cmd};
+use std::alloc::Global;
+
+/// The body of a control form, which may be absent.
+#[cycle(parse)]
+#[tactic(auto, using(std::proofs::lemmas::Grind::common_steps), unfolding(rc_model::specs::Mirrors::Descent::body_by))]
+fn parse_body(
+    alloc: Global,
+    below: usize,
+    lexemes: &[Lexeme],
+) -> Result<(Box<Cmd>, &[Lexeme]), TokenError>
+    ensures { Gives (λ x. (cmd_tree x.0.value, lexemes_of x.1.now)) result
+        (body_by (read below) (lexemes_of lexemes.now)) }
+{
+    let rest = past_newlines(lexemes);
+    if begins_command(rest) {
+        parse_command(alloc, below, false, rest)
+    } else if begins_link(rest) {
+        Err(fault_at(Fault::Unexpected, rest))
+    } else {
+        Ok((empty(alloc)?, rest))
+    }
+}
+
+/// What follows `if`.
+#[cycle(parse)]
+#[tactic(auto, using(std::proofs::lemmas::Grind::common_steps), unfolding(rc_model::specs::Mirrors::Descent::if_by))]
+fn parse_if(
+    alloc: Global,
+    below: usize,
+    after_if: bool,
+    lexemes: &[Lexeme],
+) -> Result<(Box<Cmd>, &[Lexeme]), TokenError>
+    ensures { Gives (λ x. (cmd_tree x.0.value, lexemes_of x.1.now)) result
+        (if_by (read below) after_if (lexemes_of lexemes.now)) }
+{
+    if let [Lexeme::Word(text), rest @ ..] = lexemes {
+        let Keyword::Not = keyword_named(text) else {
+            return Err(fault_at(Fault::Unexpected, lexemes));
+        };
+        if !after_if {
+            return Err(fault_at(Fault::IfNot, lexemes));
+        }
+        let (body, rest) = parse_body(alloc, below, past_caret(rest))?;
+        return Ok((if_not(alloc, body)?, rest));
+    }
+    let (condition, rest) = parse_paren(alloc, below, lexemes)?;
+    let (body, rest) = parse_body(alloc, below, rest)?;
+    Ok((conditional(alloc, condition, body)?, rest))
+}
+
+/// What follows `while`.
+#[cycle(parse)]
+#[tactic(auto, using(std::proofs::lemmas::Grind::common_steps), unfolding(rc_model::specs::Mirrors::Descent::while_by))]
+fn parse_while(
+    alloc: Global,
+    below: usize,
+    lexemes: &[Lexeme],
+) -> Result<(Box<Cmd>, &[Lexeme]), TokenError>
+    ensures { Gives (λ x. (cmd_tree x.0.value, lexemes_of x.1.now)) result
+        (while_by (read below) (lexemes_of lexemes.now)) }
+{
+    let (condition, rest) = parse_paren(alloc, below, lexemes)?;
+    let (body, rest) = parse_body(alloc, below, rest)?;
+    Ok((repeated(alloc, condition, body)?, rest))
+}
+
+/// What follows the name of a `for`.
+#[cycle(parse)]
+#[tactic(auto, using(std::proofs::lemmas::Grind::common_steps), unfolding(rc_model::specs::Mirrors::Descent::over_by))]
+fn parse_over(
+    alloc: Global,
+    below: usize,
+    name: Box<Arg>,
+    lexemes: &[Lexeme],
+) -> Result<(Box<Cmd>, &[Lexeme]), TokenError>
+    ensures { Gives (λ x. (cmd_tree x.0.value, lexemes_of x.1.now)) result
+        (over_by (read below) (arg_tree name.value) (lexemes_of lexemes.now)) }
+{
+    match lexemes {
+        [Lexeme::RightParen, rest @ ..] => {
+            let (body, rest) = parse_body(alloc, below, rest)?;
+            Ok((for_all(alloc, name, body)?, rest))
+        }
+        [Lexeme::Word(text), rest @ ..] => {
+            let Keyword::In = keyword_named(text) else {
+                return Err(fault_at(Fault::Unexpected, lexemes));
+            };
+            let (words, rest) = parse_members(alloc, below, past_caret(rest))?;
+            let (body, rest) = parse_body(alloc, below, rest)?;
+            Ok((for_each(alloc, name, words, body)?, rest))
+        }
+        _ => Err(fault_at(Fault::Unexpected, lexemes)),
+    }
+}
+
+/// What follows `for`.
+#[cycle(parse)]
+#[tactic(auto, unfolding(rc_model::specs::Mirrors::Descent::for_by))]
+fn parse_for(
+    alloc: Global,
+    below: usize,
+    lexemes: &[Lexeme],
+) -> Result<(Box<Cmd>, &[Lexeme]), TokenError>
+    ensures { Gives (λ x. (cmd_tree x.0.value, lexemes_of x.1.now)) result
+        (for_by (read below) (lexemes_of lexemes.now)) }
+{
+    let [Lexeme::LeftParen, rest @ ..] = lexemes else {
+        return Err(fault_at(Fault::Unexpected, lexemes));
+    };
+    let (name, rest) = parse_argument(alloc, below, true, past_newlines(rest))?;
+    parse_over(alloc, below, name, past_newlines(rest))
+}
+
+/// What follows `!`, `@` and the control words.
+#[cycle(parse)]
+#[tactic(auto, using(std::proofs::lemmas::Grind::common_steps), unfolding(rc_model::specs::Mirrors::Descent::control_by))]
+pub fn parse_control(
+    alloc: Global,
+    below: usize,
+    after_if: bool,
+    keyword: Keyword,
+    lexemes: &[Lexeme],
+) -> Result<(Box<Cmd>, &[Lexeme]), TokenError>
+    ensures { Gives (λ x. (cmd_tree x.0.value, lexemes_of x.1.now)) result
+        (control_by (read below) after_if keyword (lexemes_of lexemes.now)) }
+{
+    let rest = past_caret(lexemes);
+    match keyword {
+        Keyword::Bang => {
+            let (cmd, rest) = parse_inner_operand(alloc, below, rest)?;
+            Ok((not(alloc, cmd)?, rest))
+        }
+        Keyword::At => {
+            let (cmd, rest) = parse_inner_operand(alloc, below, rest)?;
+            Ok((subshell(alloc, cmd)?, rest))
+        }
+        Keyword::If => parse_if(alloc, below, after_if, rest),
+        Keyword::While => parse_while(alloc, below, rest),
+        Keyword::For => parse_for(alloc, below, rest),
+        _ => Err(fault_at(Fault::Unexpected, lexemes)),
+    }
+}

@@ -1,0 +1,61 @@
+//! Redirections.
+
+ghost use Rattle.std.specs.Prelude.{false};
+ghost use Rattle.rc_model.specs.Mirrors.Descent.{read, a_part, redir_by, redirs_by};
+ghost use Rattle.rc_tree_types.specs.View.{redir_tree, redirs_tree};
+ghost use Rattle.rc_lexemes.specs.Lexemes.{lexemes_of};
+ghost use Rattle.rc_lexemes.specs.Reading.{Gives};
+
+use crate::arguments::parse_argument;
+use rc_lexemes::{
+    Fault, Lexeme, TokenError, begins_redir, copying, fault_at, here_doc, opening, push_redir,
+};
+use rc_tree::Redir;
+use std::alloc::Global;
+
+/// A redirection.
+#[cycle(parse)]
+#[tactic(auto, using(std::proofs::lemmas::Grind::common_steps), unfolding(rc_model::specs::Mirrors::Descent::redir_by))]
+pub fn parse_redirection(
+    alloc: Global,
+    left: usize,
+    lexemes: &[Lexeme],
+) -> Result<(Box<Redir>, &[Lexeme]), TokenError>
+    ensures { Gives (λ x. (redir_tree x.0.value, lexemes_of x.1.now)) result
+        (redir_by (read left (a_part false)) (lexemes_of lexemes.now)) }
+{
+    match lexemes {
+        [Lexeme::Redirection(mode, slot), rest @ ..] => {
+            let (file, rest) = parse_argument(alloc, left, false, rest)?;
+            Ok((opening(alloc, *mode, *slot, file)?, rest))
+        }
+        [Lexeme::CopyTo(to, from), rest @ ..] => Ok((copying(alloc, *to, *from)?, rest)),
+        [Lexeme::HereDoc(quoted, body), rest @ ..] => Ok((here_doc(alloc, *quoted, body)?, rest)),
+        _ => Err(fault_at(Fault::Unexpected, lexemes)),
+    }
+}
+
+/// The redirections that stand here.
+#[cycle(parse)]
+#[tactic(auto, using(crate::proofs::Turns::redirs))]
+pub fn parse_redirections(
+    alloc: Global,
+    left: usize,
+    lexemes: &[Lexeme],
+) -> Result<(Vec<Redir>, &[Lexeme]), TokenError>
+    ensures { Gives (λ x. (redirs_tree x.0.items, lexemes_of x.1.now)) result
+        (redirs_by (read left (a_part false)) (lexemes_of lexemes.now)) }
+{
+    let mut redirs = Vec::new(alloc);
+    let mut rest = lexemes;
+    let turns = lexemes.len();
+    for _ in 0..turns {
+        if !begins_redir(rest) {
+            break;
+        }
+        let (redir, after) = parse_redirection(alloc, left, rest)?;
+        push_redir(&mut redirs, redir)?;
+        rest = after;
+    }
+    Ok((redirs, rest))
+}

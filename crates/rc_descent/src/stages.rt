@@ -1,0 +1,162 @@
+//! The stages of a pipeline.
+
+ghost use Rattle.std.specs.Prelude.{false};
+ghost use Rattle.rc_model.specs.Mirrors.Descent.{read, a_part, simple_by, match_by, define_by, block_by, first_by};
+ghost use Rattle.rc_model.specs.Mirrors.Descent.{opening_by};
+ghost use Rattle.rc_tree_types.specs.View.{cmd_tree, args_tree, redirs_tree};
+ghost use Rattle.rc_lexemes.specs.Lexemes.{lexemes_of};
+ghost use Rattle.rc_lexemes.specs.Reading.{Gives};
+ghost use Rattle.rc_descent.specs.Reading.{opening_of};
+
+use crate::arguments::{parse_argument, parse_words};
+use crate::lists::parse_brace;
+use crate::redirections::{parse_redirection, parse_redirections};
+use crate::switches::parse_switch;
+use rc_lexemes::{
+    Fault, Lexeme, TokenError, begins_arg, begins_brace, begins_redir, block, defined, fault_at,
+    insert_arg, keyword_named, matching, past_caret, push_arg, push_redir, redirect, simple,
+    undefined,
+};
+use rc_model::Keyword;
+use rc_tree::{Arg, Cmd, Redir};
+use std::alloc::Global;
+
+/// How an operand begins.
+#[derive(Drop)]
+pub enum Opening {
+    /// A stage of a pipeline.
+    Staged(Box<Cmd>),
+    /// The name of an assignment. The `=` follows it.
+    Named(Box<Arg>),
+}
+
+/// The words and redirections that stand here.
+#[cycle(parse)]
+#[tactic(auto, using(crate::proofs::Turns::simple))]
+fn parse_simple(
+    alloc: Global,
+    left: usize,
+    lexemes: &[Lexeme],
+) -> Result<((Vec<Arg>, Vec<Redir>), &[Lexeme]), TokenError>
+    ensures { Gives (λ x. ((args_tree x.0.0.items, redirs_tree x.0.1.items), lexemes_of x.1.now)) result
+        (simple_by (read left (a_part false)) (lexemes_of lexemes.now)) }
+{
+    let mut words = Vec::new(alloc);
+    let mut redirs = Vec::new(alloc);
+    let mut rest = lexemes;
+    let turns = lexemes.len();
+    for _ in 0..turns {
+        if begins_arg(rest) {
+            let (word, after) = parse_argument(alloc, left, false, rest)?;
+            push_arg(&mut words, word)?;
+            rest = after;
+        } else if begins_redir(rest) {
+            let (redir, after) = parse_redirection(alloc, left, rest)?;
+            push_redir(&mut redirs, redir)?;
+            rest = after;
+        } else {
+            break;
+        }
+    }
+    Ok(((words, redirs), rest))
+}
+
+/// What follows `~`.
+#[cycle(parse)]
+#[tactic(auto, using(std::proofs::lemmas::Grind::common_steps), unfolding(rc_model::specs::Mirrors::Descent::match_by))]
+fn parse_match(
+    alloc: Global,
+    below: usize,
+    lexemes: &[Lexeme],
+) -> Result<(Box<Cmd>, &[Lexeme]), TokenError>
+    ensures { Gives (λ x. (cmd_tree x.0.value, lexemes_of x.1.now)) result
+        (match_by (read below) (lexemes_of lexemes.now)) }
+{
+    let (subject, rest) = parse_argument(alloc, below, false, lexemes)?;
+    let (patterns, rest) = parse_words(alloc, below, rest)?;
+    Ok((matching(alloc, subject, patterns)?, rest))
+}
+
+/// What follows `fn`.
+#[cycle(parse)]
+#[tactic(auto, using(std::proofs::lemmas::Grind::common_steps), unfolding(rc_model::specs::Mirrors::Descent::define_by))]
+fn parse_define(
+    alloc: Global,
+    below: usize,
+    lexemes: &[Lexeme],
+) -> Result<(Box<Cmd>, &[Lexeme]), TokenError>
+    ensures { Gives (λ x. (cmd_tree x.0.value, lexemes_of x.1.now)) result
+        (define_by (read below) (lexemes_of lexemes.now)) }
+{
+    let (first, rest) = parse_argument(alloc, below, false, lexemes)?;
+    let (mut names, rest) = parse_words(alloc, below, rest)?;
+    insert_arg(&mut names, first)?;
+    if !begins_brace(rest) {
+        return Ok((undefined(alloc, names)?, rest));
+    }
+    let (body, rest) = parse_brace(alloc, below, rest)?;
+    Ok((defined(alloc, names, body)?, rest))
+}
+
+/// A list in braces as a command.
+#[cycle(parse)]
+#[tactic(auto, using(std::proofs::lemmas::Grind::common_steps), unfolding(rc_model::specs::Mirrors::Descent::block_by))]
+fn parse_block(
+    alloc: Global,
+    below: usize,
+    lexemes: &[Lexeme],
+) -> Result<(Box<Cmd>, &[Lexeme]), TokenError>
+    ensures { Gives (λ x. (cmd_tree x.0.value, lexemes_of x.1.now)) result
+        (block_by (read below) (lexemes_of lexemes.now)) }
+{
+    let (body, rest) = parse_brace(alloc, below, lexemes)?;
+    let body = block(alloc, body)?;
+    let (redirs, rest) = parse_redirections(alloc, below, rest)?;
+    Ok((redirect(alloc, redirs, body)?, rest))
+}
+
+/// A simple command, or the name of an assignment.
+#[cycle(parse)]
+#[tactic(auto, using(std::proofs::lemmas::Grind::common_steps), unfolding(rc_model::specs::Mirrors::Descent::first_by))]
+fn parse_first(
+    alloc: Global,
+    below: usize,
+    lexemes: &[Lexeme],
+) -> Result<(Opening, &[Lexeme]), TokenError>
+    ensures { Gives (λ x. (opening_of x.0, lexemes_of x.1.now)) result
+        (first_by (read below) (lexemes_of lexemes.now)) }
+{
+    let (first, rest) = parse_argument(alloc, below, false, lexemes)?;
+    if let [Lexeme::Equals, rest @ ..] = rest {
+        return Ok((Opening::Named(first), rest));
+    }
+    let ((mut words, redirs), rest) = parse_simple(alloc, below, rest)?;
+    insert_arg(&mut words, first)?;
+    let command = redirect(alloc, redirs, simple(alloc, words)?)?;
+    Ok((Opening::Staged(command), rest))
+}
+
+/// How an operand begins.
+#[cycle(parse)]
+#[tactic(auto, unfolding(rc_model::specs::Mirrors::Descent::opening_by, rc_model::specs::Mirrors::Descent::worded_by))]
+pub fn parse_opening(
+    alloc: Global,
+    below: usize,
+    lexemes: &[Lexeme],
+) -> Result<(Opening, &[Lexeme]), TokenError>
+    ensures { Gives (λ x. (opening_of x.0, lexemes_of x.1.now)) result
+        (opening_by (read below) (lexemes_of lexemes.now)) }
+{
+    let (command, rest) = match lexemes {
+        [Lexeme::Word(text), rest @ ..] => match keyword_named(text) {
+            Keyword::Switch => parse_switch(alloc, below, past_caret(rest))?,
+            Keyword::Match => parse_match(alloc, below, past_caret(rest))?,
+            Keyword::Fn => parse_define(alloc, below, past_caret(rest))?,
+            Keyword::Plain => return parse_first(alloc, below, lexemes),
+            _ => return Err(fault_at(Fault::Unexpected, lexemes)),
+        },
+        [Lexeme::LeftBrace, ..] => parse_block(alloc, below, lexemes)?,
+        _ => return parse_first(alloc, below, lexemes),
+    };
+    Ok((Opening::Staged(command), rest))
+}
