@@ -49,7 +49,7 @@ const OPERATORS: [(&str, TokenKind); 29] = [
 ];
 
 /// Whether an operator begins so.
-pub fn begins_operator(text: &[u8]) -> bool
+fn begins_operator(text: &[u8]) -> bool
     ensures { result ≡ begins_operator text.now }
 {
     for (operator, _) in &OPERATORS {
@@ -61,7 +61,7 @@ pub fn begins_operator(text: &[u8]) -> bool
 }
 
 /// The operator that is written so.
-pub fn operator(text: &[u8]) -> Option<TokenKind>
+fn operator(text: &[u8]) -> Option<TokenKind>
     ensures { MatchOption result (operator text.now ≡ None)
         (λ kind. (script slice : List ℕ) → operator text.now ≡ Some (lexeme_of script kind slice)) }
 {

@@ -62,7 +62,7 @@ impl Lexer {
     }
 
     /// A `<<` with its mark, whose body is still to come.
-    pub(crate) fn push_here_doc(
+    fn push_here_doc(
         &mut self,
         quoted: bool,
         mark: Vec<u8>,
