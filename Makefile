@@ -46,6 +46,7 @@ test:
 	cp examples/*.rc crates/test_scripts/data
 	$(RT) ci
 	tests/check $(BUILT)
+	tests/memory $(BUILT)
 	if [ -e $(RELEASE) ]; then cmp $(BUILT) $(RELEASE); fi
 
 install: rc
