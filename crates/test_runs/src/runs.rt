@@ -34,7 +34,7 @@ const RUNS: [(&str, &[u8], usize); 13] = [
 ];
 
 /// Each further run: what it shows, its arguments, and its input.
-const ARGUMENTS: [(&str, &[&str], &[u8]); 34] = [
+const ARGUMENTS: [(&str, &[&str], &[u8]); 39] = [
     ("a text", &["-c", "echo a; echo b"], b""),
     (
         "a text with arguments",
@@ -127,6 +127,27 @@ const ARGUMENTS: [(&str, &[&str], &[u8]); 34] = [
             "sh says_both.sh >made >[2=1]; cat made; sh says_both.sh >[2=1] >made; cat made; \
              sh says_both.sh >[1=2] >[2]made; cat made; rm made",
         ],
+        b"",
+    ),
+    ("what a program is handed", &["launched.rc"], b""),
+    (
+        "what it is handed with its errors as output",
+        &["launched.rc", ">[2=1]"],
+        b"",
+    ),
+    (
+        "what it is handed with its output as errors",
+        &["launched.rc", ">[1=2]"],
+        b"",
+    ),
+    (
+        "what it is handed with its output as errors and these in a file",
+        &["launched.rc", ">[1=2] >[2]made"],
+        b"",
+    ),
+    (
+        "what it is handed with its errors as output and this in a file",
+        &["launched.rc", ">[2=1] >made"],
         b"",
     ),
     ("sixty redirections inside one another", &["nested.rc"], b""),
