@@ -2,7 +2,7 @@
 #                and else what `make prove` builds
 # make prove     proves and builds ./rc
 # make release   proves and builds the program, and puts it and the hash of its sources into release/
-# make check     runs a table of one-line scripts and the examples on ./rc, in seconds
+# make check     runs a table of one-line scripts, the examples and a command between two pipes on ./rc, in seconds
 # make test      proves, builds and tests everything from nothing, and compares the program with the release, where there is one
 # make install   copies the shell and its manual page to PREFIX
 
@@ -25,6 +25,7 @@ build:
 
 check: rc
 	tests/check ./rc
+	tests/descriptors ./rc
 
 # The hash is taken before the build: sources that change meanwhile don't fit it.
 release: tracked
@@ -47,6 +48,7 @@ test:
 	$(RT) ci
 	tests/check $(BUILT)
 	tests/memory $(BUILT)
+	tests/descriptors $(BUILT)
 	if [ -e $(RELEASE) ]; then cmp $(BUILT) $(RELEASE); fi
 
 install: rc
