@@ -4,7 +4,13 @@
 #[cfg(test)]
 mod environment;
 #[cfg(test)]
+mod faults;
+#[cfg(test)]
+mod kinds;
+#[cfg(test)]
 mod launch;
+#[cfg(test)]
+mod sizes;
 #[cfg(test)]
 mod trees;
 #[cfg(test)]

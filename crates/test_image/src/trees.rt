@@ -94,11 +94,19 @@ fn shape(alloc: Global, words: &[String]) -> Result<String, AllocError> {
 }
 
 /// How the image of one word is cut, by the text of the word and how often it stands there.
-const CUTS: [(&str, usize, &str); 5] = [
+const CUTS: [(&str, usize, &str); 8] = [
+    ("a", 99_985, "99999 "),
     ("a", 99_986, "100000 "),
     ("a", 99_987, "rc2;1 99997 "),
+    ("a", 99_990, "rc2;1 100000 "),
     ("a", 99_991, "rc2;2 100000 a "),
     ("é", 50_000, "rc2;2 99999 12 "),
+    (
+        "a",
+        1_599_987,
+        "rc2;16 100000 100000 100000 100000 100000 100000 100000 100000 100000 100000 100000 100000 \
+         100000 100000 100000 99999 ",
+    ),
     (
         "a",
         1_599_988,
