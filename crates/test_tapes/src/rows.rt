@@ -1,0 +1,94 @@
+//! How a row is written:
+//!
+//! ```text
+//! ## its_name
+//! options, each on a line
+//! script:
+//! the lines of the script
+//! calls:
+//! the calls, each on a line, with its answer after ` > `
+//! end: ended, the status; x=["a member"]
+//! ```
+//!
+//! Lines that begin with `#` may stand before a row, and empty lines after it.
+
+use crate::options::{entries, has, limit, repeated, set_up};
+use anyhow::{Result, anyhow};
+use rc_scope::State;
+use std::alloc::Global;
+
+/// A script, and what is wanted of its run.
+#[derive(Drop)]
+pub struct Row<'a> {
+    options: &'a str,
+    pub script: String,
+    /// The calls with their answers.
+    pub calls: String,
+    pub end: &'a str,
+    /// How many instructions the run may have.
+    pub limit: u64,
+}
+
+/// What a shell is handed.
+#[derive(Drop)]
+pub struct Handed {
+    pub is_strict: bool,
+    pub words: Vec<String>,
+    pub entries: Vec<String>,
+}
+
+impl<'a> Row<'a> {
+    /// The row that is written so, from the line after its name on.
+    pub fn read(alloc: Global, written: &'a str) -> Result<Row<'a>> {
+        let Some((options, script, calls, end)) = parts(written) else {
+            return Err(anyhow!("not a row"));
+        };
+        Ok(Row {
+            options,
+            script: repeated(alloc, options, script)?,
+            calls: repeated(alloc, options, calls)?,
+            end: if end == "ended," { "ended, " } else { end },
+            limit: limit(options)?,
+        })
+    }
+
+    /// The state before the run.
+    pub fn state(&self, alloc: Global) -> Result<State> {
+        set_up(alloc, self.options)
+    }
+
+    /// What a shell is handed, where this is no script.
+    pub fn handed(&self, alloc: Global) -> Result<Option<Handed>> {
+        if !has(self.options, "image") {
+            return Ok(None);
+        }
+        let mut words = Vec::new(alloc);
+        for word in self.script.lines() {
+            words.push(String::from_str(alloc, word)?)?;
+        }
+        Ok(Some(Handed {
+            is_strict: has(self.options, "strict"),
+            words,
+            entries: entries(alloc, self.options)?,
+        }))
+    }
+}
+
+/// The options, the script, the calls and the end of a row.
+fn parts(written: &str) -> Option<(&str, &str, &str, &str)> {
+    let (options, rest) = written.split_once("script:")?;
+    let (script, rest) = rest.split_once("\ncalls:")?;
+    let (calls, rest) = rest.split_once("\nend: ")?;
+    let (end, between) = rest.split_once('\n').unwrap_or((rest, ""));
+    for line in between.lines() {
+        if !line.is_empty() && !line.starts_with('#') {
+            return None;
+        }
+    }
+    Some((options, lines_of(script), lines_of(calls), end))
+}
+
+/// The lines that follow a heading.
+fn lines_of(part: &str) -> &str {
+    part.strip_prefix('\n').unwrap_or("")
+}

@@ -1,0 +1,127 @@
+//! What a run did: its calls, each on a line, and how it ended.
+
+use rc_image::ImageFault;
+use rc_model::SyntaxFault;
+use rc_scope::State;
+use rc_world::{Call, Launch, Mode, Program, Slot, Slots};
+use std::alloc::{AllocError, Global};
+
+/// How a run ended.
+#[derive(Drop)]
+pub enum End<'a> {
+    Ended(&'a State),
+    Limit,
+    Halted,
+    NoScript(SyntaxFault),
+    NoImage(ImageFault),
+    NoMemory,
+}
+
+/// What a run did.
+#[derive(Drop)]
+pub struct Story {
+    pub calls: String,
+    pub end: String,
+}
+
+impl Story {
+    /// The story of a run with these calls and this end.
+    pub fn of(alloc: Global, calls: &[Call], end: End<'_>) -> Result<Story, AllocError> {
+        let mut story = Story {
+            calls: String::new(alloc),
+            end: String::new(alloc),
+        };
+        for call in calls {
+            write_call(&mut story.calls, call)?;
+        }
+        write_end(&mut story.end, end)?;
+        Ok(story)
+    }
+}
+
+/// Writes an end, with the variables that a script of a row may set.
+fn write_end(out: &mut String, end: End<'_>) -> Result<(), AllocError> {
+    match end {
+        End::Ended(state) => {
+            write!(out, "ended, {}", state.status())?;
+            for name in ["x", "apid"] {
+                write_variable(out, state, name)?;
+            }
+            Ok(())
+        }
+        End::Limit => out.push_str("limit"),
+        End::Halted => out.push_str("halted"),
+        End::NoImage(fault) => write!(out, "{fault}"),
+        End::NoScript(fault) => write!(out, "{:?} in line {}", fault.kind, fault.line),
+        End::NoMemory => out.push_str("no memory"),
+    }
+}
+
+/// Writes a variable where it has a member.
+fn write_variable(out: &mut String, state: &State, name: &str) -> Result<(), AllocError> {
+    match state.get(name) {
+        Ok(value) if !value.is_empty() => write!(out, "; {name}={value:?}"),
+        _ => Ok(()),
+    }
+}
+
+fn write_call(out: &mut String, call: &Call) -> Result<(), AllocError> {
+    match call {
+        Call::Open(path, mode) => write!(out, "open {path} to {}", mode_name(*mode))?,
+        Call::Here(text) => write!(out, "here {text:?}")?,
+        Call::Close(file) => write!(out, "close {}", file.0)?,
+        Call::Probe(path) => write!(out, "probe {path}")?,
+        Call::Start(launch) => write_launch(out, launch)?,
+        Call::Wait(child) => write!(out, "wait {}", child.0)?,
+        Call::Write(slot, text) => write_report(out, *slot, text.as_slice())?,
+        Call::Pipe => out.push_str("pipe")?,
+        Call::Read(file) => write!(out, "read {}", file.0)?,
+        Call::List(path) => write!(out, "list {path}")?,
+        Call::Chdir(path) => write!(out, "chdir {path}")?,
+    }
+    out.push('\n')
+}
+
+fn mode_name(mode: Mode) -> &'static str {
+    match mode {
+        Mode::Read => "read",
+        Mode::Write => "write",
+        Mode::Append => "append",
+    }
+}
+
+fn write_launch(out: &mut String, launch: &Launch) -> Result<(), AllocError> {
+    let program = match &launch.program {
+        Program::Shell => "the shell",
+        Program::Path(path) => path.as_str(),
+    };
+    let args = &launch.args;
+    let env = &launch.env;
+    write!(out, "start {program} {args:?} {env:?}")?;
+    let Slots {
+        input,
+        output,
+        errors,
+    } = launch.slots;
+    for slot in [input, output, errors] {
+        out.push(' ')?;
+        write_slot(out, slot)?;
+    }
+    Ok(())
+}
+
+fn write_report(out: &mut String, slot: Slot, text: &[u8]) -> Result<(), AllocError> {
+    out.push_str("write ")?;
+    write_slot(out, slot)?;
+    match str::from_utf8(text) {
+        Ok(text) => write!(out, " {text:?}"),
+        Err(_) => out.push_str(" no text"),
+    }
+}
+
+fn write_slot(out: &mut String, slot: Slot) -> Result<(), AllocError> {
+    match slot {
+        Slot::Own(number) => write!(out, "{number}"),
+        Slot::To(file) => write!(out, "file {}", file.0),
+    }
+}
