@@ -1,7 +1,6 @@
 -- The characters of words.
-use Rattle.std.proofs.Common.{◌≡◌, ℕ, Bool, true, false, ◌||◌, List, [], ◌∷◌, ◌++◌, map, refl, ap, ◌∙◌, sym, append_assoc}
+use Rattle.std.proofs.Common.{◌≡◌, ℕ, Bool, false, ◌||◌, List, [], ◌∷◌, ◌++◌, map, refl, ap, ◌∙◌, sym, subst, Result, Ok, OnOk}
 use Rattle.std.proofs.lemmas.List.{append-nil, map-append}
-use Rattle.std.proofs.lemmas.Grind.{common_steps}
 use Rattle.std.specs.List.{list_any, flat_map}
 use Rattle.rc_model.specs.Syntax.Words.{Word, unmarked, spaced_words}
 use Rattle.rc_text.specs.declared.words.Ch.{Ch}
@@ -29,3 +28,7 @@ marked_by b c = record { c = c; pat = b }
 pub marks_of : (b : Bool) (cs : List ℕ) → marks (map (marked_by b) cs) ≡ map (λ c. (c, b)) cs
 marks_of b [] = refl
 marks_of b (c ∷ cs) = ap (λ ms. (c, b) ∷ ms) (marks_of b cs)
+
+-- what holds of a call that went well
+pub at_ok : {E P : Type 0} {r : Result (Unit {0}) E} {u : Unit {0}} → r ≡ Ok u → OnOk r P → P
+at_ok {P = P} e h = subst (λ r. OnOk r P) e h

@@ -4,7 +4,7 @@ use Rattle.std.proofs.Common.{Option, Some, None, string_bytes, refl, ap, sym, �
 use Rattle.std.proofs.lemmas.List.{take_all, take_rest, drop-take, take-map, drop-map, map-append, append-nil, take_more}
 use Rattle.std.proofs.lemmas.Grind.{common_steps, flat_map-append}
 use Rattle.std.specs.Prelude.{◌==◌}
-use Rattle.std.specs.List.{list_any, flat_map, position_or_len, before_first, after_first, AllZip, AppendsClones}
+use Rattle.std.specs.List.{list_any, position_or_len, before_first, after_first, AllZip, AppendsClones}
 use Rattle.std.specs.declared.alloc.Global.{Global}
 use Rattle.std.specs.declared.string.String.{String}
 use Rattle.rc_model.specs.Run.Lists.{member, up_to, front, from_place, selected, selected_by}

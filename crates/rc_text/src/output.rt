@@ -8,7 +8,6 @@ ghost use Rattle.rc_text.specs.Members.{EndsMember};
 use crate::characters::first_char;
 use bstr::ByteSlice;
 use std::alloc::{AllocError, Global};
-use std::mem;
 
 /// The bytes but those that are 0 as text, with U+FFFD for what is no UTF-8.
 #[tactic(auto, using(crate::proofs::Decoding::decoding))]
@@ -57,8 +56,8 @@ fn end_member(
     ensures cleared { OnOk result (string_bytes member.new ≡ []) }
 {
     if !member.is_empty() {
-        let whole = mem::replace(member, String::new(alloc));
-        members.push(whole)?;
+        members.push(String::from_str(alloc, member)?)?;
+        member.clear();
     }
     Ok(())
 }

@@ -52,7 +52,8 @@ impl Word {
         ensures { IfOk result (λ word. word ≡ written text.now quoted) }
     {
         let pat = !quoted;
-        let chars = text.chars().map(|c| Ch { c, pat }).collect(alloc)?;
+        let mut chars = Vec::with_capacity(alloc, text.len())?;
+        chars.extend(text.chars().map(|c| Ch { c, pat }))?;
         Ok(Word(chars))
     }
 
@@ -101,7 +102,9 @@ impl Word {
     pub fn text(&self) -> Result<String, AllocError>
         ensures { IfOk result (λ text. string_bytes text ≡ word_text self.now) }
     {
-        self.0.iter().map(|ch| ch.c).collect(*self.0.allocator())
+        let mut text = String::with_capacity(*self.0.allocator(), self.0.len())?;
+        text.extend(self.0.iter().map(|ch| ch.c))?;
+        Ok(text)
     }
 
     /// Whether a marked `*`, `?` or `[` is among the characters.
