@@ -1,4 +1,4 @@
-//! Commands: operands that `&&` and `||` join, and the pipelines that they are.
+//! Commands: their operands, which `&&` and `||` join, and pipelines.
 
 ghost use Rattle.rc_model.specs.Mirrors.Descent.{read, an_operand, a_piped, a_command, leading_by, pipe_by, operand_by};
 ghost use Rattle.rc_model.specs.Mirrors.Descent.{links_by};

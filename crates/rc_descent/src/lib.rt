@@ -1,4 +1,8 @@
 //! The parser: the tree of a script.
+//!
+//! It is a descent with one token in sight. Each function `parse_..` reads the part of the grammar that it is named
+//! after, and answers what it read and the lexemes after it. At most `left` levels of the tree may be read, and `below`
+//! is how many there may be below this one.
 #![tactic(auto)]
 
 ghost use Rattle.std.specs.Prelude.{◌≡◌, ◌<◌, ◌⊎◌, IfOk};
