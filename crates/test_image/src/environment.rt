@@ -1,18 +1,11 @@
 //! The state that an environment denotes.
 
+use crate::images::list;
 use rc_image::{ImageFault, read_env, write_tree};
 use rc_scope::State;
-use std::alloc::{AllocError, Global};
+use std::alloc::Global;
 use std::process::Abort;
 use std::test::Fail;
-
-fn list(alloc: Global, texts: &[&str]) -> Result<Vec<String>, AllocError> {
-    let mut list = Vec::new(alloc);
-    for text in texts {
-        list.push(String::from_str(alloc, *text)?)?;
-    }
-    Ok(list)
-}
 
 fn read(alloc: Global, entries: &[&str], own: bool) -> Result<State, ImageFault> {
     let entries = list(alloc, entries)?;

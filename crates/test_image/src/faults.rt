@@ -1,6 +1,7 @@
 //! Each fault at each place of two images.
 
-use rc_image::{ImageFault, read_tree};
+use crate::images::written_again;
+use rc_image::ImageFault;
 use std::process::Abort;
 use std::test::Fail;
 
@@ -101,7 +102,7 @@ fn each_refused(
 ) -> Result<(), Fail> {
     let alloc = rt.alloc();
     for text in texts {
-        let refused = read_tree(alloc, text).err();
+        let refused = written_again(alloc, text).err();
         assert!(rt; refused == Some(fault), "{text}");
     }
     Ok(())

@@ -1,7 +1,7 @@
 //! Trees with each kind of node: what is written is what was read, and what is cut is refused.
 
-use rc_image::{ImageFault, read_env, read_tree, write_tree};
-use rc_scope::State;
+use crate::images::written_again;
+use rc_image::{ImageFault, read_env, write_tree};
 use std::alloc::{AllocError, Global};
 use std::process::Abort;
 use std::test::Fail;
@@ -59,8 +59,7 @@ fn each_kind_of_node_comes_back(rt: HostRuntime) -> Result<(), Fail> {
     let alloc = rt.alloc();
     for tree in TREES {
         let image = image(alloc, tree)?;
-        let cmd = read_tree(alloc, image.as_str())?;
-        assert_eq!(rt; write_tree(alloc, &cmd)?, image);
+        assert_eq!(rt; written_again(alloc, image.as_str())?, image);
     }
     Ok(())
 }
@@ -79,8 +78,7 @@ fn all(alloc: Global) -> Result<String, AllocError> {
 fn all_kinds_of_nodes_come_back_in_one_tree(rt: HostRuntime) -> Result<(), Fail> {
     let alloc = rt.alloc();
     let image = all(alloc)?;
-    let cmd = read_tree(alloc, image.as_str())?;
-    assert_eq!(rt; write_tree(alloc, &cmd)?, image);
+    assert_eq!(rt; written_again(alloc, image.as_str())?, image);
     Ok(())
 }
 
@@ -92,7 +90,7 @@ fn each_kind_of_node_is_refused_where_it_is_cut(rt: HostRuntime) -> Result<(), F
         let Some(cut) = image.get(..length) else {
             continue;
         };
-        let refused = read_tree(alloc, cut).err();
+        let refused = written_again(alloc, cut).err();
         assert!(rt;
             matches!(
                 refused,
@@ -110,7 +108,7 @@ fn a_function_has_each_kind_of_node(rt: HostRuntime) -> Result<(), Fail> {
     let image = all(alloc)?;
     let entry = format!(in alloc; "fn#f={image}")?;
     let entries = vec![in alloc; entry]?;
-    let state: State = read_env(alloc, entries.as_slice(), true)?;
+    let state = read_env(alloc, entries.as_slice(), true)?;
     match state.function("f") {
         Some(body) => assert_eq!(rt; write_tree(alloc, body)?, image),
         None => assert!(rt; false, "there is no function"),

@@ -1,36 +1,20 @@
 //! Sizes one below, at and one over each limit of what is handed over.
 
-use rc_image::{ImageFault, handed, read_pieces, read_tree, write_tree};
+use crate::images::{define, handed_of, image_of, repeated, words_again, written_again};
+use rc_image::ImageFault;
 use rc_scope::State;
-use rc_tree_types::Cmd;
 use std::alloc::{AllocError, Global};
 use std::process::Abort;
 use std::test::Fail;
-
-/// A text so many times.
-fn repeated(alloc: Global, text: &str, times: usize) -> Result<String, AllocError> {
-    let mut repeated = String::new(alloc);
-    for _ in 0..times {
-        repeated.push_str(text)?;
-    }
-    Ok(repeated)
-}
-
-/// The command of one word of so many letters.
-fn command(alloc: Global, letters: usize) -> Result<Cmd, ImageFault> {
-    let word = repeated(alloc, "a", letters)?;
-    let image = format!(in alloc; "rc1;c1,w{letters}:{word}")?;
-    read_tree(alloc, image.as_str())
-}
 
 /// A list of one member of so many letters.
 fn member(alloc: Global, letters: usize) -> Result<Vec<String>, AllocError> {
     Ok(vec![in alloc; repeated(alloc, "a", letters)?]?)
 }
 
-/// Whether a state can be handed over. An error that is not that of its size ends the test.
-fn is_handed(alloc: Global, cmd: &Cmd, state: &State) -> Result<bool, ImageFault> {
-    match handed(alloc, cmd, state) {
+/// Whether the tree of an image and a state can be handed over. An error that is not that of their size ends the test.
+fn is_handed(alloc: Global, image: &str, state: &State) -> Result<bool, ImageFault> {
+    match handed_of(alloc, image, state) {
         Ok(_) => Ok(true),
         Err(ImageFault::TooLarge) => Ok(false),
         Err(fault) => Err(fault),
@@ -46,9 +30,11 @@ const SIXTEEN_WORDS: usize = 1_599_988;
 fn an_image_of_one_word_has_a_greatest_length(rt: HostRuntime) -> Result<(), Fail> {
     let alloc = rt.alloc();
     for (letters, length) in [(ONE_WORD - 1, 99_999), (ONE_WORD, 100_000)] {
-        assert_eq!(rt; write_tree(alloc, &command(alloc, letters)?)?.len(), length);
+        let image = image_of(alloc, "a", letters)?;
+        assert_eq!(rt; written_again(alloc, image.as_str())?.len(), length);
     }
-    let refused = write_tree(alloc, &command(alloc, ONE_WORD + 1)?).err();
+    let image = image_of(alloc, "a", ONE_WORD + 1)?;
+    let refused = written_again(alloc, image.as_str()).err();
     assert!(rt; refused == Some(ImageFault::TooLarge));
     Ok(())
 }
@@ -61,9 +47,8 @@ fn a_word_of_the_first_version_has_a_greatest_length(rt: HostRuntime) -> Result<
         (ONE_WORD, None),
         (ONE_WORD + 1, Some(ImageFault::BadLength)),
     ] {
-        let word = repeated(alloc, "a", letters)?;
-        let words = vec![in alloc; format!(in alloc; "rc1;c1,w{letters}:{word}")?]?;
-        let refused = read_pieces(alloc, words.as_slice()).err();
+        let words = vec![in alloc; image_of(alloc, "a", letters)?]?;
+        let refused = words_again(alloc, words.as_slice()).err();
         assert!(rt; refused == fault, "{letters} letters");
     }
     Ok(())
@@ -78,8 +63,8 @@ fn sixteen_words_are_handed_over_and_no_more(rt: HostRuntime) -> Result<(), Fail
         (SIXTEEN_WORDS, true),
         (SIXTEEN_WORDS + 1, false),
     ] {
-        let cmd = command(alloc, letters)?;
-        let is_handed = is_handed(alloc, &cmd, &state)?;
+        let image = image_of(alloc, "a", letters)?;
+        let is_handed = is_handed(alloc, image.as_str(), &state)?;
         assert!(rt; is_handed == is_small, "{letters} letters");
     }
     Ok(())
@@ -92,7 +77,7 @@ fn arguments_and_variables_have_a_greatest_length(rt: HostRuntime) -> Result<(),
         for (letters, is_small) in [(most - 1, true), (most, true), (most + 1, false)] {
             let mut state = State::new(alloc);
             state.set(name, member(alloc, letters)?)?;
-            let is_handed = is_handed(alloc, &Cmd::Empty, &state)?;
+            let is_handed = is_handed(alloc, "rc1;e", &state)?;
             assert!(rt; is_handed == is_small, "{name} of {letters} letters");
         }
     }
@@ -104,8 +89,9 @@ fn a_function_has_a_greatest_length(rt: HostRuntime) -> Result<(), Fail> {
     let alloc = rt.alloc();
     for (letters, is_small) in [(99_980, true), (99_981, true), (99_982, false)] {
         let mut state = State::new(alloc);
-        state.define("f", command(alloc, letters)?)?;
-        let is_handed = is_handed(alloc, &Cmd::Empty, &state)?;
+        let image = image_of(alloc, "a", letters)?;
+        define(alloc, &mut state, "f", image.as_str())?;
+        let is_handed = is_handed(alloc, "rc1;e", &state)?;
         assert!(rt; is_handed == is_small, "{letters} letters");
     }
     Ok(())
@@ -117,7 +103,7 @@ fn a_pipeline_has_a_greatest_number_of_stages(rt: HostRuntime) -> Result<(), Fai
     for (stages, fault) in [(62, None), (63, None), (64, Some(ImageFault::BadLength))] {
         let written = repeated(alloc, "1e", stages)?;
         let image = format!(in alloc; "rc1;p{stages},{written}e")?;
-        let refused = read_tree(alloc, image.as_str()).err();
+        let refused = written_again(alloc, image.as_str()).err();
         assert!(rt; refused == fault, "{stages} stages");
     }
     Ok(())
@@ -129,7 +115,7 @@ fn a_tree_has_a_greatest_depth(rt: HostRuntime) -> Result<(), Fail> {
     for (marks, fault) in [(198, None), (199, None), (200, Some(ImageFault::TooDeep))] {
         let written = repeated(alloc, "!", marks)?;
         let image = format!(in alloc; "rc1;{written}e")?;
-        let refused = read_tree(alloc, image.as_str()).err();
+        let refused = written_again(alloc, image.as_str()).err();
         assert!(rt; refused == fault, "{marks} marks");
     }
     Ok(())

@@ -1,6 +1,7 @@
 //! Trees in one word and in several: what is written, what is read back, and what is refused.
 
-use rc_image::{ImageFault, read_pieces, read_tree, write_pieces, write_tree};
+use crate::images::{image_of, list, repeated, words_again, words_of, written_again};
+use rc_image::ImageFault;
 use std::alloc::{AllocError, Global};
 use std::test::Fail;
 
@@ -31,7 +32,7 @@ const REFUSED: [(&str, ImageFault); 17] = [
 #[test]
 fn a_text_that_is_no_image_is_refused(rt: HostRuntime) -> Result<(), Fail> {
     for (text, fault) in REFUSED {
-        let refused = read_tree(rt.alloc(), text).err();
+        let refused = written_again(rt.alloc(), text).err();
         assert!(rt; refused == Some(fault), "{text}");
     }
     Ok(())
@@ -40,11 +41,10 @@ fn a_text_that_is_no_image_is_refused(rt: HostRuntime) -> Result<(), Fail> {
 #[test]
 fn an_image_that_is_cut_is_refused(rt: HostRuntime) -> Result<(), Fail> {
     for image in IMAGES {
-        let cmd = read_tree(rt.alloc(), image)?;
-        assert_eq!(rt; write_tree(rt.alloc(), &cmd)?.as_str(), image);
+        assert_eq!(rt; written_again(rt.alloc(), image)?.as_str(), image);
         for length in 0..image.len() {
             let cut = image.get(..length).ok_or("no character's end")?;
-            let refused = read_tree(rt.alloc(), cut).err();
+            let refused = written_again(rt.alloc(), cut).err();
             assert!(rt;
                 matches!(
                     refused,
@@ -57,24 +57,14 @@ fn an_image_that_is_cut_is_refused(rt: HostRuntime) -> Result<(), Fail> {
     Ok(())
 }
 
-/// A text before another, so many times.
-fn repeated(alloc: Global, text: &str, times: usize, after: &str) -> Result<String, AllocError> {
-    let mut repeated = String::new(alloc);
-    for _ in 0..times {
-        repeated.push_str(text)?;
-    }
-    repeated.push_str(after)?;
-    Ok(repeated)
-}
-
 #[test]
 fn an_image_has_two_hundred_levels(rt: HostRuntime) -> Result<(), Fail> {
     let alloc = rt.alloc();
-    let marks = repeated(alloc, "!", 197, "s1,;c1,w1:a")?;
-    let deepest = format!(in alloc; "rc1;{marks}")?;
-    assert!(rt; read_tree(alloc, deepest.as_str()).is_ok());
-    let deeper = format!(in alloc; "rc1;!{marks}")?;
-    let refused = read_tree(alloc, deeper.as_str()).err();
+    let marks = repeated(alloc, "!", 197)?;
+    let deepest = format!(in alloc; "rc1;{marks}s1,;c1,w1:a")?;
+    assert_eq!(rt; written_again(alloc, deepest.as_str())?, deepest);
+    let deeper = format!(in alloc; "rc1;!{marks}s1,;c1,w1:a")?;
+    let refused = written_again(alloc, deeper.as_str()).err();
     assert!(rt; refused == Some(ImageFault::TooDeep));
     Ok(())
 }
@@ -115,42 +105,25 @@ const CUTS: [(&str, usize, &str); 8] = [
     ),
 ];
 
-/// The image of a command of one word.
-fn image_of(alloc: Global, text: &str, times: usize) -> Result<String, AllocError> {
-    let word = repeated(alloc, text, times, "")?;
-    let length = word.len();
-    format!(in alloc; "rc1;c1,w{length}:{word}")
-}
-
 #[test]
 fn a_long_image_is_cut_and_read_back(rt: HostRuntime) -> Result<(), Fail> {
     let alloc = rt.alloc();
     for (text, times, want) in CUTS {
         let image = image_of(alloc, text, times)?;
-        let cmd = read_tree(alloc, image.as_str())?;
-        let mut words = write_pieces(alloc, &cmd)?;
+        let mut words = words_of(alloc, image.as_str())?;
         let count = words.len();
         assert_eq!(rt; shape(alloc, words.as_slice())?.as_str(), want);
+        assert!(rt; written_again(alloc, image.as_str()).is_ok() == (count == 1));
         words.push(String::from_str(alloc, "x")?)?;
-        let (read, taken) = read_pieces(alloc, words.as_slice())?;
+        let (again, taken) = words_again(alloc, words.as_slice())?;
         assert_eq!(rt; taken, count);
-        assert!(rt; write_tree(alloc, &read).is_ok() == (count == 1));
         words.pop();
-        assert!(rt; write_pieces(alloc, &read)? == words);
+        assert!(rt; again == words);
     }
     let image = image_of(alloc, "a", 1_599_989)?;
-    let cmd = read_tree(alloc, image.as_str())?;
-    let refused = write_pieces(alloc, &cmd).err();
+    let refused = words_of(alloc, image.as_str()).err();
     assert!(rt; refused == Some(ImageFault::TooLarge));
     Ok(())
-}
-
-fn list(alloc: Global, texts: &[&str]) -> Result<Vec<String>, AllocError> {
-    let mut list = Vec::new(alloc);
-    for text in texts {
-        list.push(String::from_str(alloc, *text)?)?;
-    }
-    Ok(list)
 }
 
 /// Words that are no image, with their first fault.
@@ -174,13 +147,13 @@ fn words_that_are_no_image_are_refused(rt: HostRuntime) -> Result<(), Fail> {
     let alloc = rt.alloc();
     for (texts, fault) in NO_PIECES {
         let words = list(alloc, texts)?;
-        let refused = read_pieces(alloc, words.as_slice()).err();
+        let refused = words_again(alloc, words.as_slice()).err();
         assert!(rt; refused == Some(fault));
     }
     let mut words = list(alloc, &["rc2;2"])?;
-    words.push(repeated(alloc, "a", 100_000, "")?)?;
+    words.push(repeated(alloc, "a", 100_000)?)?;
     words.push(String::new(alloc))?;
-    let refused = read_pieces(alloc, words.as_slice()).err();
+    let refused = words_again(alloc, words.as_slice()).err();
     assert!(rt; refused == Some(ImageFault::BadLength));
     Ok(())
 }

@@ -1,25 +1,17 @@
 //! The tree and the state that words and entries denote.
 
-use rc_image::{ImageFault, read_image, read_state, write_tree};
-use std::alloc::{AllocError, Global};
+use crate::images::{begun, list};
+use rc_image::{ImageFault, read_state};
 use std::process::Abort;
 use std::test::Fail;
-
-fn list(alloc: Global, texts: &[&str]) -> Result<Vec<String>, AllocError> {
-    let mut list = Vec::new(alloc);
-    for text in texts {
-        list.push(String::from_str(alloc, *text)?)?;
-    }
-    Ok(list)
-}
 
 #[test]
 fn the_words_after_the_image_are_arguments(rt: HostRuntime) -> Result<(), Fail> {
     let alloc = rt.alloc();
     let words = list(alloc, &["rc1;c1,w1:a", "p", "", "rc1;e"])?;
     let entries = list(alloc, &["*=z", "x=1", "status=2"])?;
-    let (cmd, state) = read_image(alloc, true, words.as_slice(), entries.as_slice())?;
-    assert_eq!(rt; write_tree(alloc, &cmd)?.as_str(), "rc1;c1,w1:a");
+    let (image, state) = begun(alloc, true, words.as_slice(), entries.as_slice())?;
+    assert_eq!(rt; image.as_str(), "rc1;c1,w1:a");
     assert_eq!(rt; state.get("*")?, list(alloc, &["p", "", "rc1;e"])?);
     assert_eq!(rt; state.get("x")?, list(alloc, &["1"])?);
     assert_eq!(rt; state.status(), "2");
@@ -31,7 +23,7 @@ fn the_words_after_the_image_are_arguments(rt: HostRuntime) -> Result<(), Fail> 
 fn an_image_may_leave_no_arguments(rt: HostRuntime) -> Result<(), Fail> {
     let alloc = rt.alloc();
     let words = list(alloc, &["rc1;e"])?;
-    let (_, state) = read_image(alloc, false, words.as_slice(), &[])?;
+    let (_, state) = begun(alloc, false, words.as_slice(), &[])?;
     assert_eq!(rt; state.get("*")?, list(alloc, &[])?);
     assert!(rt; !state.strict());
     Ok(())
@@ -41,11 +33,11 @@ fn an_image_may_leave_no_arguments(rt: HostRuntime) -> Result<(), Fail> {
 fn the_fault_of_the_tree_comes_first(rt: HostRuntime) -> Result<(), Fail> {
     let alloc = rt.alloc();
     let entries = list(alloc, &["fn#f=rc1;c1,w1:ab"])?;
-    let none = read_image(alloc, false, &[], entries.as_slice());
-    assert!(rt; matches!(none, Err(ImageFault::BadTag)));
+    let none = begun(alloc, false, &[], entries.as_slice()).err();
+    assert!(rt; none == Some(ImageFault::BadTag));
     let words = list(alloc, &["rc1;e"])?;
-    let bad = read_image(alloc, false, words.as_slice(), entries.as_slice());
-    assert!(rt; matches!(bad, Err(ImageFault::Trailing)));
+    let bad = begun(alloc, false, words.as_slice(), entries.as_slice()).err();
+    assert!(rt; bad == Some(ImageFault::Trailing));
     Ok(())
 }
 

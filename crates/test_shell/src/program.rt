@@ -1,11 +1,10 @@
 //! Runs over a tape.
 use rc_cli::{RunFault, Source, process_status, request_of, run_rc};
 use rc_model::{FaultKind, SyntaxFault};
-use rc_world::{Answer, Call, ChildNo, Ending, Kind, Launch, PLAIN_SLOTS, Program, Tape};
+use rc_world::{Answer, Call, ChildNo, Ending, Kind, PLAIN_SLOTS, Program, Tape};
 use std::alloc::{AllocError, Global};
 use std::io;
 use std::io::{ErrorKind, Read};
-use std::process::Abort;
 use std::test::Fail;
 
 /// A reader that gives a text once and then fails.
@@ -26,7 +25,7 @@ impl Read for Broken {
 }
 
 /// The answers to a program that is found at the first place and ends so.
-fn one_program(alloc: Global, ending: Ending) -> Result<Tape, AllocError> {
+pub fn one_program(alloc: Global, ending: Ending) -> Result<Tape, AllocError> {
     Ok(Tape::new(vec![in alloc;
         Answer::Found(Kind::Program),
         Answer::Child(ChildNo(7)),
@@ -121,7 +120,7 @@ fn numbers_statuses(rt: HostRuntime) {
 }
 
 /// The arguments of a run.
-fn words(alloc: Global, texts: &[&str]) -> Result<Vec<String>, AllocError> {
+pub fn words(alloc: Global, texts: &[&str]) -> Result<Vec<String>, AllocError> {
     let mut words = Vec::new(alloc);
     for text in texts {
         words.push(String::from_str(alloc, text)?)?;
@@ -231,122 +230,6 @@ fn a_strict_shell_ends_at_a_failure(rt: HostRuntime) -> Result<(), Fail> {
         assert_eq!(rt; tape.calls().len(), calls);
     }
     Ok(())
-}
-
-/// The launch of a run that looked for one program and found it.
-fn launch_of(tape: &Tape) -> Option<&Launch> {
-    match tape.calls() {
-        [Call::Probe(_), Call::Start(launch), Call::Wait(_)] => Some(launch),
-        _ => None,
-    }
-}
-
-/// Fails unless a run with these arguments and entries starts one program with these.
-fn check_launch(
-    rt: &(impl Abort + AllocGlobal),
-    texts: &[&str],
-    environment: &[&str],
-    args: &[&str],
-    env: &[&str],
-) -> Result<(), Fail> {
-    let alloc = rt.alloc();
-    let texts = words(alloc, texts)?;
-    let environment = words(alloc, environment)?;
-    let mut tape = one_program(alloc, Ending::Code(0))?;
-    let ended = run_rc::<_, &[u8]>(alloc, &mut tape, &texts, &environment, None);
-    assert_eq!(rt; ended, Ok(0));
-    let Some(launch) = launch_of(&tape) else {
-        panic!(rt; "other calls");
-    };
-    assert_eq!(rt; launch.args, words(alloc, args)?);
-    assert_eq!(rt; launch.env, words(alloc, env)?);
-    Ok(())
-}
-
-#[test]
-fn the_environment_gives_variables(rt: HostRuntime) -> Result<(), Fail> {
-    let environment = [
-        "",
-        "e",
-        "=d",
-        "a-b=c",
-        "12=x",
-        "*=z",
-        "x=a\u{1}b\u{2}A",
-        "x=c",
-        "ifs=:",
-        "path=/opt",
-    ];
-    let env = ["ifs=:", "path=/opt", "status=", "x=a\u{1}b\u{2}A"];
-    check_launch(
-        &rt,
-        &["-c", "c $x $path $ifs $#*"],
-        &environment,
-        &["a", "b\u{1}", "/opt", ":", "0"],
-        &env,
-    )
-}
-
-#[test]
-fn functions_and_the_status_of_another_program_are_ignored(rt: HostRuntime) -> Result<(), Fail> {
-    check_launch(
-        &rt,
-        &["-c", "f $#status $\"status"],
-        &["status=4", "fn#f=rc1;bs1,;c1,w4:exit", "fn#g=x"],
-        &["1", ""],
-        &["ifs= \t\n", "path=/bin\u{1}/usr/bin", "status="],
-    )
-}
-
-#[test]
-fn home_is_that_of_the_environment(rt: HostRuntime) -> Result<(), Fail> {
-    let homes: [(&[&str], &[&str]); 6] = [
-        (&[], &["0"]),
-        (&["HOME=/h", "HOME=/i"], &["1", "/h"]),
-        (&["HOME=/h", "home=/a"], &["1", "/a"]),
-        (&["HOME="], &["1", ""]),
-        (&["HOME=/h", "home="], &["1", ""]),
-        (&["HOME"], &["0"]),
-    ];
-    let alloc = rt.alloc();
-    for (environment, args) in homes {
-        let texts = words(alloc, &["-c", "c $#home $home"])?;
-        let environment = words(alloc, environment)?;
-        let mut tape = one_program(alloc, Ending::Code(0))?;
-        let ended = run_rc::<_, &[u8]>(alloc, &mut tape, &texts, &environment, None);
-        assert_eq!(rt; ended, Ok(0));
-        let Some(launch) = launch_of(&tape) else {
-            panic!(rt; "other calls");
-        };
-        assert_eq!(rt; launch.args, words(alloc, args)?);
-    }
-    Ok(())
-}
-
-#[test]
-fn an_image_begins_with_its_entries_alone(rt: HostRuntime) -> Result<(), Fail> {
-    check_launch(
-        &rt,
-        &["-S", "rc1;c2,w4:echo#w3:ifs", "p"],
-        &["path=/bin", "HOME=/h", "status="],
-        &["0"],
-        &["HOME=/h", "path=/bin", "status="],
-    )?;
-    check_launch(
-        &rt,
-        &["-e", "-S", "rc1;c2,w1:f$w1:*", "-S"],
-        &[
-            "path=/bin",
-            "fn#f=rc1;bs1,;c3,w4:echo$w1:*$w6:status",
-            "status=4",
-        ],
-        &["-S", "4"],
-        &[
-            "fn#f=rc1;bs1,;c3,w4:echo$w1:*$w6:status",
-            "path=/bin",
-            "status=4",
-        ],
-    )
 }
 
 #[test]
