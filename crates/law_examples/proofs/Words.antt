@@ -77,7 +77,7 @@ an_empty_word_is_a_word : Does (codes "x=('' '') exit $#x") fresh [] (codes "2")
 unfolding meant ran
 an_empty_word_is_a_word = (refl, refl)
 
--- words are texts of UTF-8
+-- words are texts of UTF-8: é is the bytes c3 a9
 accented_letters_are_bytes : Does (codes "exit Ã©") fresh [] (codes "Ã©")
 unfolding meant ran
 accented_letters_are_bytes = (refl, refl)

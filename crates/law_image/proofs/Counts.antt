@@ -40,8 +40,8 @@ run_digits [] = refl
 run_digits (b ∷ bs) = digits_step b bs (is_digit b) refl (run_digits bs)
 
 -- std's words for numerals are ours
-tells : IsDigitsTest (λ ds. IsTrue (list_all is_digit ds))
-tells = record {
+digits_test : IsDigitsTest (λ ds. IsTrue (list_all is_digit ds))
+digits_test = record {
   empty = refl;
   parts = λ c cs e. let k = and_parts (is_digit c) (list_all is_digit cs) e in let m = and_parts (nat_le 48 c) (nat_le c 57) k.0 in ((leb-true 48 c m.0, leb-true c 57 m.1), k.1);
   more = λ c cs k e. and_from (is_digit c) _ (and_from (nat_le 48 c) _ (le-leb 48 c k.0) (le-leb c 57 k.1)) e;
@@ -51,7 +51,7 @@ folds : FoldsDigits digits_value
 folds = record { empty = λ n. refl; more = λ n c cs k. refl }
 
 pub own : IsNumeralModel (λ ds. IsTrue (list_all is_digit ds)) (digits_value 0)
-own = numerals_by_fold _ tells digits_value folds
+own = numerals_by_fold _ digits_test digits_value folds
 
 not_zero : (d : ℕ) → IsTrue (is_numeral (d ∷ 0 ∷ [])) → d ≡ 48 → ⊥
 not_zero d h e = grind (arith, h, e)

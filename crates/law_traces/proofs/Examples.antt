@@ -83,12 +83,12 @@ not_started k = omega (arith, k.owed 1)
 
 -- `a | b` of a family: the child's descriptor 1 stands for the write end of the pipe that process 0 made at place 0
 module _ (reads : Launch → Node cmd × State) (c : Node cmd) where
-  abbrev row_steps : List Step
-  row_steps = record { at = 0; call = make_pipe; answer = pair 3 4 } ∷ record { at = 0; call = start (shell (record { input = Own 0; output = to_file 4; errors = Own 2 })); answer = child 1 } ∷ record { at = 0; call = close 4; answer = done } ∷ []
+  abbrev pipeline_steps : List Step
+  pipeline_steps = record { at = 0; call = make_pipe; answer = pair 3 4 } ∷ record { at = 0; call = start (shell (record { input = Own 0; output = to_file 4; errors = Own 2 })); answer = child 1 } ∷ record { at = 0; call = close 4; answer = done } ∷ []
 
-  two_processes : (family reads (first reads c new_state) row_steps).count ≡ 2
+  two_processes : (family reads (first reads c new_state) pipeline_steps).count ≡ 2
   two_processes = refl
 
-  child_writes : ((family reads (first reads c new_state) row_steps).at 1).stands 1 ≡ writes_to 0 0
+  child_writes : ((family reads (first reads c new_state) pipeline_steps).at 1).stands 1 ≡ writes_to 0 0
   unfolding one put
   child_writes = refl

@@ -20,7 +20,7 @@ use Rattle.rc_model.specs.Run.Script.{script}
 use Rattle.rc_model.specs.Family.Accounts.{one, put, IsFresh, NothingLost, NothingLeft}
 use Rattle.law_traces.proofs.Traces.{begun_loses_nothing, ended_leaves_nothing}
 
--- ** what is shown of each row
+-- ** what is shown of each script
 
 -- `path=(/bin)`, and nothing else
 abbrev pub looking : State

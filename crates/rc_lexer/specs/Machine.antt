@@ -134,7 +134,7 @@ Does script end old new (Ok s) x =
 Does script end old new (Err (Fault f)) x = x ≡ Err f
 Does script end old new (Err NoMemory) x = Unit {0}
 
--- the lexer has put a lexeme between two places behind its tokens, and this stands after it
+-- the lexer has put a lexeme between two places after its tokens, and this stands after it
 pub record Pushed (script : List ℕ) (previous after : Previous) (l : model.Lexeme) (p q : Place)
     (old new : Lexer) : Type 0 where
   pub tokens : tokens_in script new ≡ tokens_in script old

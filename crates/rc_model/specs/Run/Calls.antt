@@ -166,7 +166,7 @@ abbrev pub is_halt : Answer → Bool
 is_halt (refused Halt) = true
 is_halt _ = false
 
--- the calls of a trace, and the answers that were given
+-- the calls of a trace
 abbrev pub calls : List Event → List Call
 calls trace = map (λ e. e.call) trace
 

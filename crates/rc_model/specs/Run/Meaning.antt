@@ -119,7 +119,7 @@ piped slots last Refused = skip
 
 -- ** the forms
 
--- outside of guarded places a command that fails ends the shell, where the flag is set
+-- outside of guarded places a command that fails ends a strict shell
 abbrev pub checked : (guarded : Bool) → Runner → Runner
 checked true m = m
 checked false m = do

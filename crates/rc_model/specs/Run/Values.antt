@@ -43,7 +43,7 @@ closing (Some h) p = ask (close h) (λ a. p)
 abbrev pub close_end : Option ℕ → Shell (Unit {0})
 close_end h s = closing h (done_with (Next tt s))
 
--- where the flag is set and the status isn't true, the shell ends
+-- a strict shell ends where the status isn't true
 abbrev pub check : Shell (Unit {0})
 check = λ s. if s.strict && not (is_true s.status) then exits s else skip s
 
