@@ -1,0 +1,13 @@
+use Rattle.std.proofs.Common.{rules, ◌≡◌, ap, Ok, map, string_bytes}
+use Rattle.rc_model.specs.Run.Builtins.{run_builtin}
+use Rattle.rc_model.specs.declared.builtin.Builtin.TheVariants.{Eval}
+use Rattle.rc_scope.specs.States.{state_of}
+use Rattle.rc_commands.proofs.Left.{words_as}
+use Rattle.rc_commands.proofs.builtins.run_builtin.Goals as goal
+
+pub returns-in-Eval : goal.returns-in-Eval
+returns-in-Eval g c again =
+    let is : c.args.builtin ≡ Eval = search rules in
+    let recorded = g.W.World.events c.args.world.now in
+    words_as recorded recorded _ _ (state_of c.eval.new.state) (Ok c.in_ok-eval-in-Eval.field-0)
+    (ap (λ b. run_builtin again c.args.slots b (map string_bytes c.args.args.now) (state_of c.args.state.now)) is) (c.in_ok-eval-in-Eval.ensures recorded)

@@ -1,0 +1,26 @@
+use Rattle.std.proofs.Common.{rules, ◌≡◌, length, ap}
+use Rattle.std.specs.Prelude.{codes}
+use Rattle.rc_model.specs.Run.Acts.{fault}
+use Rattle.rc_model.specs.Run.Builtins.{run_words}
+use Rattle.rc_model.specs.Run.Shell.{exits, leaves}
+use Rattle.law_plans.proofs.Runs.{ran_next, ran_none}
+use Rattle.rc_world.proofs.Joins.{left_as, ran_as}
+use Rattle.rc_world.proofs.Shells.{left_under}
+use Rattle.rc_scope.specs.States.{state_of}
+use Rattle.rc_commands.proofs.Left.{no_texts, words_left}
+use Rattle.rc_commands.proofs.commands.run_words.Goals as goal
+
+pub returns-in_err-fault : goal.returns-in_err-fault
+returns-in_err-fault g c =
+    let s = state_of c.args.state.now in
+    let none : length c.args.words.now ≡ 0 = search rules in
+    words_left _ _ _ _ c.from_residual.result c.in_err-fault.field-0.0 c.from_residual.ensures.1
+    (left_as _ _ _ _ _ (ap (λ ws. run_words c.args.slots ws s) (no_texts c.args.words.now none))
+    (left_under _ _ _ (fault c.args.slots (codes "empty argument list") s) (λ x. exits) leaves c.in_err-fault.ensures.does))
+
+pub returns-in_default : goal.returns-in_default
+returns-in_default g c =
+    let s = state_of c.args.state.now in
+    let none : length c.args.words.now ≡ 0 = search rules in
+    ran_as _ _ _ _ _ (ap (λ ws. run_words c.args.slots ws s) (no_texts c.args.words.now none))
+    (ran_next _ _ _ (fault c.args.slots (codes "empty argument list") s) tt (state_of c.fault.new.state) (λ x. exits) leaves _ c.in_ok-fault.ensures.does (ran_none _ _))

@@ -1,0 +1,52 @@
+//! What the words of a simple command run.
+
+ghost use Rattle.std.specs.Prelude.{◌<◌, Some, map, string_bytes};
+ghost use Rattle.rc_model.specs.Run.Builtins.{run_words};
+ghost use Rattle.rc_commands.specs.Outcomes.{RunsWords};
+ghost use Rattle.rc_scope.specs.States.{state_of};
+
+use crate::builtins::run_unnamed;
+use rc_builtin::fault;
+use rc_code::{Code, compile};
+use rc_scope::{State, copy_texts};
+use rc_world::{Slots, Stop, World};
+use std::alloc::Global;
+
+/// What became of the words of a simple command.
+#[derive(Drop)]
+pub enum Outcome {
+    /// They ran, and the shell goes on.
+    Finished,
+    /// A body is to be run.
+    Body(Code),
+    /// A body is to be run with these arguments as its `$*`.
+    Call { args: Vec<String>, body: Code },
+    /// The shell ends.
+    Exit,
+}
+
+/// Runs the words of a simple command.
+#[tactic(auto, using(crate::proofs::Left::words_refused))]
+pub fn run_words<W: World>(
+    alloc: Global,
+    world: &mut W,
+    state: &mut State,
+    slots: Slots,
+    words: &[String],
+) -> Result<Outcome, Stop>
+    ensures { RunsWords (W.events world.old) (W.events world.new)
+        (run_words slots (map string_bytes words.now) (state_of state.old)) (state_of state.new) result }
+{
+    let Some((name, args)) = words.split_first() else {
+        fault(alloc, world, state, slots, "empty argument list")?;
+        return Ok(Outcome::Exit);
+    };
+    if let Some(body) = state.function(name) {
+        let body = compile(alloc, body)?;
+        return Ok(Outcome::Call {
+            args: copy_texts(alloc, args)?,
+            body,
+        });
+    }
+    run_unnamed(alloc, world, state, slots, words)
+}

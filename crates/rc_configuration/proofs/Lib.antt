@@ -1,0 +1,7 @@
+pub mod Left
+pub mod Names
+pub mod Places
+pub mod ScopeEnds
+pub mod Stacks
+pub mod Tops
+pub mod Waits

@@ -1,0 +1,87 @@
+//! The end of the shell.
+
+ghost use Rattle.std.specs.Prelude.{◌≡◌, ◌<◌, ◌∷◌, [], Some};
+ghost use Rattle.rc_model.specs.Code.Machine.{Over, end_waits, unwind};
+ghost use Rattle.rc_model.specs.Run.State as model;
+ghost use Rattle.rc_configuration.specs.Configs.{children_of, scopes_of};
+ghost use Rattle.rc_scope.specs.States.{state_of};
+ghost use Rattle.rc_world.specs.Comes.{Comes};
+
+use crate::configuration::{Configuration, Move};
+use crate::parts::Scope;
+use rc_builtin::fault;
+use rc_world::{ChildNo, Stop, World, calls};
+use std::alloc::Global;
+
+/// One wait for each child. How it ended doesn't matter.
+fn wait_owed<W: World>(world: &mut W, owed: &[ChildNo]) -> Result<(), Stop>
+    ensures { (s : model.State) → Comes (W.events world.old) (W.events world.new)
+        (end_waits (children_of owed.now) s) (λ x. Over s) result }
+{
+    for child in owed {
+        calls::wait(world, *child)?;
+    }
+    Ok(())
+}
+
+impl Configuration {
+    ghost use Rattle.rc_configuration.specs.Configs.{config_of};
+    ghost use Rattle.rc_configuration.specs.Endings.{GoesOn};
+    ghost use Rattle.rc_configuration.specs.Outcomes.{Steps, failed};
+
+    /// Ends a scope that was the innermost.
+    fn end_scope<W: World>(
+        &mut self,
+        world: &mut W,
+        scope: Scope,
+        owed: &mut Vec<ChildNo>,
+    ) -> Result<(), Stop>
+        ensures ended { let before = scopes_of (scope ∷ self.old.scopes) self.old.redirs in
+            GoesOn (W.events world.old) (W.events world.new)
+            (unwind before (state_of self.old.state) (children_of owed.old.items))
+            (unwind (config_of self.new).scopes (state_of self.new.state) (children_of owed.new.items)) result }
+        ensures others { self.new.scopes ≡ self.old.scopes }
+    {
+        match scope {
+            Scope::Local => {
+                self.state.pop_local();
+                Ok(())
+            }
+            Scope::Loop { bound, .. } => {
+                if bound {
+                    self.state.pop_local();
+                }
+                Ok(())
+            }
+            Scope::Redirection => self.redirs.pop(world),
+            Scope::Pipeline { mut children } => {
+                self.redirs.pop(world)?;
+                owed.append(&mut children)?;
+                Ok(())
+            }
+        }
+    }
+
+    /// The end of the shell: what is open ends, the innermost first.
+    pub fn unwind<W: World>(&mut self, alloc: Global, world: &mut W) -> Result<Move, Stop>
+        ensures { Steps (W.events world.old) (W.events world.new)
+            (unwind (config_of self.old).scopes (config_of self.old).state []) (config_of self.new) result }
+    {
+        let mut owed = Vec::new(alloc);
+        while let Some(scope) = self.scopes.close() {
+            self.end_scope(world, scope, &mut owed)?;
+        }
+        wait_owed(world, &owed)?;
+        Ok(Move::Ended)
+    }
+
+    /// A runtime error ends the shell.
+    pub fn fail<W: World>(&mut self, alloc: Global, world: &mut W, text: &str) -> Result<Move, Stop>
+        ensures { Steps (W.events world.old) (W.events world.new)
+            (failed (config_of self.old) text.now) (config_of self.new) result }
+    {
+        let slots = self.redirs.slots();
+        fault(alloc, world, &mut self.state, slots, text)?;
+        self.unwind(alloc, world)
+    }
+}

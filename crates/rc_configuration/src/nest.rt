@@ -1,0 +1,62 @@
+//! What is open, each within the one before it.
+
+ghost use Rattle.std.specs.Prelude.{◌≡◌, [], ◌∷◌, drop, OnOk, MatchOption};
+
+use std::alloc::{AllocError, Global};
+use std::marker::Model;
+
+/// What is open, the innermost first.
+#[derive(Drop)]
+pub struct Nest<T> {
+    items: Vec<T>,
+}
+
+impl<T> Model for Nest<T> {
+    ghost use Rattle.std.specs.Prelude.{List, reverse};
+
+    ghost Value = { List T };
+
+    ghost view = { λ n. reverse n.items.items };
+}
+
+impl<T: Drop> Nest<T> {
+    /// Nothing is open.
+    pub fn new(alloc: Global) -> Nest<T>
+        ensures { result ≡ [] }
+    {
+        Nest {
+            items: Vec::new(alloc),
+        }
+    }
+
+    /// Opens one more.
+    pub fn open(&mut self, item: T) -> Result<(), AllocError>
+        ensures { OnOk result (self.new ≡ item ∷ self.old) }
+    {
+        self.items.push(item)?;
+        Ok(())
+    }
+
+    /// Takes out the innermost.
+    pub fn close(&mut self) -> Option<T>
+        ensures { MatchOption result (self.old ≡ []) (λ item. self.old ≡ item ∷ self.new) }
+    {
+        self.items.pop()
+    }
+
+    /// These are open, the first innermost.
+    #[tactic(auto, using(crate::proofs::ScopeEnds::turned_twice))]
+    pub fn of(mut items: Vec<T>) -> Nest<T>
+        ensures { result ≡ items.items }
+    {
+        items.reverse();
+        Nest { items }
+    }
+
+    /// The innermost.
+    pub fn innermost(&self) -> Option<&T>
+        ensures { MatchOption result (self.now ≡ []) (λ item. self.now ≡ item.now ∷ drop 1 self.now) }
+    {
+        self.items.last()
+    }
+}

@@ -1,0 +1,182 @@
+//! Names, what they stand for, and texts as words.
+
+ghost use Rattle.std.specs.Prelude.{◌≡◌, ◌<◌, ◌≤◌, ◌^◌, [], ◌∷◌, IfOk};
+ghost use Rattle.std.specs.Prelude.{OnOk, MatchOption, length, map, option_map, string_bytes, true, Some};
+ghost use Rattle.std.specs.List.{list_all};
+ghost use Rattle.rc_configuration.specs.Names.{read, the_name};
+ghost use Rattle.rc_model.specs.Run.Lists.{member};
+ghost use Rattle.rc_model.specs.Run.Numbers.{is_digit, digits_value};
+ghost use Rattle.rc_model.specs.Run.State.{got, is_name, is_readable};
+ghost use Rattle.rc_model.specs.Syntax.Tokens.{is_name_char};
+ghost use Rattle.rc_model.specs.Syntax.Words.{plain_words, word_texts};
+ghost use Rattle.rc_scope.specs.States.{state_of};
+
+use rc_scope::{State, is_name};
+use rc_stack::Stack;
+use rc_text::{List, Word};
+use std::alloc::{AllocError, Global};
+
+/// The texts of words.
+pub fn texts(alloc: Global, words: &[Word]) -> Result<Vec<String>, AllocError>
+    ensures { IfOk result (λ texts. map string_bytes texts.items ≡ word_texts words.now) }
+{
+    let mut texts = Vec::new(alloc);
+    for word in words {
+        texts.push(word.text()?)?;
+    }
+    Ok(texts)
+}
+
+/// Texts as a list of words with no marks, on top of the stack.
+#[tactic(auto, using(crate::proofs::Stacks::extends))]
+pub fn put_texts(alloc: Global, words: &mut Stack<Word>, texts: &[String]) -> Result<(), AllocError>
+    ensures { OnOk result (words.new ≡ plain_words (map string_bytes texts.now) ∷ words.old) }
+{
+    words.begin()?;
+    for text in texts {
+        words.push(Word::written(alloc, text, true)?)?;
+    }
+    Ok(())
+}
+
+/// A text as a list of one word with no marks, on top of the stack.
+#[tactic(auto, using(crate::proofs::Stacks::extends))]
+pub fn put_text(alloc: Global, words: &mut Stack<Word>, text: &str) -> Result<(), AllocError>
+    ensures { OnOk result (words.new ≡ plain_words (text.now ∷ []) ∷ words.old) }
+{
+    words.begin()?;
+    words.push(Word::written(alloc, text, true)?)?;
+    Ok(())
+}
+
+/// Words as a list on top of the stack.
+#[tactic(auto, using(crate::proofs::Stacks::extends))]
+pub fn put_words(stack: &mut Stack<Word>, words: &[Word]) -> Result<(), AllocError>
+    ensures { OnOk result (stack.new ≡ words.now ∷ stack.old) }
+{
+    stack.begin()?;
+    for word in words {
+        stack.push(word.copy()?)?;
+    }
+    Ok(())
+}
+
+/// Words as a list of their own.
+pub fn list_of(alloc: Global, words: &[Word]) -> Result<List, AllocError>
+    ensures { IfOk result (λ list. list ≡ words.now) }
+{
+    let mut list = List::new(alloc);
+    for word in words {
+        list.push(word.copy()?)?;
+    }
+    Ok(list)
+}
+
+/// Whether the byte is a letter, a digit, `_` or `*`.
+fn is_name_byte(byte: u8) -> bool
+    ensures { result ≡ is_name_char byte }
+{
+    byte.is_ascii_alphanumeric() || byte == b'_' || byte == b'*'
+}
+
+/// Whether the text has only such characters.
+fn has_name_bytes(text: &str) -> bool
+    ensures { result ≡ list_all is_name_char text.now }
+{
+    text.as_bytes().iter().all(|byte| is_name_byte(*byte))
+}
+
+/// Whether the text can stand after `$`.
+pub fn is_readable(text: &str) -> bool
+    ensures { result ≡ is_readable text.now }
+{
+    has_name_bytes(text) && !text.is_empty()
+}
+
+/// Whether the text has only digits, or nothing.
+fn has_digits(text: &str) -> bool
+    ensures { result ≡ list_all is_digit text.now }
+{
+    text.as_bytes().iter().all(|byte| byte.is_ascii_digit())
+}
+
+/// The number that the digits write: none where it is above every length.
+#[tactic(auto, using(crate::proofs::Places::place_read))]
+fn place_of(digits: &str) -> Option<usize>
+    requires digits { list_all is_digit digits.now ≡ true }
+    requires some { 0 < length digits.now }
+    ensures { MatchOption result (2 ^ 64 ≤ digits_value 0 digits.now) (λ n. n ≡ digits_value 0 digits.now) }
+{
+    digits.parse().ok()
+}
+
+/// The member at the place that the digits write, counted from 1.
+#[tactic(auto, using(crate::proofs::Places::no_member, crate::proofs::Places::one_member))]
+fn member<'a>(value: &'a [String], digits: &str) -> &'a [String]
+    requires digits { list_all is_digit digits.now ≡ true }
+    requires some { 0 < length digits.now }
+    ensures { map string_bytes result.now ≡ member (map string_bytes value.now) (Some (digits_value 0 digits.now)) }
+{
+    let count = value.len();
+    match place_of(digits) {
+        None => &value[..0],
+        Some(0) => &value[..0],
+        Some(place) => {
+            if count < place {
+                return &value[..0];
+            }
+            &value[place - 1..place]
+        }
+    }
+}
+
+/// What `$` and a name give: for digits a member of `$*`.
+pub fn got<'a>(state: &'a State, name: &str) -> &'a [String]
+    ensures { map string_bytes result.now ≡ got (state_of state.now) name.now }
+{
+    if !has_digits(name) || name.is_empty() {
+        return state.value(name);
+    }
+    member(state.value("*"), name)
+}
+
+/// The one name that the words are, where it can stand after `$`.
+fn readable_name(words: &[Word]) -> Result<Option<String>, AllocError>
+    ensures { IfOk result (λ name. option_map string_bytes name ≡ the_name is_readable (word_texts words.now)) }
+{
+    let [word] = words else {
+        return Ok(None);
+    };
+    let name = word.text()?;
+    if is_readable(&name) {
+        Ok(Some(name))
+    } else {
+        Ok(None)
+    }
+}
+
+/// The one name that the words are, where it is that of a variable.
+pub fn variable_name(words: &[Word]) -> Result<Option<String>, AllocError>
+    ensures { IfOk result (λ name. option_map string_bytes name ≡ the_name is_name (word_texts words.now)) }
+{
+    let [word] = words else {
+        return Ok(None);
+    };
+    let name = word.text()?;
+    if is_name(&name) {
+        Ok(Some(name))
+    } else {
+        Ok(None)
+    }
+}
+
+/// What `$` gives for these words: none where they are no name.
+pub fn read<'a>(state: &'a State, words: &[Word]) -> Result<Option<&'a [String]>, AllocError>
+    ensures { IfOk result (λ value. option_map (λ v. map string_bytes v.now) value
+        ≡ read (state_of state.now) (word_texts words.now)) }
+{
+    match readable_name(words)? {
+        Some(name) => Ok(Some(got(state, &name))),
+        None => Ok(None),
+    }
+}

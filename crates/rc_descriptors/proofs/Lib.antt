@@ -1,0 +1,5 @@
+pub mod Acts
+pub mod Heres
+pub mod Opened
+pub mod Redirected
+pub mod Shells

@@ -1,0 +1,18 @@
+use Rattle.std.proofs.Common.{rules, ◌≡◌, None, Some, drop}
+use Rattle.rc_model.specs.Syntax.Words.{word_texts}
+use Rattle.rc_stack.specs.Lists.{top_of}
+use Rattle.rc_configuration.specs.Configs.{config_of}
+use Rattle.rc_configuration.specs.Names.{read}
+use Rattle.rc_expressions.proofs.Acts.{reads_no_name}
+use Rattle.rc_configuration.proofs.Left.{steps_as}
+use Rattle.rc_configuration.proofs.Stacks.{topped}
+use Rattle.rc_scope.specs.States.{state_of}
+use Rattle.rc_expressions.proofs.variables.value.Goals as goal
+
+pub returns-in_default-2 : goal.returns-in_default-2
+returns-in_default-2 g c =
+    let m = c.args.machine.now in
+    let v = c.in-Some.words.now in
+    let top : top_of m.words ≡ Some v = search rules in
+    let none : read (state_of m.state) (word_texts v) ≡ None = search rules in
+    steps_as _ _ _ _ _ _ (reads_no_name (λ z. z) (config_of m) v (drop 1 m.words) (topped m.words v top) none) c.fail.ensures

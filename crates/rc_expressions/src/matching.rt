@@ -1,0 +1,72 @@
+//! Instructions that hold a list against patterns.
+
+ghost use Rattle.std.specs.Prelude.{◌<◌, ◌^◌, Some, IfOk};
+ghost use Rattle.rc_model.specs.Code.Machine.{act};
+ghost use Rattle.rc_model.specs.Code.Layout as op;
+ghost use Rattle.rc_configuration.specs.Configs.{config_of};
+ghost use Rattle.rc_configuration.specs.Outcomes.{Leads};
+
+use rc_configuration::{Configuration, Move};
+use rc_glob::matched;
+use rc_text::spaced_unmarked;
+use std::alloc::{AllocError, Global};
+
+/// The list on top becomes what patterns are held against.
+pub fn make_subject(machine: &mut Configuration, alloc: Global) -> Result<Move, AllocError>
+    requires { machine.old.place < 2 ^ 63 }
+    ensures { IfOk result (λ moved.
+        Leads (act (Some op.Subject) (config_of machine.old)) (config_of machine.new) moved) }
+{
+    let Some(words) = machine.words.top() else {
+        return Ok(Move::Ended);
+    };
+    let subject = spaced_unmarked(alloc, words)?;
+    machine.words.drop_top();
+    machine.words.begin()?;
+    machine.words.push(subject)?;
+    machine.place += 1;
+    Ok(Move::On)
+}
+
+/// Goes to the place where the patterns don't match; the subject stays on top.
+pub fn run_case(
+    machine: &mut Configuration,
+    alloc: Global,
+    place: usize,
+) -> Result<Move, AllocError>
+    requires { machine.old.place < 2 ^ 63 }
+    ensures { IfOk result (λ moved.
+        Leads (act (Some (op.Case place)) (config_of machine.old)) (config_of machine.new) moved) }
+{
+    let Some((subject, patterns)) = machine.words.top_two() else {
+        return Ok(Move::Ended);
+    };
+    let is_match = matched(alloc, subject, patterns)?;
+    machine.words.drop_top();
+    if is_match {
+        machine.place += 1;
+    } else {
+        machine.place = place;
+    }
+    Ok(Move::On)
+}
+
+/// `~`.
+pub fn run_match(machine: &mut Configuration, alloc: Global) -> Result<Move, AllocError>
+    requires { machine.old.place < 2 ^ 63 }
+    ensures { IfOk result (λ moved.
+        Leads (act (Some op.Match) (config_of machine.old)) (config_of machine.new) moved) }
+{
+    let Some((subject, patterns)) = machine.words.top_two() else {
+        return Ok(Move::Ended);
+    };
+    let status = if matched(alloc, subject, patterns)? {
+        ""
+    } else {
+        "no match"
+    };
+    machine.state.set_status(status)?;
+    machine.words.drop_two();
+    machine.place += 1;
+    Ok(Move::On)
+}

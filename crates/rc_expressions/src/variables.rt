@@ -1,0 +1,161 @@
+//! Instructions that read and assign variables.
+
+ghost use Rattle.std.specs.Prelude.{◌≡◌, ◌<◌, ◌^◌, Some};
+ghost use Rattle.rc_model.specs.Code.Machine.{act};
+ghost use Rattle.rc_model.specs.Code.Layout as op;
+ghost use Rattle.rc_configuration.specs.Configs.{config_of};
+ghost use Rattle.rc_configuration.specs.Outcomes.{Steps};
+
+use rc_configuration::{
+    Configuration, Move, Scope, put_text, put_texts, read, texts, variable_name,
+};
+use rc_world::{Stop, World};
+use std::alloc::Global;
+
+/// `$x`.
+#[tactic(auto, using(rc_configuration::proofs::Left::step_refused))]
+pub fn value<W: World>(
+    machine: &mut Configuration,
+    alloc: Global,
+    world: &mut W,
+) -> Result<Move, Stop>
+    requires { machine.old.place < 2 ^ 63 }
+    ensures { Steps (W.events world.old) (W.events world.new)
+        (act (Some op.Value) (config_of machine.old)) (config_of machine.new) result }
+{
+    let Some(words) = machine.words.top() else {
+        return Ok(Move::Ended);
+    };
+    let Some(value) = read(&machine.state, words)? else {
+        return machine.fail(alloc, world, "bad name");
+    };
+    machine.words.drop_top();
+    put_texts(alloc, &mut machine.words, value)?;
+    machine.place += 1;
+    Ok(Move::On)
+}
+
+/// `$#x`.
+#[tactic(auto, using(rc_configuration::proofs::Left::step_refused))]
+pub fn count<W: World>(
+    machine: &mut Configuration,
+    alloc: Global,
+    world: &mut W,
+) -> Result<Move, Stop>
+    requires { machine.old.place < 2 ^ 63 }
+    ensures { Steps (W.events world.old) (W.events world.new)
+        (act (Some op.Count) (config_of machine.old)) (config_of machine.new) result }
+{
+    let Some(words) = machine.words.top() else {
+        return Ok(Move::Ended);
+    };
+    let Some(value) = read(&machine.state, words)? else {
+        return machine.fail(alloc, world, "bad name");
+    };
+    let count = value.len().to_string(alloc)?;
+    machine.words.drop_top();
+    put_text(alloc, &mut machine.words, &count)?;
+    machine.place += 1;
+    Ok(Move::On)
+}
+
+/// `$"x`.
+#[tactic(auto, using(rc_configuration::proofs::Left::step_refused))]
+pub fn flat<W: World>(
+    machine: &mut Configuration,
+    alloc: Global,
+    world: &mut W,
+) -> Result<Move, Stop>
+    requires { machine.old.place < 2 ^ 63 }
+    ensures { Steps (W.events world.old) (W.events world.new)
+        (act (Some op.Flat) (config_of machine.old)) (config_of machine.new) result }
+{
+    let Some(words) = machine.words.top() else {
+        return Ok(Move::Ended);
+    };
+    let Some(value) = read(&machine.state, words)? else {
+        return machine.fail(alloc, world, "bad name");
+    };
+    let text = rc_text::flat(alloc, value)?;
+    machine.words.drop_top();
+    put_text(alloc, &mut machine.words, &text)?;
+    machine.place += 1;
+    Ok(Move::On)
+}
+
+/// `$x(s ...)`.
+#[tactic(auto, using(rc_configuration::proofs::Left::step_refused))]
+pub fn select<W: World>(
+    machine: &mut Configuration,
+    alloc: Global,
+    world: &mut W,
+) -> Result<Move, Stop>
+    requires { machine.old.place < 2 ^ 63 }
+    ensures { Steps (W.events world.old) (W.events world.new)
+        (act (Some op.Select) (config_of machine.old)) (config_of machine.new) result }
+{
+    let Some((words, subscripts)) = machine.words.top_two() else {
+        return Ok(Move::Ended);
+    };
+    let Some(value) = read(&machine.state, words)? else {
+        return machine.fail(alloc, world, "bad name");
+    };
+    let members = rc_text::select(alloc, value, &texts(alloc, subscripts)?)?;
+    machine.words.drop_two();
+    put_texts(alloc, &mut machine.words, &members)?;
+    machine.place += 1;
+    Ok(Move::On)
+}
+
+/// `x=..`.
+#[tactic(auto, using(rc_configuration::proofs::Left::step_refused))]
+pub fn assign<W: World>(
+    machine: &mut Configuration,
+    alloc: Global,
+    world: &mut W,
+) -> Result<Move, Stop>
+    requires { machine.old.place < 2 ^ 63 }
+    ensures { Steps (W.events world.old) (W.events world.new)
+        (act (Some op.Assign) (config_of machine.old)) (config_of machine.new) result }
+{
+    let Some((words, value)) = machine.words.top_two() else {
+        return Ok(Move::Ended);
+    };
+    let Some(name) = variable_name(words)? else {
+        return machine.fail(alloc, world, "bad name");
+    };
+    machine
+        .state
+        .set(&name, texts(alloc, value)?)
+        .map_err(|_| Stop::NoMemory)?;
+    machine.words.drop_two();
+    machine.place += 1;
+    Ok(Move::On)
+}
+
+/// `x=.. command`.
+#[tactic(auto, using(rc_configuration::proofs::Left::step_refused))]
+pub fn local<W: World>(
+    machine: &mut Configuration,
+    alloc: Global,
+    world: &mut W,
+) -> Result<Move, Stop>
+    requires { machine.old.place < 2 ^ 63 }
+    ensures { Steps (W.events world.old) (W.events world.new)
+        (act (Some op.Local) (config_of machine.old)) (config_of machine.new) result }
+{
+    let Some((words, value)) = machine.words.top_two() else {
+        return Ok(Move::Ended);
+    };
+    let Some(name) = variable_name(words)? else {
+        return machine.fail(alloc, world, "bad name");
+    };
+    machine
+        .state
+        .push_local(&name, texts(alloc, value)?)
+        .map_err(|_| Stop::NoMemory)?;
+    machine.scopes.open(Scope::Local)?;
+    machine.words.drop_two();
+    machine.place += 1;
+    Ok(Move::On)
+}
