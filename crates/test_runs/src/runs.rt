@@ -181,7 +181,7 @@ const NO_ERRORS: &str = "exec \"$0\" rc 2>&-";
 const PROBE_ERRORS: &[u8] = b"sh probes_errors.sh; nope; nope >made; wc -c made; rm made";
 
 /// Starts the shell without a descriptor 0 or 1.
-const NO_INPUT: &str = "exec \"$0\" rc -c 'cat; echo read' 0<&-";
+const NO_INPUT: &str = "exec \"$0\" rc -c '{cat; echo read} >made; cat made; rm made' 0<&-";
 
 const NO_OUTPUT: &str = "exec \"$0\" rc 1>&-";
 
@@ -221,7 +221,7 @@ pub fn show_all<R: Print + Files<File = File> + Processes + AllocGlobal>(
     show(
         rt,
         "descriptor 1 closed at the start",
-        &with_text(rt, closed, b"echo a; nope", 1)?,
+        &with_text(rt, closed, b"echo a; nope; {whatis cd} >[2]made; wc -c made >[1=2]; rm made", 1)?,
     )?;
     show(rt, "an input that can't be read", &with_directory(rt)?)
 }
