@@ -15,7 +15,7 @@ returns-in-Ok-Ended g c =
     let t = cmd_tree c.args.cmd.now in
     let s = state_of c.args.state in
     let start : config_of c.new-machine.result ≡ begin t s = begins t s (code_of c.in-Ok.code) (config_of c.new-machine.result) c.new-machine.ensures.begins c.in-Ok.ensures in
-    rw c.into_state.ensures (told_ended c.args.limit t s _ _ (state_of c.run.new.self.state) (rw (c.in-Ok-Ended.field-0-is, start) at (c.in-Ok-Ended.ensures.runs c.new-machine.ensures.running)))
+    rw c.into_state.ensures (told_ended c.args.limit t s _ _ (state_of c.run.new.self.configuration.state) (rw (c.in-Ok-Ended.field-0-is, start) at (c.in-Ok-Ended.ensures.runs c.new-machine.ensures.running)))
 
 pub returns-in-Ok-Limit : goal.returns-in-Ok-Limit
 returns-in-Ok-Limit g c =
