@@ -10,7 +10,7 @@ use Rattle.rc_model.specs.Run.State.{State}
 use Rattle.rc_model.specs.Handed.Arguments.{handed}
 use Rattle.rc_model.specs.Handed.Image.{entries, image_words, is_short, node_image}
 use Rattle.rc_model.specs.Handed.Pieces.{one_word}
-use Rattle.rc_image.specs.Launches.{args_with}
+use Rattle.rc_image.specs.Launches.{args_with, short_entries}
 
 abbrev Pair : Type 0
 Pair = List (List ℕ) × List (List ℕ)
@@ -51,3 +51,18 @@ module _ (words : List (List ℕ)) (args es : List (String Global)) (c : Node cm
   long_entry h k =
       by_words (Some words) c s w
       ∙ by_tests (args_with words s) (entries s) true false (all_short args (args_with words s) true a h) (all_short es (entries s) false e k)
+
+-- whether entries that were written are short enough
+abbrev AreShort : List (String Global) → Bool → Type 0
+AreShort es t = list_all (λ text. is_short (string_bytes text)) es ≡ t
+
+pub short_all : (es : List (String Global)) (s : State) → map string_bytes es ≡ entries s → AreShort es true →
+    short_entries s ≡ Some (map string_bytes es)
+unfolding short_entries
+short_all es s e h =
+    ap (λ t. if t then Some (entries s) else None) (all_short es (entries s) true e h) ∙ ap (λ x. Some x) (sym e)
+
+pub not_short : (es : List (String Global)) (s : State) → map string_bytes es ≡ entries s → AreShort es false →
+    short_entries s ≡ None
+unfolding short_entries
+not_short es s e h = ap (λ t. if t then Some (entries s) else None) (all_short es (entries s) false e h)

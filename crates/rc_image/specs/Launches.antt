@@ -1,6 +1,7 @@
 -- What is handed over in the launch of a shell.
-use Rattle.std.specs.Prelude.{ℕ, List, ◌∷◌, ◌++◌, codes, map, string_bytes}
-use Rattle.rc_model.specs.Handed.Image.{strict_option}
+use Rattle.std.specs.Prelude.{ℕ, List, ◌∷◌, ◌++◌, if◌then◌else◌, codes, map, string_bytes, Option, Some, None}
+use Rattle.std.specs.List.{list_all}
+use Rattle.rc_model.specs.Handed.Image.{entries, is_short, strict_option}
 use Rattle.rc_model.specs.Run.State.{State, value_of}
 use Rattle.rc_image.specs.declared.launch.Handover.{Handover}
 
@@ -11,3 +12,7 @@ handed_of h = (map string_bytes h.args.items, map string_bytes h.entries.items)
 -- the arguments of a shell that is handed its command in these words
 abbrev pub args_with : List (List ℕ) → State → List (List ℕ)
 args_with words s = strict_option s.strict ++ (codes "-S" ∷ (words ++ value_of s (codes "*")))
+
+-- the entries of a state, where none of them is too long
+unfoldable pub short_entries : State → Option (List (List ℕ))
+short_entries s = if list_all is_short (entries s) then Some (entries s) else None

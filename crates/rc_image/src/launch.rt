@@ -5,7 +5,7 @@ ghost use Rattle.rc_model.specs.Handed.Arguments.{handed};
 ghost use Rattle.rc_tree_types.specs.View.{cmd_tree};
 ghost use Rattle.rc_scope.specs.States.{state_of};
 ghost use Rattle.rc_image.specs.Images.{Writes};
-ghost use Rattle.rc_image.specs.Launches.{args_with, handed_of};
+ghost use Rattle.rc_image.specs.Launches.{args_with, handed_of, short_entries};
 
 use crate::ImageFault;
 use crate::pieces::write_pieces;
@@ -36,6 +36,18 @@ fn shell_args(alloc: Global, state: &State, words: &[String]) -> Result<Vec<Stri
     push_copies(&mut args, words)?;
     push_copies(&mut args, state.value("*"))?;
     Ok(args)
+}
+
+/// The entries of a state. They are too large where one of them would be too long.
+pub fn write_env(alloc: Global, state: &State) -> Result<Vec<String>, ImageFault>
+    ensures { Writes (λ all. map string_bytes all.items) result (short_entries (state_of state.now)) }
+{
+    let entries = entries(alloc, state)?;
+    if are_short(&entries) {
+        Ok(entries)
+    } else {
+        Err(ImageFault::TooLarge)
+    }
 }
 
 /// What a shell is handed that is to run a command in a state. It is too large where an argument or an entry would be

@@ -20,7 +20,7 @@ pub use arguments::{read_image, read_state};
 use beginning::{beginning_fault, begins};
 pub use environment::read_env;
 pub use fault::ImageFault;
-pub use launch::{Handover, handed};
+pub use launch::{Handover, handed, write_env};
 pub use pieces::write_pieces;
 use rc_model::limits::LONGEST_ARGUMENT;
 use rc_reading::read_spelling;
