@@ -1,74 +1,100 @@
-//! What the tests do with images. A tree is held here alone: each place that may drop one takes long to prove.
+//! What comes of images and of words.
 
-use rc_image::{
-    Handover, ImageFault, handed, read_image, read_pieces, read_tree, write_pieces, write_tree,
-};
-use rc_scope::State;
+use crate::fault::RowFault;
+use rc_image::{ImageFault, read_pieces, read_tree, write_pieces, write_tree};
+use rc_tree::Cmd;
 use std::alloc::{AllocError, Global};
-use std::test::Fail;
 
-/// A list of these texts.
-pub fn list(alloc: Global, texts: &[&str]) -> Result<Vec<String>, AllocError> {
-    let mut list = Vec::new(alloc);
-    for text in texts {
-        list.push(String::from_str(alloc, *text)?)?;
-    }
-    Ok(list)
-}
+/// The most bytes of an image that is cut at each place.
+const SHORT_IMAGE: usize = 1_000;
 
-/// A text so many times.
-pub fn repeated(alloc: Global, text: &str, times: usize) -> Result<String, AllocError> {
-    let mut repeated = String::new(alloc);
-    for _ in 0..times {
-        repeated.push_str(text)?;
-    }
-    Ok(repeated)
-}
+/// The most bytes of a word that is shown as it is.
+const SHORT_WORD: usize = 20;
 
-/// The image of a command of one word: a text so many times.
-pub fn image_of(alloc: Global, text: &str, times: usize) -> Result<String, AllocError> {
-    let word = repeated(alloc, text, times)?;
-    let length = word.len();
-    format!(in alloc; "rc1;c1,w{length}:{word}")
+/// The tree of an image, in a box: each place that may drop a tree takes long to prove.
+pub fn tree_of(alloc: Global, image: &str) -> Result<Box<Cmd>, ImageFault> {
+    Ok(Box::new(alloc, read_tree(alloc, image)?)?)
 }
 
 /// The image of the tree of an image.
-pub fn written_again(alloc: Global, image: &str) -> Result<String, ImageFault> {
-    let cmd = read_tree(alloc, image)?;
-    write_tree(alloc, &cmd)
+fn written_again(alloc: Global, image: &str) -> Result<String, ImageFault> {
+    let tree = tree_of(alloc, image)?;
+    write_tree(alloc, &tree)
 }
 
-/// The words of the tree of an image.
-pub fn words_of(alloc: Global, image: &str) -> Result<Vec<String>, ImageFault> {
-    let cmd = read_tree(alloc, image)?;
-    write_pieces(alloc, &cmd)
+/// The first place where an image is cut and has another fault than one whose end is missing.
+fn wrong_cut(alloc: Global, image: &str) -> Result<Option<usize>, RowFault> {
+    for place in 0..image.len() {
+        let Some(cut) = image.get(..place) else {
+            continue;
+        };
+        match written_again(alloc, cut) {
+            Err(ImageFault::BadTag) | Err(ImageFault::BadLength) => {}
+            Err(ImageFault::NoMemory) => return Err(RowFault::NoMemory),
+            Ok(_) | Err(_) => return Ok(Some(place)),
+        }
+    }
+    Ok(None)
 }
 
-/// The words of the tree that is read of these words, and how many of them it took.
-pub fn words_again(alloc: Global, words: &[String]) -> Result<(Vec<String>, usize), ImageFault> {
-    let (cmd, taken) = read_pieces(alloc, words)?;
-    Ok((write_pieces(alloc, &cmd)?, taken))
+/// Whether an image is read back, and a short one is refused wherever it is cut.
+pub fn tree(alloc: Global, image: &str) -> Result<String, RowFault> {
+    let written = written_again(alloc, image)?;
+    if written.as_str() != image {
+        return Ok(written);
+    }
+    if image.len() <= SHORT_IMAGE
+        && let Some(place) = wrong_cut(alloc, image)?
+    {
+        return Ok(format!(in alloc; "not refused before byte {place}")?);
+    }
+    Ok(String::from_str(alloc, "read back")?)
 }
 
-/// What a shell is handed that is to run the tree of an image.
-pub fn handed_of(alloc: Global, image: &str, state: &State) -> Result<Handover, ImageFault> {
-    let cmd = read_tree(alloc, image)?;
-    handed(alloc, &cmd, state)
+/// The words in which the tree of an image is handed over.
+fn words_of(alloc: Global, image: &str) -> Result<Vec<String>, ImageFault> {
+    let tree = tree_of(alloc, image)?;
+    write_pieces(alloc, &tree)
 }
 
-/// The image of the tree, and the state, that a shell begins with which is handed these.
-pub fn begun(
-    alloc: Global,
-    strict: bool,
-    words: &[String],
-    entries: &[String],
-) -> Result<(String, State), ImageFault> {
-    let (cmd, state) = read_image(alloc, strict, words, entries)?;
-    Ok((write_tree(alloc, &cmd)?, state))
+/// Short words as they are, and the lengths of others.
+fn shape(alloc: Global, words: &[String]) -> Result<String, AllocError> {
+    let mut shape = String::new(alloc);
+    for word in words {
+        let length = word.len();
+        if length <= SHORT_WORD {
+            write!(shape, "{word} ")?;
+        } else {
+            write!(shape, "{length} ")?;
+        }
+    }
+    Ok(shape)
 }
 
-/// A function with the tree of an image is defined.
-pub fn define(alloc: Global, state: &mut State, name: &str, image: &str) -> Result<(), Fail> {
-    let body = read_tree(alloc, image)?;
-    Ok(state.define(name, body)?)
+/// The words in which the tree of an image is handed over, and what comes of them where another word follows.
+pub fn pieces(alloc: Global, image: &str) -> Result<String, RowFault> {
+    let mut words = words_of(alloc, image)?;
+    let shape = shape(alloc, &words)?;
+    words.push(String::from_str(alloc, "x")?)?;
+    let taken = taken(alloc, &words)?;
+    Ok(format!(in alloc; "{shape}{taken}")?)
+}
+
+/// How many words were taken, where the tree is handed over in the same.
+fn taken_again(alloc: Global, tree: &Cmd, taken: &[String]) -> Result<String, RowFault> {
+    let words = write_pieces(alloc, tree)?;
+    let count = taken.len();
+    if words.as_slice() == taken {
+        Ok(format!(in alloc; "({count} read back)")?)
+    } else {
+        Ok(shape(alloc, &words)?)
+    }
+}
+
+/// How many of these words the tree takes that they begin with.
+pub fn taken(alloc: Global, words: &[String]) -> Result<String, RowFault> {
+    match &read_pieces(alloc, words) {
+        Ok((tree, count)) => taken_again(alloc, tree, words.get(..*count).unwrap_or(&[])),
+        Err(fault) => Err(RowFault::from(*fault)),
+    }
 }

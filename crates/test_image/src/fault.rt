@@ -1,0 +1,47 @@
+//! Why nothing is read or written.
+
+use rc_image::ImageFault;
+use rc_scope::SetError;
+use std::alloc::{AllocError, AllocFailed};
+use thiserror::Error;
+
+/// Why nothing is read or written.
+#[derive(Debug, Drop, Error)]
+pub enum RowFault {
+    #[error("{0}")]
+    Image(ImageFault),
+    #[error("a row is not written as it must be")]
+    BadRow,
+    #[error("no memory")]
+    NoMemory,
+}
+
+impl From<ImageFault> for RowFault {
+    fn from(fault: ImageFault) -> Self {
+        match fault {
+            ImageFault::NoMemory => RowFault::NoMemory,
+            _ => RowFault::Image(fault),
+        }
+    }
+}
+
+impl From<AllocError> for RowFault {
+    fn from(_: AllocError) -> Self {
+        RowFault::NoMemory
+    }
+}
+
+impl<T: Drop> From<AllocFailed<T>> for RowFault {
+    fn from(_: AllocFailed<T>) -> Self {
+        RowFault::NoMemory
+    }
+}
+
+impl From<SetError> for RowFault {
+    fn from(error: SetError) -> Self {
+        match error {
+            SetError::BadName => RowFault::BadRow,
+            SetError::NoMemory => RowFault::NoMemory,
+        }
+    }
+}
