@@ -1,4 +1,4 @@
-//! Tests of the built-in commands over a tape: the calls, and the state after them.
+//! Tests of the built-in commands where memory is refused. The rows of `test_tapes` show what they do.
 #![tactic(auto)]
 
 #[cfg(test)]

@@ -1,8 +1,9 @@
 //! What the tests of the built-in commands share.
 
 use rc_scope::State;
-use rc_world::{Call, Slot, Tape};
+use rc_world::Stop;
 use std::alloc::{AllocError, Global};
+use std::test::Fail;
 
 pub fn list(alloc: Global, members: &[&str]) -> Result<Vec<String>, AllocError> {
     let mut list = Vec::new(alloc);
@@ -12,32 +13,17 @@ pub fn list(alloc: Global, members: &[&str]) -> Result<Vec<String>, AllocError> 
     Ok(list)
 }
 
-/// The calls, each on a line.
-pub fn calls(alloc: Global, tape: &Tape) -> Result<String, AllocError> {
-    let mut text = String::new(alloc);
-    for call in tape.calls() {
-        match call {
-            Call::Chdir(path) => write!(text, "chdir {path}\n")?,
-            Call::Probe(path) => write!(text, "probe {path}\n")?,
-            Call::Write(Slot::Own(slot), bytes) => {
-                write!(
-                    text,
-                    "write {slot}: {}\n",
-                    str::from_utf8(bytes).unwrap_or("?")
-                )?
-            }
-            _ => text.push_str("another call\n")?,
-        }
-    }
-    Ok(text)
+/// A state with one variable.
+pub fn state_with(alloc: Global, name: &str, members: &[&str]) -> Result<State, Fail> {
+    let mut state = State::new(alloc);
+    state.set(name, list(alloc, members)?)?;
+    Ok(state)
 }
 
-/// The members of `$*` in brackets, and the status.
-pub fn args_and_status(alloc: Global, state: &State) -> Result<String, AllocError> {
-    let mut text = String::new(alloc);
-    for arg in state.value("*") {
-        write!(text, "[{arg}]")?;
+/// Where a command stopped, as the failure of its test.
+pub fn failure(stop: Stop) -> Fail {
+    match stop {
+        Stop::NoMemory => Fail::from(AllocError),
+        Stop::Halt => Fail::new("a call was not answered"),
     }
-    write!(text, " {}", state.status())?;
-    Ok(text)
 }
