@@ -1,18 +1,11 @@
-//! Tests of the public calls that read and write scripts.
+//! Tests of the public calls that read and write scripts: where memory is refused, and of trees that no script has. The
+//! rows of `test_scripts` show what comes of scripts.
 #![tactic(auto)]
 
 #[cfg(test)]
-mod documents;
-#[cfg(test)]
 mod lexer;
 #[cfg(test)]
-mod limits;
-#[cfg(test)]
 mod parser;
-#[cfg(test)]
-mod placement;
-#[cfg(test)]
-mod spelled;
 #[cfg(test)]
 mod text;
 #[cfg(test)]
