@@ -1,4 +1,4 @@
-//! Tests of the built-in commands where memory is refused. The rows of `test_tapes` show what they do.
+//! Tests of built-in commands and redirections where memory is refused. The rows of `test_tapes` show what they do.
 #![tactic(auto)]
 
 #[cfg(test)]
@@ -7,5 +7,7 @@ mod arguments;
 mod directories;
 #[cfg(test)]
 mod names;
+#[cfg(test)]
+mod redirections;
 #[cfg(test)]
 mod support;

@@ -1,4 +1,4 @@
-//! What the tests of the built-in commands share.
+//! What the tests share.
 
 use rc_scope::State;
 use rc_world::Stop;
