@@ -1,18 +1,15 @@
-//! Why nothing is read or written.
+//! Why nothing comes of a row.
 
 use rc_image::ImageFault;
 use rc_scope::SetError;
 use std::alloc::{AllocError, AllocFailed};
-use thiserror::Error;
 
-/// Why nothing is read or written.
-#[derive(Debug, Drop, Error)]
+/// Why nothing comes of a row.
+#[derive(Clone, Copy)]
 pub enum RowFault {
-    #[error("{0}")]
     Image(ImageFault),
-    #[error("a row is not written as it must be")]
+    /// The row is not written as it must be.
     BadRow,
-    #[error("no memory")]
     NoMemory,
 }
 

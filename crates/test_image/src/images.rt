@@ -16,39 +16,37 @@ pub fn tree_of(alloc: Global, image: &str) -> Result<Box<Cmd>, ImageFault> {
     Ok(Box::new(alloc, read_tree(alloc, image)?)?)
 }
 
-/// The image of the tree of an image.
-fn written_again(alloc: Global, image: &str) -> Result<String, ImageFault> {
+/// Whether the tree of an image has this image.
+fn is_read_back(alloc: Global, image: &str) -> Result<bool, ImageFault> {
     let tree = tree_of(alloc, image)?;
-    write_tree(alloc, &tree)
+    Ok(write_tree(alloc, &tree)?.as_str() == image)
 }
 
-/// The first place where an image is cut and has another fault than one whose end is missing.
-fn wrong_cut(alloc: Global, image: &str) -> Result<Option<usize>, RowFault> {
+/// Whether an image has the fault of one whose end is missing, wherever it is cut.
+fn is_refused_where_cut(alloc: Global, image: &str) -> Result<bool, ImageFault> {
     for place in 0..image.len() {
         let Some(cut) = image.get(..place) else {
             continue;
         };
-        match written_again(alloc, cut) {
+        match is_read_back(alloc, cut) {
             Err(ImageFault::BadTag) | Err(ImageFault::BadLength) => {}
-            Err(ImageFault::NoMemory) => return Err(RowFault::NoMemory),
-            Ok(_) | Err(_) => return Ok(Some(place)),
+            Err(ImageFault::NoMemory) => return Err(ImageFault::NoMemory),
+            Ok(_) | Err(_) => return Ok(false),
         }
     }
-    Ok(None)
+    Ok(true)
 }
 
 /// Whether an image is read back, and a short one is refused wherever it is cut.
-pub fn tree(alloc: Global, image: &str) -> Result<String, RowFault> {
-    let written = written_again(alloc, image)?;
-    if written.as_str() != image {
-        return Ok(written);
+pub fn tree(alloc: Global, image: &str) -> Result<&'static str, ImageFault> {
+    if !is_read_back(alloc, image)? {
+        return Ok("read back as another");
     }
-    if image.len() <= SHORT_IMAGE
-        && let Some(place) = wrong_cut(alloc, image)?
-    {
-        return Ok(format!(in alloc; "not refused before byte {place}")?);
+    if SHORT_IMAGE < image.len() || is_refused_where_cut(alloc, image)? {
+        Ok("read back")
+    } else {
+        Ok("read back, and not refused where it is cut")
     }
-    Ok(String::from_str(alloc, "read back")?)
 }
 
 /// The words in which the tree of an image is handed over.
@@ -57,44 +55,50 @@ fn words_of(alloc: Global, image: &str) -> Result<Vec<String>, ImageFault> {
     write_pieces(alloc, &tree)
 }
 
-/// Short words as they are, and the lengths of others.
-fn shape(alloc: Global, words: &[String]) -> Result<String, AllocError> {
-    let mut shape = String::new(alloc);
+/// Adds short words as they are, and the lengths of others.
+fn add_words(out: &mut String, words: &[String]) -> Result<(), AllocError> {
     for word in words {
         let length = word.len();
         if length <= SHORT_WORD {
-            write!(shape, "{word} ")?;
+            write!(out, "{word} ")?;
         } else {
-            write!(shape, "{length} ")?;
+            write!(out, "{length} ")?;
         }
     }
-    Ok(shape)
+    Ok(())
 }
 
-/// The words in which the tree of an image is handed over, and what comes of them where another word follows.
-pub fn pieces(alloc: Global, image: &str) -> Result<String, RowFault> {
+/// Adds the words in which the tree of an image is handed over, and what comes of them where another word follows.
+pub fn add_pieces(alloc: Global, out: &mut String, image: &str) -> Result<(), RowFault> {
     let mut words = words_of(alloc, image)?;
-    let shape = shape(alloc, &words)?;
+    add_words(out, &words)?;
     words.push(String::from_str(alloc, "x")?)?;
-    let taken = taken(alloc, &words)?;
-    Ok(format!(in alloc; "{shape}{taken}")?)
+    add_taken(alloc, out, &words)
 }
 
-/// How many words were taken, where the tree is handed over in the same.
-fn taken_again(alloc: Global, tree: &Cmd, taken: &[String]) -> Result<String, RowFault> {
+/// The tree of the first of these words, and how many it takes.
+fn taken(alloc: Global, words: &[String]) -> Result<Box<(Cmd, usize)>, ImageFault> {
+    Ok(Box::new(alloc, read_pieces(alloc, words)?)?)
+}
+
+/// Adds a count of words, where the tree is handed over in these.
+fn add_count(
+    alloc: Global,
+    out: &mut String,
+    tree: &Cmd,
+    taken: &[String],
+) -> Result<(), RowFault> {
     let words = write_pieces(alloc, tree)?;
-    let count = taken.len();
     if words.as_slice() == taken {
-        Ok(format!(in alloc; "({count} read back)")?)
+        let count = taken.len();
+        Ok(write!(out, "({count} read back)")?)
     } else {
-        Ok(shape(alloc, &words)?)
+        Ok(add_words(out, &words)?)
     }
 }
 
-/// How many of these words the tree takes that they begin with.
-pub fn taken(alloc: Global, words: &[String]) -> Result<String, RowFault> {
-    match &read_pieces(alloc, words) {
-        Ok((tree, count)) => taken_again(alloc, tree, words.get(..*count).unwrap_or(&[])),
-        Err(fault) => Err(RowFault::from(*fault)),
-    }
+/// Adds how many of these words the tree takes that they begin with.
+pub fn add_taken(alloc: Global, out: &mut String, words: &[String]) -> Result<(), RowFault> {
+    let taken = taken(alloc, words)?;
+    add_count(alloc, out, &taken.0, words.get(..taken.1).unwrap_or(&[]))
 }

@@ -1,10 +1,10 @@
 //! What is shown of the rows of a file, and how they stand there.
 
 use crate::fault::RowFault;
-use crate::images::{pieces, taken, tree};
+use crate::images::{add_pieces, add_taken, tree};
 use crate::rows::{list, unescaped};
 use crate::states::begun;
-use std::alloc::Global;
+use std::alloc::{AllocError, Global};
 
 /// What is shown of a row.
 #[derive(Clone, Copy)]
@@ -21,39 +21,36 @@ pub enum Layer {
 }
 
 impl Layer {
-    fn has_lines(self) -> bool {
-        matches!(self, Layer::States)
-    }
-
-    /// What stands between rows.
-    pub fn between(self) -> &'static str {
-        if self.has_lines() { "\n\n" } else { "\n" }
-    }
-
-    /// What stands between a row and what is wanted.
-    pub fn arrow(self) -> &'static str {
-        if self.has_lines() {
-            "\n==>\n"
-        } else {
-            "  ==>  "
+    /// What stands between rows, and between a row and what is wanted.
+    pub fn separators(self) -> (&'static str, &'static str) {
+        match self {
+            Layer::States => ("\n\n", "\n==>\n"),
+            _ => ("\n", "  ==>  "),
         }
     }
 
-    /// What comes of a row, unless it is a fault.
-    fn answer(self, alloc: Global, written: &str) -> Result<String, RowFault> {
+    /// Adds what comes of a row, unless it is a fault.
+    fn answer(self, alloc: Global, out: &mut String, written: &str) -> Result<(), RowFault> {
         match self {
-            Layer::Trees => tree(alloc, &unescaped(alloc, written)?),
-            Layer::Pieces => pieces(alloc, &unescaped(alloc, written)?),
-            Layer::Words => taken(alloc, &list(alloc, written)?),
-            Layer::States => begun(alloc, written),
+            Layer::Trees => {
+                let shown = tree(alloc, &unescaped(alloc, written)?)?;
+                Ok(out.push_str(shown)?)
+            }
+            Layer::Pieces => add_pieces(alloc, out, &unescaped(alloc, written)?),
+            Layer::Words => add_taken(alloc, out, &list(alloc, written)?),
+            Layer::States => begun(alloc, out, written),
         }
     }
 
     /// What comes of a row, or the fault of an image in it.
-    pub fn show(self, alloc: Global, written: &str) -> Result<String, RowFault> {
-        match self.answer(alloc, written) {
-            Err(RowFault::Image(fault)) => Ok(format!(in alloc; "{fault}")?),
-            shown => shown,
+    pub fn show(self, alloc: Global, written: &str) -> Result<String, AllocError> {
+        let mut out = String::new(alloc);
+        match self.answer(alloc, &mut out, written) {
+            Ok(()) => {}
+            Err(RowFault::Image(fault)) => write!(out, "{fault}")?,
+            Err(RowFault::BadRow) => out.push_str("this is no row")?,
+            Err(RowFault::NoMemory) => return Err(AllocError),
         }
+        Ok(out)
     }
 }

@@ -32,15 +32,19 @@ fn add(text: &mut String, written: &str) -> Result<(), AllocError> {
     Ok(())
 }
 
-/// Adds a repetition, from its number on, and what follows it.
+/// How often a text is repeated, from this number on, the text, and what follows it.
+fn repetition(written: &str) -> Option<(usize, &str, &str)> {
+    let (repetition, after) = written.split_once("\\)")?;
+    let (times, once) = repetition.split_once('*')?;
+    match times.parse::<usize>() {
+        Ok(times) => Some((times, once, after)),
+        Err(_) => None,
+    }
+}
+
+/// Adds what is written, from the number of a repetition on.
 fn add_repeated(text: &mut String, written: &str) -> Result<(), RowFault> {
-    let Some((repetition, after)) = written.split_once("\\)") else {
-        return Err(RowFault::BadRow);
-    };
-    let Some((times, once)) = repetition.split_once('*') else {
-        return Err(RowFault::BadRow);
-    };
-    let Ok(times) = times.parse::<usize>() else {
+    let Some((times, once, after)) = repetition(written) else {
         return Err(RowFault::BadRow);
     };
     for _ in 0..times {
@@ -49,16 +53,22 @@ fn add_repeated(text: &mut String, written: &str) -> Result<(), RowFault> {
     Ok(add(text, after)?)
 }
 
+/// Adds what is written.
+fn add_all(text: &mut String, written: &str) -> Result<(), RowFault> {
+    let mut parts = written.split("\\(");
+    if let Some(first) = parts.next() {
+        add(text, first)?;
+    }
+    for part in parts {
+        add_repeated(text, part)?;
+    }
+    Ok(())
+}
+
 /// The text that is written so.
 pub fn unescaped(alloc: Global, written: &str) -> Result<String, RowFault> {
     let mut text = String::new(alloc);
-    let mut parts = written.split("\\(");
-    if let Some(first) = parts.next() {
-        add(&mut text, first)?;
-    }
-    for part in parts {
-        add_repeated(&mut text, part)?;
-    }
+    add_all(&mut text, written)?;
     Ok(text)
 }
 

@@ -20,21 +20,24 @@ use std::alloc::{AllocError, Global};
 /// The most bytes of a text that is shown as it is.
 const SHORT_TEXT: usize = 1_000;
 
-/// Adds the image of a tree.
+/// Adds the image of a tree after its name.
 fn add_tree(alloc: Global, out: &mut String, name: &str, tree: &Cmd) -> Result<(), RowFault> {
     let image = write_tree(alloc, tree)?;
     Ok(write!(out, "{name} {image:?}\n")?)
 }
 
-/// Adds a state: its variables, its status, whether it is strict, and its functions.
-fn add_state(alloc: Global, out: &mut String, state: &State) -> Result<(), RowFault> {
+/// Adds the variables of a state, its status, and whether it is strict.
+fn add_values(out: &mut String, state: &State) -> Result<(), AllocError> {
     for variable in &state.bindings()? {
         write!(out, "{}={:?}\n", variable.name, variable.value)?;
     }
     write!(out, "status={:?}\n", state.status())?;
-    if state.strict() {
-        out.push_str("strict\n")?;
-    }
+    out.push_str(if state.strict() { "strict\n" } else { "" })
+}
+
+/// Adds a state.
+fn add_state(alloc: Global, out: &mut String, state: &State) -> Result<(), RowFault> {
+    add_values(out, state)?;
     for name in &state.functions()? {
         if let Some(body) = state.function(name) {
             add_tree(alloc, out, name, body)?;
@@ -43,23 +46,27 @@ fn add_state(alloc: Global, out: &mut String, state: &State) -> Result<(), RowFa
     Ok(())
 }
 
-/// A tree, if there is one, and a state.
-fn shown(alloc: Global, tree: Option<&Cmd>, state: &State) -> Result<String, RowFault> {
-    let mut out = String::new(alloc);
-    if let Some(tree) = tree {
-        add_tree(alloc, &mut out, "tree", tree)?;
-    }
-    add_state(alloc, &mut out, state)?;
-    Ok(out)
+/// The tree and the state that a shell begins with.
+fn begun_with(
+    alloc: Global,
+    is_strict: bool,
+    words: &[String],
+    entries: &[String],
+) -> Result<Box<(Cmd, State)>, ImageFault> {
+    Ok(Box::new(alloc, read_image(alloc, is_strict, words, entries)?)?)
 }
 
-/// What a shell begins with that is handed these words, which may be `strict`, and entries.
-fn begun_by_words(alloc: Global, options: &str, entries: &[String]) -> Result<String, RowFault> {
+/// Adds what a shell begins with that is handed these words, which may be `strict`, and entries.
+fn begun_by_words(
+    alloc: Global,
+    out: &mut String,
+    options: &str,
+    entries: &[String],
+) -> Result<(), RowFault> {
     let words = all(alloc, options, "word")?;
-    match &read_image(alloc, has(options, "strict"), &words, entries) {
-        Ok((tree, state)) => shown(alloc, Some(tree), state),
-        Err(fault) => Err(RowFault::from(*fault)),
-    }
+    let begun = begun_with(alloc, has(options, "strict"), &words, entries)?;
+    add_tree(alloc, out, "tree", &begun.0)?;
+    add_state(alloc, out, &begun.1)
 }
 
 /// Changes a state as an option says.
@@ -96,45 +103,50 @@ fn handed_of(alloc: Global, image: &str, state: &State) -> Result<Handover, Imag
     handed(alloc, &tree, state)
 }
 
-/// The launch of a shell that is to run the tree of an image in a state.
-fn launch_shown(alloc: Global, image: &str, state: &State) -> Result<String, RowFault> {
+/// Adds the launch of a shell that is to run the tree of an image in a state.
+fn add_launch(alloc: Global, out: &mut String, image: &str, state: &State) -> Result<(), RowFault> {
     let given = handed_of(alloc, image, state)?;
-    let mut out = String::new(alloc);
-    add_texts(&mut out, "arg", &given.args)?;
-    add_texts(&mut out, "entry", &given.entries)?;
-    Ok(out)
+    add_texts(out, "arg", &given.args)?;
+    Ok(add_texts(out, "entry", &given.entries)?)
 }
 
-/// The entries of a state.
-fn entries_shown(alloc: Global, state: &State) -> Result<String, RowFault> {
-    let entries = write_env(alloc, state)?;
-    let mut out = String::new(alloc);
-    add_texts(&mut out, "entry", &entries)?;
-    Ok(out)
+/// Adds what comes of a state: the launch of a shell that is to run a `tree`, the `entries`, or the state.
+fn add_answer(
+    alloc: Global,
+    out: &mut String,
+    options: &str,
+    state: &State,
+) -> Result<(), RowFault> {
+    if let Some(image) = first(options, "tree") {
+        return add_launch(alloc, out, &unescaped(alloc, image)?, state);
+    }
+    if has(options, "entries") {
+        return Ok(add_texts(out, "entry", &write_env(alloc, state)?)?);
+    }
+    add_state(alloc, out, state)
 }
 
-/// What comes of a state after these changes: the launch of a shell that is to run a `tree`, the `entries`, or the
-/// state.
-fn answer(alloc: Global, options: &str, state: &mut State) -> Result<String, RowFault> {
+/// Adds what comes of a state after its changes.
+fn add_changed(
+    alloc: Global,
+    out: &mut String,
+    options: &str,
+    state: &mut State,
+) -> Result<(), RowFault> {
     for option in options.lines() {
         change(alloc, state, option)?;
     }
-    if let Some(image) = first(options, "tree") {
-        return launch_shown(alloc, &unescaped(alloc, image)?, state);
-    }
-    if has(options, "entries") {
-        return entries_shown(alloc, state);
-    }
-    shown(alloc, None, state)
+    add_answer(alloc, out, options, state)
 }
 
-/// What comes of the state of these arguments and entries, which a shell of the same kind may hand over.
+/// Adds what comes of the state of these arguments and entries, which a shell of the same kind may hand over.
 fn begun_by_arguments(
     alloc: Global,
+    out: &mut String,
     options: &str,
     args: &[String],
     entries: &[String],
-) -> Result<String, RowFault> {
+) -> Result<(), RowFault> {
     let is_own = has(options, "own");
     let mut read = if args.is_empty() {
         read_env(alloc, entries, is_own)
@@ -142,17 +154,17 @@ fn begun_by_arguments(
         read_state(alloc, is_own, args, entries)
     };
     match &mut read {
-        Ok(state) => answer(alloc, options, state),
+        Ok(state) => add_changed(alloc, out, options, state),
         Err(fault) => Err(RowFault::from(*fault)),
     }
 }
 
-/// What comes of a row.
-pub fn begun(alloc: Global, options: &str) -> Result<String, RowFault> {
+/// Adds what comes of a row.
+pub fn begun(alloc: Global, out: &mut String, options: &str) -> Result<(), RowFault> {
     let entries = all(alloc, options, "entry")?;
     if has(options, "image") {
-        return begun_by_words(alloc, options, &entries);
+        return begun_by_words(alloc, out, options, &entries);
     }
     let args = all(alloc, options, "arg")?;
-    begun_by_arguments(alloc, options, &args, &entries)
+    begun_by_arguments(alloc, out, options, &args, &entries)
 }
