@@ -1,15 +1,12 @@
-//! Tests of Linux as a world. A test that needs descriptors of its own starts its program again.
+//! Tests of Linux as a world, where memory is refused and where a test needs descriptors of its own, for which it
+//! starts its program again. The calls of `test_calls` show the rest.
 #![tactic(auto)]
 
 #[cfg(test)]
-mod children;
+mod calls;
 #[cfg(test)]
 mod descriptors;
 #[cfg(test)]
-mod files;
-#[cfg(test)]
 mod host;
-#[cfg(test)]
-mod plans;
 #[cfg(test)]
 mod process;

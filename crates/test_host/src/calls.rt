@@ -1,0 +1,30 @@
+//! Calls where memory is refused.
+use crate::host::{granted, host, launch, read_all};
+use rc_world::{Ending, Kind, PLAIN_SLOTS, Slot, World};
+use std::test::Fail;
+
+#[test]
+fn out_of_memory_is_answered(rt: HostRuntime) -> Result<(), Fail> {
+    let alloc = rt.alloc();
+    let mut host = host(rt)?;
+    let (reader, writer) = granted(host.pipe())?;
+    let mut child = launch(
+        alloc,
+        "/bin/echo",
+        &["a", "b"],
+        &["a=1", "b=2"],
+        PLAIN_SLOTS,
+    )?;
+    child.slots.output = Slot::To(writer);
+    let started = granted(host.start(&child))?;
+    granted(host.close(writer))?;
+    assert!(rt; read_all(alloc, &mut host, reader)?.as_str() == "a b\n");
+    assert!(rt; granted(host.wait(started))? == Ending::Code(0));
+    let here = granted(host.here("text"))?;
+    assert!(rt; read_all(alloc, &mut host, here)?.as_str() == "text");
+    assert!(rt; !granted(host.list("/"))?.is_empty());
+    assert!(rt; granted(host.probe("/bin/sh"))? == Kind::Program);
+    granted(host.chdir("/"))?;
+    granted(host.write(Slot::Own(1), b"text\n"))?;
+    Ok(())
+}
