@@ -1,4 +1,5 @@
-//! Tests of the public calls that match patterns and find file names.
+//! Tests of the public calls that match patterns and find file names, where memory is refused. The rows of `test_tapes`
+//! show what they find.
 #![tactic(auto)]
 
 #[cfg(test)]
