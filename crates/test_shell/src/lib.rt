@@ -1,11 +1,11 @@
-//! Tests of the public calls that run scripts, for what the rows of `test_tapes` don't say.
+//! Tests of the public calls that run scripts, where memory is refused. The rows of `test_tapes` show what they do.
 #![tactic(auto)]
 
-#[cfg(test)]
-mod environment;
 #[cfg(test)]
 mod program;
 #[cfg(test)]
 mod shell;
+#[cfg(test)]
+mod support;
 #[cfg(test)]
 mod world;

@@ -57,6 +57,7 @@ fn answer(alloc: Global, written: &str) -> Result<Answer> {
         "pipe" => pipe(rest)?,
         "names" => Answer::Names(names(alloc, rest)?),
         "bytes" => Answer::Bytes(bytes(alloc, rest)?),
+        "zeros" => Answer::Bytes(vec![in alloc; 0; rest.parse::<usize>()?]?),
         "text" => Answer::Bytes(Vec::from_slice(alloc, rest.as_bytes())?),
         _ => return Err(anyhow!("another answer")),
     })

@@ -1,5 +1,5 @@
-//! What has to hold of each row: its calls and its end; at each lower limit the first of these calls; and the same in
-//! steps of one instruction.
+//! What has to hold of each row: its calls and its end; and of one that is no run of the program, at each lower limit
+//! the first of these calls, and the same in steps of one instruction.
 
 use crate::answers::Calls;
 use crate::rows::Row;
@@ -36,6 +36,9 @@ pub fn difference(alloc: Global, row: &Row<'_>) -> Result<Option<String>> {
     if !is_wanted(&came, &calls, row) {
         let wanted = calls.lines.as_str();
         return Ok(Some(said(alloc, "run", &came, wanted, row.end)?));
+    }
+    if row.is_of_the_program() {
+        return Ok(None);
     }
     if let Some(difference) = difference_in_steps(alloc, row, &calls)? {
         return Ok(Some(difference));

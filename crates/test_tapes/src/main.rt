@@ -3,6 +3,7 @@
 
 mod answers;
 mod checks;
+mod input;
 mod options;
 mod rows;
 mod runs;

@@ -2,11 +2,15 @@
 //!
 //! - `strict`: a strict shell;
 //! - `image`: the lines of the script are the words that a shell is handed, and each `entry x=a` is one of its entries;
+//! - `program`: a run of the program: each `word a` is one of its arguments and each `entry x=a` one of its
+//!   environment, with the backslashes of a member, and the script is what it reads; with `broken` an error follows
+//!   that, and with `unopened` there is nothing to read;
 //! - `limit 12`: at most 12 instructions;
-//! - `set x a b`: a variable before the run, and `args a b` and `ifs a b`: the variables `*` and `ifs`. `''` is an empty
-//!   member; after a backslash stand `n` for a newline, `t` for a tab, `s` for a space, `1` and `2` for these bytes;
-//! - `repeat MARK 12 ab`: the mark stands in the script and in the calls for 12 times `ab`, with the same backslashes.
-//!   Marks are replaced in the order of their lines.
+//! - `set x a b`: a variable before the run, and `args a b` and `ifs a b`: the variables `*` and `ifs`. `''` is an
+//!   empty member; after a backslash stand `n` for a newline, `t` for a tab, `s` for a space, `1` and `2` for these
+//!   bytes;
+//! - `repeat MARK 12 ab`: the mark stands in the script, the calls, the words and the entries for 12 times `ab`, with
+//!   the same backslashes. Marks are replaced in the order of their lines.
 //!
 //! Before the options `path` is `/bin`.
 
@@ -48,15 +52,17 @@ pub fn has(options: &str, wanted: &str) -> bool {
     false
 }
 
-/// The entries that a shell is handed.
-pub fn entries(alloc: Global, options: &str) -> Result<Vec<String>, AllocError> {
-    let mut entries = Vec::new(alloc);
+/// What the options of this kind give, each a text.
+pub fn texts(alloc: Global, options: &str, wanted: &str) -> Result<Vec<String>> {
+    let mut texts = Vec::new(alloc);
     for option in options.lines() {
-        if let Some(entry) = option.strip_prefix("entry ") {
-            entries.push(String::from_str(alloc, entry)?)?;
+        let (kind, rest) = option.split_once(' ').unwrap_or((option, ""));
+        if kind == wanted {
+            let text = unescaped(alloc, rest)?;
+            texts.push(repeated(alloc, options, text.as_str())?)?;
         }
     }
-    Ok(entries)
+    Ok(texts)
 }
 
 /// How many instructions a run may have.

@@ -12,7 +12,8 @@
 //!
 //! Lines that begin with `#` may stand before a row, and empty lines after it.
 
-use crate::options::{entries, has, limit, repeated, set_up};
+use crate::input::Input;
+use crate::options::{has, limit, repeated, set_up, texts};
 use anyhow::{Result, anyhow};
 use rc_scope::State;
 use std::alloc::Global;
@@ -33,6 +34,13 @@ pub struct Row<'a> {
 #[derive(Drop)]
 pub struct Handed {
     pub is_strict: bool,
+    pub words: Vec<String>,
+    pub entries: Vec<String>,
+}
+
+/// What the program is given.
+#[derive(Drop)]
+pub struct Given {
     pub words: Vec<String>,
     pub entries: Vec<String>,
 }
@@ -69,8 +77,32 @@ impl<'a> Row<'a> {
         Ok(Some(Handed {
             is_strict: has(self.options, "strict"),
             words,
-            entries: entries(alloc, self.options)?,
+            entries: texts(alloc, self.options, "entry")?,
         }))
+    }
+
+    /// Whether this is a run of the program.
+    pub fn is_of_the_program(&self) -> bool {
+        has(self.options, "program")
+    }
+
+    /// What the program is given.
+    pub fn given(&self, alloc: Global) -> Result<Given> {
+        Ok(Given {
+            words: texts(alloc, self.options, "word")?,
+            entries: texts(alloc, self.options, "entry")?,
+        })
+    }
+
+    /// What the program reads, unless it could not be opened.
+    pub fn input(&self) -> Option<Input<'_>> {
+        if has(self.options, "unopened") {
+            return None;
+        }
+        Some(Input {
+            text: self.script.as_bytes(),
+            is_broken: has(self.options, "broken"),
+        })
     }
 }
 

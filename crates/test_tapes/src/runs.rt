@@ -4,6 +4,7 @@ use crate::answers::Calls;
 use crate::rows::Row;
 use crate::story::{End, Story};
 use anyhow::{Result, anyhow};
+use rc_cli::run_rc;
 use rc_code::compile;
 use rc_image::{ImageFault, read_image};
 use rc_machine::{Machine, Progress};
@@ -16,6 +17,9 @@ use std::alloc::Global;
 
 /// What comes of a row with at most so many instructions.
 pub fn run(alloc: Global, row: &Row<'_>, calls: &Calls, limit: u64) -> Result<Story> {
+    if row.is_of_the_program() {
+        return run_program(alloc, row, calls);
+    }
     let mut tape = Tape::new(calls.answers(alloc)?);
     let ran = match row.handed(alloc)? {
         None => {
@@ -34,6 +38,18 @@ pub fn run(alloc: Global, row: &Row<'_>, calls: &Calls, limit: u64) -> Result<St
         Err(ShellFault::Syntax(fault)) => End::NoScript(*fault),
         Err(ShellFault::Image(fault)) => End::NoImage(*fault),
         Err(ShellFault::NoMemory) => End::NoMemory,
+    };
+    Ok(Story::of(alloc, tape.calls(), end)?)
+}
+
+/// What comes of a run of the program.
+fn run_program(alloc: Global, row: &Row<'_>, calls: &Calls) -> Result<Story> {
+    let mut tape = Tape::new(calls.answers(alloc)?);
+    let given = row.given(alloc)?;
+    let ran = run_rc(alloc, &mut tape, &given.words, &given.entries, row.input());
+    let end = match ran {
+        Ok(number) => End::Number(number),
+        Err(fault) => End::Fault(fault),
     };
     Ok(Story::of(alloc, tape.calls(), end)?)
 }

@@ -1,5 +1,6 @@
 //! What a run did: its calls, each on a line, and how it ended.
 
+use rc_cli::RunFault;
 use rc_image::ImageFault;
 use rc_model::SyntaxFault;
 use rc_scope::State;
@@ -15,6 +16,10 @@ pub enum End<'a> {
     NoScript(SyntaxFault),
     NoImage(ImageFault),
     NoMemory,
+    /// The program ended with this number.
+    Number(u8),
+    /// The program ended with the line of this fault.
+    Fault(RunFault<'a>),
 }
 
 /// What a run did.
@@ -54,6 +59,8 @@ fn write_end(out: &mut String, end: End<'_>) -> Result<(), AllocError> {
         End::NoImage(fault) => write!(out, "{fault}"),
         End::NoScript(fault) => write!(out, "{:?} in line {}", fault.kind, fault.line),
         End::NoMemory => out.push_str("no memory"),
+        End::Number(number) => write!(out, "{number}"),
+        End::Fault(fault) => write!(out, "{fault}"),
     }
 }
 
