@@ -59,7 +59,8 @@ fn out_of_memory_is_reported(rt: HostRuntime) -> Result<(), Fail> {
     let mut tape = one_program(alloc)?;
     let mut state = State::new(alloc);
     state.set("path", vec![in alloc; String::from_str(alloc, "/bin")?]?)?;
-    let ran = execute(alloc, &mut tape, b"echo hello", state, 100);
+    let script = b"fn f {echo $1}; for(i in hello) x=$i {if(~ $x h*) f $\"x}";
+    let ran = execute(alloc, &mut tape, script.as_slice(), state, 100);
     for (place, call) in tape.calls().iter().enumerate() {
         assert!(rt; is_of_echo_hello(place, call), "another call {place}");
     }
