@@ -221,7 +221,12 @@ pub fn show_all<R: Print + Files<File = File> + Processes + AllocGlobal>(
     show(
         rt,
         "descriptor 1 closed at the start",
-        &with_text(rt, closed, b"echo a; nope; {whatis cd} >[2]made; wc -c made >[1=2]; rm made", 1)?,
+        &with_text(
+            rt,
+            closed,
+            b"echo a; nope; {whatis cd} >[2]made; wc -c made >[1=2]; rm made",
+            1,
+        )?,
     )?;
     show(rt, "an input that can't be read", &with_directory(rt)?)
 }
