@@ -74,3 +74,50 @@ fn out_of_memory_is_reported(rt: HostRuntime) -> Result<(), Fail> {
         _ => Err(Fail::from("another end")),
     }
 }
+
+/// The answers to a pipeline, a job and the wait for it, a backquote, and a file with a subshell.
+fn answers_to_children(alloc: Global) -> Result<Vec<Answer>, AllocError> {
+    vec![in alloc;
+        Answer::Pair(Handle(3), Handle(4)),
+        Answer::Child(ChildNo(1)),
+        Answer::Done,
+        Answer::Child(ChildNo(2)),
+        Answer::Ended(Ending::Code(0)),
+        Answer::Done,
+        Answer::Ended(Ending::Code(0)),
+        Answer::File(Handle(3)),
+        Answer::Child(ChildNo(1)),
+        Answer::Done,
+        Answer::Ended(Ending::Code(0)),
+        Answer::Pair(Handle(3), Handle(4)),
+        Answer::Child(ChildNo(1)),
+        Answer::Done,
+        Answer::Bytes(Vec::from_slice(alloc, b"a b")?),
+        Answer::Bytes(Vec::new(alloc)),
+        Answer::Done,
+        Answer::Ended(Ending::Code(0)),
+        Answer::File(Handle(3)),
+        Answer::Bytes(Vec::from_slice(alloc, b"@ e $*")?),
+        Answer::Bytes(Vec::new(alloc)),
+        Answer::Done,
+        Answer::Child(ChildNo(1)),
+        Answer::Ended(Ending::Code(5)),
+    ]
+}
+
+/// To be run with each allocation refused in turn. An `Err` says that one was.
+#[test]
+fn out_of_memory_among_children_is_reported(rt: HostRuntime) -> Result<(), Fail> {
+    let alloc = rt.alloc();
+    let mut tape = Tape::new(answers_to_children(alloc)?);
+    let script = b"fn f {. /s $x}; a | /b; c & wait; x=`{d}; f";
+    match execute(alloc, &mut tape, script.as_slice(), State::new(alloc), 200) {
+        Err(ShellFault::NoMemory) => Err(Fail::from(AllocError)),
+        Ok(Ran::Ended { state }) => {
+            assert_eq!(rt; state.status(), "5");
+            assert_eq!(rt; tape.calls().len(), 24);
+            Ok(())
+        }
+        _ => Err(Fail::from("another end")),
+    }
+}
