@@ -77,7 +77,7 @@ fn out_of_memory_is_reported(rt: HostRuntime) -> Result<(), Fail> {
 
 /// The answers to a pipeline, a job and the wait for it, a backquote, and a file with a subshell.
 fn answers_to_children(alloc: Global) -> Result<Vec<Answer>, AllocError> {
-    vec![in alloc;
+    let answers = vec![in alloc;
         Answer::Pair(Handle(3), Handle(4)),
         Answer::Child(ChildNo(1)),
         Answer::Done,
@@ -102,7 +102,8 @@ fn answers_to_children(alloc: Global) -> Result<Vec<Answer>, AllocError> {
         Answer::Done,
         Answer::Child(ChildNo(1)),
         Answer::Ended(Ending::Code(5)),
-    ]
+    ]?;
+    Ok(answers)
 }
 
 /// To be run with each allocation refused in turn. An `Err` says that one was.
