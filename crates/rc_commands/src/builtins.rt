@@ -1,12 +1,14 @@
 //! The built-in commands, and programs.
 
-ghost use Rattle.std.specs.Prelude.{◌≢◌, map, string_bytes};
+ghost use Rattle.std.specs.Prelude.{◌≡◌, ◌≢◌, map, string_bytes};
 ghost use Rattle.rc_model.specs.Run.Builtins.{Called, Finished, exec, finished, run_builtin, wait_for};
 ghost use Rattle.rc_model.specs.Run.Builtins.{without_functions};
 ghost use Rattle.rc_model.specs.Run.Acts.{run_program};
 ghost use Rattle.rc_model.specs.declared.builtin.Builtin.TheVariants.{BuiltinWord};
+ghost use Rattle.rc_model.specs.declared.call.Slots.{Slots};
 ghost use Rattle.rc_model.specs.Run.Shell.{Shell};
 ghost use Rattle.rc_commands.specs.Outcomes.{RunsWords};
+ghost use Rattle.rc_commands.specs.Words.{BeginsOther};
 ghost use Rattle.rc_scope.specs.States.{state_of};
 ghost use Rattle.rc_world.specs.Comes.{Does};
 
@@ -107,6 +109,22 @@ fn run_other<W: World>(
     Ok(Outcome::Finished)
 }
 
+/// The words after each `builtin` that they begin with.
+fn past_builtins(words: &[String]) -> &[String]
+    ensures same { (slots : Slots) → without_functions slots (map string_bytes words.now)
+        ≡ without_functions slots (map string_bytes result.now) }
+    ensures other { BeginsOther (map string_bytes result.now) }
+{
+    let mut left = words;
+    while let Some((name, rest)) = left.split_first() {
+        if Builtin::named(name) != Some(Builtin::BuiltinWord) {
+            return left;
+        }
+        left = rest;
+    }
+    left
+}
+
 /// Runs words for which functions are ignored.
 #[tactic(auto, using(crate::proofs::Left::words_refused))]
 pub fn run_unnamed<W: World>(
@@ -119,12 +137,11 @@ pub fn run_unnamed<W: World>(
     ensures { RunsWords (W.events world.old) (W.events world.new)
         (without_functions slots (map string_bytes words.now) (state_of state.old)) (state_of state.new) result }
 {
-    let Some((name, args)) = words.split_first() else {
+    let Some((name, args)) = past_builtins(words).split_first() else {
         state.set_status("usage")?;
         return Ok(Outcome::Finished);
     };
     match Builtin::named(name) {
-        Some(Builtin::BuiltinWord) => run_unnamed(alloc, world, state, slots, args),
         Some(builtin) => run_builtin(alloc, world, state, slots, builtin, args),
         None => run_other(alloc, world, state, slots, name, args),
     }

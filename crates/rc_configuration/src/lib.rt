@@ -11,5 +11,5 @@ pub use configuration::{Configuration, Move};
 pub use nest::Nest;
 pub use parts::{Frame, Scope};
 pub use values::{
-    got, is_readable, list_of, put_text, put_texts, put_words, read, texts, variable_name,
+    got, is_readable, put_text, put_texts, put_value, read, take_texts, texts, variable_name,
 };

@@ -4,6 +4,8 @@ ghost use Rattle.std.specs.Prelude.{◌≡◌, ◌<◌, ◌≤◌, ◌^◌, [], 
 ghost use Rattle.std.specs.Prelude.{OnOk, MatchOption, length, map, option_map, string_bytes, true, Some};
 ghost use Rattle.std.specs.List.{list_all};
 ghost use Rattle.rc_configuration.specs.Names.{read, the_name};
+ghost use Rattle.rc_configuration.specs.Tops.{uppermost};
+ghost use Rattle.rc_stack.specs.Lists.{below_top};
 ghost use Rattle.rc_model.specs.Run.Lists.{member};
 ghost use Rattle.rc_model.specs.Run.Numbers.{is_digit, digits_value};
 ghost use Rattle.rc_model.specs.Run.State.{got, is_name, is_readable};
@@ -13,63 +15,81 @@ ghost use Rattle.rc_scope.specs.States.{state_of};
 
 use rc_scope::{State, is_name};
 use rc_stack::Stack;
-use rc_text::{List, Word};
+use rc_text::Word;
 use std::alloc::{AllocError, Global};
 
 /// The texts of words.
 pub fn texts(alloc: Global, words: &[Word]) -> Result<Vec<String>, AllocError>
     ensures { IfOk result (λ texts. map string_bytes texts.items ≡ word_texts words.now) }
 {
-    let mut texts = Vec::new(alloc);
+    let mut texts = Vec::with_capacity(alloc, words.len())?;
     for word in words {
-        texts.push(word.text()?)?;
+        texts.push(String::from_str(alloc, word.text())?)?;
     }
     Ok(texts)
 }
 
+/// The texts of the list on top, which is taken off; none where there is no list.
+pub fn take_texts(alloc: Global, words: &mut Stack<Word>) -> Result<Vec<String>, AllocError>
+    ensures texts { IfOk result (λ texts. map string_bytes texts.items ≡ word_texts (uppermost words.old)) }
+    ensures below { OnOk result (words.new ≡ below_top words.old) }
+{
+    match words.pop()? {
+        Some(list) => into_texts(alloc, list),
+        None => Ok(Vec::new(alloc)),
+    }
+}
+
+fn into_texts(alloc: Global, words: Vec<Word>) -> Result<Vec<String>, AllocError>
+    ensures { IfOk result (λ texts. map string_bytes texts.items ≡ word_texts words.items) }
+{
+    words
+        .into_iter()
+        .map(|word| word.into_text())
+        .collect(alloc)
+}
+
 /// Texts as a list of words with no marks, on top of the stack.
+pub fn put_texts(
+    alloc: Global,
+    words: &mut Stack<Word>,
+    texts: Vec<String>,
+) -> Result<(), AllocError>
+    ensures { OnOk result (words.new ≡ plain_words (map string_bytes texts.items) ∷ words.old) }
+{
+    let list = plain_words(alloc, texts)?;
+    words.put(list)
+}
+
+fn plain_words(alloc: Global, texts: Vec<String>) -> Result<Vec<Word>, AllocError>
+    ensures { IfOk result (λ words. words.items ≡ plain_words (map string_bytes texts.items)) }
+{
+    texts
+        .into_iter()
+        .map(|text| Word::plain(text))
+        .collect(alloc)
+}
+
+/// A copy of a value as a list of words with no marks, on top of the stack.
 #[tactic(auto, using(crate::proofs::Stacks::extends))]
-pub fn put_texts(alloc: Global, words: &mut Stack<Word>, texts: &[String]) -> Result<(), AllocError>
-    ensures { OnOk result (words.new ≡ plain_words (map string_bytes texts.now) ∷ words.old) }
+pub fn put_value(words: &mut Stack<Word>, value: &[String]) -> Result<(), AllocError>
+    ensures { OnOk result (words.new ≡ plain_words (map string_bytes value.now) ∷ words.old) }
 {
     words.begin()?;
-    for text in texts {
-        words.push(Word::written(alloc, text, true)?)?;
+    for text in value {
+        words.push(Word::plain(text.clone()?))?;
     }
     Ok(())
 }
 
 /// A text as a list of one word with no marks, on top of the stack.
 #[tactic(auto, using(crate::proofs::Stacks::extends))]
-pub fn put_text(alloc: Global, words: &mut Stack<Word>, text: &str) -> Result<(), AllocError>
-    ensures { OnOk result (words.new ≡ plain_words (text.now ∷ []) ∷ words.old) }
+pub fn put_text(words: &mut Stack<Word>, text: String) -> Result<(), AllocError>
+    ensures { OnOk result (words.new ≡ plain_words (string_bytes text ∷ []) ∷ words.old) }
 {
     words.begin()?;
-    words.push(Word::written(alloc, text, true)?)?;
+    words.push(Word::plain(text))?;
     Ok(())
-}
-
-/// Words as a list on top of the stack.
-#[tactic(auto, using(crate::proofs::Stacks::extends))]
-pub fn put_words(stack: &mut Stack<Word>, words: &[Word]) -> Result<(), AllocError>
-    ensures { OnOk result (stack.new ≡ words.now ∷ stack.old) }
-{
-    stack.begin()?;
-    for word in words {
-        stack.push(word.copy()?)?;
-    }
-    Ok(())
-}
-
-/// Words as a list of their own.
-pub fn list_of(alloc: Global, words: &[Word]) -> Result<List, AllocError>
-    ensures { IfOk result (λ list. list ≡ words.now) }
-{
-    let mut list = List::new(alloc);
-    for word in words {
-        list.push(word.copy()?)?;
-    }
-    Ok(list)
 }
 
 /// Whether the byte is a letter, a digit, `_` or `*`.
@@ -141,42 +161,31 @@ pub fn got<'a>(state: &'a State, name: &str) -> &'a [String]
 }
 
 /// The one name that the words are, where it can stand after `$`.
-fn readable_name(words: &[Word]) -> Result<Option<String>, AllocError>
-    ensures { IfOk result (λ name. option_map string_bytes name ≡ the_name is_readable (word_texts words.now)) }
+fn readable_name(words: &[Word]) -> Option<&str>
+    ensures { option_map (λ name. name.now) result ≡ the_name is_readable (word_texts words.now) }
 {
     let [word] = words else {
-        return Ok(None);
+        return None;
     };
-    let name = word.text()?;
-    if is_readable(&name) {
-        Ok(Some(name))
-    } else {
-        Ok(None)
-    }
+    let name = word.text();
+    if is_readable(name) { Some(name) } else { None }
 }
 
 /// The one name that the words are, where it is that of a variable.
-pub fn variable_name(words: &[Word]) -> Result<Option<String>, AllocError>
-    ensures { IfOk result (λ name. option_map string_bytes name ≡ the_name is_name (word_texts words.now)) }
+pub fn variable_name(words: &[Word]) -> Option<&str>
+    ensures { option_map (λ name. name.now) result ≡ the_name is_name (word_texts words.now) }
 {
     let [word] = words else {
-        return Ok(None);
+        return None;
     };
-    let name = word.text()?;
-    if is_name(&name) {
-        Ok(Some(name))
-    } else {
-        Ok(None)
-    }
+    let name = word.text();
+    if is_name(name) { Some(name) } else { None }
 }
 
 /// What `$` gives for these words: none where they are no name.
-pub fn read<'a>(state: &'a State, words: &[Word]) -> Result<Option<&'a [String]>, AllocError>
-    ensures { IfOk result (λ value. option_map (λ v. map string_bytes v.now) value
-        ≡ read (state_of state.now) (word_texts words.now)) }
+pub fn read<'a>(state: &'a State, words: &[Word]) -> Option<&'a [String]>
+    ensures { option_map (λ v. map string_bytes v.now) result ≡ read (state_of state.now) (word_texts words.now) }
 {
-    match readable_name(words)? {
-        Some(name) => Ok(Some(got(state, &name))),
-        None => Ok(None),
-    }
+    let name = readable_name(words)?;
+    Some(got(state, name))
 }

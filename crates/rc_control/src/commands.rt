@@ -8,7 +8,7 @@ ghost use Rattle.rc_configuration.specs.Outcomes.{Steps};
 
 use crate::functions::{call, enter};
 use rc_commands::{Outcome, run_words};
-use rc_configuration::{Configuration, Move, texts};
+use rc_configuration::{Configuration, Move, take_texts};
 use rc_text::is_true;
 use rc_world::{Stop, World};
 use std::alloc::Global;
@@ -23,11 +23,10 @@ pub fn run_command<W: World>(
     ensures { Steps (W.events world.old) (W.events world.new)
         (act (Some op.Run) (config_of machine.old)) (config_of machine.new) result }
 {
-    let Some(words) = machine.words.top() else {
+    if machine.words.top().is_none() {
         return Ok(Move::Ended);
-    };
-    let texts = texts(alloc, words)?;
-    machine.words.drop_top();
+    }
+    let texts = take_texts(alloc, &mut machine.words)?;
     match run_words(
         alloc,
         world,

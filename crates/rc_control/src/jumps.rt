@@ -84,7 +84,8 @@ pub fn run_if_not(machine: &mut Configuration, place: usize) -> Move
 /// The status becomes null.
 pub fn set_null(machine: &mut Configuration) -> Result<Move, AllocError>
     requires { machine.old.place < 2 ^ 63 }
-    ensures { IfOk result (λ moved. Leads (act (Some op.SetNull) (config_of machine.old)) (config_of machine.new) moved) }
+    ensures { IfOk result (λ moved.
+        Leads (act (Some op.SetNull) (config_of machine.old)) (config_of machine.new) moved) }
 {
     machine.state.set_status("")?;
     machine.place += 1;
@@ -94,7 +95,8 @@ pub fn set_null(machine: &mut Configuration) -> Result<Move, AllocError>
 /// `!` turns a true status into `false` and any other into null.
 pub fn invert(machine: &mut Configuration) -> Result<Move, AllocError>
     requires { machine.old.place < 2 ^ 63 }
-    ensures { IfOk result (λ moved. Leads (act (Some op.Invert) (config_of machine.old)) (config_of machine.new) moved) }
+    ensures { IfOk result (λ moved.
+        Leads (act (Some op.Invert) (config_of machine.old)) (config_of machine.new) moved) }
 {
     let status = if is_true(machine.state.status()) {
         "false"

@@ -7,7 +7,7 @@ ghost use Rattle.rc_configuration.specs.Configs.{config_of};
 ghost use Rattle.rc_control.specs.Endings.{LocalEnds, LocalsEnd, bound_to};
 ghost use Rattle.rc_configuration.specs.Outcomes.{Leads, Steps};
 
-use rc_configuration::{Configuration, Move, Nest, Scope, texts, variable_name};
+use rc_configuration::{Configuration, Move, Nest, Scope, take_texts, variable_name};
 use rc_world::{Stop, World};
 use std::alloc::{AllocError, Global};
 
@@ -55,19 +55,20 @@ pub fn begin_loop<W: World>(
     ensures { Steps (W.events world.old) (W.events world.new)
         (act (Some op.For) (config_of machine.old)) (config_of machine.new) result }
 {
-    let Some((members, words)) = machine.words.top_two() else {
+    let Some((_, words)) = machine.words.top_two() else {
         return Ok(Move::Ended);
     };
-    let Some(name) = variable_name(words)? else {
+    let Some(name) = variable_name(words) else {
         return machine.fail(alloc, world, "bad name");
     };
-    let rest = Nest::of(texts(alloc, members)?);
+    let name = String::from_str(alloc, name)?;
+    machine.words.drop_top();
+    let rest = Nest::of(take_texts(alloc, &mut machine.words)?);
     machine.scopes.open(Scope::Loop {
         name,
         rest,
         bound: false,
     })?;
-    machine.words.drop_two();
     machine.place += 1;
     Ok(Move::On)
 }

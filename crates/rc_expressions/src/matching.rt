@@ -29,30 +29,25 @@ pub fn make_subject(machine: &mut Configuration, alloc: Global) -> Result<Move, 
 }
 
 /// Goes to the place where the patterns don't match; the subject stays on top.
-pub fn run_case(
-    machine: &mut Configuration,
-    alloc: Global,
-    place: usize,
-) -> Result<Move, AllocError>
+pub fn run_case(machine: &mut Configuration, place: usize) -> Move
     requires { machine.old.place < 2 ^ 63 }
-    ensures { IfOk result (λ moved.
-        Leads (act (Some (op.Case place)) (config_of machine.old)) (config_of machine.new) moved) }
+    ensures { Leads (act (Some (op.Case place)) (config_of machine.old)) (config_of machine.new) result }
 {
     let Some((subject, patterns)) = machine.words.top_two() else {
-        return Ok(Move::Ended);
+        return Move::Ended;
     };
-    let is_match = matched(alloc, subject, patterns)?;
+    let is_match = matched(subject, patterns);
     machine.words.drop_top();
     if is_match {
         machine.place += 1;
     } else {
         machine.place = place;
     }
-    Ok(Move::On)
+    Move::On
 }
 
 /// `~`.
-pub fn run_match(machine: &mut Configuration, alloc: Global) -> Result<Move, AllocError>
+pub fn run_match(machine: &mut Configuration) -> Result<Move, AllocError>
     requires { machine.old.place < 2 ^ 63 }
     ensures { IfOk result (λ moved.
         Leads (act (Some op.Match) (config_of machine.old)) (config_of machine.new) moved) }
@@ -60,7 +55,7 @@ pub fn run_match(machine: &mut Configuration, alloc: Global) -> Result<Move, All
     let Some((subject, patterns)) = machine.words.top_two() else {
         return Ok(Move::Ended);
     };
-    let status = if matched(alloc, subject, patterns)? {
+    let status = if matched(subject, patterns) {
         ""
     } else {
         "no match"

@@ -7,7 +7,8 @@ ghost use Rattle.rc_configuration.specs.Configs.{config_of};
 ghost use Rattle.rc_configuration.specs.Outcomes.{Steps};
 
 use rc_configuration::{
-    Configuration, Move, Scope, put_text, put_texts, read, texts, variable_name,
+    Configuration, Move, Scope, put_text, put_texts, put_value, read, take_texts, texts,
+    variable_name,
 };
 use rc_world::{Stop, World};
 use std::alloc::Global;
@@ -26,11 +27,11 @@ pub fn value<W: World>(
     let Some(words) = machine.words.top() else {
         return Ok(Move::Ended);
     };
-    let Some(value) = read(&machine.state, words)? else {
+    let Some(value) = read(&machine.state, words) else {
         return machine.fail(alloc, world, "bad name");
     };
     machine.words.drop_top();
-    put_texts(alloc, &mut machine.words, value)?;
+    put_value(&mut machine.words, value)?;
     machine.place += 1;
     Ok(Move::On)
 }
@@ -49,12 +50,12 @@ pub fn count<W: World>(
     let Some(words) = machine.words.top() else {
         return Ok(Move::Ended);
     };
-    let Some(value) = read(&machine.state, words)? else {
+    let Some(value) = read(&machine.state, words) else {
         return machine.fail(alloc, world, "bad name");
     };
     let count = value.len().to_string(alloc)?;
     machine.words.drop_top();
-    put_text(alloc, &mut machine.words, &count)?;
+    put_text(&mut machine.words, count)?;
     machine.place += 1;
     Ok(Move::On)
 }
@@ -73,12 +74,12 @@ pub fn flat<W: World>(
     let Some(words) = machine.words.top() else {
         return Ok(Move::Ended);
     };
-    let Some(value) = read(&machine.state, words)? else {
+    let Some(value) = read(&machine.state, words) else {
         return machine.fail(alloc, world, "bad name");
     };
     let text = rc_text::flat(alloc, value)?;
     machine.words.drop_top();
-    put_text(alloc, &mut machine.words, &text)?;
+    put_text(&mut machine.words, text)?;
     machine.place += 1;
     Ok(Move::On)
 }
@@ -97,12 +98,12 @@ pub fn select<W: World>(
     let Some((words, subscripts)) = machine.words.top_two() else {
         return Ok(Move::Ended);
     };
-    let Some(value) = read(&machine.state, words)? else {
+    let Some(value) = read(&machine.state, words) else {
         return machine.fail(alloc, world, "bad name");
     };
     let members = rc_text::select(alloc, value, &texts(alloc, subscripts)?)?;
     machine.words.drop_two();
-    put_texts(alloc, &mut machine.words, &members)?;
+    put_texts(alloc, &mut machine.words, members)?;
     machine.place += 1;
     Ok(Move::On)
 }
@@ -118,17 +119,16 @@ pub fn assign<W: World>(
     ensures { Steps (W.events world.old) (W.events world.new)
         (act (Some op.Assign) (config_of machine.old)) (config_of machine.new) result }
 {
-    let Some((words, value)) = machine.words.top_two() else {
+    let Some((words, _)) = machine.words.top_two() else {
         return Ok(Move::Ended);
     };
-    let Some(name) = variable_name(words)? else {
+    let Some(name) = variable_name(words) else {
         return machine.fail(alloc, world, "bad name");
     };
-    machine
-        .state
-        .set(&name, texts(alloc, value)?)
-        .map_err(|_| Stop::NoMemory)?;
-    machine.words.drop_two();
+    let name = String::from_str(alloc, name)?;
+    let value = take_texts(alloc, &mut machine.words)?;
+    machine.state.set(&name, value).map_err(|_| Stop::NoMemory)?;
+    machine.words.drop_top();
     machine.place += 1;
     Ok(Move::On)
 }
@@ -144,18 +144,20 @@ pub fn local<W: World>(
     ensures { Steps (W.events world.old) (W.events world.new)
         (act (Some op.Local) (config_of machine.old)) (config_of machine.new) result }
 {
-    let Some((words, value)) = machine.words.top_two() else {
+    let Some((words, _)) = machine.words.top_two() else {
         return Ok(Move::Ended);
     };
-    let Some(name) = variable_name(words)? else {
+    let Some(name) = variable_name(words) else {
         return machine.fail(alloc, world, "bad name");
     };
+    let name = String::from_str(alloc, name)?;
+    let value = take_texts(alloc, &mut machine.words)?;
     machine
         .state
-        .push_local(&name, texts(alloc, value)?)
+        .push_local(&name, value)
         .map_err(|_| Stop::NoMemory)?;
     machine.scopes.open(Scope::Local)?;
-    machine.words.drop_two();
+    machine.words.drop_top();
     machine.place += 1;
     Ok(Move::On)
 }

@@ -8,7 +8,7 @@ ghost use Rattle.std.specs.List.{list_any};
 ghost use Rattle.rc_configuration.specs.Configs.{config_of};
 ghost use Rattle.rc_configuration.specs.Outcomes.{Leads, Steps};
 
-use rc_configuration::{Configuration, Move, list_of, put_words};
+use rc_configuration::{Configuration, Move};
 use rc_glob::expand_all;
 use rc_text::{ConcatError, Word};
 use rc_world::{Stop, World};
@@ -68,12 +68,10 @@ pub fn concat<W: World>(
     let Some((first, second)) = machine.words.top_two() else {
         return Ok(Move::Ended);
     };
-    let left = list_of(alloc, first)?;
-    let right = list_of(alloc, second)?;
-    match rc_text::concat(alloc, &left, &right) {
+    match rc_text::concat_words(alloc, first, second) {
         Ok(joined) => {
             machine.words.drop_two();
-            put_words(&mut machine.words, joined.words())?;
+            machine.words.put(joined.into_words()?)?;
             machine.place += 1;
             Ok(Move::On)
         }
@@ -107,7 +105,7 @@ pub fn glob<W: World>(
     }
     let names = expand_all(alloc, world, words)?;
     machine.words.drop_top();
-    put_words(&mut machine.words, names.words())?;
+    machine.words.put(names.into_words()?)?;
     machine.place += 1;
     Ok(Move::On)
 }

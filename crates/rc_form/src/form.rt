@@ -6,8 +6,8 @@ ghost use Rattle.rc_model.specs.Syntax.Printing.{opening, copying};
 ghost use Rattle.rc_model.specs.Syntax.Tree.{is_empty};
 ghost use Rattle.rc_tree_types.specs.View.{cmd_tree, arg_tree, args_tree};
 
+use rc_characters::push_quoted;
 use rc_model::{Logic, Mode};
-use rc_text::push_quoted;
 use rc_tree_types::{Arg, Cmd};
 use std::alloc::AllocError;
 

@@ -1,6 +1,7 @@
 pub mod Cuts
 pub mod Members
 pub mod Moves
+pub mod Plain
 pub mod Sorting
 pub mod Subjects
 pub mod Texts

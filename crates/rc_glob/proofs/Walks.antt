@@ -69,12 +69,6 @@ module _ (c : Word) (path : List ℕ) where
       Left a b (asks (list_names (directory path)) (λ x. fitting_names c (as_names x))) stop
   left_listing a b stop p e l = left_asked a b stop (list_names (directory path)) as_names (λ v. done_with (fitting_names c v)) (subst (λ p. Left a b (asks (list_names p) as_names) stop) e l)
 
-  pub left_sorting : (a b : Option (List Event)) (p : List ℕ) (v : Option (List (List ℕ))) → p ≡ directory path → Ran a b (asks (list_names p) as_names) (done_with v) →
-      Left a b (asks (list_names (directory path)) (λ x. fitting_names c (as_names x))) NoMemory
-  left_sorting a b p v e h =
-      left_answered a b b NoMemory (list_names (directory path)) as_names v (λ v. done_with (fitting_names c v)) (subst (λ p. Ran a b (asks (list_names p) as_names) (done_with v)) e h)
-      (left_memory b (done_with (fitting_names c v)))
-
   pub ran_listing : (a b : Option (List Event)) (p : List ℕ) (v : Option (List (List ℕ))) (names : List (List ℕ)) → p ≡ directory path → Ran a b (asks (list_names p) as_names) (done_with v) → names ≡ fitting_names c v →
       Ran a b (asks (list_names (directory path)) (λ x. fitting_names c (as_names x))) (done_with names)
   ran_listing a b p v names e h q =
@@ -214,18 +208,17 @@ pub comes_alone : (a b : Option (List Event)) (s : State) (p : Plan (Result (Lis
 comes_alone a b s p x (Ok v) h ran = subst (λ l. Ran a b p (done_with (Next l s))) (sym h) ran
 comes_alone a b s p x (Err stop) h ran = subst (λ t. Left a b p t) (sym h) (left_here a b p (done_with (Next x s)) ran)
 
-pub ran_plain : (a : Option (List Event)) (s : State) (w : Word) (b : Bool) → b ≡ has_pattern w → b ≡ false → Ran a a (expanded_word w s) (done_with (Next (w ∷ []) s))
-ran_plain a s w b h k =
-    subst (λ m. Ran a a (m s) (done_with (Next (w ∷ []) s))) (sym (ap (λ c. cond c (names_of w) (pure (w ∷ []))) (sym h ∙ k))) (ran_none a (done_with (Next (w ∷ []) s)))
+pub ran_plain : (a : Option (List Event)) (s : State) (w : Word) → has_pattern w ≡ false → Ran a a (expanded_word w s) (done_with (Next (w ∷ []) s))
+ran_plain a s w h = subst (λ m. Ran a a (m s) (done_with (Next (w ∷ []) s))) (sym (ap (λ c. cond c (names_of w) (pure (w ∷ []))) h)) (ran_none a (done_with (Next (w ∷ []) s)))
 
-module _ (s : State) (w v : Word) (p : List ℕ) (b : Bool) (h : b ≡ has_pattern w) (k : b ≡ true) (e : v ≡ w) (q : p ≡ []) where
+module _ (s : State) (w v : Word) (p : List ℕ) (h : has_pattern w ≡ true) (e : v ≡ w) (q : p ≡ []) where
   -- what follows the paths
   abbrev after : List (List ℕ) → Shell (List Word)
   after paths = pure (or_itself w paths)
 
   names_are : expanded_word w ≡ (paths_from (components v) p >>= after)
   names_are =
-      ap (λ c. cond c (names_of w) (pure (w ∷ []))) (sym h ∙ k)
+      ap (λ c. cond c (names_of w) (pure (w ∷ []))) h
       ∙ ap (λ m. m >>= after) (whole w ∙ (ap (λ z. paths_from (components z) []) (sym e) ∙ ap (paths_from (components v)) (sym q)))
 
   pub left_names : (a c : Option (List Event)) (stop : Stop) → Left a c (paths_from (components v) p s) stop → Left a c (expanded_word w s) stop
@@ -240,13 +233,11 @@ pub no_paths : (w : Word) (items xs : List (String Global)) (b : Bool) → b ≡
 no_paths w items [] b h e k = ap (λ l. or_itself w (map string_bytes l)) e
 no_paths w items (x ∷ xs) b h e k = let c : length (x ∷ xs) ≡ 0 = eqb-true (length (x ∷ xs)) 0 (sym h ∙ k) in absurd (omega arith)
 
-pub some_paths : (w : Word) (items xs sorted given : List (String Global)) (ws : List Word) (b : Bool) → b ≡ (length xs == 0) → xs ≡ items → b ≡ false → map string_bytes sorted ≡ ordered (map string_bytes items) →
-    given ≡ sorted → ws ≡ plain_words (map string_bytes given) → ws ≡ or_itself w (map string_bytes items)
-some_paths w items [] sorted given ws b h e k o g n = let c : true ≡ false = sym h ∙ k in cc
-some_paths w items (x ∷ xs) sorted given ws b h e k o g n =
-    n ∙ (ap (λ l. plain_words (map string_bytes l)) g
-    ∙ (ap plain_words (o ∙ ap (λ l. ordered (map string_bytes l)) (sym e))
-    ∙ ap (λ l. or_itself w (map string_bytes l)) e))
+pub some_paths : (w : Word) (items xs sorted : List (String Global)) (ws : List Word) (b : Bool) → b ≡ (length xs == 0) → xs ≡ items → b ≡ false → map string_bytes sorted ≡ ordered (map string_bytes items) →
+    ws ≡ plain_words (map string_bytes sorted) → ws ≡ or_itself w (map string_bytes items)
+some_paths w items [] sorted ws b h e k o n = let c : true ≡ false = sym h ∙ k in cc
+some_paths w items (x ∷ xs) sorted ws b h e k o n =
+    n ∙ (ap plain_words (o ∙ ap (λ l. ordered (map string_bytes l)) (sym e)) ∙ ap (λ l. or_itself w (map string_bytes l)) e)
 
 -- ** what follows a name
 

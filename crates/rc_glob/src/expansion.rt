@@ -30,7 +30,7 @@ fn listed<W: World>(
 {
     let given = calls::list(world, directory(path))?;
     match given {
-        Some(names) => Ok(fitting_names(alloc, component, names)?),
+        Some(names) => Ok(fitting_names(component, names)),
         None => Ok(Vec::new(alloc)),
     }
 }
@@ -107,15 +107,14 @@ fn expand_word<W: World>(alloc: Global, world: &mut W, word: &Word) -> Result<Li
     ensures { (s : State) → Comes (W.events world.old) (W.events world.new) (expanded_word word.now s)
         (λ list. Next list s) result }
 {
-    if !word.has_pattern() {
+    let Some(chars) = word.pattern() else {
         return itself(alloc, word);
-    }
-    let paths = walk(alloc, world, String::new(alloc), word.chars())?;
+    };
+    let paths = walk(alloc, world, String::new(alloc), chars)?;
     if paths.as_slice().is_empty() {
         return itself(alloc, word);
     }
-    let paths = ordered(alloc, paths)?;
-    Ok(List::plain(alloc, &paths)?)
+    Ok(List::plain(alloc, ordered(paths))?)
 }
 
 /// The names of the files that the word stands for, in byte order; its own text, where it holds no
@@ -125,7 +124,7 @@ pub fn expand<W: World>(alloc: Global, world: &mut W, word: &Word) -> Result<Vec
         (λ texts. Next (map string_bytes texts.items) s) result }
 {
     let list = expand_word(alloc, world, word)?;
-    Ok(list.texts()?)
+    Ok(list.into_texts()?)
 }
 
 /// What each of the words stands for, one after the other.

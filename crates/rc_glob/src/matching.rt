@@ -1,17 +1,16 @@
 //! Which texts a word matches: from left to right, with one star to go back to.
-ghost use Rattle.std.specs.Prelude.{◌≡◌, ◌++◌, false, IfOk, OnOk, map, option_map, string_bytes};
+ghost use Rattle.std.specs.Prelude.{◌≡◌, false, map, option_map};
 ghost use Rattle.std.specs.List.{list_any};
-ghost use Rattle.std.specs.Char.{encode_utf8, IsScalar};
 ghost use Rattle.std.specs.Str.{chars};
 ghost use Rattle.rc_model.specs.Run.Patterns.{is_dots, matched, matches, Outside, parts_from, parts_match, stands_for};
 ghost use Rattle.rc_model.specs.Mirrors.Greedy.{after_one, after_star, move};
 ghost use Rattle.rc_model.specs.Syntax.Words.{has_pattern, is_pattern};
 ghost use Rattle.rc_text.specs.Views.{mark_of, marks};
 ghost use Rattle.rc_glob.specs.Moves.{move_of, LeavesLess};
+ghost use Rattle.rc_glob.specs.Subjects.{is_met};
 
 use crate::classes::{class_end, class_holds};
 use rc_text::{Ch, Word, first_char};
-use std::alloc::{AllocError, Global};
 
 /// What comes next in a match.
 enum Move<'a> {
@@ -182,25 +181,10 @@ pub(crate) fn is_match(word: &[Ch], text: &str, explicit: bool) -> bool
 pub fn matches(word: &Word, text: &str, explicit: bool) -> bool
     ensures { result ≡ matches word.now (chars text.now) explicit }
 {
-    is_match(word.chars(), text, explicit)
-}
-
-fn push_char(text: &mut String, c: char) -> Result<(), AllocError>
-    ensures spelled { OnOk result (string_bytes text.new ≡ string_bytes text.old ++ encode_utf8 c) }
-    ensures scalar { IsScalar c }
-{
-    text.push(c)
-}
-
-/// The characters as text.
-fn text_of(alloc: Global, word: &[Ch]) -> Result<String, AllocError>
-    ensures { IfOk result (λ text. chars (string_bytes text) ≡ map (λ m. m.0) (marks word.now)) }
-{
-    let mut text = String::new(alloc);
-    for ch in word {
-        push_char(&mut text, ch.c)?;
+    match word.pattern() {
+        Some(chars) => is_match(chars, text, explicit),
+        None => word.text() == text,
     }
-    Ok(text)
 }
 
 fn is_any(patterns: &[Word], text: &str) -> bool
@@ -209,15 +193,15 @@ fn is_any(patterns: &[Word], text: &str) -> bool
     patterns.iter().any(|pattern| matches(pattern, text, false))
 }
 
-/// Whether one of the patterns matches the subject.
-pub fn matched(alloc: Global, subject: &[Word], patterns: &[Word]) -> Result<bool, AllocError>
-    ensures { IfOk result (λ is_match. is_match ≡ matched subject.now patterns.now) }
+fn is_met(patterns: &[Word], word: &Word) -> bool
+    ensures { result ≡ is_met patterns.now word.now }
 {
-    for word in subject {
-        let text = text_of(alloc, word.chars())?;
-        if is_any(patterns, &text) {
-            return Ok(true);
-        }
-    }
-    Ok(false)
+    is_any(patterns, word.text())
+}
+
+/// Whether one of the patterns matches the subject. It allocates nothing.
+pub fn matched(subject: &[Word], patterns: &[Word]) -> bool
+    ensures { result ≡ matched subject.now patterns.now }
+{
+    subject.iter().any(|word| is_met(patterns, word))
 }

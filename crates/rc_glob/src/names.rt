@@ -1,5 +1,5 @@
 //! The names that a component stands for.
-ghost use Rattle.std.specs.Prelude.{◌≡◌, ◌==◌, ◌||◌, filter, map, string_bytes, IfOk};
+ghost use Rattle.std.specs.Prelude.{◌≡◌, ◌==◌, ◌||◌, filter, map, string_bytes};
 ghost use Rattle.std.specs.List.{list_any};
 ghost use Rattle.rc_model.specs.Run.FileNames.{is_no_name, ordered};
 ghost use Rattle.rc_text.specs.Views.{marks};
@@ -7,8 +7,6 @@ ghost use Rattle.rc_glob.specs.Names.{is_fitting};
 
 use crate::matching::is_match;
 use rc_text::Ch;
-use std::alloc::{AllocError, Global};
-use std::collections::BTreeSet;
 
 fn has_separator(name: &str) -> bool
     ensures { result ≡ list_any (λ c. (c == 47) || (c == 0)) name.now }
@@ -29,37 +27,20 @@ fn is_fitting(component: &[Ch], name: &str) -> bool
     !is_no_name(name) && is_match(component, name, true)
 }
 
-fn in_list(alloc: Global, texts: BTreeSet<String>) -> Result<Vec<String>, AllocError>
-    ensures { IfOk result (λ list. list.items ≡ texts.keys) }
-{
-    texts.into_iter().collect(alloc)
-}
-
 /// The names that the component stands for, in byte order and each once.
-pub(crate) fn fitting_names(
-    alloc: Global,
-    component: &[Ch],
-    mut names: Vec<String>,
-) -> Result<Vec<String>, AllocError>
-    ensures { IfOk result (λ fitting. map string_bytes fitting.items
-        ≡ ordered (filter (is_fitting (marks component.now)) (map string_bytes names.items))) }
+pub(crate) fn fitting_names(component: &[Ch], mut names: Vec<String>) -> Vec<String>
+    ensures { map string_bytes result.items
+        ≡ ordered (filter (is_fitting (marks component.now)) (map string_bytes names.items)) }
 {
-    let mut fitting = BTreeSet::new(alloc);
-    while let Some(name) = names.pop() {
-        if is_fitting(component, &name) {
-            fitting.insert(name)?;
-        }
-    }
-    Ok(in_list(alloc, fitting)?)
+    names.retain(|name| is_fitting(component, name));
+    ordered(names)
 }
 
 /// The texts in byte order and each once.
-pub(crate) fn ordered(alloc: Global, mut texts: Vec<String>) -> Result<Vec<String>, AllocError>
-    ensures { IfOk result (λ list. map string_bytes list.items ≡ ordered (map string_bytes texts.items)) }
+pub(crate) fn ordered(mut texts: Vec<String>) -> Vec<String>
+    ensures { map string_bytes result.items ≡ ordered (map string_bytes texts.items) }
 {
-    let mut all = BTreeSet::new(alloc);
-    while let Some(text) = texts.pop() {
-        all.insert(text)?;
-    }
-    Ok(in_list(alloc, all)?)
+    texts.sort_unstable();
+    texts.dedup();
+    texts
 }

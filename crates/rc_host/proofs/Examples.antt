@@ -47,6 +47,15 @@ a_file_and_output : plan_of (codes "/bin/rc") (launched (codes "/bin/c") (with_o
     ≡ Some (by_sh (codes "exec \"$@\" 3>&1 1>&2 2>&3 3>&-") (Own 1) (to_file 4))
 a_file_and_output = refl
 
+-- any file can be exchanged, and one in the place of input stays there
+errors_and_another_file : plan_of (codes "/bin/rc") (launched (codes "/bin/c") (with_outputs (Own 2) (to_file 9)))
+    ≡ Some (by_sh (codes "exec \"$@\" 3>&1 1>&2 2>&3 3>&-") (to_file 9) (Own 2))
+errors_and_another_file = refl
+
+output_twice_and_a_file : plan_of (codes "/bin/rc") (launched (codes "/bin/c") (record { input = to_file 7; output = Own 1; errors = Own 1 }))
+    ≡ Some (record (by_sh (codes "exec \"$@\" 2>&1") (Own 1) (Own 2)) { slots = record { input = to_file 7; output = Own 1; errors = Own 2 } })
+output_twice_and_a_file = refl
+
 -- env would take the program for an entry
 equals_sign : plan_of (codes "/bin/rc") (launched (codes "/a=b") (with_outputs (Own 2) (Own 2))) ≡ None
 equals_sign = refl

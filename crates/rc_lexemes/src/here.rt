@@ -7,7 +7,7 @@ ghost use Rattle.rc_model.specs.Syntax.HereDocs.{begun_after, ended_by, with_tex
 ghost use Rattle.rc_tree_types.specs.View.{pieces_tree};
 ghost use Rattle.rc_lexemes.specs.Begun.{begun_of};
 
-use rc_text::{first_char, is_name_char};
+use rc_characters::{first_char, is_name_char};
 use rc_tree::Piece;
 use std::alloc::{AllocError, Global};
 

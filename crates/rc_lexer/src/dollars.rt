@@ -12,7 +12,7 @@ use crate::previous::wants_caret;
 use crate::state::{CurrentChar, Lexer, Place, Previous, State, TokenStart};
 use crate::tokens::token_between;
 use crate::{LexError, Token, TokenKind};
-use rc_text::is_name_char;
+use rc_characters::is_name_char;
 use std::alloc::AllocError;
 
 /// Whether the name of `$`s begins with the character, quoted or not.

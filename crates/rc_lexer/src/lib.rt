@@ -20,8 +20,8 @@ mod tokens;
 mod words;
 
 use classes::class_of;
+use rc_characters::first_char;
 use rc_model::{FaultKind, InputError, SyntaxFault};
-use rc_text::first_char;
 use state::{CurrentChar, Lexer, Place, Previous, State};
 use std::alloc::Global;
 

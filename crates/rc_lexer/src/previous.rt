@@ -8,7 +8,7 @@ ghost use Rattle.rc_lexer.specs.Machine.{previous_of};
 
 use crate::TokenKind;
 use crate::state::Previous;
-use rc_text::is_name_char;
+use rc_characters::is_name_char;
 
 /// Whether a `^` is inserted before the token.
 pub fn wants_caret(previous: Previous, kind: TokenKind) -> bool

@@ -9,7 +9,7 @@ ghost use Rattle.rc_lexer.specs.Machine.{lexeme_tokens, previous_of, tokens_in};
 use crate::previous::{after_token, wants_caret};
 use crate::state::{Lexer, PendingHereDoc, Place, Previous, TokenStart};
 use crate::{LexError, Span, Token, TokenKind};
-use rc_text::unquote;
+use rc_characters::unquote;
 use std::alloc::AllocError;
 
 /// The token of this kind between two places.

@@ -12,7 +12,7 @@ use crate::previous::{after_blank, begins_name, without_here};
 use crate::state::{CurrentChar, Lexer, Place, Previous, State, TokenStart};
 use crate::tokens::token_between;
 use crate::{LexError, TokenKind};
-use rc_text::is_name_char;
+use rc_characters::is_name_char;
 
 impl Lexer {
     /// What the character begins.

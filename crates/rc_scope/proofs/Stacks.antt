@@ -1,12 +1,12 @@
 -- The stacks of a map and a log, as values are looked up, put in and taken out.
-use Rattle.std.proofs.Common.{◌≡◌, ℕ, Bool, true, false, cond, not, ◌&&◌, if◌then◌else◌, List, [], ◌∷◌, ◌++◌, map, reverse, Option, Some, None, refl, sym, ap, ◌∙◌, string_bytes, unwrap_or, option_map, is_some, Result, Ok, Err, OnOk, OnErr, length, suc, append_assoc}
+use Rattle.std.proofs.Common.{◌≡◌, ℕ, Bool, true, false, cond, not, ◌&&◌, if◌then◌else◌, List, [], ◌∷◌, ◌++◌, map, reverse, Option, Some, None, refl, sym, ap, ◌∙◌, string_bytes, unwrap_or, option_map, is_some, subst, Result, Ok, Err, OnOk, OnErr, length, suc, append_assoc}
 use Rattle.std.specs.Cmp.Lexicographic.{slice_cmp, bytes_decides, nat_list_eq_equiv}
 use Rattle.std.specs.Cmp.{eq_by_cmp_equiv}
 use mathlib.Core.Bool.{true≢false}
 use Rattle.std.specs.declared.cmp.Ordering.{Ordering}
 use Rattle.std.specs.declared.cmp.Ordering.TheVariants.{Less, Equal, Greater}
 use Rattle.std.specs.Ordering.{nat_cmp, is_eq, match_ordering}
-use Rattle.std.specs.Map.{lookup, remove_entry, keys_of}
+use Rattle.std.specs.Map.{lookup, remove_entry, set_value, keys_of}
 use Rattle.std.specs.BTreeMap.{insert_entry, is_at}
 use Rattle.std.specs.Str.{bytes_eq}
 use Rattle.std.specs.String.{string_cmp, string_cmp_total}
@@ -14,13 +14,13 @@ use Rattle.std.specs.List.Sorted.{IsStrictlySortedBy}
 use Rattle.std.specs.declared.alloc.Global.{Global}
 use Rattle.std.specs.declared.string.String.{String}
 use Rattle.std.proofs.lemmas.List.{reverse-append}
-use Rattle.std.proofs.lemmas.Map.{NonePasses, none_passes_from_lookup}
-use Rattle.std.proofs.lemmas.Map.Entries.{none_past_head, none_below_head}
+use Rattle.std.proofs.lemmas.Map.{NonePasses, lookup-none, none_passes_from_lookup}
+use Rattle.std.proofs.lemmas.Map.Entries.{none_past_head, none_below_head, place_from_lookup}
 use Rattle.std.proofs.lemmas.Map.Keys.{sorted_tail, IsDistinct-from_sorted}
 use Rattle.std.proofs.lemmas.Map.Text.{is_eq-slice_cmp}
 use Rattle.rc_model.specs.Syntax.Text.{text_cmp}
 use Rattle.rc_model.specs.Run.State.{status_name, visible, covered, put_values}
-use Rattle.rc_scope.specs.Stacks.{texts_of, is_local_of, covered_in, stack_of, variable_of, stack_in, covers_in, stacks_of, locals_of, uncovered, without_newest, Uncovers, Replaces, is_listed, flat_names}
+use Rattle.rc_scope.specs.Stacks.{texts_of, is_local_of, covered_in, stack_of, variable_of, stack_in, covers_in, stacks_of, locals_of, uncovered, without_newest, Uncovers, Covers, is_listed, flat_names}
 use Rattle.rc_scope.specs.declared.variables.Variables.{Variables}
 use Rattle.rc_scope.specs.declared.variables.Value.{Value}
 use Rattle.rc_scope.specs.declared.variables.Local.{Local}
@@ -126,6 +126,56 @@ set_variable ls k v es sorted h =
     insert_variable ls ls k v es sorted (λ n w e. refl)
     ∙ ap (λ c. insert_entry text_cmp (map (variable_of ls) es) (string_bytes k) (texts_of v ∷ c)) (ap (λ b. if b then covered_in ls (string_bytes k) else []) h ∙ sym (covered_variable ls (string_bytes k) es))
 
+write_by_order : (k : String Global) (v w : Value) (e : String Global × Value) (es : List (String Global × Value)) (o : Ordering) → string_cmp k e.0 ≡ o → IsStrictlySortedBy string_cmp (keys_of (e ∷ es)) → cond (is_eq o) (Some e.1) (lookup (is_named (string_bytes k)) es) ≡ Some v
+    → (lookup (is_named (string_bytes k)) es ≡ Some v → set_value (is_named (string_bytes k)) es w ≡ insert_entry string_cmp es k w)
+    → cond (is_eq o) ((e.0, w) ∷ es) (e ∷ set_value (is_named (string_bytes k)) es w) ≡ match_ordering o ((k, w) ∷ e ∷ es) ((e.0, w) ∷ es) (e ∷ insert_entry string_cmp es k w)
+write_by_order k v w e es Less h sorted found go =
+    absurd (true≢false (sym (ap is_some found) ∙ ap is_some (lookup-none (is_named (string_bytes k)) es (none_below_head string_cmp_total k e es sorted h).1)))
+write_by_order k v w e es Equal h sorted found go = refl
+write_by_order k v w e es Greater h sorted found go = ap (λ l. e ∷ l) (go found)
+
+-- a value is written over one that is there, or put in at the same name
+write_as_insert : (k : String Global) (v w : Value) (es : List (String Global × Value)) → IsStrictlySortedBy string_cmp (keys_of es) → lookup (is_named (string_bytes k)) es ≡ Some v
+    → set_value (is_named (string_bytes k)) es w ≡ insert_entry string_cmp es k w
+write_as_insert k v w [] sorted found = absurd (true≢false (sym (ap is_some found)))
+write_as_insert k v w (e ∷ es) sorted found = write_by_order k v w e es (string_cmp k e.0) refl sorted found (write_as_insert k v w es (sorted_tail string_cmp e.0 (keys_of es) sorted))
+
+written_at_key : (ls : List Local) (k : String Global) (v w : Value) (es : List (String Global × Value)) → IsStrictlySortedBy string_cmp (keys_of es) → w.covers ≡ v.covers → lookup (is_named (string_bytes k)) es ≡ Some v
+    → map (variable_of ls) (set_value (is_named (string_bytes k)) es w) ≡ put_values (map (variable_of ls) es) (string_bytes k) (texts_of w ∷ covered (stack_in (map (variable_of ls) es) (string_bytes k)))
+written_at_key ls k v w es sorted covers found =
+    ap (map (variable_of ls)) (write_as_insert k v w es sorted found)
+    ∙ set_variable ls k w es sorted (covers ∙ sym (ap (λ o. unwrap_or (option_map (λ (x : Value). x.covers) o) false) found))
+
+-- the visible value is written over
+pub written_over : (ls : List Local) (q : List ℕ) (v w : Value) (es : List (String Global × Value)) → IsStrictlySortedBy string_cmp (keys_of es) → w.covers ≡ v.covers → lookup (is_named q) es ≡ Some v
+    → map (variable_of ls) (set_value (is_named q) es w) ≡ put_values (map (variable_of ls) es) q (texts_of w ∷ covered (stack_in (map (variable_of ls) es) q))
+written_over ls q v w es sorted covers found =
+    let place = place_from_lookup (is_named q) es v found in
+    let name : q ≡ string_bytes place.1 = (bytes_decides q (string_bytes place.1)).0 (sym (is_eq-slice_cmp q (string_bytes place.1)) ∙ place.3) in
+    subst (λ n. lookup (is_named n) es ≡ Some v → map (variable_of ls) (set_value (is_named n) es w) ≡ put_values (map (variable_of ls) es) n (texts_of w ∷ covered (stack_in (map (variable_of ls) es) n)))
+    (sym name) (written_at_key ls place.1 v w es sorted covers) found
+
+covered_at_key : (k : String Global) (v w : Value) (es : List (String Global × Value)) → IsStrictlySortedBy string_cmp (keys_of es) → w.covers ≡ true → lookup (is_named (string_bytes k)) es ≡ Some v
+    → Covers (string_bytes k) (texts_of w) es (set_value (is_named (string_bytes k)) es w) v
+covered_at_key k v w es sorted covers found = record {
+  key = k;
+  value = w;
+  named = refl;
+  shows = refl;
+  covers = covers ∙ sym (ap is_some found);
+  puts = write_as_insert k v w es sorted found;
+  ordered = sorted;
+  found = sym (ap (λ o. unwrap_or o v) found);
+}
+
+-- a value is written over one that is there, and covers it
+pub covered_over : (q : List ℕ) (v w : Value) (es : List (String Global × Value)) → IsStrictlySortedBy string_cmp (keys_of es) → w.covers ≡ true → lookup (is_named q) es ≡ Some v
+    → Covers q (texts_of w) es (set_value (is_named q) es w) v
+covered_over q v w es sorted covers found =
+    let place = place_from_lookup (is_named q) es v found in
+    let name : q ≡ string_bytes place.1 = (bytes_decides q (string_bytes place.1)).0 (sym (is_eq-slice_cmp q (string_bytes place.1)) ∙ place.3) in
+    subst (λ n. lookup (is_named n) es ≡ Some v → Covers n (texts_of w) es (set_value (is_named n) es w) v) (sym name) (covered_at_key place.1 v w es sorted covers) found
+
 -- ** locals
 
 not_local : (l : Local) (ls : List Local) (n : List ℕ) (w : Value) → is_local_of n l ≡ false → stack_of (l ∷ ls) n w ≡ stack_of ls n w
@@ -221,15 +271,17 @@ unfolding locals_of
 none_open_locals v h = rw h refl
 
 -- a local is opened
-pub pushed : (v w : Variables) (l : Local) (k : String Global) (x : Value) → w.log.items ≡ v.log.items ++ l ∷ [] → Replaces k x v.values.entries w.values.entries l.covered
-    → string_bytes l.name ≡ string_bytes k → bytes_eq (string_bytes k) status_name ≡ false → x.covers ≡ is_some (lookup (is_named (string_bytes k)) v.values.entries)
-    → stacks_of w ≡ put_values (stacks_of v) (string_bytes k) (texts_of x ∷ stack_in (stacks_of v) (string_bytes k))
+pub pushed : (v w : Variables) (l : Local) (name : List ℕ) (texts : List (List ℕ)) → w.log.items ≡ v.log.items ++ l ∷ [] → Covers name texts v.values.entries w.values.entries l.covered
+    → string_bytes l.name ≡ name → bytes_eq name status_name ≡ false → stacks_of w ≡ put_values (stacks_of v) name (texts ∷ stack_in (stacks_of v) name)
 unfolding stacks_of
-pushed v w l k x h r name other covers =
+pushed v w l name texts h r own other =
     let rs = reverse v.log.items in
+    let vs = map (variable_of rs) v.values.entries in
     ap (λ ls. map (variable_of ls) w.values.entries) (ap reverse h ∙ newest v.log.items l)
     ∙ ap (map (variable_of (l ∷ rs))) r.puts
-    ∙ push_variable rs l k x v.values.entries r.ordered name other covers r.found
+    ∙ push_variable rs l r.key r.value v.values.entries r.ordered (own ∙ sym r.named) (ap (λ q. bytes_eq q status_name) r.named ∙ other) r.covers r.found
+    ∙ ap (λ q. put_values vs q (texts_of r.value ∷ stack_in vs q)) r.named
+    ∙ ap (λ ts. put_values vs name (ts ∷ stack_in vs name)) r.shows
 
 pub pushed_locals : (v w : Variables) (l : Local) → w.log.items ≡ v.log.items ++ l ∷ [] → locals_of w ≡ string_bytes l.name ∷ locals_of v
 unfolding locals_of

@@ -1,6 +1,6 @@
 -- The values of each variable, and the open locals, that a map and a log stand for.
 use Rattle.std.specs.Prelude.{◌≡◌, ◌==◌, length, ℕ, List, [], ◌∷◌, Bool, not, ◌&&◌, if◌then◌else◌, map, reverse}
-use Rattle.std.specs.Prelude.{string_bytes, unwrap_or, option_map, false}
+use Rattle.std.specs.Prelude.{string_bytes, unwrap_or, option_map, is_some, false}
 use Rattle.std.specs.Str.{bytes_eq}
 use Rattle.std.specs.Map.{lookup, keys_of}
 use Rattle.std.specs.BTreeMap.{is_at, insert_entry}
@@ -76,12 +76,17 @@ abbrev pub flat_names : List (List ℕ × List (List (List ℕ))) → List (List
 flat_names [] = []
 flat_names (v ∷ vs) = if is_listed v.0 (visible v.1) then v.0 ∷ flat_names vs else flat_names vs
 
--- a value is put in, and the other one is what it takes the place of
-pub record Replaces (name : String Global) (value : Value) (before after : List (String Global × Value))
+-- a value of these members is put in over what the name has, which is the other one
+pub record Covers (name : List ℕ) (texts : List (List ℕ)) (before after : List (String Global × Value))
     (old : Value) : Type 0 where
-  pub puts : after ≡ insert_entry string_cmp before name value
+  pub key : String Global
+  pub value : Value
+  pub named : string_bytes key ≡ name
+  pub shows : texts_of value ≡ texts
+  pub covers : value.covers ≡ is_some (lookup (is_at (string_cmp key)) before)
+  pub puts : after ≡ insert_entry string_cmp before key value
   pub ordered : IsStrictlySortedBy string_cmp (keys_of before)
-  pub found : old ≡ unwrap_or (lookup (is_at (string_cmp name)) before) old
+  pub found : old ≡ unwrap_or (lookup (is_at (string_cmp key)) before) old
 
 -- what a local covers becomes visible, whatever the log below it
 abbrev pub Uncovers : Local → (before after : List (String Global × Value)) → Type 0

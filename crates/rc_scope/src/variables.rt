@@ -4,11 +4,12 @@ ghost use Rattle.std.specs.Prelude.{◌≡◌, ◌∷◌, [], false, map, string
 ghost use Rattle.std.specs.Str.{bytes_eq};
 ghost use Rattle.rc_model.specs.Run.State.{status_name, visible, covered, put_values};
 ghost use Rattle.std.specs.BTreeMap.{IsUnchanged};
-ghost use Rattle.rc_scope.specs.Stacks.{uncovered, without_newest, flat_names, is_listed, Replaces, Uncovers};
+ghost use Rattle.rc_scope.specs.Stacks.{uncovered, without_newest, flat_names, is_listed, Covers, Uncovers};
 
 use crate::names::is_status;
 use std::alloc::{AllocError, Global};
 use std::collections::BTreeMap;
+use std::mem::replace;
 
 /// The value of a variable, as it is visible or covered.
 #[derive(Drop)]
@@ -95,25 +96,49 @@ impl Variables {
         ensures locals { locals_of self.new ≡ locals_of self.old }
         ensures err { OnErr result (stacks_of self.new ≡ stacks_of self.old) }
     {
-        let covers = self.covers(name);
+        if let Some(value) = self.values.get_mut(name) {
+            value.texts = texts;
+            return Ok(());
+        }
         let name = String::from_str(alloc, name)?;
-        self.values.insert(name, Value { texts, covers })?;
+        self.values.insert(
+            name,
+            Value {
+                texts,
+                covers: false,
+            },
+        )?;
         Ok(())
     }
 
-    /// Puts in a value, and gives what it takes the place of: an empty one where there was none.
-    fn replace(&mut self, alloc: Global, name: String, value: Value) -> Result<Value, AllocError>
-        ensures ok { IfOk result (λ old. Replaces name value self.old.values.entries self.new.values.entries old) }
+    /// Puts in a value over what the name has, and gives that: an empty one where it has none.
+    fn cover(&mut self, alloc: Global, name: &str, texts: Vec<String>) -> Result<Value, AllocError>
+        ensures ok { IfOk result (λ old.
+            Covers name.now (map string_bytes texts.items) self.old.values.entries self.new.values.entries old) }
         ensures err { OnErr result (IsUnchanged self.old.values self.new.values) }
         ensures log { self.new.log ≡ self.old.log }
     {
-        match self.values.insert(name, value)? {
-            Some(old) => Ok(old),
-            None => Ok(Value {
-                texts: Vec::new(alloc),
-                covers: false,
-            }),
+        if let Some(value) = self.values.get_mut(name) {
+            return Ok(replace(
+                value,
+                Value {
+                    texts,
+                    covers: true,
+                },
+            ));
         }
+        let name = String::from_str(alloc, name)?;
+        self.values.insert(
+            name,
+            Value {
+                texts,
+                covers: false,
+            },
+        )?;
+        Ok(Value {
+            texts: Vec::new(alloc),
+            covers: false,
+        })
     }
 
     /// A new local with this value. An `Err` changes nothing.
@@ -127,11 +152,9 @@ impl Variables {
         ensures err { OnErr result (stacks_of self.new ≡ stacks_of self.old) }
         ensures err_locals { OnErr result (locals_of self.new ≡ locals_of self.old) }
     {
-        let key = String::from_str(alloc, name)?;
         let local = String::from_str(alloc, name)?;
         self.log.reserve(1)?;
-        let covers = self.values.contains_key(name);
-        let covered = self.replace(alloc, key, Value { texts, covers })?;
+        let covered = self.cover(alloc, name, texts)?;
         self.log.push(Local {
             name: local,
             covered,

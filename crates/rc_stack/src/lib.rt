@@ -3,9 +3,8 @@
 
 ghost use Rattle.std.specs.Prelude.{◌≡◌, [], ◌∷◌, ◌++◌, length, option_map, OnOk, OnErr, IfOk};
 ghost use Rattle.std.specs.Option.{option_copied};
-ghost use Rattle.rc_stack.specs.Lists.{Joins, Extends, IsDropped, top_of, two_of, below_two};
+ghost use Rattle.rc_stack.specs.Lists.{Joins, Extends, IsDropped, top_of, two_of, below_top, below_two};
 
-use smallvec::SmallVec;
 use std::alloc::{AllocError, Global};
 use std::marker::Model;
 
@@ -55,6 +54,15 @@ impl<T: Drop> Stack<T> {
         Ok(())
     }
 
+    /// A list comes on top.
+    pub fn put(&mut self, mut list: Vec<T>) -> Result<(), AllocError>
+        ensures { OnOk result (self.new ≡ list.items ∷ self.old) }
+    {
+        let start = self.items.len();
+        self.starts.push(start)?;
+        self.items.append(&mut list)
+    }
+
     /// Adds the two lists on top to one, and says whether there were two.
     pub fn join(&mut self) -> bool
         ensures { Joins self.old self.new result }
@@ -82,6 +90,17 @@ impl<T: Drop> Stack<T> {
             return None;
         };
         Some((&self.items[*lower..*upper], &self.items[*upper..]))
+    }
+
+    /// Takes the list on top off, for its elements.
+    pub fn pop(&mut self) -> Result<Option<Vec<T>>, AllocError>
+        ensures list { IfOk result (λ list. option_map (λ l. l.items) list ≡ top_of self.old) }
+        ensures below { OnOk result (self.new ≡ below_top self.old) }
+    {
+        let Some(start) = self.starts.pop() else {
+            return Ok(None);
+        };
+        Ok(Some(self.items.split_off(start)?))
     }
 
     /// Takes the list on top off.

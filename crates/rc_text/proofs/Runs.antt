@@ -5,8 +5,8 @@ use Rattle.std.proofs.lemmas.List.{append-nil, map-append, length-append}
 use Rattle.std.proofs.lemmas.Str.{encodes-append, length-encode, len_utf8_bounds}
 use Rattle.std.specs.Prelude.{◌==◌, filter}
 use Rattle.std.specs.Char.{encode_utf8}
-use Rattle.std.specs.List.{slice_split, onto_first}
-use Rattle.std.specs.Str.{encode_utf8_all}
+use Rattle.std.specs.List.{list_any, slice_split, onto_first}
+use Rattle.std.specs.Str.{chars, encode_utf8_all}
 use Rattle.rc_model.specs.Run.Splitting.{is_among}
 use Rattle.rc_text.specs.Members.{EndsMember}
 
@@ -57,6 +57,11 @@ rest_after before after member begun others e h =
     ap (λ t. t ++ map encode_utf8_all others) (ended_at before after member begun e h)
     ∙ append_assoc before (map encode_utf8_all (with_member begun [])) (map encode_utf8_all others)
     ∙ ap (λ t. before ++ t) (sym (map-append encode_utf8_all (with_member begun []) others) ∙ ap (map encode_utf8_all) (sym (with_member-append begun others)))
+
+-- a character among the separators, as the code asks for it
+pub among_cuts : (separators cuts all : List ℕ) (c : ℕ) (asked answer : Bool) → asked ≡ list_any (λ d. d == c) cuts → cuts ≡ all → all ≡ chars separators → asked ≡ answer →
+    is_among separators c ≡ answer
+among_cuts separators cuts all c asked answer h e f k = sym (h ∙ ap (list_any (λ d. d == c)) (e ∙ f)) ∙ k
 
 module _ (separators : List ℕ) where
   -- the members of these characters, the first of which has begun

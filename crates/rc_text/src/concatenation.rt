@@ -36,7 +36,15 @@ pub fn concat(alloc: Global, left: &List, right: &List) -> Result<List, ConcatEr
     ensures { MatchResult result (λ list. concatenated left.now right.now ≡ Ok list)
         (λ error. Refuses error (concatenated left.now right.now)) }
 {
-    let joined = match (left.words(), right.words()) {
+    concat_words(alloc, left.words(), right.words())
+}
+
+/// The same of the words of two lists.
+pub fn concat_words(alloc: Global, left: &[Word], right: &[Word]) -> Result<List, ConcatError>
+    ensures { MatchResult result (λ list. concatenated left.now right.now ≡ Ok list)
+        (λ error. Refuses error (concatenated left.now right.now)) }
+{
+    let joined = match (left, right) {
         (lefts, rights) if lefts.len() == rights.len() => pairwise(alloc, lefts, rights)?,
         ([], _) | (_, []) => return Err(ConcatError::EmptyConcat),
         ([first], rights) => before_each(alloc, first, rights)?,

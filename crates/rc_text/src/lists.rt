@@ -1,9 +1,8 @@
 //! Lists of words.
-ghost use Rattle.std.specs.Prelude.{◌≡◌, [], ◌∷◌, ◌++◌, length, map, string_bytes, IfOk, OnOk, OnErr};
-ghost use Rattle.rc_model.specs.Syntax.Words.{plain_words, spaced_words, subject, unmarked, word_texts};
-ghost use Rattle.rc_text.specs.Views.{marks};
+ghost use Rattle.std.specs.Prelude.{◌≡◌, [], ◌∷◌, ◌++◌, true, false, length, map, string_bytes, IfOk, OnOk, OnErr};
+ghost use Rattle.rc_model.specs.Syntax.Words.{plain_words, spaced_words, unmarked, word_texts, written};
 
-use crate::words::{Ch, Word};
+use crate::words::Word;
 use smallvec::SmallVec;
 use std::alloc::{AllocError, Global};
 use std::marker::Model;
@@ -29,20 +28,25 @@ impl List {
     }
 
     /// Texts as words with no marks.
-    pub fn plain(alloc: Global, texts: &[String]) -> Result<List, AllocError>
-        ensures { IfOk result (λ list. list ≡ plain_words (map string_bytes texts.now)) }
+    pub fn plain(alloc: Global, texts: Vec<String>) -> Result<List, AllocError>
+        ensures { IfOk result (λ list. list ≡ plain_words (map string_bytes texts.items)) }
     {
-        let mut list = List::new(alloc);
-        for text in texts {
-            list.push(Word::written(alloc, text, true)?)?;
-        }
-        Ok(list)
+        let mut words = SmallVec::new(alloc);
+        words.extend(texts.into_iter().map(|text| Word::plain(text)))?;
+        Ok(List(words))
     }
 
     pub fn words(&self) -> &[Word]
         ensures { result.now ≡ self.now }
     {
         self.0.as_slice()
+    }
+
+    /// The words by themselves.
+    pub fn into_words(self) -> Result<Vec<Word>, AllocError>
+        ensures { IfOk result (λ words. words.items ≡ self) }
+    {
+        self.0.into_vec().map_err(|_| AllocError)
     }
 
     /// Adds a word at the end.
@@ -63,25 +67,14 @@ impl List {
     }
 
     /// The texts of the words.
-    pub fn texts(&self) -> Result<Vec<String>, AllocError>
-        ensures { IfOk result (λ texts. map string_bytes texts.items ≡ word_texts self.now) }
-    {
-        let mut texts = Vec::new(*self.0.allocator());
-        for word in self.words() {
-            texts.push(word.text()?)?;
-        }
-        Ok(texts)
-    }
-
-    /// What patterns are held against: one word, of the words joined by spaces and with no marks.
-    pub fn subject(&self) -> Result<List, AllocError>
-        ensures { IfOk result (λ list. list ≡ subject self.now) }
+    pub fn into_texts(self) -> Result<Vec<String>, AllocError>
+        ensures { IfOk result (λ texts. map string_bytes texts.items ≡ word_texts self) }
     {
         let alloc = *self.0.allocator();
-        let joined = spaced_unmarked(alloc, self.words())?;
-        let mut list = List::new(alloc);
-        list.push(joined)?;
-        Ok(list)
+        self.0
+            .into_iter()
+            .map(|word| word.into_text())
+            .collect(alloc)
     }
 }
 
@@ -89,28 +82,30 @@ impl List {
 pub fn spaced_unmarked(alloc: Global, words: &[Word]) -> Result<Word, AllocError>
     ensures { IfOk result (λ joined. joined ≡ unmarked (spaced_words words.now)) }
 {
-    let mut joined = Word::new(alloc);
+    let mut joined = String::new(alloc);
     let Some((first, others)) = words.split_first() else {
-        return Ok(joined);
+        return Ok(Word::new(alloc));
     };
-    push_unmarked(&mut joined, first.chars())?;
+    push_text(&mut joined, first)?;
     for word in others {
-        joined.push(Ch { c: ' ', pat: false })?;
-        push_unmarked(&mut joined, word.chars())?;
+        push_spaced(&mut joined, word)?;
     }
-    Ok(joined)
+    Ok(Word::plain(joined))
 }
 
-fn push_unmarked(word: &mut Word, chars: &[Ch]) -> Result<(), AllocError>
-    ensures { OnOk result (word.new ≡ word.old ++ unmarked (marks chars.now)) }
+fn push_text(joined: &mut String, word: &Word) -> Result<(), AllocError>
+    ensures { OnOk result (written (string_bytes joined.new) true
+        ≡ written (string_bytes joined.old) true ++ unmarked word.now) }
 {
-    for ch in chars {
-        word.push(Ch {
-            c: ch.c,
-            pat: false,
-        })?;
-    }
-    Ok(())
+    joined.push_str(word.text())
+}
+
+fn push_spaced(joined: &mut String, word: &Word) -> Result<(), AllocError>
+    ensures { OnOk result (written (string_bytes joined.new) true
+        ≡ written (string_bytes joined.old) true ++ (32, false) ∷ unmarked word.now) }
+{
+    joined.push(' ')?;
+    push_text(joined, word)
 }
 
 /// The number of words.

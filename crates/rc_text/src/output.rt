@@ -1,12 +1,13 @@
 //! What the output of a command becomes.
-ghost use Rattle.std.specs.Prelude.{◌≡◌, [], map, string_bytes, IfOk, OnOk};
+ghost use Rattle.std.specs.Prelude.{◌≡◌, ◌==◌, [], map, string_bytes, IfOk, OnOk};
+ghost use Rattle.std.specs.List.{list_any};
+ghost use Rattle.std.specs.Str.{chars};
 ghost use Rattle.rc_model.specs.Run.Acts.{text_of};
 ghost use Rattle.rc_model.specs.Run.Lists.{split};
-ghost use Rattle.rc_model.specs.Run.Splitting.{is_among};
 ghost use Rattle.rc_text.specs.Members.{EndsMember};
 
-use crate::characters::first_char;
 use bstr::ByteSlice;
+use rc_characters::first_char;
 use std::alloc::{AllocError, Global};
 
 /// The bytes but those that are 0 as text, with U+FFFD for what is no UTF-8.
@@ -24,11 +25,12 @@ pub fn lossy(alloc: Global, bytes: &[u8]) -> Result<String, AllocError>
 pub fn split(alloc: Global, text: &str, separators: &str) -> Result<Vec<String>, AllocError>
     ensures { IfOk result (λ members. map string_bytes members.items ≡ split text.now separators.now) }
 {
+    let cuts = characters(alloc, separators)?;
     let mut members = Vec::new(alloc);
     let mut member = String::new(alloc);
     let mut rest = text;
     while let Some((c, more)) = first_char(rest) {
-        if is_among(separators, c) {
+        if is_among(&cuts, c) {
             end_member(alloc, &mut members, &mut member)?;
         } else {
             member.push(c)?;
@@ -39,10 +41,16 @@ pub fn split(alloc: Global, text: &str, separators: &str) -> Result<Vec<String>,
     Ok(members)
 }
 
-fn is_among(separators: &str, c: char) -> bool
-    ensures { result ≡ is_among separators.now c }
+fn characters(alloc: Global, text: &str) -> Result<Vec<char>, AllocError>
+    ensures { IfOk result (λ all. all.items ≡ chars text.now) }
 {
-    separators.chars().any(|d| d == c)
+    text.chars().collect(alloc)
+}
+
+fn is_among(separators: &[char], c: char) -> bool
+    ensures { result ≡ list_any (λ d. d == c) separators.now }
+{
+    separators.iter().any(|d| *d == c)
 }
 
 /// Ends a member, if one has begun.

@@ -1,6 +1,6 @@
 //! Calls where memory is refused.
 use crate::host::{granted, host, launch, read_all};
-use rc_world::{Ending, Kind, PLAIN_SLOTS, Slot, World};
+use rc_world::{Ending, Kind, Mode, PLAIN_SLOTS, Slot, World};
 use std::test::Fail;
 
 #[test]
@@ -22,6 +22,8 @@ fn out_of_memory_is_answered(rt: HostRuntime) -> Result<(), Fail> {
     assert!(rt; granted(host.wait(started))? == Ending::Code(0));
     let here = granted(host.here("text"))?;
     assert!(rt; read_all(alloc, &mut host, here)?.as_str() == "text");
+    let nothing = granted(host.open("/dev/null", Mode::Read))?;
+    assert!(rt; read_all(alloc, &mut host, nothing)?.is_empty());
     assert!(rt; !granted(host.list("/"))?.is_empty());
     assert!(rt; granted(host.probe("/bin/sh"))? == Kind::Program);
     granted(host.chdir("/"))?;

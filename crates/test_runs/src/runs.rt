@@ -34,7 +34,7 @@ const RUNS: [(&str, &[u8], usize); 13] = [
 ];
 
 /// Each further run: what it shows, its arguments, and its input.
-const ARGUMENTS: [(&str, &[&str], &[u8]); 39] = [
+const ARGUMENTS: [(&str, &[&str], &[u8]); 43] = [
     ("a text", &["-c", "echo a; echo b"], b""),
     (
         "a text with arguments",
@@ -50,6 +50,11 @@ const ARGUMENTS: [(&str, &[&str], &[u8]); 39] = [
     ("a file with arguments", &["arguments.rc", "-x", "y z"], b""),
     ("a file that isn't there", &["absent.rc", "x"], b""),
     ("a directory as the file", &["/"], b""),
+    (
+        "a file without permission",
+        &["/proc/sys/net/ipv4/route/flush"],
+        b"",
+    ),
     ("a strict shell", &["-e"], b"false; echo on"),
     (
         "a strict shell with a text",
@@ -63,6 +68,13 @@ const ARGUMENTS: [(&str, &[&str], &[u8]); 39] = [
     ("an option without its text", &["-e", "-c"], b""),
     ("no image", &["-S"], b""),
     ("a bad image", &["-S", "rc1;c1,w1:ab"], b""),
+    ("an option in place of an image", &["-S", "-e"], b""),
+    ("an image of another version", &["-S", "rc3;1"], b""),
+    (
+        "an image that lacks a piece",
+        &["-S", "rc2;2", "c1,w1:a"],
+        b"",
+    ),
     (
         "a function",
         &[

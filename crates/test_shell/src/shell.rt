@@ -2,7 +2,7 @@
 
 use crate::support::one_program;
 use rc_scope::State;
-use rc_shell::{Ran, ShellFault, execute};
+use rc_shell::{Ran, ShellFault, execute, execute_image};
 use rc_world::{Answer, Call, ChildNo, Ending, Handle, Program, Tape};
 use std::alloc::{AllocError, Global};
 use std::test::Fail;
@@ -69,6 +69,61 @@ fn out_of_memory_is_reported(rt: HostRuntime) -> Result<(), Fail> {
         Ok(Ran::Ended { state }) => {
             assert_eq!(rt; state.status(), "");
             assert_eq!(rt; tape.calls().len(), 3);
+            Ok(())
+        }
+        _ => Err(Fail::from("another end")),
+    }
+}
+
+/// Copies of these texts.
+fn texts(alloc: Global, all: &[&str]) -> Result<Vec<String>, AllocError> {
+    let mut copies = Vec::new(alloc);
+    for text in all {
+        copies.push(String::from_str(alloc, text)?)?;
+    }
+    Ok(copies)
+}
+
+/// To be run with each allocation refused in turn. An `Err` says that one was.
+#[test]
+fn out_of_memory_in_an_image_is_reported(rt: HostRuntime) -> Result<(), Fail> {
+    let alloc = rt.alloc();
+    let mut tape = one_program(alloc)?;
+    let words = texts(alloc, &["rc1;c2,w1:f$w1:x", "p"])?;
+    let entries = texts(alloc, &["path=/bin", "x=hello", "fn#f=rc1;c2,w4:echo$w1:1"])?;
+    let ran = execute_image(alloc, &mut tape, false, &words, &entries, 100);
+    for (place, call) in tape.calls().iter().enumerate() {
+        assert!(rt; is_of_echo_hello(place, call), "another call {place}");
+    }
+    match ran {
+        Err(ShellFault::NoMemory) => Err(Fail::from(AllocError)),
+        Ok(Ran::Ended { state }) => {
+            assert_eq!(rt; state.status(), "");
+            assert_eq!(rt; tape.calls().len(), 3);
+            Ok(())
+        }
+        _ => Err(Fail::from("another end")),
+    }
+}
+
+/// To be run with each allocation refused in turn. An `Err` says that one was.
+#[test]
+fn out_of_memory_among_redirections_is_reported(rt: HostRuntime) -> Result<(), Fail> {
+    let alloc = rt.alloc();
+    let mut tape = Tape::new(vec![in alloc;
+        Answer::File(Handle(3)),
+        Answer::File(Handle(4)),
+        Answer::Child(ChildNo(1)),
+        Answer::Ended(Ending::Code(0)),
+        Answer::Done,
+        Answer::Done,
+    ]?);
+    let script = b"x=a; /c >f >[2=1] <<E\n$x\nE\n";
+    match execute(alloc, &mut tape, script.as_slice(), State::new(alloc), 200) {
+        Err(ShellFault::NoMemory) => Err(Fail::from(AllocError)),
+        Ok(Ran::Ended { state }) => {
+            assert_eq!(rt; state.status(), "");
+            assert_eq!(rt; tape.calls().len(), 6);
             Ok(())
         }
         _ => Err(Fail::from("another end")),

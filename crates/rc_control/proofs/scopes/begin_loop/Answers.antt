@@ -9,10 +9,10 @@ use Rattle.rc_configuration.proofs.Left.{steps_as}
 use Rattle.rc_configuration.proofs.Stacks.{two_topped}
 use Rattle.rc_control.proofs.scopes.begin_loop.Goals as goal
 
-pub returns-in_default-2 : goal.returns-in_default-2
-returns-in_default-2 g c =
+pub returns-in_default-variable_name : goal.returns-in_default-variable_name
+returns-in_default-variable_name g c =
     let m = c.args.machine.now in
-    let a = c.in-Some.members.now in
+    let a = c.in-Some.field-0-0.now in
     let b = c.in-Some.words.now in
     let two : two_of m.words ≡ Some (a, b) = search rules in
     let none : the_name is_name (word_texts b) ≡ None = search rules in

@@ -9,11 +9,11 @@ use Rattle.rc_configuration.proofs.Left.{steps_as}
 use Rattle.rc_configuration.proofs.Stacks.{two_topped}
 use Rattle.rc_expressions.proofs.variables.assign.Goals as goal
 
-pub returns-in_default-2 : goal.returns-in_default-2
-returns-in_default-2 g c =
+pub returns-in_default-variable_name : goal.returns-in_default-variable_name
+returns-in_default-variable_name g c =
     let m = c.args.machine.now in
     let a = c.in-Some.words.now in
-    let b = c.in-Some.value.now in
+    let b = c.in-Some.field-0-1.now in
     let two : two_of m.words ≡ Some (a, b) = search rules in
     let none : the_name is_name (word_texts a) ≡ None = search rules in
     steps_as _ _ _ _ _ _ (assigns_no_name (config_of m) a b (below_two m.words) (two_topped m.words a b two) none) c.fail.ensures

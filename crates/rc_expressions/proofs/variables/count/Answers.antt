@@ -10,8 +10,8 @@ use Rattle.rc_configuration.proofs.Stacks.{topped}
 use Rattle.rc_scope.specs.States.{state_of}
 use Rattle.rc_expressions.proofs.variables.count.Goals as goal
 
-pub returns-in_default-2 : goal.returns-in_default-2
-returns-in_default-2 g c =
+pub returns-in_default-read : goal.returns-in_default-read
+returns-in_default-read g c =
     let m = c.args.machine.now in
     let v = c.in-Some.words.now in
     let top : top_of m.words ≡ Some v = search rules in

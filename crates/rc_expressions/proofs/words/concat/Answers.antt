@@ -11,14 +11,14 @@ use Rattle.rc_configuration.proofs.Stacks.{two_topped}
 use Rattle.rc_scope.specs.States.{state_of}
 use Rattle.rc_expressions.proofs.words.concat.Goals as goal
 
-pub returns-in-Ok : goal.returns-in-Ok
-returns-in-Ok g c =
+pub returns-in_ok-put-in-Ok : goal.returns-in_ok-put-in-Ok
+returns-in_ok-put-in-Ok g c =
     let m = c.args.machine.now in
     let a = c.in-Some.first.now in
     let b = c.in-Some.second.now in
     let two : two_of m.words ≡ Some (a, b) = search rules in
     let joined : concatenated a b ≡ Ok c.in-Ok.joined = search rules in
-    ran_as _ _ _ _ _ (concats (config_of m) a b (below_two m.words) (two_topped m.words a b two) c.in-Ok.joined joined ∙ (let e : c.in-Ok.joined ∷ below_two m.words ≡ c.put_words.new.stack = search rules in ap (λ ws. goes (next (config_of m) ws (state_of m.state))) e))
+    ran_as _ _ _ _ _ (concats (config_of m) a b (below_two m.words) (two_topped m.words a b two) c.in-Ok.joined joined ∙ (let e : c.in-Ok.joined ∷ below_two m.words ≡ c.put.new.self = search rules in ap (λ ws. goes (next (config_of m) ws (state_of m.state))) e))
     (ran_none _ _)
 
 pub returns-in-Err-EmptyConcat : goal.returns-in-Err-EmptyConcat
@@ -39,5 +39,5 @@ returns-in-Err-CountMismatch g c =
     let refused : concatenated a b ≡ Err CountMismatch = search rules in
     steps_as _ _ _ _ _ _ (concats_other (config_of m) a b (below_two m.words) (two_topped m.words a b two) refused) c.fail-in-Err-CountMismatch.ensures
 
-pub returns : goal.returns
-returns g c = left_memory _ _
+pub returns-in-Err-NoMemory : goal.returns-in-Err-NoMemory
+returns-in-Err-NoMemory g c = left_memory _ _

@@ -11,10 +11,10 @@ pub returns-in_err-list : goal.returns-in_err-list
 returns-in_err-list g c = λ s.
     passed_up _ _ _ _ c.from_residual.result c.in_err-list.field-0.0 c.from_residual.ensures.1 (left_do (expanded_word c.args.word.now) (λ ws. pure (word_texts ws)) (c.in_err-list.ensures s))
 
-pub returns-in_err-texts : goal.returns-in_err-texts
-returns-in_err-texts g c = λ s.
-    passed_up _ _ _ _ c.from_residual-in_err-texts.result NoMemory c.from_residual-in_err-texts.ensures.1
+pub returns-in_err-into_texts : goal.returns-in_err-into_texts
+returns-in_err-into_texts g c = λ s.
+    passed_up _ _ _ _ c.from_residual-in_err-into_texts.result NoMemory c.from_residual-in_err-into_texts.ensures.1
     (left_done (expanded_word c.args.word.now) (λ ws. pure (word_texts ws)) (c.in_ok-list.ensures s) (left_memory _ _))
 
 pub returns : goal.returns
-returns g c = λ s. ran_do (expanded_word c.args.word.now) (λ ws. pure (word_texts ws)) (c.in_ok-list.ensures s) (ran_value _ s _ _ c.in_ok-texts.ensures)
+returns g c = λ s. ran_do (expanded_word c.args.word.now) (λ ws. pure (word_texts ws)) (c.in_ok-list.ensures s) (ran_value _ s _ _ c.in_ok-into_texts.ensures)

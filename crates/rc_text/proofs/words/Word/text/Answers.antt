@@ -1,12 +1,15 @@
-use Rattle.std.proofs.Common.{rules, ap, sym, ◌∙◌, ◌++◌, map}
-use Rattle.std.proofs.lemmas.Iterator.{YieldsList-from_slice, YieldsList-from_map}
-use Rattle.std.proofs.lemmas.Iterator.Adapters.{items_from_extend}
-use Rattle.std.specs.Str.{encode_utf8_all}
-use Rattle.rc_text.proofs.Marks.{marks_text, at_ok}
+use Rattle.std.proofs.Common.{ap, sym, subst, map, ℕ, Bool, ◌∙◌}
+use Rattle.std.specs.Str.{chars, IsUtf8}
+use Rattle.rc_model.specs.Syntax.Words.{word_text}
+use Rattle.rc_text.proofs.Marks.{characters_of, text_of_word}
 use Rattle.rc_text.proofs.words.Word.text.Goals as goal
 
-pub returns : goal.returns
-returns c =
-    at_ok c.in_ok-extend.was (items_from_extend _ c.extend.ensures.ran (YieldsList-from_map _ (λ ch. ch.c) (YieldsList-from_slice c.self.inside.0.items cc) c.map.ensures.closure (λ x r q k. search rules)))
-    ∙ ap (λ bs. bs ++ encode_utf8_all (map (λ ch. ch.c) c.self.inside.0.items)) c.in_ok-text.ensures.bytes
-    ∙ ap encode_utf8_all (sym (marks_text c.self.inside.0.items) ∙ ap (map (λ m. m.0)) c.self.view_is)
+pub returns-clause-text : goal.returns-clause-text
+returns-clause-text c =
+    c.as_str.ensures.value
+    ∙ sym (text_of_word _ c.self.inside.marks c.self.invariant (subst IsUtf8 c.as_str.ensures.value c.as_str.utf8))
+    ∙ ap word_text c.self.view_is
+
+pub returns-clause-characters : goal.returns-clause-characters
+returns-clause-characters c =
+    ap chars c.as_str.ensures.value ∙ sym (characters_of _ c.self.inside.marks c.self.invariant) ∙ ap (map (λ (m : ℕ × Bool). m.0)) c.self.view_is

@@ -1,7 +1,0 @@
-use Rattle.std.proofs.Common.{◌≡◌, ◌++◌, take}
-use Rattle.rc_model.specs.Syntax.Words.{unmarked}
-use Rattle.rc_text.specs.Views.{marks}
-use Rattle.rc_text.proofs.lists.push_unmarked.Given as goal
-
-abbrev pub invariant-loop-ch : goal.invariant-loop-ch
-invariant-loop-ch l = l.word ≡ l.fn.word ++ unmarked (marks (take l.ch-index l.chars))
