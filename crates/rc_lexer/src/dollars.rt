@@ -22,7 +22,7 @@ fn begins_dollar_name(c: char) -> bool
     is_name_char(c) || c == '\''
 }
 
-/// Puts the `$`s behind the tokens, as bare ones.
+/// Puts the `$`s after the tokens, as bare ones.
 fn push_as_bare(tokens: &mut Vec<Token>, dollars: &[Token]) -> Result<(), AllocError>
     ensures { OnOk result ((script : List ℕ) → tokens_of script tokens.new.items
         ≡ tokens_of script tokens.old.items ++ reading.bare (tokens_of script dollars.now)) }

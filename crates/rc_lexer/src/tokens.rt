@@ -1,4 +1,4 @@
-//! Tokens that are put behind those that are read so far.
+//! Tokens that are put after those that are read so far.
 
 ghost use Rattle.std.specs.Prelude.{◌≡◌, ℕ, ◌≤◌, List, [], ◌++◌, length, slice_range, OnOk};
 ghost use Rattle.rc_model.specs.Syntax.Tokens as model;
