@@ -14,6 +14,7 @@ use rc_shell::{Ran, ShellFault, execute, execute_image};
 use rc_world::World;
 use std::alloc::Global;
 use std::io::Read;
+use std::mem::forget;
 
 /// Runs what the arguments ask for, with these entries of the environment, and answers the number that the process ends
 /// with. The input is that of the script's file, if it could be opened, or else standard input.
@@ -96,13 +97,18 @@ fn run_image<'a, W: World>(
     ))
 }
 
-/// The answer of the program, by that of the shell.
+/// The answer of the program, by that of the shell. The process ends then, so the memory of the
+/// state is left to the system, which takes it back at once.
 fn answer<'a>(ran: Result<Ran, ShellFault>) -> Result<u8, RunFault<'a>>
     ensures usage { result ≢ Err RunFault.Usage }
     ensures answers { Answers ran result }
 {
     match ran {
-        Ok(Ran::Ended { state }) => Ok(process_status(state.status())),
+        Ok(Ran::Ended { state }) => {
+            let status = process_status(state.status());
+            forget(state);
+            Ok(status)
+        }
         Ok(Ran::Limit) => Err(RunFault::Limit),
         Ok(Ran::Halted) => Err(RunFault::Halted),
         Err(ShellFault::Syntax(fault)) => Err(RunFault::Syntax(fault)),

@@ -8,7 +8,7 @@ ghost use Rattle.rc_scope.specs.States.{state_of};
 use crate::builtins::run_unnamed;
 use rc_builtin::fault;
 use rc_code::{Code, compile};
-use rc_scope::{State, copy_texts};
+use rc_scope::State;
 use rc_world::{Slots, Stop, World};
 use std::alloc::Global;
 
@@ -32,21 +32,19 @@ pub fn run_words<W: World>(
     world: &mut W,
     state: &mut State,
     slots: Slots,
-    words: &[String],
+    mut words: Vec<String>,
 ) -> Result<Outcome, Stop>
     ensures { RunsWords (W.events world.old) (W.events world.new)
-        (run_words slots (map string_bytes words.now) (state_of state.old)) (state_of state.new) result }
+        (run_words slots (map string_bytes words.items) (state_of state.old)) (state_of state.new) result }
 {
-    let Some((name, args)) = words.split_first() else {
+    let Some(name) = words.first() else {
         fault(alloc, world, state, slots, "empty argument list")?;
         return Ok(Outcome::Exit);
     };
     if let Some(body) = state.function(name) {
         let body = compile(alloc, body)?;
-        return Ok(Outcome::Call {
-            args: copy_texts(alloc, args)?,
-            body,
-        });
+        words.remove(0);
+        return Ok(Outcome::Call { args: words, body });
     }
-    run_unnamed(alloc, world, state, slots, words)
+    run_unnamed(alloc, world, state, slots, &words)
 }

@@ -34,40 +34,26 @@ pub fn take_texts(alloc: Global, words: &mut Stack<Word>) -> Result<Vec<String>,
     ensures texts { IfOk result (λ texts. map string_bytes texts.items ≡ word_texts (uppermost words.old)) }
     ensures below { OnOk result (words.new ≡ below_top words.old) }
 {
-    match words.pop()? {
-        Some(list) => into_texts(alloc, list),
-        None => Ok(Vec::new(alloc)),
+    let count = words.top().map_or(0, |list| list.len());
+    let mut texts = Vec::with_capacity(alloc, count)?;
+    while let Some(word) = words.take_last() {
+        texts.push(word.into_text())?;
     }
-}
-
-fn into_texts(alloc: Global, words: Vec<Word>) -> Result<Vec<String>, AllocError>
-    ensures { IfOk result (λ texts. map string_bytes texts.items ≡ word_texts words.items) }
-{
-    words
-        .into_iter()
-        .map(|word| word.into_text())
-        .collect(alloc)
+    words.drop_top();
+    texts.reverse();
+    Ok(texts)
 }
 
 /// Texts as a list of words with no marks, on top of the stack.
-pub fn put_texts(
-    alloc: Global,
-    words: &mut Stack<Word>,
-    texts: Vec<String>,
-) -> Result<(), AllocError>
+#[tactic(auto, using(crate::proofs::Stacks::extends))]
+pub fn put_texts(words: &mut Stack<Word>, texts: Vec<String>) -> Result<(), AllocError>
     ensures { OnOk result (words.new ≡ plain_words (map string_bytes texts.items) ∷ words.old) }
 {
-    let list = plain_words(alloc, texts)?;
-    words.put(list)
-}
-
-fn plain_words(alloc: Global, texts: Vec<String>) -> Result<Vec<Word>, AllocError>
-    ensures { IfOk result (λ words. words.items ≡ plain_words (map string_bytes texts.items)) }
-{
-    texts
-        .into_iter()
-        .map(|text| Word::plain(text))
-        .collect(alloc)
+    words.begin()?;
+    for text in texts {
+        words.push(Word::plain(text))?;
+    }
+    Ok(())
 }
 
 /// A copy of a value as a list of words with no marks, on top of the stack.
@@ -88,8 +74,8 @@ pub fn put_text(words: &mut Stack<Word>, text: String) -> Result<(), AllocError>
     ensures { OnOk result (words.new ≡ plain_words (string_bytes text ∷ []) ∷ words.old) }
 {
     words.begin()?;
-    words.push(Word::plain(text))?;
-    Ok(())
+    let word = Word::plain(text);
+    words.push(word)
 }
 
 /// Whether the byte is a letter, a digit, `_` or `*`.

@@ -32,7 +32,7 @@ pub fn run_command<W: World>(
         world,
         &mut machine.state,
         machine.redirs.slots(),
-        &texts,
+        texts,
     )? {
         Outcome::Finished => {
             machine.place += 1;

@@ -30,7 +30,7 @@ pub fn back<W: World>(
     };
     let slots = machine.redirs.slots();
     let members = backquote(alloc, world, &mut machine.state, slots, body)?;
-    put_texts(alloc, &mut machine.words, members)?;
+    put_texts(&mut machine.words, members)?;
     machine.place += 1;
     Ok(Move::On)
 }

@@ -103,7 +103,7 @@ pub fn select<W: World>(
     };
     let members = rc_text::select(alloc, value, &texts(alloc, subscripts)?)?;
     machine.words.drop_two();
-    put_texts(alloc, &mut machine.words, members)?;
+    put_texts(&mut machine.words, members)?;
     machine.place += 1;
     Ok(Move::On)
 }

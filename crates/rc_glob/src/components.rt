@@ -70,7 +70,9 @@ pub(crate) fn directory(path: &str) -> &str
 pub(crate) fn joined(alloc: Global, path: &str, name: &str) -> Result<String, AllocError>
     ensures { IfOk result (λ whole. string_bytes whole ≡ path.now ++ name.now) }
 {
-    let mut whole = String::from_str(alloc, path)?;
+    let size = path.len().saturating_add(name.len());
+    let mut whole = String::with_capacity(alloc, size)?;
+    whole.push_str(path)?;
     whole.push_str(name)?;
     Ok(whole)
 }

@@ -1,9 +1,9 @@
 //! A stack of lists, over one buffer of elements.
 #![tactic(auto)]
 
-ghost use Rattle.std.specs.Prelude.{◌≡◌, [], ◌∷◌, ◌++◌, length, option_map, OnOk, OnErr, IfOk};
+ghost use Rattle.std.specs.Prelude.{◌≡◌, [], ◌∷◌, ◌++◌, length, option_map, OnOk, OnErr};
 ghost use Rattle.std.specs.Option.{option_copied};
-ghost use Rattle.rc_stack.specs.Lists.{Joins, Extends, IsDropped, top_of, two_of, below_top, below_two};
+ghost use Rattle.rc_stack.specs.Lists.{Joins, Extends, IsDropped, TakesLast, top_of, two_of, below_two};
 
 use std::alloc::{AllocError, Global};
 use std::marker::Model;
@@ -92,15 +92,15 @@ impl<T: Drop> Stack<T> {
         Some((&self.items[*lower..*upper], &self.items[*upper..]))
     }
 
-    /// Takes the list on top off, for its elements.
-    pub fn pop(&mut self) -> Result<Option<Vec<T>>, AllocError>
-        ensures list { IfOk result (λ list. option_map (λ l. l.items) list ≡ top_of self.old) }
-        ensures below { OnOk result (self.new ≡ below_top self.old) }
+    /// Takes the last element of the list on top, if it has one.
+    pub fn take_last(&mut self) -> Option<T>
+        ensures { TakesLast self.old self.new result }
     {
-        let Some(start) = self.starts.pop() else {
-            return Ok(None);
-        };
-        Ok(Some(self.items.split_off(start)?))
+        let start = *self.starts.last()?;
+        if self.items.len() <= start {
+            return None;
+        }
+        self.items.pop()
     }
 
     /// Takes the list on top off.

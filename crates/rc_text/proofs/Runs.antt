@@ -1,23 +1,68 @@
--- The members of a text, as a walk from left to right finds them.
-use Rattle.std.proofs.Common.{◌≡◌, ℕ, suc, Bool, true, false, cond, not, List, [], ◌∷◌, ◌++◌, map, length, refl, sym, ap, ◌∙◌, append_assoc, arith}
+-- The members of a text, cut off one after the other.
+use Rattle.std.proofs.Common.{◌≡◌, ◌<◌, ℕ, Bool, false, true, cond, not, suc, List, [], ◌∷◌, ◌++◌, map, length, take, drop, refl, sym, ap, subst, ◌∙◌, append_assoc, arith}
 use Rattle.std.proofs.lemmas.Bool.{ne_eqb}
-use Rattle.std.proofs.lemmas.List.{append-nil, map-append, length-append}
-use Rattle.std.proofs.lemmas.Str.{encodes-append, length-encode, len_utf8_bounds}
-use Rattle.std.specs.Prelude.{◌==◌, filter}
-use Rattle.std.specs.Char.{encode_utf8}
-use Rattle.std.specs.List.{list_any, slice_split, onto_first}
-use Rattle.std.specs.Str.{chars, encode_utf8_all}
+use Rattle.std.proofs.Math.Seq.{take-append_seam}
+use Rattle.std.proofs.lemmas.List.{append-nil, take-append-drop, length-append}
+use Rattle.std.proofs.lemmas.List.Elements.{All-cons, All-nil}
+use Rattle.std.proofs.lemmas.List.Splits.{slice_split_at, slice_split_none}
+use Rattle.std.proofs.lemmas.Str.{chars-append, chars_from_encodes, chars_past_char, encodes-chars, IsCharBoundary-at_seam, IsUtf8-past_char, IsUtf8-take, length-encode, len_utf8_bounds}
+use Rattle.std.specs.Prelude.{◌==◌, ◌||◌, filter, Option, None}
+use Rattle.std.specs.Char.{char_set_contains, encode_utf8}
+use Rattle.std.specs.List.{All, list_any, slice_split}
+use Rattle.std.specs.Str.{IsUtf8, NoCharPasses, NonePass, chars, encode_utf8_all}
+use Rattle.std.specs.Str.Pattern.{FindsBy, SplitsAroundMatch}
+use Rattle.rc_model.specs.Run.Lists.{split}
 use Rattle.rc_model.specs.Run.Splitting.{is_among}
 use Rattle.rc_text.specs.Members.{EndsMember}
+
+none_list : (p : ℕ → Bool) (cs : List ℕ) → NonePass p cs → All (λ c. p c ≡ false) cs
+none_list p [] h = All-nil (λ c. p c ≡ false)
+none_list p (c ∷ cs) h = All-cons (λ d. p d ≡ false) c cs h.0 (none_list p cs h.1)
+
+-- the characters of a text none of which passes
+none_chars : (p : ℕ → Bool) (text : List ℕ) → IsUtf8 text → NoCharPasses p text → All (λ c. p c ≡ false) (chars text)
+none_chars p text u h = subst (All (λ c. p c ≡ false)) (chars_from_encodes h.0 text u h.1) (none_list p h.0 h.2)
+
+-- what follows the front of a text, and the front itself
+IsUtf8-after : (cs front back : List ℕ) → encode_utf8_all cs ≡ front → IsUtf8 (front ++ back) → IsUtf8 back
+IsUtf8-after [] front back e u = subst (λ t. IsUtf8 (t ++ back)) (sym e) u
+IsUtf8-after (c ∷ cs) front back e u =
+    IsUtf8-after cs (encode_utf8_all cs) back refl
+    (IsUtf8-past_char (front ++ back) (encode_utf8_all cs ++ back) c u (ap (λ t. t ++ back) (sym e) ∙ append_assoc (encode_utf8 c) (encode_utf8_all cs) back))
+
+IsUtf8-before : (text front back : List ℕ) → IsUtf8 text → IsUtf8 back → text ≡ front ++ back → IsUtf8 front
+IsUtf8-before text front back u v e =
+    subst IsUtf8 (ap (take (length front)) e ∙ take-append_seam front back) (IsUtf8-take text (length front) u (IsCharBoundary-at_seam text front back e v))
+
+-- where the first of these characters is, as the kit says it
+abbrev Finds : List ℕ → List ℕ → Option (ℕ × ℕ) → Type 0
+Finds cuts text found = (k : ℕ → Bool) → ((c : ℕ) → char_set_contains cuts c ≡ k c) → FindsBy k text found
+
+-- what follows the first separator
+pub IsUtf8-more : (cuts rest front back : List ℕ) → IsUtf8 rest → SplitsAroundMatch (Finds cuts) rest front back → IsUtf8 back
+IsUtf8-more cuts rest front back u (i, j, found, ef, eb, le, at, total) =
+    let at_first = found (char_set_contains cuts) (λ c. refl) in
+    let c = at_first.1.0 in
+    IsUtf8-past_char (drop i rest) back c
+    (IsUtf8-after at_first.0.0 (take i rest) (drop i rest) at_first.0.1 (subst IsUtf8 (sym (take-append-drop i rest)) u))
+    (at_first.1.2.split ∙ ap (λ t. encode_utf8 c ++ t) (sym eb))
+
+-- whether a list of characters holds one, as the kit and as the definitions ask
+contains_any : (cs : List ℕ) (c : ℕ) → char_set_contains cs c ≡ list_any (λ d. d == c) cs
+contains_any [] c = refl
+contains_any (d ∷ cs) c = ap (λ b. (d == c) || b) (contains_any cs c)
+
+pub among_cuts : (separators cuts all : List ℕ) → cuts ≡ all → all ≡ chars separators → (c : ℕ) → char_set_contains cuts c ≡ is_among separators c
+among_cuts separators cuts all e f c = contains_any cuts c ∙ ap (list_any (λ d. d == c)) (e ∙ f)
+
+pub shorter : (cuts rest front back : List ℕ) → SplitsAroundMatch (Finds cuts) rest front back → length back < length rest
+shorter cuts rest front back (i, j, found, ef, eb, le, at, total) =
+    let among = (found (char_set_contains cuts) (λ c. refl)).1 in
+    omega (arith, total, among.2.ends, (len_utf8_bounds among.0).0)
 
 -- the parts that aren't empty
 abbrev filled : List (List ℕ) → List (List ℕ)
 filled parts = filter (λ run. not (length run == 0)) parts
-
--- the first part begins with these characters
-abbrev led : List ℕ → List (List ℕ) → List (List ℕ)
-led begun [] = begun ∷ []
-led begun (part ∷ parts) = (begun ++ part) ∷ parts
 
 abbrev with_member : List ℕ → List (List ℕ) → List (List ℕ)
 with_member [] others = others
@@ -27,87 +72,53 @@ filled_member : (member : List ℕ) (others : List (List ℕ)) → filled (membe
 filled_member [] others = refl
 filled_member (c ∷ cs) others = ap (λ b. cond (not b) ((c ∷ cs) ∷ filled others) (filled others)) (ne_eqb (suc (length cs)) 0 (λ h. absurd (omega arith)))
 
-led_nothing : (parts : List (List ℕ)) → filled (led [] parts) ≡ filled parts
-led_nothing [] = refl
-led_nothing (part ∷ parts) = refl
-
-led_more : (begun : List ℕ) (c : ℕ) (parts : List (List ℕ)) → led begun (onto_first c parts) ≡ led (begun ++ c ∷ []) parts
-led_more begun c [] = refl
-led_more begun c (part ∷ parts) = ap (λ z. z ∷ parts) (sym (append_assoc begun (c ∷ []) part))
-
-with_member-append : (member : List ℕ) (others : List (List ℕ)) → with_member member others ≡ with_member member [] ++ others
-with_member-append [] others = refl
-with_member-append (c ∷ cs) others = refl
-
 -- a member that has begun has a byte
 no_bytes : (c : ℕ) (rest : List ℕ) → encode_utf8 c ++ rest ≡ [] → ⊥
 no_bytes c rest e = absurd (omega (arith, ap length e, length-append (encode_utf8 c) rest, length-encode c, (len_utf8_bounds c).0))
 
-ended_at : (before after : List (List ℕ)) (member begun : List ℕ) → member ≡ encode_utf8_all begun → EndsMember before member after →
-    after ≡ before ++ map encode_utf8_all (with_member begun [])
-ended_at before after [] [] e h = h ∙ sym (append-nil before)
-ended_at before after [] (c ∷ cs) e h = absurd (no_bytes c (encode_utf8_all cs) (sym e))
-ended_at before after (b ∷ bs) [] e h = cc
-ended_at before after (b ∷ bs) (c ∷ cs) e h = h ∙ ap (λ m. before ++ m ∷ []) e
-
 -- what is still to come after the end of a member
-rest_after : (before after : List (List ℕ)) (member begun : List ℕ) (others : List (List ℕ)) → member ≡ encode_utf8_all begun → EndsMember before member after →
-    after ++ map encode_utf8_all others ≡ before ++ map encode_utf8_all (with_member begun others)
-rest_after before after member begun others e h =
-    ap (λ t. t ++ map encode_utf8_all others) (ended_at before after member begun e h)
-    ∙ append_assoc before (map encode_utf8_all (with_member begun [])) (map encode_utf8_all others)
-    ∙ ap (λ t. before ++ t) (sym (map-append encode_utf8_all (with_member begun []) others) ∙ ap (map encode_utf8_all) (sym (with_member-append begun others)))
+rest_after : (before after : List (List ℕ)) (member cs : List ℕ) (others : List (List ℕ)) → encode_utf8_all cs ≡ member → EndsMember before member after →
+    after ++ map encode_utf8_all others ≡ before ++ map encode_utf8_all (with_member cs others)
+rest_after before after [] [] others e h = ap (λ t. t ++ map encode_utf8_all others) h
+rest_after before after [] (c ∷ cs) others e h = absurd (no_bytes c (encode_utf8_all cs) e)
+rest_after before after (b ∷ bs) [] others e h = cc
+rest_after before after (b ∷ bs) (c ∷ cs) others e h =
+    ap (λ t. t ++ map encode_utf8_all others) h ∙ append_assoc before ((b ∷ bs) ∷ []) (map encode_utf8_all others)
+    ∙ ap (λ m. before ++ m ∷ map encode_utf8_all others) (sym e)
 
--- a character among the separators, as the code asks for it
-pub among_cuts : (separators cuts all : List ℕ) (c : ℕ) (asked answer : Bool) → asked ≡ list_any (λ d. d == c) cuts → cuts ≡ all → all ≡ chars separators → asked ≡ answer →
-    is_among separators c ≡ answer
-among_cuts separators cuts all c asked answer h e f k = sym (h ∙ ap (list_any (λ d. d == c)) (e ∙ f)) ∙ k
+module _ (separators cuts : List ℕ) (are : (c : ℕ) → char_set_contains cuts c ≡ is_among separators c) where
+  abbrev parts : List ℕ → List (List ℕ)
+  parts cs = slice_split (is_among separators) cs
 
-module _ (separators : List ℕ) where
-  -- the members of these characters, the first of which has begun
-  abbrev pub members_from : List ℕ → List ℕ → List (List ℕ)
-  members_from begun cs = filled (led begun (slice_split (is_among separators) cs))
+  -- what follows the first separator is cut in the same way
+  first_cut : (rest front back : List ℕ) (c : ℕ) → IsUtf8 front → IsUtf8 (encode_utf8 c ++ back) → NoCharPasses (is_among separators) front → is_among separators c ≡ true →
+      rest ≡ front ++ (encode_utf8 c ++ back) → split rest separators ≡ map encode_utf8_all (with_member (chars front) (filled (parts (chars back))))
+  first_cut rest front back c u v none among e =
+      ap (λ t. map encode_utf8_all (filled (parts t)))
+      (ap chars e ∙ chars-append front (encode_utf8 c ++ back) u ∙ ap (λ t. chars front ++ t) (chars_past_char (encode_utf8 c ++ back) back c v refl))
+      ∙ ap (λ t. map encode_utf8_all (filled t)) (slice_split_at (is_among separators) (chars front) c (chars back) (none_chars (is_among separators) front u none) among)
+      ∙ ap (map encode_utf8_all) (filled_member (chars front) (parts (chars back)))
 
-  abbrev parts_by : Bool → List ℕ → ℕ → List ℕ → List (List ℕ)
-  parts_by b begun c cs = filled (led begun (cond b ([] ∷ slice_split (is_among separators) cs) (onto_first c (slice_split (is_among separators) cs))))
+  -- the member before the first separator is added to those before it
+  pub cut_step : (text rest front back : List ℕ) (before after : List (List ℕ)) → IsUtf8 rest → SplitsAroundMatch (Finds cuts) rest front back →
+      EndsMember before front after → before ++ split rest separators ≡ split text separators → after ++ split back separators ≡ split text separators
+  cut_step text rest front back before after u (i, j, found, ef, eb, le, at, total) ended so_far =
+      let at_first = found (is_among separators) are in
+      let c = at_first.1.0 in
+      let is_rest : rest ≡ front ++ (encode_utf8 c ++ back) = sym (take-append-drop i rest) ∙ ap (λ t. t ++ drop i rest) (sym ef)
+      ∙ ap (λ t. front ++ t) (at_first.1.2.split ∙ ap (λ t. encode_utf8 c ++ t) (sym eb)) in
+      let none : NoCharPasses (is_among separators) front = subst (NoCharPasses (is_among separators)) (sym ef) at_first.0 in
+      let v = IsUtf8-after none.0 front (encode_utf8 c ++ back) none.1 (subst IsUtf8 is_rest u) in
+      let w = IsUtf8-before rest front (encode_utf8 c ++ back) u v is_rest in
+      rest_after before after front (chars front) (filled (parts (chars back))) (encodes-chars front w) ended
+      ∙ ap (λ t. before ++ t) (sym (first_cut rest front back c w v none at_first.1.1 is_rest))
+      ∙ so_far
 
-  at_separator : (begun : List ℕ) (c : ℕ) (cs : List ℕ) → is_among separators c ≡ true → members_from begun (c ∷ cs) ≡ with_member begun (members_from [] cs)
-  at_separator begun c cs h =
-      ap (λ b. parts_by b begun c cs) h ∙ ap (λ m. filled (m ∷ slice_split (is_among separators) cs)) (append-nil begun)
-      ∙ filled_member begun (slice_split (is_among separators) cs) ∙ ap (with_member begun) (sym (led_nothing (slice_split (is_among separators) cs)))
-
-  at_member : (begun : List ℕ) (c : ℕ) (cs : List ℕ) → is_among separators c ≡ false → members_from begun (c ∷ cs) ≡ members_from (begun ++ c ∷ []) cs
-  at_member begun c cs h = ap (λ b. parts_by b begun c cs) h ∙ ap filled (led_more begun c (slice_split (is_among separators) cs))
-
-  module _ (whole : List (List ℕ)) where
-    -- the members that are complete, the one that has begun, and those of the rest are the members of the whole
-    abbrev pub SoFar : List (List ℕ) → List ℕ → List ℕ → Type 0
-    SoFar members member rest = (begun : List ℕ) × (member ≡ encode_utf8_all begun) × (members ++ map encode_utf8_all (members_from begun rest) ≡ whole)
-
-    pub separator_step : (before after : List (List ℕ)) (member emptied : List ℕ) (c : ℕ) (cs rest : List ℕ) → is_among separators c ≡ true → rest ≡ c ∷ cs →
-        EndsMember before member after → emptied ≡ [] → SoFar before member rest → SoFar after emptied cs
-    separator_step before after member emptied c cs rest among r h m s = (
-      [],
-      m,
-      rest_after before after member s.0 (members_from [] cs) s.1 h
-          ∙ ap (λ t. before ++ map encode_utf8_all t) (sym (at_separator s.0 c cs among))
-          ∙ ap (λ t. before ++ map encode_utf8_all (members_from s.0 t)) (sym r) ∙ s.2,
-    )
-
-    pub member_step : (members : List (List ℕ)) (member longer : List ℕ) (c : ℕ) (cs rest : List ℕ) → is_among separators c ≡ false → rest ≡ c ∷ cs →
-        longer ≡ member ++ encode_utf8 c → SoFar members member rest → SoFar members longer cs
-    member_step members member longer c cs rest apart r m s = (
-      s.0 ++ c ∷ [],
-      m ∙ ap (λ t. t ++ encode_utf8 c) s.1 ∙ sym (encodes-append s.0 (c ∷ []) ∙ ap (λ t. encode_utf8_all s.0 ++ t) (append-nil (encode_utf8 c))),
-      ap (λ t. members ++ map encode_utf8_all t) (sym (at_member s.0 c cs apart))
-          ∙ ap (λ t. members ++ map encode_utf8_all (members_from s.0 t)) (sym r) ∙ s.2,
-    )
-
-    pub last_step : (before after : List (List ℕ)) (member rest : List ℕ) → rest ≡ [] → EndsMember before member after → SoFar before member rest → after ≡ whole
-    last_step before after member rest r h s =
-        ended_at before after member s.0 s.1 h
-        ∙ ap (λ t. before ++ map encode_utf8_all t) (sym (ap (λ m. filled (m ∷ [])) (append-nil s.0) ∙ filled_member s.0 []))
-        ∙ ap (λ t. before ++ map encode_utf8_all (members_from s.0 t)) (sym r) ∙ s.2
-
-  pub whole_text : (cs : List ℕ) → members_from [] cs ≡ filled (slice_split (is_among separators) cs)
-  whole_text cs = led_nothing (slice_split (is_among separators) cs)
+  -- where no separator is left, the rest is the last member
+  pub last_step : (text rest : List ℕ) (before after : List (List ℕ)) → IsUtf8 rest → Finds cuts rest None → EndsMember before rest after →
+      before ++ split rest separators ≡ split text separators → after ≡ split text separators
+  last_step text rest before after u none ended so_far =
+      sym (append-nil after) ∙ rest_after before after rest (chars rest) [] (encodes-chars rest u) ended
+      ∙ ap (λ t. before ++ map encode_utf8_all t) (sym (filled_member (chars rest) []))
+      ∙ ap (λ t. before ++ map encode_utf8_all (filled t)) (sym (slice_split_none (is_among separators) (chars rest) (none_chars (is_among separators) rest u (none (is_among separators) are))))
+      ∙ so_far

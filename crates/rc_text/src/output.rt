@@ -1,13 +1,11 @@
 //! What the output of a command becomes.
-ghost use Rattle.std.specs.Prelude.{◌≡◌, ◌==◌, [], map, string_bytes, IfOk, OnOk};
-ghost use Rattle.std.specs.List.{list_any};
+ghost use Rattle.std.specs.Prelude.{◌≡◌, map, string_bytes, IfOk, OnOk};
 ghost use Rattle.std.specs.Str.{chars};
 ghost use Rattle.rc_model.specs.Run.Acts.{text_of};
 ghost use Rattle.rc_model.specs.Run.Lists.{split};
 ghost use Rattle.rc_text.specs.Members.{EndsMember};
 
 use bstr::ByteSlice;
-use rc_characters::first_char;
 use std::alloc::{AllocError, Global};
 
 /// The bytes but those that are 0 as text, with U+FFFD for what is no UTF-8.
@@ -27,17 +25,12 @@ pub fn split(alloc: Global, text: &str, separators: &str) -> Result<Vec<String>,
 {
     let cuts = characters(alloc, separators)?;
     let mut members = Vec::new(alloc);
-    let mut member = String::new(alloc);
     let mut rest = text;
-    while let Some((c, more)) = first_char(rest) {
-        if is_among(&cuts, c) {
-            end_member(alloc, &mut members, &mut member)?;
-        } else {
-            member.push(c)?;
-        }
+    while let Some((member, more)) = rest.split_once(cuts.as_slice()) {
+        push_member(alloc, &mut members, member)?;
         rest = more;
     }
-    end_member(alloc, &mut members, &mut member)?;
+    push_member(alloc, &mut members, rest)?;
     Ok(members)
 }
 
@@ -47,25 +40,13 @@ fn characters(alloc: Global, text: &str) -> Result<Vec<char>, AllocError>
     text.chars().collect(alloc)
 }
 
-fn is_among(separators: &[char], c: char) -> bool
-    ensures { result ≡ list_any (λ d. d == c) separators.now }
-{
-    separators.iter().any(|d| *d == c)
-}
-
-/// Ends a member, if one has begun.
-fn end_member(
-    alloc: Global,
-    members: &mut Vec<String>,
-    member: &mut String,
-) -> Result<(), AllocError>
-    ensures ended { OnOk result (EndsMember
-        (map string_bytes members.old.items) (string_bytes member.old) (map string_bytes members.new.items)) }
-    ensures cleared { OnOk result (string_bytes member.new ≡ []) }
+/// Adds the member, unless it is empty.
+fn push_member(alloc: Global, members: &mut Vec<String>, member: &str) -> Result<(), AllocError>
+    ensures { OnOk result (EndsMember
+        (map string_bytes members.old.items) member.now (map string_bytes members.new.items)) }
 {
     if !member.is_empty() {
         members.push(String::from_str(alloc, member)?)?;
-        member.clear();
     }
     Ok(())
 }

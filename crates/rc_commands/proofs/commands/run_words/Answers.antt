@@ -13,14 +13,14 @@ use Rattle.rc_commands.proofs.commands.run_words.Goals as goal
 pub returns-in_err-fault : goal.returns-in_err-fault
 returns-in_err-fault g c =
     let s = state_of c.args.state.now in
-    let none : length c.args.words.now ≡ 0 = search rules in
+    let none : length c.args.words.items ≡ 0 = search rules in
     words_left _ _ _ _ c.from_residual.result c.in_err-fault.field-0.0 c.from_residual.ensures.1
-    (left_as _ _ _ _ _ (ap (λ ws. run_words c.args.slots ws s) (no_texts c.args.words.now none))
+    (left_as _ _ _ _ _ (ap (λ ws. run_words c.args.slots ws s) (no_texts c.args.words.items none))
     (left_under _ _ _ (fault c.args.slots (codes "empty argument list") s) (λ x. exits) leaves c.in_err-fault.ensures.does))
 
 pub returns-in_default : goal.returns-in_default
 returns-in_default g c =
     let s = state_of c.args.state.now in
-    let none : length c.args.words.now ≡ 0 = search rules in
-    ran_as _ _ _ _ _ (ap (λ ws. run_words c.args.slots ws s) (no_texts c.args.words.now none))
+    let none : length c.args.words.items ≡ 0 = search rules in
+    ran_as _ _ _ _ _ (ap (λ ws. run_words c.args.slots ws s) (no_texts c.args.words.items none))
     (ran_next _ _ _ (fault c.args.slots (codes "empty argument list") s) tt (state_of c.fault.new.state) (λ x. exits) leaves _ c.in_ok-fault.ensures.does (ran_none _ _))

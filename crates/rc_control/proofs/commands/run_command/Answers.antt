@@ -32,7 +32,7 @@ returns-in_err-run_words g c =
     let rest = c.take_texts.new.words in
     let there : is_none c.top.result ≡ false = search rules in
     let top : top_of m.words ≡ Some v = top_is m.words c.top.result c.top.ensures there in
-    let texts : map string_bytes c.deref.result.now ≡ word_texts v = search rules in
+    let texts : map string_bytes c.in_ok-texts.texts.items ≡ word_texts v = search rules in
     let own : c.slots.result ≡ m.redirs.slots = search rules in
     step_left _ _ _ _ c.from_residual-in_err-run_words.result c.in_err-run_words.field-0.0 c.from_residual-in_err-run_words.ensures.1
     (left_as _ _ _ _ _ (runs_top (config_of m) m.words refl top rest c.in_ok-texts.ensures.below)
@@ -46,20 +46,20 @@ returns-in-Finished g c =
     let rest = c.take_texts.new.words in
     let there : is_none c.top.result ≡ false = search rules in
     let top : top_of m.words ≡ Some v = top_is m.words c.top.result c.top.ensures there in
-    let texts : map string_bytes c.deref.result.now ≡ word_texts v = search rules in
+    let texts : map string_bytes c.in_ok-texts.texts.items ≡ word_texts v = search rules in
     let own : c.slots.result ≡ m.redirs.slots = search rules in
     ran_as _ _ _ _ _ (runs_top (config_of m) m.words refl top rest c.in_ok-texts.ensures.below)
     (ran_next _ _ _ (run_words m.redirs.slots (word_texts v) (state_of m.state)) Finished (state_of c.run_words.new.state) (λ d s. enter (config_of m) rest d s) (unwind (config_of m).scopes) _
     (rw (c.in-Finished.is, texts, own) at c.in_ok-run_words.ensures) (ran_none _ _))
 
-pub returns : goal.returns
-returns g c =
+pub returns-in-Exit : goal.returns-in-Exit
+returns-in-Exit g c =
     let m = c.args.machine.now in
     let v = uppermost m.words in
     let rest = c.take_texts.new.words in
     let there : is_none c.top.result ≡ false = search rules in
     let top : top_of m.words ≡ Some v = top_is m.words c.top.result c.top.ensures there in
-    let texts : map string_bytes c.deref.result.now ≡ word_texts v = search rules in
+    let texts : map string_bytes c.in_ok-texts.texts.items ≡ word_texts v = search rules in
     let own : c.slots.result ≡ m.redirs.slots = search rules in
     let t = state_of c.run_words.new.state in
     let before = g.W.World.events c.args.world.now in
@@ -71,14 +71,14 @@ returns g c =
     (rw (c.in-Exit.is, texts, own) at c.in_ok-run_words.ensures) (ran_none after left)))
     c.unwind.ensures
 
-pub returns-in-Body : goal.returns-in-Body
-returns-in-Body g c =
+pub returns-in_ok-enter-in-Body : goal.returns-in_ok-enter-in-Body
+returns-in_ok-enter-in-Body g c =
     let m = c.args.machine.now in
     let v = uppermost m.words in
     let rest = c.take_texts.new.words in
     let there : is_none c.top.result ≡ false = search rules in
     let top : top_of m.words ≡ Some v = top_is m.words c.top.result c.top.ensures there in
-    let texts : map string_bytes c.deref.result.now ≡ word_texts v = search rules in
+    let texts : map string_bytes c.in_ok-texts.texts.items ≡ word_texts v = search rules in
     let own : c.slots.result ≡ m.redirs.slots = search rules in
     let f = rw (c.in-Body.is, texts, own) at c.in_ok-run_words.ensures in
     let t = state_of c.run_words.new.state in
@@ -98,7 +98,7 @@ returns-in_err-enter-in-Body g c =
     let rest = c.take_texts.new.words in
     let there : is_none c.top.result ≡ false = search rules in
     let top : top_of m.words ≡ Some v = top_is m.words c.top.result c.top.ensures there in
-    let texts : map string_bytes c.deref.result.now ≡ word_texts v = search rules in
+    let texts : map string_bytes c.in_ok-texts.texts.items ≡ word_texts v = search rules in
     let own : c.slots.result ≡ m.redirs.slots = search rules in
     let f = rw (c.in-Body.is, texts, own) at c.in_ok-run_words.ensures in
     step_left _ _ _ _ c.from_residual-in_err-enter-in-Body.result NoMemory c.from_residual-in_err-enter-in-Body.ensures.1
@@ -106,14 +106,14 @@ returns-in_err-enter-in-Body g c =
     (ran_next _ _ _ (run_words m.redirs.slots (word_texts v) (state_of m.state)) (Body f.0) (state_of c.run_words.new.state) (λ x s. enter (config_of m) rest x s)
     (unwind (config_of m).scopes) _ f.2 (ran_none _ _))))
 
-pub returns-in-Call : goal.returns-in-Call
-returns-in-Call g c =
+pub returns-in_ok-call-in-Call : goal.returns-in_ok-call-in-Call
+returns-in_ok-call-in-Call g c =
     let m = c.args.machine.now in
     let v = uppermost m.words in
     let rest = c.take_texts.new.words in
     let there : is_none c.top.result ≡ false = search rules in
     let top : top_of m.words ≡ Some v = top_is m.words c.top.result c.top.ensures there in
-    let texts : map string_bytes c.deref.result.now ≡ word_texts v = search rules in
+    let texts : map string_bytes c.in_ok-texts.texts.items ≡ word_texts v = search rules in
     let own : c.slots.result ≡ m.redirs.slots = search rules in
     let f = rw (c.in-Call.is, texts, own) at c.in_ok-run_words.ensures in
     let t = state_of c.run_words.new.state in
@@ -134,7 +134,7 @@ returns-in_err-call-in-Call g c =
     let rest = c.take_texts.new.words in
     let there : is_none c.top.result ≡ false = search rules in
     let top : top_of m.words ≡ Some v = top_is m.words c.top.result c.top.ensures there in
-    let texts : map string_bytes c.deref.result.now ≡ word_texts v = search rules in
+    let texts : map string_bytes c.in_ok-texts.texts.items ≡ word_texts v = search rules in
     let own : c.slots.result ≡ m.redirs.slots = search rules in
     let f = rw (c.in-Call.is, texts, own) at c.in_ok-run_words.ensures in
     let args = map string_bytes c.in-Call.args.items in

@@ -1,4 +1,4 @@
-use Rattle.std.proofs.Common.{arith, length, reverse}
+use Rattle.std.proofs.Common.{arith, reverse}
 use Rattle.std.proofs.lemmas.List.{length-reverse}
 use Rattle.rc_stack.proofs.Places.{not_joined, popped, popped_starts}
 use Rattle.rc_stack.proofs.Stack.join.Goals as goal
