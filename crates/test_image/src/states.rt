@@ -28,8 +28,8 @@ fn add_tree(alloc: Global, out: &mut String, name: &str, tree: &Cmd) -> Result<(
 
 /// Adds the variables of a state, its status, and whether it is strict.
 fn add_values(out: &mut String, state: &State) -> Result<(), AllocError> {
-    for variable in &state.bindings()? {
-        write!(out, "{}={:?}\n", variable.name, variable.value)?;
+    for name in &state.variables()? {
+        write!(out, "{name}={:?}\n", state.get(name)?)?;
     }
     write!(out, "status={:?}\n", state.status())?;
     out.push_str(if state.strict() { "strict\n" } else { "" })

@@ -1,7 +1,7 @@
 //! The runs in which the shell starts itself: subshells, pipelines, jobs and backquotes.
 
 /// Each run: what it shows, its arguments, and its input.
-pub const CHILDREN: [(&str, &[&str], &[u8]); 17] = [
+pub const CHILDREN: [(&str, &[&str], &[u8]); 18] = [
     ("a subshell", &["-c", "@{echo hi}"], b""),
     (
         "what a subshell sees",
@@ -40,14 +40,22 @@ pub const CHILDREN: [(&str, &[&str], &[u8]); 17] = [
         b"",
     ),
     (
-        "a pipeline whose reader ends first",
+        "a program whose reader ends first",
         &["-c", "yes | head -1; yes | ~ a a; echo ended"],
+        b"",
+    ),
+    (
+        "a writer into a closed pipe",
+        &[
+            "-c",
+            "{sleep 0.2; whatis cd; echo $status >[1=2]} | ~ a a; echo $status",
+        ],
         b"",
     ),
     ("sixty-four stages", &["stages.rc"], b""),
     (
         "10 MB through three stages",
-        &["-c", "head -c 10000000 /dev/zero | cat | cat | wc -c"],
+        &["-c", "seq 2000000 | head -c 10000000 | cat | cat | cksum"],
         b"",
     ),
     ("pipelines and backquotes in loops", &["pipes.rc"], b""),

@@ -130,6 +130,22 @@ fn out_of_memory_among_redirections_is_reported(rt: HostRuntime) -> Result<(), F
     }
 }
 
+/// To be run with each allocation refused in turn. An `Err` says that one was.
+#[test]
+fn out_of_memory_among_lists_is_reported(rt: HostRuntime) -> Result<(), Fail> {
+    let alloc = rt.alloc();
+    let mut tape = Tape::new(Vec::new(alloc));
+    let script = b"y=(a b c d e f g h i)^(1 2 3 4 5 6 7 8 9); status=($y(2 3-4) $#y); exit $y(1)^$\"y";
+    match execute(alloc, &mut tape, script.as_slice(), State::new(alloc), 200) {
+        Err(ShellFault::NoMemory) => Err(Fail::from(AllocError)),
+        Ok(Ran::Ended { state }) => {
+            assert_eq!(rt; state.status(), "a1a1 b2 c3 d4 e5 f6 g7 h8 i9");
+            Ok(())
+        }
+        _ => Err(Fail::from("another end")),
+    }
+}
+
 /// The answers to a pipeline, a job and the wait for it, a backquote, and a file with a subshell.
 fn answers_to_children(alloc: Global) -> Result<Vec<Answer>, AllocError> {
     let answers = vec![in alloc;

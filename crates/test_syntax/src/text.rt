@@ -1,11 +1,47 @@
-//! A text in quotes where memory is refused.
+//! A text in quotes, and lists that are joined, where memory is refused.
 
-use rc_text::quote;
+use rc_text::{ConcatError, List, Word, concat, count, quote};
+use std::alloc::{AllocError, Global};
 use std::test::Fail;
 
 #[test]
 fn out_of_memory_is_reported(rt: HostRuntime) -> Result<(), Fail> {
     let quoted = quote(rt.alloc(), "it's a long text")?;
     assert_eq!(rt; quoted.as_str(), "'it''s a long text'");
+    Ok(())
+}
+
+/// The texts as a list of quoted words.
+fn list_of(alloc: Global, texts: &[&str]) -> Result<List, AllocError> {
+    let mut list = List::new(alloc);
+    for text in texts {
+        list.push(Word::written(alloc, text, true)?)?;
+    }
+    Ok(list)
+}
+
+/// The number of words of two lists that are joined, and the text of the last.
+fn joined(alloc: Global, left: &List, right: &List) -> Result<(usize, String), Fail> {
+    match concat(alloc, left, right) {
+        Ok(list) => {
+            let last = list.words().last().map_or("", |word| word.text());
+            Ok((count(&list), String::from_str(alloc, last)?))
+        }
+        Err(ConcatError::NoMemory) => Err(Fail::from(AllocError)),
+        Err(_) => Err(Fail::from("lists that join")),
+    }
+}
+
+#[test]
+fn out_of_memory_among_lists_is_reported(rt: HostRuntime) -> Result<(), Fail> {
+    let alloc = rt.alloc();
+    let letters = list_of(alloc, &["a", "b", "c", "d", "e", "f", "g", "h", "i"])?;
+    let numbers = list_of(alloc, &["1", "2", "3", "4", "5", "6", "7", "8", "9"])?;
+    let (number, last) = joined(alloc, &letters, &numbers)?;
+    assert_eq!(rt; number, 9);
+    assert_eq!(rt; last.as_str(), "i9");
+    let (number, last) = joined(alloc, &List::new(alloc), &List::new(alloc))?;
+    assert_eq!(rt; number, 0);
+    assert_eq!(rt; last.as_str(), "");
     Ok(())
 }
