@@ -99,8 +99,7 @@ pub fn find_program<W: World>(
     if name.is_empty() {
         return Ok(None);
     }
-    let dirs = state.get("path")?;
-    first_program(alloc, world, state, name, &dirs)
+    first_program(alloc, world, state, name, state.value("path"))
 }
 
 /// The status by which a child ended; `None` where it could not be waited for.

@@ -7,8 +7,7 @@ ghost use Rattle.rc_configuration.specs.Configs.{config_of};
 ghost use Rattle.rc_configuration.specs.Outcomes.{Steps};
 
 use rc_configuration::{
-    Configuration, Move, Scope, put_text, put_texts, put_value, read, take_texts, texts,
-    variable_name,
+    Configuration, Move, Scope, put_text, put_texts, put_value, read, take_texts, variable_name,
 };
 use rc_world::{Stop, World};
 use std::alloc::Global;
@@ -95,14 +94,15 @@ pub fn select<W: World>(
     ensures { Steps (W.events world.old) (W.events world.new)
         (act (Some op.Select) (config_of machine.old)) (config_of machine.new) result }
 {
-    let Some((words, subscripts)) = machine.words.top_two() else {
+    let Some((words, _)) = machine.words.top_two() else {
         return Ok(Move::Ended);
     };
     let Some(value) = read(&machine.state, words) else {
         return machine.fail(alloc, world, "bad name");
     };
-    let members = rc_text::select(alloc, value, &texts(alloc, subscripts)?)?;
-    machine.words.drop_two();
+    let subscripts = take_texts(alloc, &mut machine.words)?;
+    let members = rc_text::select(alloc, value, &subscripts)?;
+    machine.words.drop_top();
     put_texts(&mut machine.words, members)?;
     machine.place += 1;
     Ok(Move::On)
@@ -122,12 +122,17 @@ pub fn assign<W: World>(
     let Some((words, _)) = machine.words.top_two() else {
         return Ok(Move::Ended);
     };
-    let Some(name) = variable_name(words) else {
+    let Some(_) = variable_name(words) else {
         return machine.fail(alloc, world, "bad name");
     };
-    let name = String::from_str(alloc, name)?;
     let value = take_texts(alloc, &mut machine.words)?;
-    machine.state.set(&name, value).map_err(|_| Stop::NoMemory)?;
+    let Some(words) = machine.words.top() else {
+        return Ok(Move::Ended);
+    };
+    let Some(name) = variable_name(words) else {
+        return Ok(Move::Ended);
+    };
+    machine.state.set(name, value).map_err(|_| Stop::NoMemory)?;
     machine.words.drop_top();
     machine.place += 1;
     Ok(Move::On)
@@ -147,14 +152,19 @@ pub fn local<W: World>(
     let Some((words, _)) = machine.words.top_two() else {
         return Ok(Move::Ended);
     };
-    let Some(name) = variable_name(words) else {
+    let Some(_) = variable_name(words) else {
         return machine.fail(alloc, world, "bad name");
     };
-    let name = String::from_str(alloc, name)?;
     let value = take_texts(alloc, &mut machine.words)?;
+    let Some(words) = machine.words.top() else {
+        return Ok(Move::Ended);
+    };
+    let Some(name) = variable_name(words) else {
+        return Ok(Move::Ended);
+    };
     machine
         .state
-        .push_local(&name, value)
+        .push_local(name, value)
         .map_err(|_| Stop::NoMemory)?;
     machine.scopes.open(Scope::Local)?;
     machine.words.drop_top();

@@ -9,6 +9,7 @@ use Rattle.law_patterns.proofs.Going.{greedy_from-is}
 use Rattle.law_patterns.proofs.Steps.{after_one-shorter, some_same}
 use Rattle.rc_text.specs.declared.words.Ch.{Ch}
 use Rattle.rc_text.specs.Views.{marks}
+use Rattle.std.specs.List.{list_all}
 
 -- ** which move it is
 
@@ -98,6 +99,21 @@ no_further e a w t s bw c bt more q h k may g =
     ∙ ap (λ z. goes_back (greedy_from n.0 e) e z bw bt) (sym h)
     ∙ n.1
     )
+
+-- a star at the end of the word stands for all that is left, if it may
+last_by : (e a : Bool) (c : ℕ) (cs : List ℕ) (may : Bool) → stands_for e c ≡ may → (Going e a [] cs true [] cs → list_all (λ d. stands_for e d) cs ≡ a)
+    → Going e a [] (c ∷ cs) true [] (c ∷ cs) → (may && list_all (λ d. stands_for e d) cs) ≡ a
+last_by e a c cs true h rest g = rest (going_back e a [] (c ∷ cs) true [] c (c ∷ cs) cs refl refl refl h g)
+last_by e a c cs false h rest g = no_further e a [] (c ∷ cs) true [] c (c ∷ cs) cs refl refl refl h g
+
+going_last : (e a : Bool) (t : List ℕ) → Going e a [] t true [] t → list_all (λ c. stands_for e c) t ≡ a
+going_last e a [] g = going_end e a [] [] true [] [] refl g
+going_last e a (c ∷ cs) g = last_by e a c cs (stands_for e c) refl (going_last e a cs) g
+
+pub going_last_star : (e a : Bool) (w : Word) (v : List Ch) (t : List ℕ) (s : Bool) (bw : Word) (bt : List ℕ) → move e w t ≡ PastStar (marks v) → length v ≡ 0 →
+    Going e a w t s bw bt → list_all (λ c. stands_for e c) t ≡ a
+going_last_star e a w [] t s bw bt q z g = going_last e a t (going_star e a w [] t s bw bt q g)
+going_last_star e a w (c ∷ cs) t s bw bt q z g = absurd (omega (arith, z))
 
 -- ** the measure of a match
 

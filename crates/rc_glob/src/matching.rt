@@ -1,6 +1,6 @@
 //! Which texts a word matches: from left to right, with one star to go back to.
 ghost use Rattle.std.specs.Prelude.{◌≡◌, false, map, option_map};
-ghost use Rattle.std.specs.List.{list_any};
+ghost use Rattle.std.specs.List.{list_all, list_any};
 ghost use Rattle.std.specs.Str.{chars};
 ghost use Rattle.rc_model.specs.Run.Patterns.{is_dots, matched, matches, Outside, parts_from, parts_match, stands_for};
 ghost use Rattle.rc_model.specs.Mirrors.Greedy.{after_one, after_star, move};
@@ -89,6 +89,13 @@ fn next_move<'a>(explicit: bool, word: &'a [Ch], text: &'a str) -> Move<'a>
     }
 }
 
+/// Whether a star may stand for the whole text.
+fn star_stands_for(explicit: bool, text: &str) -> bool
+    ensures { result ≡ list_all (λ c. stands_for explicit c) (chars text.now) }
+{
+    text.chars().all(|c| stands_for(explicit, c))
+}
+
 /// Whether the whole word stands for the whole text.
 fn fits(whole: &[Ch], text: &str, explicit: bool) -> bool
     ensures { result ≡ parts_match explicit (parts_from Outside (marks whole.now)) (chars text.now) }
@@ -101,6 +108,9 @@ fn fits(whole: &[Ch], text: &str, explicit: bool) -> bool
     'moves: loop {
         match next_move(explicit, word, rest) {
             Move::PastStar(after) => {
+                if after.is_empty() {
+                    return star_stands_for(explicit, rest);
+                }
                 has_star = true;
                 star_word = after;
                 star_text = rest;

@@ -63,6 +63,10 @@ impl List {
         ensures ok { OnOk result (self.new ≡ self.old ++ other) }
         ensures err { OnErr result (self.new ≡ self.old) }
     {
+        if self.0.is_empty() {
+            self.0 = other.0;
+            return Ok(());
+        }
         self.0.append(&mut other.0)
     }
 

@@ -13,8 +13,12 @@ use std::alloc::{AllocError, Global};
 pub fn lossy(alloc: Global, bytes: &[u8]) -> Result<String, AllocError>
     ensures { IfOk result (λ text. string_bytes text ≡ text_of bytes.now) }
 {
-    let kept: Vec<u8> = bytes.iter().copied().filter(|b| *b != 0).collect(alloc)?;
     let mut text = String::new(alloc);
+    if !bytes.contains(&0) {
+        bytes.to_str_lossy_into(&mut text)?;
+        return Ok(text);
+    }
+    let kept: Vec<u8> = bytes.iter().copied().filter(|b| *b != 0).collect(alloc)?;
     kept.as_slice().to_str_lossy_into(&mut text)?;
     Ok(text)
 }

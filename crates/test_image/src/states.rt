@@ -2,9 +2,10 @@
 //!
 //! - `entry x=a`: an entry of the environment;
 //! - `image`, each `word rc1;e` that a shell is handed, and `strict`: what is shown is the tree and the state;
-//! - or else each argument `arg a`, and `own` where a shell of the same kind hands over the entries; then, in the order of
-//!   the lines, `set x a b` and `local x a b`, which is undone by `unlocal`, and `strict`. What is shown is the state;
-//!   with `tree rc1;e`, the launch of a shell that is to run this; with `entries`, the entries of that state.
+//! - or else each argument `arg a`, and `own` where a shell of the same kind hands over the entries;
+//!   then, in the order of the lines, `set x a b` and `local x a b`, which is undone by `unlocal`, and
+//!   `strict`. What is shown is the state; with `tree rc1;e`, the launch of a shell that is to run
+//!   this; with `entries`, the entries of that state.
 
 use crate::fault::RowFault;
 use crate::images::tree_of;
@@ -38,6 +39,9 @@ fn add_values(out: &mut String, state: &State) -> Result<(), AllocError> {
 /// Adds a state.
 fn add_state(alloc: Global, out: &mut String, state: &State) -> Result<(), RowFault> {
     add_values(out, state)?;
+    if !state.has_functions() {
+        return Ok(());
+    }
     for name in &state.functions()? {
         if let Some(body) = state.function(name) {
             add_tree(alloc, out, name, body)?;

@@ -135,7 +135,8 @@ fn out_of_memory_among_redirections_is_reported(rt: HostRuntime) -> Result<(), F
 fn out_of_memory_among_lists_is_reported(rt: HostRuntime) -> Result<(), Fail> {
     let alloc = rt.alloc();
     let mut tape = Tape::new(Vec::new(alloc));
-    let script = b"y=(a b c d e f g h i)^(1 2 3 4 5 6 7 8 9); status=($y(2 3-4) $#y); exit $y(1)^$\"y";
+    let script =
+        b"y=(a b c d e f g h i)^(1 2 3 4 5 6 7 8 9); status=($y(2 3-4) $#y); exit $y(1)^$\"y";
     match execute(alloc, &mut tape, script.as_slice(), State::new(alloc), 200) {
         Err(ShellFault::NoMemory) => Err(Fail::from(AllocError)),
         Ok(Ran::Ended { state }) => {

@@ -5,6 +5,3 @@ use Rattle.rc_builtin.proofs.programs.find_program.Goals as goal
 
 pub returns-in_err-from_str : goal.returns-in_err-from_str
 returns-in_err-from_str g c = passed_up _ _ _ _ c.from_residual.result NoMemory c.from_residual.ensures.1 (left_here _ _ _ _ (ran_none _ _))
-
-pub returns-in_err-dirs : goal.returns-in_err-dirs
-returns-in_err-dirs g c = passed_up _ _ _ _ c.from_residual-in_err-dirs.result NoMemory c.from_residual-in_err-dirs.ensures.1 (left_here _ _ _ _ (ran_none _ _))

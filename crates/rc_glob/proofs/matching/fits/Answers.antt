@@ -1,7 +1,7 @@
-use Rattle.std.proofs.Common.{rules, arith, sym}
+use Rattle.std.proofs.Common.{rules, arith, sym, ◌∙◌}
 use Rattle.rc_text.specs.Views.{marks}
 use Rattle.std.specs.Str.{chars}
-use Rattle.rc_glob.proofs.Moves.{going_start, going_star, going_one, going_end, going_back}
+use Rattle.rc_glob.proofs.Moves.{going_start, going_star, going_one, going_end, going_back, going_last_star}
 use Rattle.rc_glob.proofs.matching.fits.Goals as goal
 
 pub moves-init : goal.moves-init
@@ -13,6 +13,10 @@ moves-init c = record {
   rest_utf8 = c.utf8.text;
   star_utf8 = c.utf8.text;
 }
+
+pub returns-then-is_empty : goal.returns-then-is_empty
+returns-then-is_empty c =
+    c.star_stands_for.ensures ∙ going_last_star _ _ _ c.in-PastStar.after.now _ _ _ _ (sym c.in-PastStar.ensures.next) (search rules) c.moves.invariant.going
 
 pub moves-preserved-in-PastStar : goal.moves-preserved-in-PastStar
 moves-preserved-in-PastStar c = record {
