@@ -55,7 +55,7 @@ pub const CHILDREN: [(&str, &[&str], &[u8]); 18] = [
     ("sixty-four stages", &["stages.rc"], b""),
     (
         "10 MB through three stages",
-        &["-c", "seq 2000000 | head -c 10000000 | cat | cat | cksum"],
+        &["-c", "seq 1500000 | cat | cat | cksum"],
         b"",
     ),
     ("pipelines and backquotes in loops", &["pipes.rc"], b""),
