@@ -28,12 +28,12 @@ whole_at zero (b ∷ bs) h = by (cases_lt b 128)
     by (inr l) = let m : 192 ≤ b = h (omega arith) l in grind (arith, nat_tests, m)
 whole_at (suc n) (b ∷ bs) h = whole_at n bs (λ l m. h (omega arith) m)
 
-cut_back : (n : ℕ) (text : List ℕ) → can_cut n text ≡ true → IsCharBoundary text n
+pub cut_back : (n : ℕ) (text : List ℕ) → can_cut n text ≡ true → IsCharBoundary text n
 cut_back n text h =
     let k = and_parts (nat_le n (length text)) (begins_whole (drop n text)) h in
     (leb-true n (length text) k.0, lead_at n text k.1)
 
-cut_here : (n : ℕ) (text : List ℕ) → IsCharBoundary text n → can_cut n text ≡ true
+pub cut_here : (n : ℕ) (text : List ℕ) → IsCharBoundary text n → can_cut n text ≡ true
 cut_here n text h = and_from (nat_le n (length text)) _ (le-leb n (length text) h.0) (whole_at n text h.1)
 
 -- the last place is found

@@ -1,45 +1,22 @@
 -- The pieces of a spelling, and its words.
-use Rattle.std.proofs.Common.{◌≡◌, refl, ap, sym, subst, ◌∙◌, ℕ, zero, suc, ◌<◌, ◌≤◌, ◌⊎◌, inl, inr, Bool, true, false, if◌then◌else◌, List, [], ◌∷◌, ◌++◌, length, take, drop, get_or, map, codes, nat_le, Option, Some, None, arith, append_assoc, string_bytes}
+use Rattle.std.proofs.Common.{◌≡◌, refl, ap, sym, subst, ◌∙◌, ℕ, zero, suc, ◌<◌, ◌≤◌, ◌⊎◌, inl, inr, Bool, true, false, if◌then◌else◌, List, [], ◌∷◌, ◌++◌, length, take, drop, map, codes, nat_le, Option, Some, None, arith, append_assoc, string_bytes}
 use Rattle.std.specs.Prelude.{option_map}
 use Rattle.std.specs.Str.{IsCharBoundary}
 use Rattle.std.specs.Fmt.{decimal}
 use Rattle.std.specs.declared.alloc.Global.{Global}
 use Rattle.std.specs.declared.string.String.{String}
 use Rattle.std.proofs.lemmas.List.{append-nil, length-map}
-use Rattle.std.proofs.lemmas.Bool.{and_parts, and_from, le-leb, leb-true, cases_lt, false≢true}
-use Rattle.std.proofs.lemmas.Bool.Decides.{nat_tests}
+use Rattle.std.proofs.lemmas.Bool.{le-leb, cases_lt, false≢true}
 use Rattle.std.proofs.lemmas.Grind.{common_steps}
 use Rattle.rc_model.specs.Syntax.Tree.{Node, cmd}
-use Rattle.rc_model.specs.Handed.Pieces.{longest_word, most_pieces, one_word, several_words, begins_whole, can_cut, last_cut, pieces, words_of}
+use Rattle.rc_model.specs.Handed.Pieces.{longest_word, most_pieces, one_word, several_words, can_cut, last_cut, pieces, words_of}
 use Rattle.rc_model.specs.Handed.Image.{image_words, node_image}
+use Rattle.law_image.proofs.Cuts.{cut_back, cut_here}
 use Rattle.rc_image.specs.declared.fault.ImageFault.{ImageFault}
 use Rattle.rc_image.specs.declared.fault.ImageFault.TheVariants as f
 use Rattle.rc_image.specs.Images.{Refuses, written}
 
 -- ** where a text can be cut
-
-lead_at : (n : ℕ) (text : List ℕ) → begins_whole (drop n text) ≡ true → n < length text → 128 ≤ get_or text n 0 → 192 ≤ get_or text n 0
-lead_at n [] h l m = absurd (omega arith)
-lead_at zero (b ∷ bs) h l m = grind (arith, nat_tests, h, m)
-lead_at (suc n) (b ∷ bs) h l m = lead_at n bs h (omega arith) m
-
-whole_at : (n : ℕ) (text : List ℕ) → (n < length text → 128 ≤ get_or text n 0 → 192 ≤ get_or text n 0) → begins_whole (drop n text) ≡ true
-whole_at zero [] h = refl
-whole_at (suc n) [] h = refl
-whole_at zero (b ∷ bs) h = by (cases_lt b 128)
-  where
-    by : (b < 128) ⊎ (128 ≤ b) → begins_whole (b ∷ bs) ≡ true
-    by (inl l) = grind (arith, nat_tests, l)
-    by (inr l) = let m : 192 ≤ b = h (omega arith) l in grind (arith, nat_tests, m)
-whole_at (suc n) (b ∷ bs) h = whole_at n bs (λ l m. h (omega arith) m)
-
-cut_back : (n : ℕ) (text : List ℕ) → can_cut n text ≡ true → IsCharBoundary text n
-cut_back n text h =
-    let k = and_parts (nat_le n (length text)) (begins_whole (drop n text)) h in
-    (leb-true n (length text) k.0, lead_at n text k.1)
-
-cut_here : (n : ℕ) (text : List ℕ) → IsCharBoundary text n → can_cut n text ≡ true
-cut_here n text h = and_from (nat_le n (length text)) _ (le-leb n (length text) h.0) (whole_at n text h.1)
 
 -- a place after which no other is a place
 abbrev IsLast : ℕ → List ℕ → ℕ → Type 0
