@@ -173,29 +173,39 @@ const ARGUMENTS: [(&str, &[&str], &[u8]); 43] = [
     ),
 ];
 
-/// Starts the shell with an argument that isn't UTF-8.
-const NO_TEXT: &str = "exec \"$0\" rc -c 'echo a' \"$(printf '\\377')\"";
-
-/// Starts the shell with variables of the environment, one of which isn't UTF-8.
-const ENVIRONMENT: &str = "HOME=/h x=a y=\"$(printf '\\377')\" exec \"$0\" rc";
-
-/// What these variables are to a script.
-const GIVEN: &[u8] = b"echo $x $home $#y $path $#*";
-
-/// Starts the shell with an image, in a strict shell.
-const IMAGE: &str =
-    "path=/bin exec \"$0\" rc -e -S 'rc1;s2,;c3,w4:echo#w3:ifs$w1:*;c1,w5:false' p q";
-
-/// Starts the shell without a descriptor 2.
-const NO_ERRORS: &str = "exec \"$0\" rc 2>&-";
-
-/// What descriptor 2 is to a child of the shell, and that no file of a script takes its place.
-const PROBE_ERRORS: &[u8] = b"sh probes_errors.sh; nope; nope >made; wc -c made; rm made";
-
-/// Starts the shell without a descriptor 0 or 1.
-const NO_INPUT: &str = "exec \"$0\" rc -c '{cat; echo read} >made; cat made; rm made' 0<&-";
-
-const NO_OUTPUT: &str = "exec \"$0\" rc 1>&-";
+/// Each run of a shell that another one starts: what it shows, the text of that one, and what the shell reads.
+const THROUGH_SH: [(&str, &str, &[u8]); 6] = [
+    (
+        "an argument that isn't UTF-8",
+        "exec \"$0\" rc -c 'echo a' \"$(printf '\\377')\"",
+        b"",
+    ),
+    (
+        "the environment",
+        "HOME=/h x=a y=\"$(printf '\\377')\" exec \"$0\" rc",
+        b"echo $x $home $#y $path $#*",
+    ),
+    (
+        "an image",
+        "path=/bin exec \"$0\" rc -e -S 'rc1;s2,;c3,w4:echo#w3:ifs$w1:*;c1,w5:false' p q",
+        b"",
+    ),
+    (
+        "descriptor 2 closed at the start",
+        "exec \"$0\" rc 2>&-",
+        b"sh probes_errors.sh; nope; nope >made; wc -c made; rm made",
+    ),
+    (
+        "descriptor 0 closed at the start",
+        "exec \"$0\" rc -c '{cat; echo read} >made; cat made; rm made' 0<&-",
+        b"",
+    ),
+    (
+        "descriptor 1 closed at the start",
+        "exec \"$0\" rc 1>&-",
+        b"echo a; nope; {whatis cd} >[2]made; wc -c made >[1=2]; rm made",
+    ),
+];
 
 /// Shows each run: its status, what it wrote to descriptor 1, and what to descriptor 2.
 pub fn show_all<R: Print + Files<File = File> + Processes + AllocGlobal>(
@@ -207,39 +217,10 @@ pub fn show_all<R: Print + Files<File = File> + Processes + AllocGlobal>(
     }
     show_each(rt, &ARGUMENTS)?;
     show_each(rt, &CHILDREN)?;
-    let no_text = through_sh(rt.alloc(), NO_TEXT, own_path)?;
-    show(
-        rt,
-        "an argument that isn't UTF-8",
-        &with_text(rt, no_text, b"", 1)?,
-    )?;
-    let given = through_sh(rt.alloc(), ENVIRONMENT, own_path)?;
-    show(rt, "the environment", &with_text(rt, given, GIVEN, 1)?)?;
-    let handed = through_sh(rt.alloc(), IMAGE, own_path)?;
-    show(rt, "an image", &with_text(rt, handed, b"", 1)?)?;
-    let closed = through_sh(rt.alloc(), NO_ERRORS, own_path)?;
-    show(
-        rt,
-        "descriptor 2 closed at the start",
-        &with_text(rt, closed, PROBE_ERRORS, 1)?,
-    )?;
-    let closed = through_sh(rt.alloc(), NO_INPUT, own_path)?;
-    show(
-        rt,
-        "descriptor 0 closed at the start",
-        &with_text(rt, closed, b"", 1)?,
-    )?;
-    let closed = through_sh(rt.alloc(), NO_OUTPUT, own_path)?;
-    show(
-        rt,
-        "descriptor 1 closed at the start",
-        &with_text(
-            rt,
-            closed,
-            b"echo a; nope; {whatis cd} >[2]made; wc -c made >[1=2]; rm made",
-            1,
-        )?,
-    )?;
+    for (what, text, input) in THROUGH_SH {
+        let started = through_sh(rt.alloc(), text, own_path)?;
+        show(rt, what, &with_text(rt, started, input, 1)?)?;
+    }
     show(rt, "an input that can't be read", &with_directory(rt)?)
 }
 
