@@ -1,4 +1,4 @@
-//! Tests of built-in commands and redirections where memory is refused. The rows of `test_tapes` show what they do.
+//! Tests of built-in commands, redirections and the state where memory is refused. The rows of `test_tapes` show what they do.
 #![tactic(auto)]
 
 #[cfg(test)]
@@ -9,5 +9,7 @@ mod directories;
 mod names;
 #[cfg(test)]
 mod redirections;
+#[cfg(test)]
+mod states;
 #[cfg(test)]
 mod support;

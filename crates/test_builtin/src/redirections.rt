@@ -1,8 +1,8 @@
-//! A redirection, which stays open where its end is refused.
+//! Redirections: where memory is refused, nothing is opened or ended, and the descriptors stay.
 
 use crate::support::list;
 use rc_redir::{RedirError, RedirStack};
-use rc_world::{Answer, Handle, Mode, PLAIN_SLOTS, Slot, Stop, Tape};
+use rc_world::{Answer, Fault, Handle, Mode, PLAIN_SLOTS, Slot, Stop, Tape};
 use std::alloc::AllocError;
 use std::test::Fail;
 
@@ -25,5 +25,83 @@ fn out_of_memory_opens_nothing(rt: HostRuntime) -> Result<(), Fail> {
     }
     assert!(rt; closed.is_ok());
     assert!(rt; stack.slots() == PLAIN_SLOTS);
+    Ok(())
+}
+
+#[test]
+fn out_of_memory_after_a_refused_open_changes_nothing(rt: HostRuntime) -> Result<(), Fail> {
+    let alloc = rt.alloc();
+    let mut tape = Tape::new(vec![in alloc; Answer::Refused(Fault::Other)]?);
+    let names = list(alloc, &["f"])?;
+    let mut stack = RedirStack::new(alloc, PLAIN_SLOTS);
+    let opened = stack.push_open(&mut tape, Mode::Write, 1, &names);
+    assert!(rt; stack.slots() == PLAIN_SLOTS);
+    match opened {
+        Err(RedirError::CannotOpen(name)) => {
+            assert_eq!(rt; name.as_str(), "f");
+            Ok(())
+        }
+        Err(RedirError::Stopped(Stop::NoMemory)) => Err(Fail::from(AllocError)),
+        _ => Err(Fail::new("another answer")),
+    }
+}
+
+#[test]
+fn out_of_memory_opens_no_document(rt: HostRuntime) -> Result<(), Fail> {
+    let alloc = rt.alloc();
+    let mut tape = Tape::new(vec![in alloc; Answer::File(Handle(4))]?);
+    let mut stack = RedirStack::new(alloc, PLAIN_SLOTS);
+    let opened = stack.push_here(&mut tape, "a\n");
+    if matches!(opened, Err(RedirError::Stopped(Stop::NoMemory))) {
+        assert!(rt; stack.slots() == PLAIN_SLOTS && tape.calls().is_empty());
+        return Err(Fail::from(AllocError));
+    }
+    assert!(rt; opened.is_ok());
+    assert!(rt; stack.slots().input == Slot::To(Handle(4)));
+    Ok(())
+}
+
+#[test]
+fn out_of_memory_after_a_refused_document_changes_nothing(rt: HostRuntime) -> Result<(), Fail> {
+    let alloc = rt.alloc();
+    let mut tape = Tape::new(vec![in alloc; Answer::Refused(Fault::Other)]?);
+    let mut stack = RedirStack::new(alloc, PLAIN_SLOTS);
+    let opened = stack.push_here(&mut tape, "a\n");
+    assert!(rt; stack.slots() == PLAIN_SLOTS);
+    match opened {
+        Err(RedirError::CannotOpen(name)) => {
+            assert_eq!(rt; name.as_str(), "here document");
+            Ok(())
+        }
+        Err(RedirError::Stopped(Stop::NoMemory)) => Err(Fail::from(AllocError)),
+        _ => Err(Fail::new("another answer")),
+    }
+}
+
+#[test]
+fn out_of_memory_copies_nothing(rt: HostRuntime) -> Result<(), Fail> {
+    let mut stack = RedirStack::new(rt.alloc(), PLAIN_SLOTS);
+    let copied = stack.push_copy(2, 1);
+    let wanted = if copied.is_ok() {
+        Slot::Own(1)
+    } else {
+        Slot::Own(2)
+    };
+    assert!(rt; stack.slots().errors == wanted);
+    copied?;
+    Ok(())
+}
+
+#[test]
+fn out_of_memory_takes_no_read_end(rt: HostRuntime) -> Result<(), Fail> {
+    let mut stack = RedirStack::new(rt.alloc(), PLAIN_SLOTS);
+    let pushed = stack.push_end(Handle(9));
+    let wanted = if pushed.is_ok() {
+        Slot::To(Handle(9))
+    } else {
+        Slot::Own(0)
+    };
+    assert!(rt; stack.slots().input == wanted);
+    pushed?;
     Ok(())
 }

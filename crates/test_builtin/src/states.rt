@@ -1,0 +1,76 @@
+//! The state of a shell, which stays as it is where memory is refused.
+
+use crate::support::{list, state_with};
+use rc_scope::State;
+use rc_tree_types::Cmd;
+use rc_world::ChildNo;
+use std::test::Fail;
+
+#[test]
+fn out_of_memory_sets_no_variable(rt: HostRuntime) -> Result<(), Fail> {
+    let alloc = rt.alloc();
+    let mut state = state_with(alloc, "x", &["a"])?;
+    let set = state.set("y", list(alloc, &["b", "c"])?);
+    let wanted = if set.is_ok() { 2 } else { 0 };
+    assert_eq!(rt; state.value("y").len(), wanted);
+    assert_eq!(rt; state.value("x").len(), 1);
+    set?;
+    Ok(())
+}
+
+#[test]
+fn out_of_memory_leaves_the_status(rt: HostRuntime) -> Result<(), Fail> {
+    let alloc = rt.alloc();
+    let mut state = State::new(alloc);
+    let set = state.set("status", list(alloc, &["a", "b"])?);
+    let wanted = if set.is_ok() { "a b" } else { "" };
+    assert_eq!(rt; state.status(), wanted);
+    set?;
+    Ok(())
+}
+
+#[test]
+fn out_of_memory_opens_no_local(rt: HostRuntime) -> Result<(), Fail> {
+    let alloc = rt.alloc();
+    let mut state = state_with(alloc, "x", &["a"])?;
+    let opened = state.push_local("x", list(alloc, &["b", "c"])?);
+    let wanted = if opened.is_ok() { 2 } else { 1 };
+    assert_eq!(rt; state.value("x").len(), wanted);
+    state.pop_local();
+    assert_eq!(rt; state.value("x").len(), 1);
+    opened?;
+    Ok(())
+}
+
+#[test]
+fn out_of_memory_opens_no_local_of_the_status(rt: HostRuntime) -> Result<(), Fail> {
+    let alloc = rt.alloc();
+    let mut state = state_with(alloc, "x", &["a"])?;
+    state.push_local("x", list(alloc, &["b", "c"])?)?;
+    let opened = state.push_local("status", list(alloc, &["d", "e"])?);
+    let (status, members) = if opened.is_ok() { ("d e", 2) } else { ("", 1) };
+    assert_eq!(rt; state.status(), status);
+    state.pop_local();
+    assert_eq!(rt; state.value("x").len(), members);
+    opened?;
+    Ok(())
+}
+
+#[test]
+fn out_of_memory_defines_nothing(rt: HostRuntime) -> Result<(), Fail> {
+    let mut state = State::new(rt.alloc());
+    let defined = state.define("f", Cmd::Empty);
+    assert_eq!(rt; state.function("f").is_some(), defined.is_ok());
+    defined?;
+    Ok(())
+}
+
+#[test]
+fn out_of_memory_adds_no_child(rt: HostRuntime) -> Result<(), Fail> {
+    let mut state = State::new(rt.alloc());
+    let added = state.add_child(ChildNo(7));
+    let wanted = if added.is_ok() { 1 } else { 0 };
+    assert_eq!(rt; state.children().len(), wanted);
+    added?;
+    Ok(())
+}
