@@ -76,14 +76,7 @@ pub const CHILDREN: [(&str, &[&str], &[u8]); 18] = [
         ],
         b"",
     ),
-    (
-        "three jobs that end in another order",
-        &[
-            "-c",
-            "{sleep 0.3; exit 1} & {sleep 0.2; exit 2} & {exit 3} & wait; echo $status",
-        ],
-        b"",
-    ),
+    ("three jobs that end in another order", &["jobs.rc"], b""),
     (
         "a job that is waited for by its number",
         &[
