@@ -194,3 +194,60 @@ fn out_of_memory_among_children_is_reported(rt: HostRuntime) -> Result<(), Fail>
         _ => Err(Fail::from("another end")),
     }
 }
+
+/// To be run with each allocation refused in turn. An `Err` says that one was.
+#[test]
+fn out_of_memory_among_choices_is_reported(rt: HostRuntime) -> Result<(), Fail> {
+    let alloc = rt.alloc();
+    let mut tape = Tape::new(Vec::new(alloc));
+    let script = b"while(! ~ $#y 2) {if(~ $#y 1) m=b\nif not m=a\ny=($y $m)}; \
+        switch $y {case x; exit no; case a*b; ~ a b && exit no || eval 'exit $y done'}";
+    match execute(alloc, &mut tape, script.as_slice(), State::new(alloc), 400) {
+        Err(ShellFault::NoMemory) => Err(Fail::from(AllocError)),
+        Ok(Ran::Ended { state }) => {
+            assert_eq!(rt; state.status(), "a b done");
+            Ok(())
+        }
+        _ => Err(Fail::from("another end")),
+    }
+}
+
+/// The answers to a list of a directory, a job and the wait for it, and a program.
+fn answers_to_built_in_commands(alloc: Global) -> Result<Vec<Answer>, AllocError> {
+    Ok(vec![in alloc;
+        Answer::Names(texts(alloc, &["d2", "d1"])?),
+        Answer::File(Handle(3)),
+        Answer::Child(ChildNo(1)),
+        Answer::Done,
+        Answer::Ended(Ending::Code(0)),
+        Answer::Child(ChildNo(7)),
+        Answer::Ended(Ending::Code(4)),
+    ]?)
+}
+
+/// Whether a call starts `/e` with these two words.
+fn starts_e_with(call: Option<&Call>, first: &str, second: &str) -> bool {
+    let Some(Call::Start(launch)) = call else {
+        return false;
+    };
+    matches!(&launch.program, Program::Path(path) if path.as_str() == "/e")
+        && matches!(launch.args.as_slice(), [one, two] if one.as_str() == first && two.as_str() == second)
+}
+
+/// To be run with each allocation refused in turn. An `Err` says that one was.
+#[test]
+fn out_of_memory_among_built_in_commands_is_reported(rt: HostRuntime) -> Result<(), Fail> {
+    let alloc = rt.alloc();
+    let mut tape = Tape::new(answers_to_built_in_commands(alloc)?);
+    let script = b"eval 'x=d*'; c & wait $apid; builtin exec /e $x";
+    match execute(alloc, &mut tape, script.as_slice(), State::new(alloc), 200) {
+        Err(ShellFault::NoMemory) => Err(Fail::from(AllocError)),
+        Ok(Ran::Ended { state }) => {
+            assert_eq!(rt; state.status(), "4");
+            assert_eq!(rt; tape.calls().len(), 7);
+            assert!(rt; starts_e_with(tape.calls().get(5), "d1", "d2"));
+            Ok(())
+        }
+        _ => Err(Fail::from("another end")),
+    }
+}
