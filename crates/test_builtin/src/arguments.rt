@@ -8,7 +8,7 @@ use std::test::Fail;
 fn out_of_memory_takes_nothing(rt: HostRuntime) -> Result<(), Fail> {
     let alloc = rt.alloc();
     let mut state = state_with(alloc, "*", &["a", "b"])?;
-    let ended = shift(alloc, &mut state, &[]);
+    let ended = shift(&mut state, &[]);
     let wanted = if ended.is_ok() { 1 } else { 2 };
     assert_eq!(rt; state.value("*").len(), wanted);
     ended?;
