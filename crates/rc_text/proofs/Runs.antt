@@ -6,14 +6,14 @@ use Rattle.std.proofs.lemmas.List.{append-nil, take-append-drop, length-append}
 use Rattle.std.proofs.lemmas.List.Elements.{All-cons, All-nil}
 use Rattle.std.proofs.lemmas.List.Splits.{slice_split_at, slice_split_none}
 use Rattle.std.proofs.lemmas.Str.{chars-append, chars_from_encodes, chars_past_char, encodes-chars, IsCharBoundary-at_seam, IsUtf8-past_char, IsUtf8-take, length-encode, len_utf8_bounds}
-use Rattle.std.specs.Prelude.{◌==◌, ◌||◌, filter, Option, None}
-use Rattle.std.specs.Char.{char_set_contains, encode_utf8}
-use Rattle.std.specs.List.{All, list_any, slice_split}
+use Rattle.std.specs.Prelude.{◌==◌, filter, Some, None}
+use Rattle.std.specs.Char.{encode_utf8}
+use Rattle.std.specs.List.{All, slice_split}
 use Rattle.std.specs.Str.{IsUtf8, NoCharPasses, NonePass, chars, encode_utf8_all}
 use Rattle.std.specs.Str.Pattern.{FindsBy, SplitsAroundMatch}
 use Rattle.rc_model.specs.Run.Lists.{split}
 use Rattle.rc_model.specs.Run.Splitting.{is_among}
-use Rattle.rc_text.specs.Members.{EndsMember}
+use Rattle.rc_text.specs.Members.{EndsMember, Finds}
 
 none_list : (p : ℕ → Bool) (cs : List ℕ) → NonePass p cs → All (λ c. p c ≡ false) cs
 none_list p [] h = All-nil (λ c. p c ≡ false)
@@ -34,31 +34,17 @@ IsUtf8-before : (text front back : List ℕ) → IsUtf8 text → IsUtf8 back →
 IsUtf8-before text front back u v e =
     subst IsUtf8 (ap (take (length front)) e ∙ take-append_seam front back) (IsUtf8-take text (length front) u (IsCharBoundary-at_seam text front back e v))
 
--- where the first of these characters is, as the kit says it
-abbrev Finds : List ℕ → List ℕ → Option (ℕ × ℕ) → Type 0
-Finds cuts text found = (k : ℕ → Bool) → ((c : ℕ) → char_set_contains cuts c ≡ k c) → FindsBy k text found
-
 -- what follows the first separator
 pub IsUtf8-more : (cuts rest front back : List ℕ) → IsUtf8 rest → SplitsAroundMatch (Finds cuts) rest front back → IsUtf8 back
 IsUtf8-more cuts rest front back u (i, j, found, ef, eb, le, at, total) =
-    let at_first = found (char_set_contains cuts) (λ c. refl) in
-    let c = at_first.1.0 in
+    let c = found.1.0 in
     IsUtf8-past_char (drop i rest) back c
-    (IsUtf8-after at_first.0.0 (take i rest) (drop i rest) at_first.0.1 (subst IsUtf8 (sym (take-append-drop i rest)) u))
-    (at_first.1.2.split ∙ ap (λ t. encode_utf8 c ++ t) (sym eb))
-
--- whether a list of characters holds one, as the kit and as the definitions ask
-contains_any : (cs : List ℕ) (c : ℕ) → char_set_contains cs c ≡ list_any (λ d. d == c) cs
-contains_any [] c = refl
-contains_any (d ∷ cs) c = ap (λ b. (d == c) || b) (contains_any cs c)
-
-pub among_cuts : (separators cuts all : List ℕ) → cuts ≡ all → all ≡ chars separators → (c : ℕ) → char_set_contains cuts c ≡ is_among separators c
-among_cuts separators cuts all e f c = contains_any cuts c ∙ ap (list_any (λ d. d == c)) (e ∙ f)
+    (IsUtf8-after found.0.0 (take i rest) (drop i rest) found.0.1 (subst IsUtf8 (sym (take-append-drop i rest)) u))
+    (found.1.2.split ∙ ap (λ t. encode_utf8 c ++ t) (sym eb))
 
 pub shorter : (cuts rest front back : List ℕ) → SplitsAroundMatch (Finds cuts) rest front back → length back < length rest
 shorter cuts rest front back (i, j, found, ef, eb, le, at, total) =
-    let among = (found (char_set_contains cuts) (λ c. refl)).1 in
-    omega (arith, total, among.2.ends, (len_utf8_bounds among.0).0)
+    omega (arith, total, found.1.2.ends, (len_utf8_bounds found.1.0).0)
 
 -- the parts that aren't empty
 abbrev filled : List (List ℕ) → List (List ℕ)
@@ -86,7 +72,7 @@ rest_after before after (b ∷ bs) (c ∷ cs) others e h =
     ap (λ t. t ++ map encode_utf8_all others) h ∙ append_assoc before ((b ∷ bs) ∷ []) (map encode_utf8_all others)
     ∙ ap (λ m. before ++ m ∷ map encode_utf8_all others) (sym e)
 
-module _ (separators cuts : List ℕ) (are : (c : ℕ) → char_set_contains cuts c ≡ is_among separators c) where
+module _ (separators cuts : List ℕ) (are : cuts ≡ chars separators) where
   abbrev parts : List ℕ → List (List ℕ)
   parts cs = slice_split (is_among separators) cs
 
@@ -103,7 +89,7 @@ module _ (separators cuts : List ℕ) (are : (c : ℕ) → char_set_contains cut
   pub cut_step : (text rest front back : List ℕ) (before after : List (List ℕ)) → IsUtf8 rest → SplitsAroundMatch (Finds cuts) rest front back →
       EndsMember before front after → before ++ split rest separators ≡ split text separators → after ++ split back separators ≡ split text separators
   cut_step text rest front back before after u (i, j, found, ef, eb, le, at, total) ended so_far =
-      let at_first = found (is_among separators) are in
+      let at_first : FindsBy (is_among separators) rest (Some (i, j)) = subst (λ cs. Finds cs rest (Some (i, j))) are found in
       let c = at_first.1.0 in
       let is_rest : rest ≡ front ++ (encode_utf8 c ++ back) = sym (take-append-drop i rest) ∙ ap (λ t. t ++ drop i rest) (sym ef)
       ∙ ap (λ t. front ++ t) (at_first.1.2.split ∙ ap (λ t. encode_utf8 c ++ t) (sym eb)) in
@@ -120,5 +106,5 @@ module _ (separators cuts : List ℕ) (are : (c : ℕ) → char_set_contains cut
   last_step text rest before after u none ended so_far =
       sym (append-nil after) ∙ rest_after before after rest (chars rest) [] (encodes-chars rest u) ended
       ∙ ap (λ t. before ++ map encode_utf8_all t) (sym (filled_member (chars rest) []))
-      ∙ ap (λ t. before ++ map encode_utf8_all (filled t)) (sym (slice_split_none (is_among separators) (chars rest) (none_chars (is_among separators) rest u (none (is_among separators) are))))
+      ∙ ap (λ t. before ++ map encode_utf8_all (filled t)) (sym (slice_split_none (is_among separators) (chars rest) (none_chars (is_among separators) rest u (subst (λ cs. Finds cs rest None) are none))))
       ∙ so_far
