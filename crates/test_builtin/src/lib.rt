@@ -1,4 +1,5 @@
-//! Tests of built-in commands, redirections and the state where memory is refused. The rows of `test_tapes` show what they do.
+//! Tests of built-in commands, redirections and the state where memory is refused. The rows of `test_tapes` show what
+//! they do.
 #![tactic(auto)]
 
 #[cfg(test)]

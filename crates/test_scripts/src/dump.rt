@@ -74,22 +74,6 @@ fn dump_parts(out: &mut String, cmd: &Cmd) -> Result<(), AllocError> {
         Cmd::Not(body) | Cmd::Subshell(body) | Cmd::IfNot(body) | Cmd::Brace(body) => {
             dump_last(out, body)
         }
-        Cmd::Match(subject, patterns) => {
-            dump_arg(out, subject)?;
-            dump_args(out, patterns)
-        }
-        Cmd::Define(names, body) => {
-            dump_args(out, names)?;
-            dump_last(out, body)
-        }
-        _ => dump_control(out, cmd),
-    }
-}
-
-/// The parts of a choice or a loop.
-#[cycle(dump)]
-fn dump_control(out: &mut String, cmd: &Cmd) -> Result<(), AllocError> {
-    match cmd {
         Cmd::If(condition, body) | Cmd::While(condition, body) => {
             dump_last(out, condition)?;
             dump_last(out, body)
@@ -109,7 +93,14 @@ fn dump_control(out: &mut String, cmd: &Cmd) -> Result<(), AllocError> {
             dump_arg(out, subject)?;
             dump_branches(out, branches)
         }
-        _ => Ok(()),
+        Cmd::Match(subject, patterns) => {
+            dump_arg(out, subject)?;
+            dump_args(out, patterns)
+        }
+        Cmd::Define(names, body) => {
+            dump_args(out, names)?;
+            dump_last(out, body)
+        }
     }
 }
 
