@@ -1,3 +1,4 @@
+pub mod Cuts
 pub mod Decoding
 pub mod Digits
 pub mod Marks

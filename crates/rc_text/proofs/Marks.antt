@@ -1,5 +1,6 @@
 -- The characters of words.
-use Rattle.std.proofs.Common.{◌≡◌, ℕ, Bool, true, false, not, ◌||◌, List, [], ◌∷◌, ◌++◌, map, string_bytes, refl, ap, ◌∙◌, sym, subst, Result, Ok, Err, OnOk, if◌then◌else◌}
+use Rattle.std.proofs.Common.{◌≡◌, ℕ, Bool, true, false, not, ◌||◌, List, [], ◌∷◌, ◌++◌, map, string_bytes, refl, ap, ◌∙◌, sym, subst, Result, Ok, Err, OnOk, if◌then◌else◌, inl, inr}
+use Rattle.std.specs.Prelude.{◌⊎◌}
 use Rattle.std.specs.Result.{is_ok}
 use Rattle.std.proofs.lemmas.List.{append-nil, map-append}
 use Rattle.std.proofs.lemmas.Str.{chars-append, chars-encodes, encodes-chars}
@@ -10,9 +11,11 @@ use Rattle.std.specs.declared.alloc.Global.{Global}
 use Rattle.std.specs.declared.string.String.{String}
 use Rattle.rc_model.specs.Syntax.Words.{Word, has_pattern, is_pattern, is_pattern_char, plain_words, spaced_words, unmarked, word_text, written}
 use Rattle.rc_text.specs.declared.words.Ch.{Ch}
-use Rattle.rc_text.specs.declared.words.Marks.{Marks}
-use Rattle.rc_text.specs.declared.words.Marks.TheVariants.{None, All, Each}
-use Rattle.rc_text.specs.Views.{mark_of, marks, word_of, AreMarksOf}
+use Rattle.std.specs.declared.boxed.Box.{Box}
+use Rattle.rc_text.specs.declared.words.Letters.{Letters}
+use Rattle.rc_text.specs.declared.words.Letters.TheVariants.{Plain, Marked, Mixed}
+use Rattle.rc_text.specs.declared.words.MixedText.{MixedText}
+use Rattle.rc_text.specs.Views.{mark_of, marks, word_of, AreMarked}
 
 pub list_any_marks : (p : ℕ × Bool → Bool) (chs : List Ch) → list_any p (marks chs) ≡ list_any (λ ch. p (mark_of ch)) chs
 list_any_marks p [] = refl
@@ -48,17 +51,22 @@ without : (b : Bool) (cs : List ℕ) → map (λ (m : ℕ × Bool). m.0) (map (�
 without b [] = refl
 without b (c ∷ cs) = ap (λ ds. c ∷ ds) (without b cs)
 
--- the characters of a word are those of its text
-pub characters_of : (text : List ℕ) (m : Marks) → AreMarksOf text m → map (λ (c : ℕ × Bool). c.0) (word_of text m) ≡ chars text
-characters_of text None h = without false (chars text)
-characters_of text All h = without true (chars text)
-characters_of text (Each chs) h = h
-
 pub written_characters : (text : List ℕ) (quoted : Bool) → map (λ (c : ℕ × Bool). c.0) (written text quoted) ≡ chars text
 written_characters text quoted = without (not quoted) (chars text)
 
-pub text_of_word : (text : List ℕ) (m : Marks) → AreMarksOf text m → IsUtf8 text → word_text (word_of text m) ≡ text
-text_of_word text m h u = ap encode_utf8_all (characters_of text m h) ∙ encodes-chars text u
+-- the characters of letters are those of their text
+pub alike_characters : (letters : Letters) (text : String Global) → (letters ≡ Plain text) ⊎ (letters ≡ Marked text) →
+    map (λ (c : ℕ × Bool). c.0) (word_of letters) ≡ chars (string_bytes text)
+alike_characters letters text (inl e) = ap (λ l. map (λ (c : ℕ × Bool). c.0) (word_of l)) e ∙ without false (chars (string_bytes text))
+alike_characters letters text (inr e) = ap (λ l. map (λ (c : ℕ × Bool). c.0) (word_of l)) e ∙ without true (chars (string_bytes text))
+
+pub mixed_characters : (letters : Letters) (mixed : Box MixedText Global) → letters ≡ Mixed mixed → AreMarked letters →
+    map (λ (c : ℕ × Bool). c.0) (word_of letters) ≡ chars (string_bytes mixed.value.text)
+mixed_characters letters mixed e h = ap (λ l. map (λ (c : ℕ × Bool). c.0) (word_of l)) e ∙ subst AreMarked e h
+
+-- the text of a word, by its characters
+pub text_of_word : (text : List ℕ) (w v : Word) → IsUtf8 text → map (λ (c : ℕ × Bool). c.0) w ≡ chars text → w ≡ v → text ≡ word_text v
+text_of_word text w v u h e = sym (encodes-chars text u) ∙ ap encode_utf8_all (sym h) ∙ ap word_text e
 
 -- two texts written alike
 pub written-append : (left right : List ℕ) (quoted : Bool) → IsUtf8 left → written (left ++ right) quoted ≡ written left quoted ++ written right quoted
@@ -82,34 +90,38 @@ pub patterns-append : (left right : Word) → has_pattern left ≡ false → has
 patterns-append [] right h k = k
 patterns-append (m ∷ left) right h k = let b = either_false (is_pattern m) (has_pattern left) h in ap (λ z. z || has_pattern (left ++ right)) b.0 ∙ patterns-append left right b.1 k
 
--- words whose characters do not stand by themselves have no pattern characters
-pub no_patterns : (text : List ℕ) (m : Marks) → AreMarksOf text m → ((chs : _) → m ≡ Each chs → ⊥) → has_pattern (word_of text m) ≡ false
-no_patterns text None h n = unmarked_patterns (chars text)
-no_patterns text All h n = h
-no_patterns text (Each chs) h n = absurd (n chs refl)
+-- letters with no marks of their own have no pattern characters
+pub no_patterns : (letters : Letters) → AreMarked letters → ((mixed : _) → letters ≡ Mixed mixed → ⊥) → has_pattern (word_of letters) ≡ false
+no_patterns (Plain text) h n = unmarked_patterns (chars (string_bytes text))
+no_patterns (Marked text) h n = h
+no_patterns (Mixed mixed) h n = absurd (n mixed refl)
 
--- two words in one, all of whose characters are marked, or none
-module _ (left right : List ℕ) (u : IsUtf8 left) (m n : Marks) where
-  pub joined_plain : (v w : Word) → m ≡ None → n ≡ None → word_of left m ≡ v → word_of right n ≡ w → written (left ++ right) true ≡ v ++ w
-  joined_plain v w e f h k =
-      written-append left right true u ∙ ap (λ z. z ++ written right true) (sym (ap (word_of left) e) ∙ h) ∙ ap (λ z. v ++ z) (sym (ap (word_of right) f) ∙ k)
+-- marked letters have none
+pub marked_patterns_none : (letters : Letters) (text : String Global) (w : Word) → letters ≡ Marked text → AreMarked letters → word_of letters ≡ w → has_pattern w ≡ false
+marked_patterns_none letters text w e h v = ap has_pattern (sym v ∙ ap word_of e) ∙ subst AreMarked e h
 
-  pub joined_marked : (v w : Word) → m ≡ All → n ≡ All → word_of left m ≡ v → word_of right n ≡ w → written (left ++ right) false ≡ v ++ w
-  joined_marked v w e f h k =
-      written-append left right false u ∙ ap (λ z. z ++ written right false) (sym (ap (word_of left) e) ∙ h) ∙ ap (λ z. v ++ z) (sym (ap (word_of right) f) ∙ k)
+-- characters with one mark, whose marks are taken away and given again
+written_again : (b : Bool) (text : List ℕ) (w : Word) → w ≡ map (λ c. (c, b)) (chars text) → map (λ c. (c, b)) (map (λ (m : ℕ × Bool). m.0) w) ≡ w
+written_again b text w e = ap (λ v. map (λ c. (c, b)) (map (λ (m : ℕ × Bool). m.0) v)) e ∙ ap (map (λ c. (c, b))) (without b (chars text)) ∙ sym e
 
-  pub joined_has_none : m ≡ All → n ≡ All → AreMarksOf left m → AreMarksOf right n → has_pattern (written (left ++ right) false) ≡ false
-  joined_has_none e f h k =
-      ap has_pattern (written-append left right false u)
-      ∙ patterns-append (written left false) (written right false) (subst (AreMarksOf left) e h) (subst (AreMarksOf right) f k)
+-- the text of two words
+module _ (text left right : List ℕ) (u : IsUtf8 left) (e : text ≡ left ++ right) (v w : Word) where
+  pub joined_characters : chars left ≡ map (λ (m : ℕ × Bool). m.0) v → chars right ≡ map (λ (m : ℕ × Bool). m.0) w →
+      map (λ (m : ℕ × Bool). m.0) (v ++ w) ≡ chars text
+  joined_characters h k =
+      map-append (λ (m : ℕ × Bool). m.0) v w
+      ∙ ap (λ z. z ++ map (λ (m : ℕ × Bool). m.0) w) (sym h)
+      ∙ ap (λ z. chars left ++ z) (sym k)
+      ∙ sym (ap chars e ∙ chars-append left right u)
 
-  pub joined_characters : (v w : Word) → AreMarksOf left m → AreMarksOf right n → word_of left m ≡ v → word_of right n ≡ w →
-      map (λ (c : ℕ × Bool). c.0) (v ++ w) ≡ chars (left ++ right)
-  joined_characters v w a b h k =
-      map-append (λ (c : ℕ × Bool). c.0) v w
-      ∙ ap (λ z. z ++ map (λ (c : ℕ × Bool). c.0) w) (ap (map (λ (c : ℕ × Bool). c.0)) (sym h) ∙ characters_of left m a)
-      ∙ ap (λ z. chars left ++ z) (ap (map (λ (c : ℕ × Bool). c.0)) (sym k) ∙ characters_of right n b)
-      ∙ sym (chars-append left right u)
+  -- the words of two texts, all of whose characters are marked, or none
+  pub joined_written : (quoted : Bool) (before after : List ℕ) → chars left ≡ map (λ (m : ℕ × Bool). m.0) v → chars right ≡ map (λ (m : ℕ × Bool). m.0) w →
+      v ≡ written before quoted → w ≡ written after quoted → written text quoted ≡ v ++ w
+  joined_written quoted before after h k i j =
+      ap (map (λ c. (c, not quoted))) (sym (joined_characters h k) ∙ map-append (λ (m : ℕ × Bool). m.0) v w)
+      ∙ map-append (λ c. (c, not quoted)) (map (λ (m : ℕ × Bool). m.0) v) (map (λ (m : ℕ × Bool). m.0) w)
+      ∙ ap (λ z. z ++ map (λ c. (c, not quoted)) (map (λ (m : ℕ × Bool). m.0) w)) (written_again (not quoted) before v i)
+      ∙ ap (λ z. v ++ z) (written_again (not quoted) after w j)
 
 -- the text of a word at the end of another text, and a space before it
 unmarked_written : (w : Word) → map (λ c. (c, false)) (map (λ (m : ℕ × Bool). m.0) w) ≡ unmarked w

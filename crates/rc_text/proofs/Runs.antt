@@ -1,19 +1,18 @@
 -- The members of a text, cut off one after the other.
-use Rattle.std.proofs.Common.{◌≡◌, ◌<◌, ℕ, Bool, false, true, cond, not, suc, List, [], ◌∷◌, ◌++◌, map, length, take, drop, refl, sym, ap, subst, ◌∙◌, append_assoc, arith}
+use Rattle.std.proofs.Common.{◌≡◌, ◌<◌, ℕ, Bool, false, true, cond, not, suc, List, [], ◌∷◌, ◌++◌, map, length, take, refl, sym, ap, subst, ◌∙◌, append_assoc, arith}
 use Rattle.std.proofs.lemmas.Bool.{ne_eqb}
 use Rattle.std.proofs.Math.Seq.{take-append_seam}
-use Rattle.std.proofs.lemmas.List.{append-nil, take-append-drop, length-append}
+use Rattle.std.proofs.lemmas.List.{append-nil, length-append}
 use Rattle.std.proofs.lemmas.List.Elements.{All-cons, All-nil}
 use Rattle.std.proofs.lemmas.List.Splits.{slice_split_at, slice_split_none}
 use Rattle.std.proofs.lemmas.Str.{chars-append, chars_from_encodes, chars_past_char, encodes-chars, IsCharBoundary-at_seam, IsUtf8-past_char, IsUtf8-take, length-encode, len_utf8_bounds}
-use Rattle.std.specs.Prelude.{◌==◌, ◌||◌, filter, Option, None}
-use Rattle.std.specs.Char.{char_set_contains, encode_utf8}
-use Rattle.std.specs.List.{All, list_any, slice_split}
+use Rattle.std.specs.Prelude.{◌==◌, filter}
+use Rattle.std.specs.Char.{encode_utf8}
+use Rattle.std.specs.List.{All, slice_split}
 use Rattle.std.specs.Str.{IsUtf8, NoCharPasses, NonePass, chars, encode_utf8_all}
-use Rattle.std.specs.Str.Pattern.{FindsBy, SplitsAroundMatch}
 use Rattle.rc_model.specs.Run.Lists.{split}
 use Rattle.rc_model.specs.Run.Splitting.{is_among}
-use Rattle.rc_text.specs.Members.{EndsMember}
+use Rattle.rc_text.specs.Members.{among, EndsMember, IsCut}
 
 none_list : (p : ℕ → Bool) (cs : List ℕ) → NonePass p cs → All (λ c. p c ≡ false) cs
 none_list p [] h = All-nil (λ c. p c ≡ false)
@@ -24,7 +23,7 @@ none_chars : (p : ℕ → Bool) (text : List ℕ) → IsUtf8 text → NoCharPass
 none_chars p text u h = subst (All (λ c. p c ≡ false)) (chars_from_encodes h.0 text u h.1) (none_list p h.0 h.2)
 
 -- what follows the front of a text, and the front itself
-IsUtf8-after : (cs front back : List ℕ) → encode_utf8_all cs ≡ front → IsUtf8 (front ++ back) → IsUtf8 back
+pub IsUtf8-after : (cs front back : List ℕ) → encode_utf8_all cs ≡ front → IsUtf8 (front ++ back) → IsUtf8 back
 IsUtf8-after [] front back e u = subst (λ t. IsUtf8 (t ++ back)) (sym e) u
 IsUtf8-after (c ∷ cs) front back e u =
     IsUtf8-after cs (encode_utf8_all cs) back refl
@@ -34,31 +33,14 @@ IsUtf8-before : (text front back : List ℕ) → IsUtf8 text → IsUtf8 back →
 IsUtf8-before text front back u v e =
     subst IsUtf8 (ap (take (length front)) e ∙ take-append_seam front back) (IsUtf8-take text (length front) u (IsCharBoundary-at_seam text front back e v))
 
--- where the first of these characters is, as the kit says it
-abbrev Finds : List ℕ → List ℕ → Option (ℕ × ℕ) → Type 0
-Finds cuts text found = (k : ℕ → Bool) → ((c : ℕ) → char_set_contains cuts c ≡ k c) → FindsBy k text found
-
 -- what follows the first separator
-pub IsUtf8-more : (cuts rest front back : List ℕ) → IsUtf8 rest → SplitsAroundMatch (Finds cuts) rest front back → IsUtf8 back
-IsUtf8-more cuts rest front back u (i, j, found, ef, eb, le, at, total) =
-    let at_first = found (char_set_contains cuts) (λ c. refl) in
-    let c = at_first.1.0 in
-    IsUtf8-past_char (drop i rest) back c
-    (IsUtf8-after at_first.0.0 (take i rest) (drop i rest) at_first.0.1 (subst IsUtf8 (sym (take-append-drop i rest)) u))
-    (at_first.1.2.split ∙ ap (λ t. encode_utf8 c ++ t) (sym eb))
+pub IsUtf8-more : (separators rest front back : List ℕ) → IsUtf8 rest → IsCut separators rest front back → IsUtf8 back
+IsUtf8-more separators rest front back u cut =
+    IsUtf8-past_char (encode_utf8 cut.c ++ back) back cut.c (IsUtf8-after cut.none.0 front (encode_utf8 cut.c ++ back) cut.none.1 (subst IsUtf8 cut.split u)) refl
 
--- whether a list of characters holds one, as the kit and as the definitions ask
-contains_any : (cs : List ℕ) (c : ℕ) → char_set_contains cs c ≡ list_any (λ d. d == c) cs
-contains_any [] c = refl
-contains_any (d ∷ cs) c = ap (λ b. (d == c) || b) (contains_any cs c)
-
-pub among_cuts : (separators cuts all : List ℕ) → cuts ≡ all → all ≡ chars separators → (c : ℕ) → char_set_contains cuts c ≡ is_among separators c
-among_cuts separators cuts all e f c = contains_any cuts c ∙ ap (list_any (λ d. d == c)) (e ∙ f)
-
-pub shorter : (cuts rest front back : List ℕ) → SplitsAroundMatch (Finds cuts) rest front back → length back < length rest
-shorter cuts rest front back (i, j, found, ef, eb, le, at, total) =
-    let among = (found (char_set_contains cuts) (λ c. refl)).1 in
-    omega (arith, total, among.2.ends, (len_utf8_bounds among.0).0)
+pub shorter : (separators rest front back : List ℕ) → IsCut separators rest front back → length back < length rest
+shorter separators rest front back cut =
+    omega (arith, ap length cut.split, length-append front (encode_utf8 cut.c ++ back), length-append (encode_utf8 cut.c) back, length-encode cut.c, (len_utf8_bounds cut.c).0)
 
 -- the parts that aren't empty
 abbrev filled : List (List ℕ) → List (List ℕ)
@@ -86,7 +68,7 @@ rest_after before after (b ∷ bs) (c ∷ cs) others e h =
     ap (λ t. t ++ map encode_utf8_all others) h ∙ append_assoc before ((b ∷ bs) ∷ []) (map encode_utf8_all others)
     ∙ ap (λ m. before ++ m ∷ map encode_utf8_all others) (sym e)
 
-module _ (separators cuts : List ℕ) (are : (c : ℕ) → char_set_contains cuts c ≡ is_among separators c) where
+module _ (separators cuts : List ℕ) (are : cuts ≡ chars separators) where
   abbrev parts : List ℕ → List (List ℕ)
   parts cs = slice_split (is_among separators) cs
 
@@ -100,25 +82,23 @@ module _ (separators cuts : List ℕ) (are : (c : ℕ) → char_set_contains cut
       ∙ ap (map encode_utf8_all) (filled_member (chars front) (parts (chars back)))
 
   -- the member before the first separator is added to those before it
-  pub cut_step : (text rest front back : List ℕ) (before after : List (List ℕ)) → IsUtf8 rest → SplitsAroundMatch (Finds cuts) rest front back →
+  pub cut_step : (text rest front back : List ℕ) (before after : List (List ℕ)) → IsUtf8 rest → IsCut cuts rest front back →
       EndsMember before front after → before ++ split rest separators ≡ split text separators → after ++ split back separators ≡ split text separators
-  cut_step text rest front back before after u (i, j, found, ef, eb, le, at, total) ended so_far =
-      let at_first = found (is_among separators) are in
-      let c = at_first.1.0 in
-      let is_rest : rest ≡ front ++ (encode_utf8 c ++ back) = sym (take-append-drop i rest) ∙ ap (λ t. t ++ drop i rest) (sym ef)
-      ∙ ap (λ t. front ++ t) (at_first.1.2.split ∙ ap (λ t. encode_utf8 c ++ t) (sym eb)) in
-      let none : NoCharPasses (is_among separators) front = subst (NoCharPasses (is_among separators)) (sym ef) at_first.0 in
-      let v = IsUtf8-after none.0 front (encode_utf8 c ++ back) none.1 (subst IsUtf8 is_rest u) in
-      let w = IsUtf8-before rest front (encode_utf8 c ++ back) u v is_rest in
+  cut_step text rest front back before after u cut ended so_far =
+      let c = cut.c in
+      let none : NoCharPasses (is_among separators) front = subst (λ cs. NoCharPasses (among cs) front) are cut.none in
+      let is : is_among separators c ≡ true = subst (λ cs. among cs c ≡ true) are cut.is in
+      let v = IsUtf8-after none.0 front (encode_utf8 c ++ back) none.1 (subst IsUtf8 cut.split u) in
+      let w = IsUtf8-before rest front (encode_utf8 c ++ back) u v cut.split in
       rest_after before after front (chars front) (filled (parts (chars back))) (encodes-chars front w) ended
-      ∙ ap (λ t. before ++ t) (sym (first_cut rest front back c w v none at_first.1.1 is_rest))
+      ∙ ap (λ t. before ++ t) (sym (first_cut rest front back c w v none is cut.split))
       ∙ so_far
 
   -- where no separator is left, the rest is the last member
-  pub last_step : (text rest : List ℕ) (before after : List (List ℕ)) → IsUtf8 rest → Finds cuts rest None → EndsMember before rest after →
+  pub last_step : (text rest : List ℕ) (before after : List (List ℕ)) → IsUtf8 rest → NoCharPasses (among cuts) rest → EndsMember before rest after →
       before ++ split rest separators ≡ split text separators → after ≡ split text separators
   last_step text rest before after u none ended so_far =
       sym (append-nil after) ∙ rest_after before after rest (chars rest) [] (encodes-chars rest u) ended
       ∙ ap (λ t. before ++ map encode_utf8_all t) (sym (filled_member (chars rest) []))
-      ∙ ap (λ t. before ++ map encode_utf8_all (filled t)) (sym (slice_split_none (is_among separators) (chars rest) (none_chars (is_among separators) rest u (none (is_among separators) are))))
+      ∙ ap (λ t. before ++ map encode_utf8_all (filled t)) (sym (slice_split_none (is_among separators) (chars rest) (none_chars (is_among separators) rest u (subst (λ cs. NoCharPasses (among cs) rest) are none))))
       ∙ so_far

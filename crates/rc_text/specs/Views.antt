@@ -1,10 +1,10 @@
 -- The characters of a word as the definitions have them.
-use Rattle.std.specs.Prelude.{◌≡◌, ℕ, Bool, true, false, List, map}
+use Rattle.std.specs.Prelude.{◌≡◌, ℕ, Bool, true, false, List, map, string_bytes}
 use Rattle.std.specs.Str.{chars}
 use Rattle.rc_model.specs.Syntax.Words.{Word, has_pattern, written}
 use Rattle.rc_text.specs.declared.words.Ch.{Ch}
-use Rattle.rc_text.specs.declared.words.Marks.{Marks}
-use Rattle.rc_text.specs.declared.words.Marks.TheVariants.{None, All, Each}
+use Rattle.rc_text.specs.declared.words.Letters.{Letters}
+use Rattle.rc_text.specs.declared.words.Letters.TheVariants.{Plain, Marked, Mixed}
 
 -- a character and its mark
 abbrev pub mark_of : Ch → ℕ × Bool
@@ -14,15 +14,15 @@ mark_of ch = (ch.c, ch.pat)
 abbrev pub marks : List Ch → List (ℕ × Bool)
 marks chs = map mark_of chs
 
--- the word of a text and its marks
-abbrev pub word_of : List ℕ → Marks → Word
-word_of text None = written text true
-word_of text All = written text false
-word_of text (Each chs) = marks chs.items
+-- the word of letters
+abbrev pub word_of : Letters → Word
+word_of (Plain text) = written (string_bytes text) true
+word_of (Marked text) = written (string_bytes text) false
+word_of (Mixed mixed) = marks mixed.value.chars.items
 
--- The marks fit the text: where all characters are marked, none is a pattern character;
+-- The letters are marked as they say: where all are marked, none is a pattern character;
 -- characters with marks of their own are those of the text.
-abbrev pub AreMarksOf : List ℕ → Marks → Type 0
-AreMarksOf text None = Unit {0}
-AreMarksOf text All = has_pattern (written text false) ≡ false
-AreMarksOf text (Each chs) = map (λ m. m.0) (marks chs.items) ≡ chars text
+abbrev pub AreMarked : Letters → Type 0
+AreMarked (Plain text) = Unit {0}
+AreMarked (Marked text) = has_pattern (written (string_bytes text) false) ≡ false
+AreMarked (Mixed mixed) = map (λ m. m.0) (marks mixed.value.chars.items) ≡ chars (string_bytes mixed.value.text)

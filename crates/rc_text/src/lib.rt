@@ -6,6 +6,7 @@ mod lists;
 mod numbers;
 mod output;
 mod selection;
+mod separators;
 mod values;
 mod words;
 

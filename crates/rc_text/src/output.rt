@@ -1,10 +1,11 @@
 //! What the output of a command becomes.
-ghost use Rattle.std.specs.Prelude.{◌≡◌, map, string_bytes, IfOk, OnOk};
-ghost use Rattle.std.specs.Str.{chars};
+ghost use Rattle.std.specs.Prelude.{◌≡◌, map, string_bytes, IfOk, MatchOption, OnOk};
+ghost use Rattle.std.specs.Str.{NoCharPasses};
 ghost use Rattle.rc_model.specs.Run.Acts.{text_of};
 ghost use Rattle.rc_model.specs.Run.Lists.{split};
-ghost use Rattle.rc_text.specs.Members.{EndsMember};
+ghost use Rattle.rc_text.specs.Members.{among, EndsMember, IsCut};
 
+use crate::separators::Separators;
 use bstr::ByteSlice;
 use std::alloc::{AllocError, Global};
 
@@ -27,10 +28,10 @@ pub fn lossy(alloc: Global, bytes: &[u8]) -> Result<String, AllocError>
 pub fn split(alloc: Global, text: &str, separators: &str) -> Result<Vec<String>, AllocError>
     ensures { IfOk result (λ members. map string_bytes members.items ≡ split text.now separators.now) }
 {
-    let cuts = characters(alloc, separators)?;
+    let separators = Separators::new(alloc, separators)?;
     let mut members = Vec::new(alloc);
     let mut rest = text;
-    while let Some((member, more)) = rest.split_once(cuts.as_slice()) {
+    while let Some((member, more)) = cut(rest, &separators) {
         push_member(alloc, &mut members, member)?;
         rest = more;
     }
@@ -38,10 +39,14 @@ pub fn split(alloc: Global, text: &str, separators: &str) -> Result<Vec<String>,
     Ok(members)
 }
 
-fn characters(alloc: Global, text: &str) -> Result<Vec<char>, AllocError>
-    ensures { IfOk result (λ all. all.items ≡ chars text.now) }
+/// The text before the first separator, and what follows it.
+fn cut<'a>(text: &'a str, separators: &Separators) -> Option<(&'a str, &'a str)>
+    ensures { MatchOption result (NoCharPasses (among separators.now) text.now)
+        (λ parts. IsCut separators.now text.now parts.0.now parts.1.now) }
 {
-    text.chars().collect(alloc)
+    let skipped = separators.skipped(text);
+    let (front, back) = text[skipped..].split_once(|c: char| separators.contains(c))?;
+    Some((&text[..skipped + front.len()], back))
 }
 
 /// Adds the member, unless it is empty.

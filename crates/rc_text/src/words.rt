@@ -3,7 +3,7 @@ ghost use Rattle.std.specs.Prelude.{◌≡◌, [], ◌++◌, Bool, true, false, 
 ghost use Rattle.std.specs.List.{list_any};
 ghost use Rattle.std.specs.Str.{chars};
 ghost use Rattle.rc_model.specs.Syntax.Words.{has_pattern, is_pattern, is_pattern_char, word_text, written};
-ghost use Rattle.rc_text.specs.Views.{mark_of, marks, word_of, AreMarksOf};
+ghost use Rattle.rc_text.specs.Views.{mark_of, marks, word_of, AreMarked};
 
 use std::alloc::{AllocError, Global};
 use std::default::MadeWith;
@@ -16,32 +16,38 @@ pub struct Ch {
     pub pat: bool,
 }
 
-/// Which characters of a text are marked.
+/// A text with a mark for each of its characters.
 #[derive(Drop)]
-pub(crate) enum Marks {
-    None,
-    /// All of them, and none is a pattern character.
-    All,
-    /// These are the characters of the text, each with its mark.
-    Each(Vec<Ch>),
+pub(crate) struct MixedText {
+    text: String,
+    /// The characters of the text.
+    chars: Vec<Ch>,
 }
 
-/// A word: a text, and which of its characters are marked.
+/// A text, and which of its characters are marked.
 #[derive(Drop)]
-pub struct Word {
-    text: String,
-    marks: Marks,
+pub(crate) enum Letters {
+    /// None of them.
+    Plain(String),
+    /// All of them, and none is a pattern character.
+    Marked(String),
+    /// Each has a mark of its own. Few words are such, and the box keeps the others small.
+    Mixed(Box<MixedText>),
 }
+
+/// A word: characters, each of them marked or not.
+#[derive(Drop)]
+pub struct Word(Letters);
 
 impl Model for Word {
-    ghost use Rattle.std.specs.Prelude.{ℕ, Bool, List, string_bytes};
-    ghost use Rattle.rc_text.specs.Views.{word_of, AreMarksOf};
+    ghost use Rattle.std.specs.Prelude.{ℕ, Bool, List};
+    ghost use Rattle.rc_text.specs.Views.{word_of, AreMarked};
 
     ghost Value = { List (ℕ × Bool) };
 
-    ghost view = { λ w. word_of (string_bytes w.text) w.marks };
+    ghost view = { λ w. word_of w.0 };
 
-    ghost invariant = { λ w. AreMarksOf (string_bytes w.text) w.marks };
+    ghost invariant = { λ w. AreMarked w.0 };
 }
 
 impl MadeWith<Global> for Word {
@@ -91,16 +97,13 @@ fn push_text(all: &mut Vec<Ch>, text: &str, pat: bool) -> Result<(), AllocError>
     all.extend(text.chars().map(|c| Ch { c, pat }))
 }
 
-/// All characters of the text are marked.
-fn all_marked(alloc: Global, text: &str) -> Result<Marks, AllocError>
-    ensures { IfOk result (λ all. (word_of text.now all ≡ written text.now false) × AreMarksOf text.now all) }
+/// The characters of the text, all marked.
+fn all_marked(alloc: Global, text: &str) -> Result<Vec<Ch>, AllocError>
+    ensures { IfOk result (λ all. marks all.items ≡ written text.now false) }
 {
-    if !has_pattern_char(text) {
-        return Ok(Marks::All);
-    }
-    let mut chars = Vec::with_capacity(alloc, text.len())?;
-    push_text(&mut chars, text, true)?;
-    Ok(Marks::Each(chars))
+    let mut all = Vec::with_capacity(alloc, text.len())?;
+    push_text(&mut all, text, true)?;
+    Ok(all)
 }
 
 impl Word {
@@ -115,43 +118,41 @@ impl Word {
     pub fn plain(text: String) -> Word
         ensures { result ≡ written (string_bytes text) true }
     {
-        Word {
-            text,
-            marks: Marks::None,
-        }
+        Word(Letters::Plain(text))
+    }
+
+    /// A text with a mark for each of its characters.
+    fn mixed(alloc: Global, text: String, all: Vec<Ch>) -> Result<Word, AllocError>
+        requires { map (λ m. m.0) (marks all.items) ≡ chars (string_bytes text) }
+        ensures { IfOk result (λ word. word ≡ marks all.items) }
+    {
+        let mixed = Box::new(alloc, MixedText { text, chars: all })?;
+        Ok(Word(Letters::Mixed(mixed)))
     }
 
     /// A text as it is written. Each character of an unquoted one is marked, and none of a quoted one.
     pub fn written(alloc: Global, text: &str, quoted: bool) -> Result<Word, AllocError>
         ensures { IfOk result (λ word. word ≡ written text.now quoted) }
     {
-        let marks = if quoted {
-            Marks::None
+        let copy = String::from_str(alloc, text)?;
+        if quoted {
+            Ok(Word::plain(copy))
+        } else if has_pattern_char(text) {
+            Word::mixed(alloc, copy, all_marked(alloc, text)?)
         } else {
-            all_marked(alloc, text)?
-        };
-        let text = String::from_str(alloc, text)?;
-        Ok(Word { text, marks })
+            Ok(Word(Letters::Marked(copy)))
+        }
     }
 
     /// Two words in one.
     pub(crate) fn joined(alloc: Global, left: &Word, right: &Word) -> Result<Word, AllocError>
         ensures { IfOk result (λ word. word ≡ left.now ++ right.now) }
     {
-        let text = joined_text(alloc, &left.text, &right.text)?;
-        match (&left.marks, &right.marks) {
-            (Marks::None, Marks::None) => Ok(Word::plain(text)),
-            (Marks::All, Marks::All) => Ok(Word {
-                text,
-                marks: Marks::All,
-            }),
-            _ => {
-                let chars = Word::all_chars(alloc, left, right)?;
-                Ok(Word {
-                    text,
-                    marks: Marks::Each(chars),
-                })
-            }
+        let text = joined_text(alloc, left.text(), right.text())?;
+        match (&left.0, &right.0) {
+            (Letters::Plain(_), Letters::Plain(_)) => Ok(Word::plain(text)),
+            (Letters::Marked(_), Letters::Marked(_)) => Ok(Word(Letters::Marked(text))),
+            _ => Word::mixed(alloc, text, Word::all_chars(alloc, left, right)?),
         }
     }
 
@@ -159,7 +160,7 @@ impl Word {
     fn all_chars(alloc: Global, left: &Word, right: &Word) -> Result<Vec<Ch>, AllocError>
         ensures { IfOk result (λ all. marks all.items ≡ left.now ++ right.now) }
     {
-        let size = left.text.len().saturating_add(right.text.len());
+        let size = left.text().len().saturating_add(right.text().len());
         let mut chars = Vec::with_capacity(alloc, size)?;
         left.push_chars(&mut chars)?;
         right.push_chars(&mut chars)?;
@@ -170,10 +171,10 @@ impl Word {
     fn push_chars(&self, chars: &mut Vec<Ch>) -> Result<(), AllocError>
         ensures { OnOk result (marks chars.new.items ≡ marks chars.old.items ++ self.now) }
     {
-        match &self.marks {
-            Marks::None => push_text(chars, &self.text, false),
-            Marks::All => push_text(chars, &self.text, true),
-            Marks::Each(each) => chars.extend_from_slice(each.as_slice()),
+        match &self.0 {
+            Letters::Plain(text) => push_text(chars, text, false),
+            Letters::Marked(text) => push_text(chars, text, true),
+            Letters::Mixed(mixed) => chars.extend_from_slice(mixed.chars.as_slice()),
         }
     }
 
@@ -182,14 +183,20 @@ impl Word {
         ensures text { result.now ≡ word_text self.now }
         ensures characters { chars result.now ≡ map (λ m. m.0) self.now }
     {
-        self.text.as_str()
+        match &self.0 {
+            Letters::Plain(text) | Letters::Marked(text) => text.as_str(),
+            Letters::Mixed(mixed) => mixed.text.as_str(),
+        }
     }
 
     /// The characters without their marks.
     pub fn into_text(self) -> String
         ensures { string_bytes result ≡ word_text self }
     {
-        self.text
+        match self.0 {
+            Letters::Plain(text) | Letters::Marked(text) => text,
+            Letters::Mixed(mixed) => Box::into_inner(mixed).text,
+        }
     }
 
     /// The characters, where a pattern character is among them.
@@ -197,8 +204,10 @@ impl Word {
         ensures { MatchOption result (has_pattern self.now ≡ false)
             (λ chars. (marks chars.now ≡ self.now) × (has_pattern self.now ≡ true)) }
     {
-        match &self.marks {
-            Marks::Each(chars) if any_pattern(chars.as_slice()) => Some(chars.as_slice()),
+        match &self.0 {
+            Letters::Mixed(mixed) if any_pattern(mixed.chars.as_slice()) => {
+                Some(mixed.chars.as_slice())
+            }
             _ => None,
         }
     }
@@ -214,12 +223,13 @@ impl Word {
     pub fn copy(&self) -> Result<Word, AllocError>
         ensures { IfOk result (λ copy. copy ≡ self.now) }
     {
-        let marks = match &self.marks {
-            Marks::None => Marks::None,
-            Marks::All => Marks::All,
-            Marks::Each(each) => Marks::Each(each.clone()?),
-        };
-        let text = self.text.clone()?;
-        Ok(Word { text, marks })
+        match &self.0 {
+            Letters::Plain(text) => Ok(Word::plain(text.clone()?)),
+            Letters::Marked(text) => Ok(Word(Letters::Marked(text.clone()?))),
+            Letters::Mixed(mixed) => {
+                let text = mixed.text.clone()?;
+                Word::mixed(*text.allocator(), text, mixed.chars.clone()?)
+            }
+        }
     }
 }

@@ -1,10 +1,7 @@
 use Rattle.std.proofs.Common.{rules}
 use Rattle.std.proofs.lemmas.Iterator.{YieldsList-from_chars, YieldsList-from_map}
-use Rattle.std.proofs.lemmas.Iterator.Adapters.{fact_from_extend, items_from_extend}
+use Rattle.std.proofs.lemmas.Iterator.Adapters.{items_from_extend}
 use Rattle.std.specs.Str.{chars}
-use Rattle.std.specs.Result.{OnOk}
-use Rattle.std.proofs.Common.{◌≡◌, ◌++◌, ◌∙◌, ap, map, sym}
-use Rattle.rc_text.specs.Views.{marks}
 use Rattle.rc_text.proofs.Marks.{marked_by, marks_added, on_ok}
 use Rattle.rc_text.proofs.words.push_text.Goals as goal
 

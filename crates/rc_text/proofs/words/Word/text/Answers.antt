@@ -1,15 +1,19 @@
-use Rattle.std.proofs.Common.{ap, sym, subst, map, ℕ, Bool, ◌∙◌}
+use Rattle.std.proofs.Common.{◌≡◌, ap, sym, subst, ◌∙◌, string_bytes}
 use Rattle.std.specs.Str.{chars, IsUtf8}
-use Rattle.rc_model.specs.Syntax.Words.{word_text}
-use Rattle.rc_text.proofs.Marks.{characters_of, text_of_word}
+use Rattle.rc_text.specs.declared.words.MixedText.{MixedText}
+use Rattle.rc_text.proofs.Marks.{alike_characters, mixed_characters, text_of_word}
 use Rattle.rc_text.proofs.words.Word.text.Goals as goal
 
-pub returns-clause-text : goal.returns-clause-text
-returns-clause-text c =
-    c.as_str.ensures.value
-    ∙ sym (text_of_word _ c.self.inside.marks c.self.invariant (subst IsUtf8 c.as_str.ensures.value c.as_str.utf8))
-    ∙ ap word_text c.self.view_is
+pub returns-in-Mixed-clause-text : goal.returns-in-Mixed-clause-text
+returns-in-Mixed-clause-text c =
+    let e : c.as_str.result.now ≡ string_bytes c.in-Mixed.mixed.value.text = c.as_str.ensures.value ∙ ap (λ (m : MixedText). string_bytes m.text) c.deref.ensures in
+    e ∙ text_of_word _ _ _ (subst IsUtf8 e c.as_str.utf8) (mixed_characters _ _ c.in-Mixed.is c.self.invariant) c.self.view_is
 
-pub returns-clause-characters : goal.returns-clause-characters
-returns-clause-characters c =
-    ap chars c.as_str.ensures.value ∙ sym (characters_of _ c.self.inside.marks c.self.invariant) ∙ ap (map (λ (m : ℕ × Bool). m.0)) c.self.view_is
+pub returns-in-Plain-clause-text : goal.returns-in-Plain-clause-text
+returns-in-Plain-clause-text c =
+    let e = c.as_str-in-Plain.ensures.value in
+    e ∙ text_of_word _ _ _ (subst IsUtf8 e c.as_str-in-Plain.utf8) (alike_characters _ _ c.in-Plain.is) c.self.view_is
+
+pub returns-in-Plain-clause-characters : goal.returns-in-Plain-clause-characters
+returns-in-Plain-clause-characters c =
+    ap chars c.as_str-in-Plain.ensures.value ∙ sym (alike_characters _ _ c.in-Plain.is) ∙ cc
