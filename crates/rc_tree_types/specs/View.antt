@@ -22,12 +22,11 @@ use Rattle.rc_tree_types.specs.declared.Item.{Item}
 use Rattle.rc_tree_types.specs.declared.Stage.{Stage}
 use Rattle.rc_tree_types.specs.declared.Branch.{Branch}
 use Rattle.rc_tree_types.specs.declared.Cmd.{Row_of-Arg, end_of-Arg, more_of-Arg, Row_of-Item, end_of-Item}
-use Rattle.rc_tree_types.specs.declared.Cmd.{more_of-Item}
+use Rattle.rc_tree_types.specs.declared.Cmd.{more_of-Item, Row_of-Redir, end_of-Redir, more_of-Redir}
 use Rattle.rc_tree_types.specs.declared.Cmd.{Row_of-Cmd-Assign-0-2, end_of-Cmd-Assign-0-2, more_of-Cmd-Assign-0-2}
-use Rattle.rc_tree_types.specs.declared.Cmd.{Row_of-Redir, end_of-Redir, more_of-Redir, Row_of-Stage, end_of-Stage}
-use Rattle.rc_tree_types.specs.declared.Cmd.{more_of-Stage}
-use Rattle.rc_tree_types.specs.declared.Cmd.{Row_of-Cmd-AndOr-1-2, end_of-Cmd-AndOr-1-2, more_of-Cmd-AndOr-1-2}
-use Rattle.rc_tree_types.specs.declared.Cmd.{Row_of-Branch, end_of-Branch, more_of-Branch}
+use Rattle.rc_tree_types.specs.declared.Cmd.{Row_of-Stage, end_of-Stage, more_of-Stage, Row_of-Branch, end_of-Branch}
+use Rattle.rc_tree_types.specs.declared.Cmd.{more_of-Branch, Row_of-Cmd-AndOr-1-2, end_of-Cmd-AndOr-1-2}
+use Rattle.rc_tree_types.specs.declared.Cmd.{more_of-Cmd-AndOr-1-2}
 use Rattle.rc_tree_types.specs.declared.Arg.TheBlock as rows
 
 -- a piece of a here document
@@ -227,7 +226,6 @@ branches_shown v =
     branches_listed (rows.hidden-the_row-Branch-6 v) ∙ ap branches_tree (rows.items_hidden-the_row-Branch-6 v)
 
 -- the tree of each kind of node
-
 pub tree_Empty : cmd_tree c.Empty ≡ t.Empty
 unfolding cmd_tree
 tree_Empty = refl
