@@ -1,7 +1,6 @@
 -- How the calls of an expansion join.
-use Rattle.std.proofs.Common.{◌≡◌, ℕ, ◌+◌, ◌*◌, ◌<◌, ◌≤◌, arith, List, [], ◌∷◌, ◌++◌, length, map, drop, get_or, Option, Some, None, is_some, sym, ap, subst, ◌∙◌, append_assoc, drop-cons, add-one, string_bytes}
+use Rattle.std.proofs.Common.{◌≡◌, ℕ, ◌+◌, ◌<◌, ◌≤◌, arith, refl, List, [], ◌∷◌, ◌++◌, length, map, drop, get_or, Option, is_some, sym, ap, subst, ◌∙◌, append_assoc, drop-cons, add-one, string_bytes}
 use Rattle.std.specs.Prelude.{if◌then◌else◌, Bool, true, false, cond, ◌==◌, Ok, Err, MatchResult, Result as Outcome}
-use Rattle.std.specs.Borrow.{Bor}
 use Rattle.std.proofs.lemmas.Bool.{eqb-true}
 use Rattle.std.proofs.lemmas.List.{append-nil, drop_all, map-append}
 use Rattle.std.specs.declared.alloc.Global.{Global}
@@ -10,12 +9,10 @@ use Rattle.rc_model.specs.Syntax.Words.{Word, has_pattern, plain_words, word_tex
 use Rattle.rc_model.specs.Run.Calls.{Event, list_names, as_names, probe, as_kind}
 use Rattle.rc_model.specs.declared.call.Kind.{Kind}
 use Rattle.rc_model.specs.Run.Plans.{Plan, done_with, asks, Ran}
-use Rattle.rc_model.specs.Run.Shell.{Result, Next, Shell, ◌>>=◌, pure}
+use Rattle.rc_model.specs.Run.Shell.{Result, Next, Shell, ◌>>=◌, leaves, pure, under}
 use Rattle.rc_model.specs.Run.State.{State}
 use Rattle.rc_model.specs.Run.FileNames.{components, each_name, expanded, expanded_word, fitting_names, directory, if_there, listed, names_of, or_itself, ordered, walk}
-use Rattle.rc_text.specs.declared.words.Ch.{Ch}
-use Rattle.rc_text.specs.Views.{marks}
-use Rattle.rc_glob.specs.Paths.{components_of, paths_from}
+use Rattle.rc_glob.specs.Paths.{paths_from}
 use Rattle.rc_glob.proofs.Cuts.{walk_pattern, walk_plain, whole}
 use Rattle.rc_world.specs.Comes.{Comes, Left}
 use Rattle.rc_world.specs.declared.types.Stop.{Stop}
@@ -64,6 +61,11 @@ module _ {A : Type 0} (s : State) where
 
 -- ** the names in a directory
 
+-- where nothing follows them, the names are the ends of the paths
+each_name_alone : (path : List ℕ) (ns : List (List ℕ)) (s : State) → each_name (walk []) path ns s ≡ done_with (Next (map (λ n. path ++ n) ns) s)
+each_name_alone path [] s = refl
+each_name_alone path (n ∷ ns) s = ap (λ p. under p (λ others. pure ((path ++ n) ∷ others)) leaves) (each_name_alone path ns s)
+
 module _ (c : Word) (path : List ℕ) where
   pub left_listing : (a b : Option (List Event)) (stop : Stop) (p : List ℕ) → p ≡ directory path → Left a b (asks (list_names p) as_names) stop →
       Left a b (asks (list_names (directory path)) (λ x. fitting_names c (as_names x))) stop
@@ -95,6 +97,20 @@ module _ (c : Word) (path : List ℕ) where
       ran_answered a b b (list_names (directory path)) (λ x. fitting_names c (as_names x)) names (λ ns. each_name next path ns s) (each_name next path names s) listing (ran_none b (each_name next path names s)) in
       subst (λ f. Collected a b s (whole s) (each_name next path names s) (map string_bytes f)) (sym n)
       (collected_from s a b (whole s) (each_name next path names s) (subst (λ m. Ran a b (m s) (each_name next path names s)) (sym w) ran))
+
+  module _ (a b : Option (List Event)) (s : State) (next : List ℕ → Shell (List (List ℕ))) (whole : Shell (List (List ℕ))) (p : List ℕ) (items : List (String Global))
+      (w : whole ≡ listed c next path) (e : p ≡ path) (h : Ran a b (asks (list_names (directory p)) (λ x. fitting_names c (as_names x))) (done_with (map string_bytes items))) where
+    pub left_alone : Left a b (whole s) NoMemory
+    left_alone = collected_memory s a b (whole s) (each_name next path (map string_bytes items) s) [] (begun a b s next whole p items items [] w e h refl refl)
+
+    pub ran_alone : (q : List ℕ) (paths : List (String Global)) → next ≡ walk [] → q ≡ path → map string_bytes paths ≡ map (λ n. q ++ n) (map string_bytes items) →
+        Ran a b (whole s) (done_with (Next (map string_bytes paths) s))
+    ran_alone q paths n d k =
+        let names = map string_bytes items in
+        let alone : each_name next path names s ≡ done_with (Next (map string_bytes paths) s) =
+        ap (λ f. each_name f path names s) n ∙ (each_name_alone path names s ∙ ap (λ l. done_with (Next l s)) (ap (λ t. map (λ n. t ++ n) names) (sym d) ∙ sym k)) in
+        (begun a b s next whole p items items [] w e h refl refl).ends b (map string_bytes paths)
+        (subst (λ m. Ran b b m (done_with (Next (map string_bytes paths) s))) (sym alone) (ran_none b (done_with (Next (map string_bytes paths) s))))
 
 pub joined_is : (w a b p n : List ℕ) → w ≡ a ++ b → a ≡ p → b ≡ n → w ≡ p ++ n
 joined_is w a b p n h e k = h ∙ (ap (λ t. t ++ b) e ∙ ap (λ t. p ++ t) k)
@@ -191,12 +207,6 @@ module _ (path : List ℕ) (s : State) where
       ran_answered a b b (probe path) as_kind k next (done_with (Next paths s)) (subst (λ p. Ran a b (asks (probe p) as_kind) (done_with k)) d h)
       (subst (λ l. Ran b b (next k) (done_with (Next l s))) (sym e) (ran_none b (next k)))
 
--- ** how much of a word is left
-
-abbrev pub left_over : Option (Bor (List Ch)) → ℕ
-left_over None = 0
-left_over (Some rest) = 2 * length rest.now + 2
-
 -- ** one word
 
 -- a plan that came to its value
@@ -241,11 +251,10 @@ some_paths w items (x ∷ xs) sorted ws b h e k o n =
 
 -- ** what follows a name
 
-module _ (o : Option (Bor (List Ch))) where
-  pub on_pattern : (r : Bor (List Ch)) (path new : List ℕ) (b : Bool) → o ≡ Some r → b ≡ has_pattern (marks r.now) → b ≡ true → new ≡ path ++ 47 ∷ [] → walk (components_of o) path ≡ paths_from (components (marks r.now)) new
-  on_pattern r path new b h k e n =
-      ap (λ o. walk (components_of o) path) h ∙ (walk_pattern (marks r.now) path (sym k ∙ e) ∙ ap (paths_from (components (marks r.now))) (sym n))
+module _ (w : Word) (path : List ℕ) where
+  pub on_pattern : (new : List ℕ) (b : Bool) → b ≡ has_pattern w → b ≡ true → new ≡ path ++ 47 ∷ [] → walk (components w) path ≡ paths_from (components w) new
+  on_pattern new b k e n = walk_pattern w path (sym k ∙ e) ∙ ap (paths_from (components w)) (sym n)
 
-  pub on_plain : (r : Bor (List Ch)) (path new newer : List ℕ) (b : Bool) → o ≡ Some r → b ≡ has_pattern (marks r.now) → b ≡ false → new ≡ path ++ 47 ∷ [] → newer ≡ new ++ word_text (marks r.now) →
-      walk (components_of o) path ≡ if_there newer
-  on_plain r path new newer b h k e n q = ap (λ o. walk (components_of o) path) h ∙ walk_plain (marks r.now) path new newer b k e n q
+  pub on_plain : (new newer : List ℕ) (b : Bool) → b ≡ has_pattern w → b ≡ false → new ≡ path ++ 47 ∷ [] → newer ≡ new ++ word_text w →
+      walk (components w) path ≡ if_there newer
+  on_plain new newer b k e n q = walk_plain w path new newer b k e n q

@@ -77,6 +77,22 @@ pub(crate) fn joined(alloc: Global, path: &str, name: &str) -> Result<String, Al
     Ok(whole)
 }
 
+/// The paths of the names in the directory with this path.
+pub(crate) fn paths_in(
+    alloc: Global,
+    path: &str,
+    names: Vec<String>,
+) -> Result<Vec<String>, AllocError>
+    ensures { IfOk result (λ paths. map string_bytes paths.items
+        ≡ map (λ name. path.now ++ name) (map string_bytes names.items)) }
+{
+    let mut paths = Vec::with_capacity(alloc, names.len())?;
+    for name in names {
+        paths.push(joined(alloc, path, &name)?)?;
+    }
+    Ok(paths)
+}
+
 /// This path alone.
 pub(crate) fn only(alloc: Global, path: String) -> Result<Vec<String>, AllocError>
     ensures { IfOk result (λ paths. map string_bytes paths.items ≡ string_bytes path ∷ []) }

@@ -9,9 +9,9 @@ ghost use Rattle.rc_model.specs.Run.FileNames.{components, expanded, expanded_wo
 ghost use Rattle.rc_model.specs.Run.FileNames.{walk};
 ghost use Rattle.rc_text.specs.Views.{marks};
 ghost use Rattle.rc_world.specs.Comes.{Asks, Comes};
-ghost use Rattle.rc_glob.specs.Paths.{components_of, expanded_texts, paths_from};
+ghost use Rattle.rc_glob.specs.Paths.{expanded_texts, paths_from};
 
-use crate::components::{advance, directory, joined, only, push_text};
+use crate::components::{advance, directory, joined, only, paths_in, push_text};
 use crate::matching::has_pattern;
 use crate::names::{fitting_names, ordered};
 use rc_text::{Ch, List, Word};
@@ -62,6 +62,9 @@ fn walk<W: World>(
 {
     let (component, rest) = advance(&mut path, word)?;
     let names = listed(alloc, world, &path, component)?;
+    let Some(rest) = rest else {
+        return Ok(paths_in(alloc, &path, names)?);
+    };
     let mut found = Vec::new(alloc);
     for name in &names {
         let whole = joined(alloc, &path, name)?;
@@ -71,21 +74,18 @@ fn walk<W: World>(
     Ok(found)
 }
 
-/// The paths that begin with this one and go on with a slash and what follows it, if anything does.
+/// The paths that begin with this one and go on with a slash and what follows it.
 #[cycle(walk)]
 fn walk_on<W: World>(
     alloc: Global,
     world: &mut W,
     mut path: String,
-    rest: Option<&[Ch]>,
+    rest: &[Ch],
 ) -> Result<Vec<String>, Stop>
     ensures { (s : State) → Comes (W.events world.old) (W.events world.new)
-        (walk (components_of rest.entry) (string_bytes path) s)
+        (walk (components (marks rest.now)) (string_bytes path) s)
         (λ paths. Next (map string_bytes paths.items) s) result }
 {
-    let Some(rest) = rest else {
-        return Ok(only(alloc, path)?);
-    };
     path.push('/')?;
     if has_pattern(rest) {
         return walk(alloc, world, path, rest);

@@ -123,13 +123,10 @@ fn fits(whole: &[Ch], text: &str, explicit: bool) -> bool
             }
             Move::AtEnd => return true,
             Move::Miss => {
-                if !has_star {
-                    return false;
-                }
                 let Some((c, more)) = first_char(star_text) else {
                     return false;
                 };
-                if !stands_for(explicit, c) {
+                if !has_star || !stands_for(explicit, c) {
                     return false;
                 }
                 star_text = more;
