@@ -7,8 +7,8 @@ use Rattle.rc_model.specs.Code.Layout.{Op, Nil, Word, Value, Glob, For, Next, Op
 use Rattle.rc_model.specs.Code.Layout.{If, WasTrue, Stages, EndPipe, Subject}
 use Rattle.rc_model.specs.Code.Layout.{Kept, KeptPieces, Code, Part, Nothing, Do, Keep, Past, Loop, ◌⨾◌}
 use Rattle.rc_model.specs.Code.Layout.{ops_of, kept_of, assign_by, condition_code, cmd_code, arg_code, args_code}
-use Rattle.rc_code.specs.Views.{code_of}
-use Rattle.rc_code.specs.declared.code.Code as program
+use Rattle.rc_code.specs.Views.{listing_of}
+use Rattle.rc_code.specs.declared.listing.Listing as program
 
 -- the code with a part at its end
 unfoldable pub with_part : Code → Part → Code
@@ -28,8 +28,8 @@ redirected c [] p = c
 redirected c (from ∷ places) p = redirected (patched c from (Jump p)) places p
 
 -- a part was written
-abbrev pub Writes : (old new : program.Code) → Part → Type 0
-Writes old new part = code_of new ≡ with_part (code_of old) part
+abbrev pub Writes : (old new : program.Listing) → Part → Type 0
+Writes old new part = listing_of new ≡ with_part (listing_of old) part
 
 -- The parts that have a function of their own.
 

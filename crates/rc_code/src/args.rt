@@ -5,14 +5,15 @@ ghost use Rattle.rc_model.specs.Code.Layout.{arg_code, parts_code};
 ghost use Rattle.rc_tree_types.specs.View.{arg_tree, args_tree};
 ghost use Rattle.rc_code.specs.Emission.{Writes, list_code};
 
-use crate::code::{Code, Op};
+use crate::code::Op;
 use crate::kept::kept_tree;
+use crate::listing::Listing;
 use rc_tree::Arg;
 use std::alloc::{AllocError, Global};
 
 #[cycle(emit)]
 #[tactic(auto, using(crate::proofs::Parts::emitting))]
-pub fn emit_arg(alloc: Global, code: &mut Code, arg: &Arg) -> Result<(), AllocError>
+pub fn emit_arg(alloc: Global, code: &mut Listing, arg: &Arg) -> Result<(), AllocError>
     ensures { OnOk result (Writes code.old code.new (arg_code (arg_tree arg.now))) }
 {
     match arg {
@@ -49,7 +50,7 @@ pub fn emit_arg(alloc: Global, code: &mut Code, arg: &Arg) -> Result<(), AllocEr
 /// The words as one list.
 #[cycle(emit)]
 #[tactic(auto, using(crate::proofs::Parts::emitting))]
-pub fn emit_list(alloc: Global, code: &mut Code, words: &[Arg]) -> Result<(), AllocError>
+pub fn emit_list(alloc: Global, code: &mut Listing, words: &[Arg]) -> Result<(), AllocError>
     ensures { OnOk result (Writes code.old code.new (list_code (args_tree words.now))) }
 {
     code.put(Op::Nil)?;
@@ -63,7 +64,7 @@ pub fn emit_list(alloc: Global, code: &mut Code, words: &[Arg]) -> Result<(), Al
 /// The parts of a word that is made of several.
 #[cycle(emit)]
 #[tactic(auto, using(crate::proofs::Parts::emitting))]
-fn emit_parts(alloc: Global, code: &mut Code, parts: &[Arg]) -> Result<(), AllocError>
+fn emit_parts(alloc: Global, code: &mut Listing, parts: &[Arg]) -> Result<(), AllocError>
     ensures { OnOk result (Writes code.old code.new (parts_code (args_tree parts.now))) }
 {
     let Some((first, further)) = parts.split_first() else {

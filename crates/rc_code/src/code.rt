@@ -1,12 +1,11 @@
 //! The instructions, and the code that they stand in.
 
-ghost use Rattle.std.specs.Prelude.{◌≡◌, ◌<◌, ◌^◌, [], All, IfOk, OnOk, IsSome, length, option_map, slice_get};
+ghost use Rattle.std.specs.Prelude.{◌≡◌, ◌<◌, ◌^◌, IfOk, IsSome, option_map, slice_get};
 ghost use Rattle.std.specs.Option.{option_copied};
-ghost use Rattle.rc_model.specs.Code.Layout.{Do, Jump};
 ghost use Rattle.rc_tree_types.specs.View.{cmd_tree, stages_tree, pieces_tree};
-ghost use Rattle.rc_code.specs.Views.{op_of, kept_of, code_of, tree_at, stages_at, pieces_at};
-ghost use Rattle.rc_code.specs.Emission.{Writes, with_kept, patched, redirected};
+ghost use Rattle.rc_code.specs.Views.{op_of, code_of, listing_of, tree_at, stages_at, pieces_at};
 
+use crate::listing::Listing;
 use rc_tree::{Cmd, Mode, Piece, Stage};
 use std::alloc::{AllocError, Global};
 use std::rc::Rc;
@@ -76,122 +75,67 @@ pub enum Kept {
     Pieces(Vec<Piece>),
 }
 
-/// The instructions of a command, and what they keep of its tree. `compile` makes it.
+/// The instructions of a command, and what they keep of its tree. `compile` makes it, and nothing changes it then, so
+/// it is shared.
 #[derive(Drop)]
-pub struct Code {
-    ops: Vec<Op>,
-    kept: Vec<Kept>,
-}
+pub struct Code(Rc<Listing>);
 
 impl Code {
-    /// The instruction at a place: none past the end.
+    /// The code of a listing to which nothing is added any more.
     #[tactic(auto, unfolding(crate::specs::Views::code_of))]
+    pub(crate) fn of(alloc: Global, listing: Listing) -> Result<Code, AllocError>
+        ensures { IfOk result (λ code. code_of code ≡ listing_of listing) }
+    {
+        Ok(Code(Rc::new(alloc, listing)?))
+    }
+
+    /// The same code once more, which is not copied. It fails only where it has too many owners.
+    #[tactic(auto, unfolding(crate::specs::Views::code_of))]
+    pub fn share(&self) -> Result<Code, AllocError>
+        ensures { IfOk result (λ shared. code_of shared ≡ code_of self.now) }
+    {
+        Ok(Code(self.0.clone()?))
+    }
+
+    /// The instruction at a place: none past the end.
+    #[tactic(auto, unfolding(crate::specs::Views::code_of, crate::specs::Views::listing_of))]
     pub fn op(&self, place: usize) -> Option<&Op>
         ensures op { option_map op_of (option_copied result) ≡ slice_get (code_of self.now).ops place }
         ensures within { IsSome result → place < 2 ^ 63 }
     {
-        self.ops.get(place)
+        self.0.ops.get(place)
     }
 
     /// The tree of this number: none where it is none of a tree.
-    #[tactic(auto, unfolding(crate::specs::Views::code_of))]
+    #[tactic(auto, unfolding(crate::specs::Views::code_of, crate::specs::Views::listing_of))]
     pub fn tree(&self, number: usize) -> Option<&Rc<Cmd>>
         ensures { option_map (λ tree. cmd_tree tree.value) (option_copied result) ≡ tree_at (code_of self.now) number }
     {
-        match self.kept.get(number) {
+        match self.0.kept.get(number) {
             Some(Kept::Tree(tree)) => Some(tree),
             _ => None,
         }
     }
 
     /// The stages of this number: none where it is none of stages.
-    #[tactic(auto, unfolding(crate::specs::Views::code_of))]
+    #[tactic(auto, unfolding(crate::specs::Views::code_of, crate::specs::Views::listing_of))]
     pub fn stages(&self, number: usize) -> Option<&[Stage]>
         ensures { option_map stages_tree (option_copied result) ≡ stages_at (code_of self.now) number }
     {
-        match self.kept.get(number) {
+        match self.0.kept.get(number) {
             Some(Kept::Stages(stages)) => Some(stages),
             _ => None,
         }
     }
 
     /// The here document of this number: none where it is none of a here document.
-    #[tactic(auto, unfolding(crate::specs::Views::code_of))]
+    #[tactic(auto, unfolding(crate::specs::Views::code_of, crate::specs::Views::listing_of))]
     pub fn pieces(&self, number: usize) -> Option<&[Piece]>
         ensures { option_map pieces_tree (option_copied result) ≡ pieces_at (code_of self.now) number }
     {
-        match self.kept.get(number) {
+        match self.0.kept.get(number) {
             Some(Kept::Pieces(pieces)) => Some(pieces),
             _ => None,
         }
-    }
-
-    /// No instruction yet.
-    #[tactic(auto, unfolding(crate::specs::Views::code_of))]
-    pub(crate) fn empty(alloc: Global) -> Self
-        ensures { code_of result ≡ record { ops = []; kept = [] } }
-    {
-        Code {
-            ops: Vec::new(alloc),
-            kept: Vec::new(alloc),
-        }
-    }
-
-    /// The place of the next instruction.
-    #[tactic(auto, unfolding(crate::specs::Views::code_of))]
-    pub(crate) fn end(&self) -> usize
-        ensures { result ≡ length (code_of self.now).ops }
-    {
-        self.ops.len()
-    }
-
-    /// One more instruction.
-    #[tactic(auto, unfolding(crate::specs::Views::code_of, crate::specs::Emission::with_part))]
-    pub(crate) fn put(&mut self, op: Op) -> Result<(), AllocError>
-        ensures { OnOk result (Writes self.old self.new (Do (op_of op))) }
-    {
-        self.ops.push(op)?;
-        Ok(())
-    }
-
-    /// An instruction that will be known later, and its place.
-    pub(crate) fn put_later(&mut self) -> Result<usize, AllocError>
-        ensures place { IfOk result (λ place. place ≡ length (code_of self.old).ops) }
-        ensures put { OnOk result (Writes self.old self.new (Do (Jump 0))) }
-    {
-        let place = self.end();
-        self.put(Op::Jump(0))?;
-        Ok(place)
-    }
-
-    /// Another instruction at a place.
-    #[tactic(auto, unfolding(crate::specs::Views::code_of, crate::specs::Emission::patched))]
-    pub(crate) fn patch(&mut self, place: usize, op: Op)
-        requires { place < length (code_of self.old).ops }
-        ensures { code_of self.new ≡ patched (code_of self.old) place (op_of op) }
-    {
-        self.ops[place] = op;
-    }
-
-    /// Jumps to one place from several.
-    #[tactic(auto, using(crate::proofs::Branches::redirecting))]
-    pub(crate) fn redirect(&mut self, places: &[usize], end: usize)
-        requires { All (λ place. place < length (code_of self.old).ops) places.now }
-        ensures { code_of self.new ≡ redirected (code_of self.old) places.now end }
-    {
-        for place in places {
-            self.patch(*place, Op::Jump(end));
-        }
-    }
-
-    /// Something more beside the code, and its number.
-    #[tactic(auto, unfolding(crate::specs::Views::code_of, crate::specs::Emission::with_kept))]
-    pub(crate) fn keep(&mut self, kept: Kept) -> Result<usize, AllocError>
-        ensures number { IfOk result (λ k. k ≡ length (code_of self.old).kept) }
-        ensures kept { OnOk result (code_of self.new ≡ with_kept (code_of self.old) (kept_of kept)) }
-    {
-        let number = self.kept.len();
-        self.kept.push(kept)?;
-        Ok(number)
     }
 }

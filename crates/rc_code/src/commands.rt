@@ -3,14 +3,15 @@
 ghost use Rattle.std.specs.Prelude.{◌≡◌, ◌+◌, IfOk, OnOk, length};
 ghost use Rattle.rc_model.specs.Code.Layout.{Past, IfNot, cmd_code, items_code, links_code, branches_code};
 ghost use Rattle.rc_tree_types.specs.View.{cmd_tree, items_tree, links_tree, branch_tree, branches_tree};
-ghost use Rattle.rc_code.specs.Views.{code_of};
+ghost use Rattle.rc_code.specs.Views.{listing_of};
 ghost use Rattle.rc_code.specs.Emission.{Writes, last_stage_code, body_code, test_code, repeat_code, turns_code};
 ghost use Rattle.rc_code.specs.Emission.{branch_to};
 
 use crate::args::emit_list;
-use crate::code::{Code, Op};
+use crate::code::Op;
 use crate::forms::{guards, has_no_items, is_empty, skip};
 use crate::kept::{kept_stages, kept_tree};
+use crate::listing::Listing;
 use crate::plain::{
     emit_define, emit_match, emit_members, emit_pairs, emit_redirs, emit_simple, emit_star,
     emit_subject, emit_subshell, emit_undefine, emit_unlocal,
@@ -20,7 +21,12 @@ use std::alloc::{AllocError, Global};
 
 #[cycle(emit)]
 #[tactic(auto, using(crate::proofs::Parts::emitting))]
-pub fn emit_cmd(alloc: Global, code: &mut Code, cmd: &Cmd, guarded: bool) -> Result<(), AllocError>
+pub fn emit_cmd(
+    alloc: Global,
+    code: &mut Listing,
+    cmd: &Cmd,
+    guarded: bool,
+) -> Result<(), AllocError>
     ensures { OnOk result (Writes code.old code.new (cmd_code (cmd_tree cmd.now) guarded)) }
 {
     match cmd {
@@ -86,7 +92,7 @@ pub fn emit_cmd(alloc: Global, code: &mut Code, cmd: &Cmd, guarded: bool) -> Res
 #[tactic(auto, using(crate::proofs::Parts::emitting))]
 fn emit_items(
     alloc: Global,
-    code: &mut Code,
+    code: &mut Listing,
     items: &[Item],
     guarded: bool,
 ) -> Result<(), AllocError>
@@ -108,7 +114,7 @@ fn emit_items(
 #[tactic(auto, using(crate::proofs::Parts::emitting))]
 fn emit_last_stage(
     alloc: Global,
-    code: &mut Code,
+    code: &mut Listing,
     stages: usize,
     last: &Cmd,
     guarded: bool,
@@ -128,7 +134,7 @@ fn emit_last_stage(
 #[tactic(auto, using(crate::proofs::Parts::emitting))]
 fn emit_links(
     alloc: Global,
-    code: &mut Code,
+    code: &mut Listing,
     links: &[(Logic, Cmd)],
     guarded: bool,
 ) -> Result<(), AllocError>
@@ -145,7 +151,12 @@ fn emit_links(
 
 #[cycle(emit)]
 #[tactic(auto, using(crate::proofs::Parts::emitting))]
-fn emit_if_body(alloc: Global, code: &mut Code, body: &Cmd, guarded: bool) -> Result<(), AllocError>
+fn emit_if_body(
+    alloc: Global,
+    code: &mut Listing,
+    body: &Cmd,
+    guarded: bool,
+) -> Result<(), AllocError>
     ensures { OnOk result (Writes code.old code.new (body_code (cmd_code (cmd_tree body.now) guarded))) }
 {
     let place = code.put_later()?;
@@ -158,7 +169,12 @@ fn emit_if_body(alloc: Global, code: &mut Code, body: &Cmd, guarded: bool) -> Re
 
 #[cycle(emit)]
 #[tactic(auto, using(crate::proofs::Parts::emitting))]
-fn emit_if_not(alloc: Global, code: &mut Code, body: &Cmd, guarded: bool) -> Result<(), AllocError>
+fn emit_if_not(
+    alloc: Global,
+    code: &mut Listing,
+    body: &Cmd,
+    guarded: bool,
+) -> Result<(), AllocError>
     ensures { OnOk result (Writes code.old code.new (Past IfNot (cmd_code (cmd_tree body.now) guarded))) }
 {
     let place = code.put_later()?;
@@ -170,7 +186,7 @@ fn emit_if_not(alloc: Global, code: &mut Code, body: &Cmd, guarded: bool) -> Res
 
 #[cycle(emit)]
 #[tactic(auto, using(crate::proofs::Parts::emitting))]
-fn emit_condition(alloc: Global, code: &mut Code, test: &Cmd) -> Result<(), AllocError>
+fn emit_condition(alloc: Global, code: &mut Listing, test: &Cmd) -> Result<(), AllocError>
     ensures { OnOk result (Writes code.old code.new (test_code (cmd_tree test.now))) }
 {
     if has_no_items(test) {
@@ -185,7 +201,7 @@ fn emit_condition(alloc: Global, code: &mut Code, test: &Cmd) -> Result<(), Allo
 #[tactic(auto, using(crate::proofs::Parts::emitting))]
 fn emit_while_body(
     alloc: Global,
-    code: &mut Code,
+    code: &mut Listing,
     start: usize,
     body: &Cmd,
     guarded: bool,
@@ -203,7 +219,12 @@ fn emit_while_body(
 /// The turns of a `for`.
 #[cycle(emit)]
 #[tactic(auto, using(crate::proofs::Parts::emitting))]
-fn emit_turns(alloc: Global, code: &mut Code, body: &Cmd, guarded: bool) -> Result<(), AllocError>
+fn emit_turns(
+    alloc: Global,
+    code: &mut Listing,
+    body: &Cmd,
+    guarded: bool,
+) -> Result<(), AllocError>
     ensures { OnOk result (Writes code.old code.new (turns_code (cmd_code (cmd_tree body.now) guarded))) }
 {
     code.put(Op::For)?;
@@ -219,7 +240,7 @@ fn emit_turns(alloc: Global, code: &mut Code, body: &Cmd, guarded: bool) -> Resu
 #[tactic(auto, using(crate::proofs::Parts::emitting))]
 fn emit_branches(
     alloc: Global,
-    code: &mut Code,
+    code: &mut Listing,
     branches: &[Branch],
     guarded: bool,
 ) -> Result<(), AllocError>
@@ -239,12 +260,12 @@ fn emit_branches(
 #[tactic(auto, using(crate::proofs::Parts::emitting))]
 fn emit_branch(
     alloc: Global,
-    code: &mut Code,
+    code: &mut Listing,
     branch: &Branch,
     guarded: bool,
 ) -> Result<usize, AllocError>
     ensures branch { OnOk result (Writes code.old code.new (branch_to (branch_tree branch.now) guarded 0)) }
-    ensures last { IfOk result (λ last. last + 1 ≡ length (code_of code.new).ops) }
+    ensures last { IfOk result (λ last. last + 1 ≡ length (listing_of code.new).ops) }
 {
     emit_list(alloc, code, &branch.patterns)?;
     let place = code.put_later()?;

@@ -7,6 +7,7 @@ mod code;
 mod commands;
 mod forms;
 mod kept;
+mod listing;
 mod plain;
 
 ghost use Rattle.std.specs.Prelude.{◌≡◌, IfOk};
@@ -16,6 +17,7 @@ ghost use Rattle.rc_code.specs.Views.{code_of};
 
 pub use code::{Code, Op};
 use commands::emit_cmd;
+use listing::Listing;
 use rc_tree::Cmd;
 use std::alloc::{AllocError, Global};
 
@@ -23,8 +25,8 @@ use std::alloc::{AllocError, Global};
 pub fn compile(alloc: Global, cmd: &Cmd) -> Result<Code, AllocError>
     ensures { IfOk result (λ done. code_of done ≡ code (cmd_tree cmd.now)) }
 {
-    let mut code = Code::empty(alloc);
-    emit_cmd(alloc, &mut code, cmd, false)?;
-    code.put(Op::Return)?;
-    Ok(code)
+    let mut listing = Listing::empty(alloc);
+    emit_cmd(alloc, &mut listing, cmd, false)?;
+    listing.put(Op::Return)?;
+    Code::of(alloc, listing)
 }

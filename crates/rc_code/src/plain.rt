@@ -8,8 +8,9 @@ ghost use Rattle.rc_code.specs.Emission.{Writes, star_code, members_code, pairs_
 ghost use Rattle.rc_code.specs.Emission.{subject_code, match_code, define_code, undefine_code, subshell_code};
 
 use crate::args::{emit_arg, emit_list};
-use crate::code::{Code, Op};
+use crate::code::Op;
 use crate::kept::{kept_pieces, kept_tree};
+use crate::listing::Listing;
 use rc_tree::{Arg, Cmd, Redir};
 use std::alloc::{AllocError, Global};
 
@@ -17,7 +18,7 @@ use std::alloc::{AllocError, Global};
 #[tactic(auto, using(crate::proofs::Parts::emitting))]
 pub fn emit_simple(
     alloc: Global,
-    code: &mut Code,
+    code: &mut Listing,
     words: &[Arg],
     guarded: bool,
 ) -> Result<(), AllocError>
@@ -31,7 +32,7 @@ pub fn emit_simple(
 
 /// The list and the name of a `for` over `$*`.
 #[tactic(auto, using(crate::proofs::Parts::emitting))]
-pub fn emit_star(alloc: Global, code: &mut Code, name: &Arg) -> Result<(), AllocError>
+pub fn emit_star(alloc: Global, code: &mut Listing, name: &Arg) -> Result<(), AllocError>
     ensures { OnOk result (Writes code.old code.new (star_code (arg_tree name.now))) }
 {
     code.put(Op::Word {
@@ -46,7 +47,7 @@ pub fn emit_star(alloc: Global, code: &mut Code, name: &Arg) -> Result<(), Alloc
 #[tactic(auto, using(crate::proofs::Parts::emitting))]
 pub fn emit_members(
     alloc: Global,
-    code: &mut Code,
+    code: &mut Listing,
     words: &[Arg],
     name: &Arg,
 ) -> Result<(), AllocError>
@@ -61,7 +62,7 @@ pub fn emit_members(
 #[tactic(auto, using(crate::proofs::Parts::emitting))]
 pub fn emit_pairs(
     alloc: Global,
-    code: &mut Code,
+    code: &mut Listing,
     pairs: &[(Arg, Arg)],
     bare: bool,
 ) -> Result<(), AllocError>
@@ -77,7 +78,7 @@ pub fn emit_pairs(
 }
 
 #[tactic(auto, using(crate::proofs::Parts::emitting))]
-pub fn emit_redirs(alloc: Global, code: &mut Code, redirs: &[Redir]) -> Result<(), AllocError>
+pub fn emit_redirs(alloc: Global, code: &mut Listing, redirs: &[Redir]) -> Result<(), AllocError>
     ensures { OnOk result (Writes code.old code.new (redirs_alone (redirs_tree redirs.now))) }
 {
     for redir in redirs {
@@ -87,7 +88,7 @@ pub fn emit_redirs(alloc: Global, code: &mut Code, redirs: &[Redir]) -> Result<(
 }
 
 #[tactic(auto, using(crate::proofs::Parts::emitting))]
-fn emit_redir(alloc: Global, code: &mut Code, redir: &Redir) -> Result<(), AllocError>
+fn emit_redir(alloc: Global, code: &mut Listing, redir: &Redir) -> Result<(), AllocError>
     ensures { OnOk result (Writes code.old code.new (redir_code (redir_tree redir.now))) }
 {
     match redir {
@@ -112,7 +113,7 @@ fn emit_redir(alloc: Global, code: &mut Code, redir: &Redir) -> Result<(), Alloc
 
 /// The end of the locals of a command.
 #[tactic(auto, using(crate::proofs::Parts::emitting))]
-pub fn emit_unlocal(code: &mut Code, bare: bool, count: usize) -> Result<(), AllocError>
+pub fn emit_unlocal(code: &mut Listing, bare: bool, count: usize) -> Result<(), AllocError>
     ensures { OnOk result (Writes code.old code.new (unlocal bare count)) }
 {
     if bare {
@@ -123,7 +124,7 @@ pub fn emit_unlocal(code: &mut Code, bare: bool, count: usize) -> Result<(), All
 }
 
 #[tactic(auto, using(crate::proofs::Parts::emitting))]
-pub fn emit_subject(alloc: Global, code: &mut Code, word: &Arg) -> Result<(), AllocError>
+pub fn emit_subject(alloc: Global, code: &mut Listing, word: &Arg) -> Result<(), AllocError>
     ensures { OnOk result (Writes code.old code.new (subject_code (arg_tree word.now))) }
 {
     emit_arg(alloc, code, word)?;
@@ -133,7 +134,7 @@ pub fn emit_subject(alloc: Global, code: &mut Code, word: &Arg) -> Result<(), Al
 #[tactic(auto, using(crate::proofs::Parts::emitting))]
 pub fn emit_match(
     alloc: Global,
-    code: &mut Code,
+    code: &mut Listing,
     word: &Arg,
     patterns: &[Arg],
 ) -> Result<(), AllocError>
@@ -148,7 +149,7 @@ pub fn emit_match(
 #[tactic(auto, using(crate::proofs::Parts::emitting))]
 pub fn emit_define(
     alloc: Global,
-    code: &mut Code,
+    code: &mut Listing,
     names: &[Arg],
     body: &Cmd,
 ) -> Result<(), AllocError>
@@ -160,7 +161,7 @@ pub fn emit_define(
 }
 
 #[tactic(auto, using(crate::proofs::Parts::emitting))]
-pub fn emit_undefine(alloc: Global, code: &mut Code, names: &[Arg]) -> Result<(), AllocError>
+pub fn emit_undefine(alloc: Global, code: &mut Listing, names: &[Arg]) -> Result<(), AllocError>
     ensures { OnOk result (Writes code.old code.new (undefine_code (args_tree names.now))) }
 {
     emit_list(alloc, code, names)?;
@@ -168,7 +169,7 @@ pub fn emit_undefine(alloc: Global, code: &mut Code, names: &[Arg]) -> Result<()
 }
 
 #[tactic(auto, using(crate::proofs::Parts::emitting))]
-pub fn emit_subshell(alloc: Global, code: &mut Code, body: &Cmd) -> Result<(), AllocError>
+pub fn emit_subshell(alloc: Global, code: &mut Listing, body: &Cmd) -> Result<(), AllocError>
     ensures { OnOk result (Writes code.old code.new (subshell_code (cmd_tree body.now))) }
 {
     let number = code.keep(kept_tree(alloc, body)?)?;

@@ -83,7 +83,7 @@ fn run_builtin<W: World>(
             return Ok(Outcome::Exit);
         }
         Builtin::Cd => change_dir(alloc, world, state, args)?,
-        Builtin::Shift => shift(alloc, state, args)?,
+        Builtin::Shift => shift(state, args)?,
         Builtin::Whatis => whatis(alloc, world, state, slots, args)?,
         Builtin::Wait => wait(alloc, world, state, args)?,
         Builtin::BuiltinWord => unreachable!(),

@@ -7,7 +7,7 @@ ghost use Rattle.rc_scope.specs.States.{state_of};
 
 use crate::builtins::run_unnamed;
 use rc_builtin::fault;
-use rc_code::{Code, compile};
+use rc_code::Code;
 use rc_scope::State;
 use rc_world::{Slots, Stop, World};
 use std::alloc::Global;
@@ -41,8 +41,7 @@ pub fn run_words<W: World>(
         fault(alloc, world, state, slots, "empty argument list")?;
         return Ok(Outcome::Exit);
     };
-    if let Some(body) = state.function(name) {
-        let body = compile(alloc, body)?;
+    if let Some(body) = state.code(name)? {
         words.remove(0);
         return Ok(Outcome::Call { args: words, body });
     }

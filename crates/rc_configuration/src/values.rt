@@ -9,11 +9,10 @@ ghost use Rattle.rc_stack.specs.Lists.{below_top};
 ghost use Rattle.rc_model.specs.Run.Lists.{member};
 ghost use Rattle.rc_model.specs.Run.Numbers.{is_digit, digits_value};
 ghost use Rattle.rc_model.specs.Run.State.{got, is_name, is_readable};
-ghost use Rattle.rc_model.specs.Syntax.Tokens.{is_name_char};
 ghost use Rattle.rc_model.specs.Syntax.Words.{plain_words, word_texts};
 ghost use Rattle.rc_scope.specs.States.{state_of};
 
-use rc_scope::{State, is_name};
+use rc_scope::{State, has_digits, is_name, is_readable};
 use rc_stack::Stack;
 use rc_text::Word;
 use std::alloc::{AllocError, Global};
@@ -76,34 +75,6 @@ pub fn put_text(words: &mut Stack<Word>, text: String) -> Result<(), AllocError>
     words.begin()?;
     let word = Word::plain(text);
     words.push(word)
-}
-
-/// Whether the byte is a letter, a digit, `_` or `*`.
-fn is_name_byte(byte: u8) -> bool
-    ensures { result ≡ is_name_char byte }
-{
-    byte.is_ascii_alphanumeric() || byte == b'_' || byte == b'*'
-}
-
-/// Whether the text has only such characters.
-fn has_name_bytes(text: &str) -> bool
-    ensures { result ≡ list_all is_name_char text.now }
-{
-    text.as_bytes().iter().all(|byte| is_name_byte(*byte))
-}
-
-/// Whether the text can stand after `$`.
-pub fn is_readable(text: &str) -> bool
-    ensures { result ≡ is_readable text.now }
-{
-    has_name_bytes(text) && !text.is_empty()
-}
-
-/// Whether the text has only digits, or nothing.
-fn has_digits(text: &str) -> bool
-    ensures { result ≡ list_all is_digit text.now }
-{
-    text.as_bytes().iter().all(|byte| byte.is_ascii_digit())
 }
 
 /// The number that the digits write: none where it is above every length.

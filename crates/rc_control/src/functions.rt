@@ -15,23 +15,19 @@ use crate::scopes::end_local;
 use rc_code::Code;
 use rc_configuration::{Configuration, Frame, Move, Scope, texts};
 use rc_scope::{SetError, State};
-use rc_tree::{Cmd, clone_tree};
+use rc_tree_types::Cmd;
 use rc_world::{Stop, World};
 use std::alloc::{AllocError, Global};
 use std::mem::replace;
+use std::rc::Rc;
 
 /// Gives each of these names this body as its function, up to the first that can't be one.
-fn define_each(
-    alloc: Global,
-    state: &mut State,
-    names: &[String],
-    body: &Cmd,
-) -> Result<bool, AllocError>
+fn define_each(state: &mut State, names: &[String], body: &Rc<Cmd>) -> Result<bool, AllocError>
     ensures { IfOk result (λ all.
-        Defines (map string_bytes names.now) (cmd_tree body.now) (state_of state.old) (state_of state.new) all) }
+        Defines (map string_bytes names.now) (cmd_tree body.now.value) (state_of state.old) (state_of state.new) all) }
 {
     for name in names {
-        match state.define(name, clone_tree(alloc, body)?) {
+        match state.define_shared(name, body) {
             Ok(()) => {}
             Err(SetError::BadName) => return Ok(false),
             Err(SetError::NoMemory) => return Err(AllocError),
@@ -116,7 +112,7 @@ pub fn define<W: World>(
         return Ok(Move::Ended);
     };
     let names = texts(alloc, words)?;
-    if !define_each(alloc, &mut machine.state, &names, body)? {
+    if !define_each(&mut machine.state, &names, body)? {
         return machine.fail(alloc, world, "bad name");
     }
     machine.words.drop_top();

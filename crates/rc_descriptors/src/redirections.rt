@@ -11,9 +11,9 @@ ghost use Rattle.rc_configuration.specs.Configs.{config_of};
 ghost use Rattle.rc_descriptors.specs.Endings.{RedirectionEnds, RedirectionsEnd, Refused};
 ghost use Rattle.rc_configuration.specs.Outcomes.{Leads, Steps};
 
-use rc_configuration::{Configuration, Move, Scope, got, is_readable, texts};
+use rc_configuration::{Configuration, Move, Scope, got, texts};
 use rc_redir::RedirError;
-use rc_scope::State;
+use rc_scope::{State, is_readable};
 use rc_text::flat;
 use rc_tree_types::Piece;
 use rc_world::{Mode, Stop, World};

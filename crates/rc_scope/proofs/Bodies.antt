@@ -20,14 +20,14 @@ use Rattle.rc_scope.specs.declared.functions.Function.{Function}
 abbrev Entries : Type 0
 Entries = List (String Global × Function)
 
-if_found : (b c : Bool) (f : Function) (o : Option (Node cmd)) (p : Option Function) → b ≡ c → o ≡ option_map (λ (x : Function). cmd_tree x.body) p
-    → cond b (Some (cmd_tree f.body)) o ≡ option_map (λ (x : Function). cmd_tree x.body) (cond c (Some f) p)
+if_found : (b c : Bool) (f : Function) (o : Option (Node cmd)) (p : Option Function) → b ≡ c → o ≡ option_map (λ (x : Function). cmd_tree x) p
+    → cond b (Some (cmd_tree f)) o ≡ option_map (λ (x : Function). cmd_tree x) (cond c (Some f) p)
 if_found true true f o p e h = refl
 if_found false false f o p e h = h
 if_found true false f o p e h = cc
 if_found false true f o p e h = cc
 
-pub lookup_function : (q : List ℕ) (es : List (String Global × Function)) → lookup (bytes_eq q) (map function_of es) ≡ option_map (λ (x : Function). cmd_tree x.body) (lookup (is_at (λ k. slice_cmp nat_cmp q (string_bytes k))) es)
+pub lookup_function : (q : List ℕ) (es : List (String Global × Function)) → lookup (bytes_eq q) (map function_of es) ≡ option_map (λ (x : Function). cmd_tree x) (lookup (is_at (λ k. slice_cmp nat_cmp q (string_bytes k))) es)
 lookup_function q [] = refl
 lookup_function q (e ∷ es) = if_found _ _ e.1 _ _ (sym (is_eq-slice_cmp q (string_bytes e.0))) (lookup_function q es)
 
@@ -38,7 +38,7 @@ by_order Less e k v es more others h = refl
 by_order Equal e k v es more others h = refl
 by_order Greater e k v es more others h = ap (λ l. function_of e ∷ l) h
 
-pub insert_function : (es : List (String Global × Function)) (k : String Global) (v : Function) → map function_of (insert_entry string_cmp es k v) ≡ insert_entry text_cmp (map function_of es) (string_bytes k) (cmd_tree v.body)
+pub insert_function : (es : List (String Global × Function)) (k : String Global) (v : Function) → map function_of (insert_entry string_cmp es k v) ≡ insert_entry text_cmp (map function_of es) (string_bytes k) (cmd_tree v)
 insert_function [] k v = refl
 insert_function (e ∷ es) k v = by_order (string_cmp k e.0) e k v es (insert_entry string_cmp es k v) _ (insert_function es k v)
 

@@ -1,16 +1,74 @@
 //! The functions of a shell.
 
 ghost use Rattle.std.specs.Prelude.{◌≡◌, map, string_bytes, IfOk};
+ghost use Rattle.rc_model.specs.Code.Layout.{code};
+ghost use Rattle.rc_tree_types.specs.View.{cmd_tree};
+ghost use Rattle.rc_code.specs.Views.{code_of};
 ghost use Rattle.rc_scope.specs.Bodies.{functions_of};
 
+use rc_code::{Code, compile};
 use rc_tree_types::Cmd;
 use std::alloc::{AllocError, Global};
 use std::collections::BTreeMap;
+use std::marker::Model;
+use std::rc::Rc;
 
 /// A function of a shell.
 #[derive(Drop)]
 pub struct Function {
-    pub body: Cmd,
+    body: Rc<Cmd>,
+    /// The code of the body, once it was asked for.
+    compiled: Option<Code>,
+}
+
+impl Model for Function {
+    ghost use Rattle.std.specs.Prelude.{◌≡◌, IfSome};
+    ghost use Rattle.std.specs.Coded.{codes};
+    ghost use Rattle.rc_model.specs.Code.Layout as layout;
+    ghost use Rattle.rc_tree_types.specs.View.{cmd_tree};
+    ghost use Rattle.rc_tree_types.specs.contracts.Cmd as e;
+    ghost use Rattle.rc_tree_types.specs.declared.Cmd.{Cmd};
+    ghost use Rattle.rc_code.specs.Views.{code_of};
+
+    ghost Value = { Cmd };
+
+    ghost coded = { Prim.hlevel (codes, e.the_row.coded) };
+
+    ghost view = { λ f. f.body.value };
+
+    ghost invariant = { λ f. IfSome f.compiled (λ done. code_of done ≡ layout.code (cmd_tree f.body.value)) };
+}
+
+impl Function {
+    /// A function whose body is not compiled yet.
+    pub fn new(body: Rc<Cmd>) -> Function
+        ensures { result ≡ body.value }
+    {
+        Function {
+            body,
+            compiled: None,
+        }
+    }
+
+    pub fn body(&self) -> &Cmd
+        ensures { result.now ≡ self.now }
+    {
+        &self.body
+    }
+
+    /// The code of the body, which is compiled where it is first asked for.
+    pub fn code(&mut self, alloc: Global) -> Result<Code, AllocError>
+        ensures code { IfOk result (λ done. code_of done ≡ code (cmd_tree self.old)) }
+        ensures same { self.new ≡ self.old }
+    {
+        if let Some(code) = &self.compiled {
+            return code.share();
+        }
+        let code = compile(alloc, &self.body)?;
+        let shared = code.share()?;
+        self.compiled = Some(code);
+        Ok(shared)
+    }
 }
 
 /// The names of functions, in byte order.

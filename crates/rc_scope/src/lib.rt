@@ -8,7 +8,7 @@ mod state;
 mod texts;
 mod variables;
 
-pub use names::{is_function_name, is_name};
+pub use names::{has_digits, is_function_name, is_name, is_readable};
 pub use state::{SetError, State};
 pub use texts::copy_texts;
 pub use variables::Binding;

@@ -3,7 +3,7 @@
 ghost use Rattle.std.specs.Prelude.{◌≡◌};
 ghost use Rattle.std.specs.List.{list_all, list_any};
 ghost use Rattle.rc_model.specs.Run.Numbers.{is_digit};
-ghost use Rattle.rc_model.specs.Run.State.{is_name, is_function_name, status_name};
+ghost use Rattle.rc_model.specs.Run.State.{is_name, is_readable, is_function_name, status_name};
 ghost use Rattle.std.specs.Str.{bytes_eq};
 ghost use Rattle.std.specs.Prelude.{◌||◌, ◌==◌};
 ghost use Rattle.rc_model.specs.Syntax.Tokens.{is_name_char};
@@ -26,8 +26,15 @@ fn has_name_bytes(text: &str) -> bool
     text.as_bytes().iter().all(|byte| is_name_byte(*byte))
 }
 
+/// Whether the text can stand after `$`.
+pub fn is_readable(text: &str) -> bool
+    ensures { result ≡ is_readable text.now }
+{
+    has_name_bytes(text) && !text.is_empty()
+}
+
 /// Whether the text has only digits, or nothing.
-fn has_digits(text: &str) -> bool
+pub fn has_digits(text: &str) -> bool
     ensures { result ≡ list_all is_digit text.now }
 {
     text.as_bytes().iter().all(|byte| byte.is_ascii_digit())

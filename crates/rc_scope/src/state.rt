@@ -1,7 +1,7 @@
 //! The state of a shell.
 
 ghost use Rattle.std.specs.Prelude.{◌≡◌, ◌↔◌, ◌∷◌, [], IfOk, OnOk, OnErr, false, not, length, ◌==◌, map};
-ghost use Rattle.std.specs.Prelude.{string_bytes, option_map};
+ghost use Rattle.std.specs.Prelude.{string_bytes, option_map, codes, drop};
 ghost use Rattle.std.specs.Option.{option_copied};
 ghost use Rattle.std.specs.Result.{IsErrOf};
 ghost use Rattle.rc_model.specs.Run.State.{new_state, value_of, got, set_value, with_status, with_flag, is_name};
@@ -9,6 +9,7 @@ ghost use Rattle.rc_model.specs.Run.State.{push_local, pop_local, is_function_na
 ghost use Rattle.rc_model.specs.Run.State.{add_child, drop_child};
 ghost use Rattle.rc_tree_types.specs.View.{cmd_tree};
 ghost use Rattle.rc_scope.specs.Bindings.{bindings_of, visible_values};
+ghost use Rattle.rc_scope.specs.Bodies.{IsCodeOf};
 ghost use Rattle.rc_scope.specs.Stacks.{flat_names};
 ghost use Rattle.rc_scope.specs.States.{numbers};
 
@@ -17,10 +18,12 @@ use crate::functions::{Function, names};
 use crate::names::{is_function_name, is_name, is_status};
 use crate::texts::{copy_texts, join};
 use crate::variables::{Binding, Variables};
+use rc_code::Code;
 use rc_model::ChildNo;
 use rc_tree_types::Cmd;
 use std::alloc::{AllocError, AllocFailed, Global};
 use std::collections::BTreeMap;
+use std::rc::Rc;
 use std::slice::from_ref;
 use thiserror::Error;
 
@@ -122,6 +125,17 @@ impl State {
         Ok(())
     }
 
+    /// Takes the first members of `$*` away, which are not copied. An `Err` changes nothing.
+    #[tactic(auto, unfolding(crate::specs::States::state_of))]
+    pub fn shift(&mut self, count: usize) -> Result<(), AllocError>
+        ensures ok { OnOk result (state_of self.new
+            ≡ set_value (state_of self.old) (codes "*") (drop count (value_of (state_of self.old) (codes "*")))) }
+        ensures err { OnErr result (state_of self.new ≡ state_of self.old) }
+    {
+        let alloc = *self.status.allocator();
+        self.variables.drop_first(alloc, "*", count)
+    }
+
     /// Opens a local with this value; one of the status sets it. An `Err` changes nothing.
     #[tactic(auto, unfolding(crate::specs::States::state_of))]
     pub fn push_local(&mut self, name: &str, value: Vec<String>) -> Result<(), SetError>
@@ -178,8 +192,33 @@ impl State {
         if !is_function_name(name) {
             return Err(SetError::BadName);
         }
+        let body = Rc::new(*self.status.allocator(), body)?;
+        self.insert_function(name, body)?;
+        Ok(())
+    }
+
+    /// Defines a function by a body that others have, too. An `Err` changes nothing.
+    #[tactic(auto, using(crate::proofs::Bodies::bodies), unfolding(crate::specs::States::state_of))]
+    pub fn define_shared(&mut self, name: &str, body: &Rc<Cmd>) -> Result<(), SetError>
+        ensures ok { OnOk result (state_of self.new ≡ define (state_of self.old) name.now (cmd_tree body.now.value)) }
+        ensures bad_name { IsErrOf result SetError.BadName ↔ (is_function_name name.now ≡ false) }
+        ensures err { OnErr result (state_of self.new ≡ state_of self.old) }
+    {
+        if !is_function_name(name) {
+            return Err(SetError::BadName);
+        }
+        self.insert_function(name, body.clone()?)?;
+        Ok(())
+    }
+
+    /// Puts a function in, or another body in the place of its body.
+    #[tactic(auto, using(crate::proofs::Bodies::bodies), unfolding(crate::specs::States::state_of))]
+    fn insert_function(&mut self, name: &str, body: Rc<Cmd>) -> Result<(), AllocError>
+        ensures ok { OnOk result (state_of self.new ≡ define (state_of self.old) name.now (cmd_tree body.value)) }
+        ensures err { OnErr result (state_of self.new ≡ state_of self.old) }
+    {
         let name = String::from_str(*self.status.allocator(), name)?;
-        self.functions.insert(name, Function { body })?;
+        self.functions.insert(name, Function::new(body))?;
         Ok(())
     }
 
@@ -197,8 +236,21 @@ impl State {
         ensures { option_map cmd_tree (option_copied result) ≡ function_of (state_of self.now) name.now }
     {
         match self.functions.get(name) {
-            Some(function) => Some(&function.body),
+            Some(function) => Some(function.body()),
             None => None,
+        }
+    }
+
+    /// The code of a function's body, which is shared: it is compiled once for all calls.
+    #[tactic(auto, using(crate::proofs::Bodies::bodies), unfolding(crate::specs::States::state_of))]
+    pub fn code(&mut self, name: &str) -> Result<Option<Code>, AllocError>
+        ensures code { IfOk result (λ code. IsCodeOf (function_of (state_of self.old) name.now) code) }
+        ensures same { state_of self.new ≡ state_of self.old }
+    {
+        let alloc = *self.status.allocator();
+        match self.functions.get_mut(name) {
+            Some(function) => Ok(Some(function.code(alloc)?)),
+            None => Ok(None),
         }
     }
 

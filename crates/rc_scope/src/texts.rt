@@ -1,6 +1,6 @@
 //! Texts that are copied and joined.
 
-ghost use Rattle.std.specs.Prelude.{◌≡◌, IfOk, map, string_bytes};
+ghost use Rattle.std.specs.Prelude.{◌≡◌, IfOk, drop, map, string_bytes};
 ghost use Rattle.rc_model.specs.Syntax.Text.{spaced};
 
 use std::alloc::{AllocError, Global};
@@ -31,4 +31,14 @@ pub fn copy_texts(alloc: Global, texts: &[String]) -> Result<Vec<String>, AllocE
         copy.push(text.clone()?)?;
     }
     Ok(copy)
+}
+
+/// Takes the first texts away: as many as the count says, or all where there are fewer.
+pub fn drop_first(texts: &mut Vec<String>, count: usize)
+    ensures { map string_bytes texts.new.items ≡ drop count (map string_bytes texts.old.items) }
+{
+    let count = count.min(texts.len());
+    let left = texts.len() - count;
+    texts.rotate_left(count);
+    texts.truncate(left);
 }

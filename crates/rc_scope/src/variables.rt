@@ -1,12 +1,13 @@
 //! The variables of a shell: one map from each name to its visible value, and a log of what locals have covered.
 
-ghost use Rattle.std.specs.Prelude.{◌≡◌, ◌∷◌, [], false, map, string_bytes, OnOk, OnErr, IfOk};
+ghost use Rattle.std.specs.Prelude.{◌≡◌, ◌∷◌, [], false, drop, map, string_bytes, OnOk, OnErr, IfOk};
 ghost use Rattle.std.specs.Str.{bytes_eq};
 ghost use Rattle.rc_model.specs.Run.State.{status_name, visible, covered, put_values};
 ghost use Rattle.std.specs.BTreeMap.{IsUnchanged};
 ghost use Rattle.rc_scope.specs.Stacks.{uncovered, without_newest, flat_names, is_listed, Covers, Uncovers};
 
 use crate::names::is_status;
+use crate::texts::drop_first;
 use std::alloc::{AllocError, Global};
 use std::collections::BTreeMap;
 use std::mem::replace;
@@ -108,6 +109,22 @@ impl Variables {
                 covers: false,
             },
         )?;
+        Ok(())
+    }
+
+    /// Takes the first members of the visible value away. An `Err` changes nothing.
+    #[tactic(auto, using(crate::proofs::Stacks::variables), unfolding(crate::specs::Stacks::stacks_of, crate::specs::Stacks::locals_of))]
+    pub fn drop_first(&mut self, alloc: Global, name: &str, count: usize) -> Result<(), AllocError>
+        ensures ok { OnOk result (stacks_of self.new
+            ≡ put_values (stacks_of self.old) name.now (drop count (visible (stack_in (stacks_of self.old) name.now))
+            ∷ covered (stack_in (stacks_of self.old) name.now))) }
+        ensures locals { locals_of self.new ≡ locals_of self.old }
+        ensures err { OnErr result (stacks_of self.new ≡ stacks_of self.old) }
+    {
+        let Some(value) = self.values.get_mut(name) else {
+            return self.set(alloc, name, Vec::new(alloc));
+        };
+        drop_first(&mut value.texts, count);
         Ok(())
     }
 

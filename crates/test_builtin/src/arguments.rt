@@ -1,6 +1,6 @@
 //! `shift`.
 
-use crate::support::state_with;
+use crate::support::{list, state_with};
 use rc_builtin::shift;
 use std::test::Fail;
 
@@ -8,9 +8,11 @@ use std::test::Fail;
 fn out_of_memory_takes_nothing(rt: HostRuntime) -> Result<(), Fail> {
     let alloc = rt.alloc();
     let mut state = state_with(alloc, "*", &["a", "b"])?;
-    let ended = shift(alloc, &mut state, &[]);
-    let wanted = if ended.is_ok() { 1 } else { 2 };
-    assert_eq!(rt; state.value("*").len(), wanted);
+    let words = list(alloc, &["x"])?;
+    let ended = shift(&mut state, &words);
+    let wanted = if ended.is_ok() { "usage" } else { "" };
+    assert_eq!(rt; state.status(), wanted);
+    assert_eq!(rt; state.value("*").len(), 2);
     ended?;
     Ok(())
 }

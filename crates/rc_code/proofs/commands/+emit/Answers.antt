@@ -2,7 +2,7 @@ use Rattle.std.proofs.Common.{◌≡◌, ◌∙◌, ◌+◌, ◌≤◌, sym, ap,
 use Rattle.std.proofs.lemmas.Grind.{common_steps}
 use Rattle.rc_model.specs.Syntax.Tree.{more}
 use Rattle.rc_tree_types.specs.View.{branch_tree, branches_tree, tree_For}
-use Rattle.rc_code.specs.Views.{code_of}
+use Rattle.rc_code.specs.Views.{listing_of}
 use Rattle.rc_code.specs.Emission.{redirected}
 use Rattle.rc_code.proofs.Parts.{starts, stays, put_last, for_parts}
 use Rattle.rc_code.proofs.Branches.{leaves_start, leaves_more, leaves_none, length_patched}
@@ -56,7 +56,7 @@ pub emit_branches-returns : goal.emit_branches-returns
 emit_branches-returns t c =
     let over : length c.args.branches.now ≤ c.loop-branch.branch-index = omega arith in
     leaves_none _ _ _ _ _ _ _ _ c.loop-branch.invariant (ap branches_tree (drop_of_length-le _ over)) c.end-end.ensures
-    (c.redirect.ensures ∙ ap (λ ends. redirected (code_of c.loop-branch.code) ends c.end-end.result) c.deref.ensures.value)
+    (c.redirect.ensures ∙ ap (λ ends. redirected (listing_of c.loop-branch.code) ends c.end-end.result) c.deref.ensures.value)
 
 pub emit_cmd-returns-in_ok-emit_members-in-For : goal.emit_cmd-returns-in_ok-emit_members-in-For
 emit_cmd-returns-in_ok-emit_members-in-For t c =

@@ -7,4 +7,4 @@ use Rattle.rc_control.proofs.functions.define_each.Given as goal
 -- the names that are left are still to be defined
 abbrev pub invariant-loop-name : goal.invariant-loop-name
 invariant-loop-name l =
-    DefinesLeft (map string_bytes l.names) (map string_bytes (drop l.name-index l.names)) (cmd_tree l.body) (state_of l.initial.state) (state_of l.state)
+    DefinesLeft (map string_bytes l.names) (map string_bytes (drop l.name-index l.names)) (cmd_tree l.body.value) (state_of l.initial.state) (state_of l.state)
