@@ -50,7 +50,6 @@ pub fn execute_image<W: World>(
     ensures handed { IfDenoted (denoted strict words.now entries.now) (W.events world.old) (W.events world.new)
         (λ t s trace. AllReadBack (calls trace)) }
     ensures proper { IfEnded result (λ end. IsProper end) }
-
     // Where the meaning ends or waits, so does the code, from some number of instructions on.
     ensures converse { (t : Node cmd) (s : model.State) → denoted strict words.now entries.now ≡ Ok (t, s) →
         (given : List Answer) → Agrees t s given }
