@@ -6,4 +6,3 @@ pub mod Sorting
 pub mod Subjects
 pub mod Texts
 pub mod Walks
-mod Writing

@@ -3,7 +3,6 @@
 
 mod answers;
 mod command;
-mod directory;
 mod fault;
 mod files;
 mod host;
