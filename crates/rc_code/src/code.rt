@@ -106,7 +106,7 @@ impl Code {
         self.0.ops.get(place)
     }
 
-    /// The tree of this number: none where it is none of a tree.
+    /// The tree of this number: `None` where it is not that of a tree.
     #[tactic(auto, unfolding(crate::specs::Views::code_of, crate::specs::Views::listing_of))]
     pub fn tree(&self, number: usize) -> Option<&Rc<Cmd>>
         ensures { option_map (λ tree. cmd_tree tree.value) (option_copied result) ≡ tree_at (code_of self.now) number }
@@ -117,7 +117,7 @@ impl Code {
         }
     }
 
-    /// The stages of this number: none where it is none of stages.
+    /// The stages of this number: `None` where it is not that of stages.
     #[tactic(auto, unfolding(crate::specs::Views::code_of, crate::specs::Views::listing_of))]
     pub fn stages(&self, number: usize) -> Option<&[Stage]>
         ensures { option_map stages_tree (option_copied result) ≡ stages_at (code_of self.now) number }
@@ -128,7 +128,7 @@ impl Code {
         }
     }
 
-    /// The here document of this number: none where it is none of a here document.
+    /// The here document of this number: `None` where it is not that of one.
     #[tactic(auto, unfolding(crate::specs::Views::code_of, crate::specs::Views::listing_of))]
     pub fn pieces(&self, number: usize) -> Option<&[Piece]>
         ensures { option_map pieces_tree (option_copied result) ≡ pieces_at (code_of self.now) number }

@@ -23,7 +23,7 @@ pub fn end_local(machine: &mut Configuration) -> bool
     true
 }
 
-/// Ends this many locals, as far as they are innermost.
+/// Ends this many locals, up to the first scope that is none.
 fn end_locals(machine: &mut Configuration, count: usize)
     ensures { LocalsEnd count (config_of machine.old) (config_of machine.new) }
 {

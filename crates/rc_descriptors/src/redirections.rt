@@ -153,7 +153,7 @@ fn end_redirection<W: World>(machine: &mut Configuration, world: &mut W) -> Resu
     Ok(true)
 }
 
-/// Ends this many redirections, as far as they are innermost.
+/// Ends this many redirections, up to the first scope that is none.
 fn end_redirections<W: World>(
     machine: &mut Configuration,
     world: &mut W,

@@ -6,3 +6,4 @@ pub mod Sorting
 pub mod Subjects
 pub mod Texts
 pub mod Walks
+mod Writing

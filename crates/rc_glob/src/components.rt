@@ -78,19 +78,14 @@ pub(crate) fn joined(alloc: Global, path: &str, name: &str) -> Result<String, Al
 }
 
 /// The paths of the names in the directory with this path.
-pub(crate) fn paths_in(
-    alloc: Global,
-    path: &str,
-    names: Vec<String>,
-) -> Result<Vec<String>, AllocError>
+pub(crate) fn paths_in(path: &str, mut names: Vec<String>) -> Result<Vec<String>, AllocError>
     ensures { IfOk result (λ paths. map string_bytes paths.items
         ≡ map (λ name. path.now ++ name) (map string_bytes names.items)) }
 {
-    let mut paths = Vec::with_capacity(alloc, names.len())?;
-    for name in names {
-        paths.push(joined(alloc, path, &name)?)?;
+    for name in names.iter_mut() {
+        name.insert_str(0, path)?;
     }
-    Ok(paths)
+    Ok(names)
 }
 
 /// This path alone.

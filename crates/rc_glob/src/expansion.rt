@@ -63,7 +63,7 @@ fn walk<W: World>(
     let (component, rest) = advance(&mut path, word)?;
     let names = listed(alloc, world, &path, component)?;
     let Some(rest) = rest else {
-        return Ok(paths_in(alloc, &path, names)?);
+        return Ok(paths_in(&path, names)?);
     };
     let mut found = Vec::new(alloc);
     for name in &names {

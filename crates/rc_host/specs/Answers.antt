@@ -1,11 +1,10 @@
 -- What Linux says, as what a world answers.
-use Rattle.std.specs.Prelude.{◌≡◌, ◌<◌, nat_abs, bit_and, None, option_map, unwrap_or}
+use Rattle.std.specs.Prelude.{◌<◌, nat_abs, bit_and, option_map, unwrap_or}
 use Rattle.std.specs.Fs.{IsFile, file_type, metadata_mode}
 use Rattle.std.specs.IoError.{error_kind, raw_os_error}
 use Rattle.std.specs.Process.{exit_code}
 use Rattle.std.specs.declared.fs.attrs.Metadata.{Metadata}
 use Rattle.std.specs.declared.io.Error.{Error}
-use Rattle.std.specs.declared.io.ErrorKind.TheVariants as kind
 use Rattle.std.specs.declared.process.status.ExitStatus.{ExitStatus}
 use Rattle.rc_model.specs.declared.call.Ending.{Ending}
 use Rattle.rc_model.specs.declared.call.Ending.TheVariants.{Code, Signal}
@@ -24,7 +23,3 @@ ending_of status = unwrap_or (option_map (λ code. Code (nat_abs code)) (exit_co
 -- a plain file that its owner, its group or all others may execute
 abbrev pub IsProgram : Metadata → Type 0
 IsProgram found = IsFile (file_type found) × 0 < bit_and (metadata_mode found) EXECUTE
-
--- the error of an entry whose name is not UTF-8, which did not come from Linux
-abbrev pub IsNoText : Error → Type 0
-IsNoText error = (error_kind error ≡ kind.InvalidFilename) × (raw_os_error error ≡ None)

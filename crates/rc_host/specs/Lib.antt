@@ -3,6 +3,7 @@ pub mod Commands
 pub mod Faults
 pub mod Files
 pub mod Host
+pub mod Names
 pub mod Plan
 pub mod PlanViews
 pub mod Table

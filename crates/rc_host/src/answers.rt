@@ -1,17 +1,14 @@
 //! What Linux says, as what a world answers.
-ghost use Rattle.std.specs.Prelude.{◌≡◌, ◌≢◌, ◌↔◌, None, Some, Ok, Err, option_map, string_bytes};
-ghost use Rattle.std.specs.Prelude.{IfOk, IfErr, IsSomeAnd, MatchResult, IsTrue};
-ghost use Rattle.std.specs.Fs.{IsDir, file_type, dir_entry_name};
+ghost use Rattle.std.specs.Prelude.{◌≡◌, ◌≢◌, ◌↔◌, Ok, Err, IfOk, IsSomeAnd, MatchResult};
+ghost use Rattle.std.specs.Fs.{IsDir, file_type};
 ghost use Rattle.std.specs.Process.{child_status};
 ghost use Rattle.rc_model.specs.declared.call.Fault.TheVariants.{Halt};
-ghost use Rattle.rc_host.specs.Answers.{fault_at, ending_of, IsProgram, IsNoText};
+ghost use Rattle.rc_host.specs.Answers.{fault_at, ending_of, IsProgram};
 
 use crate::fault::fault_of;
 use rc_world::{Ending, Fault, Kind};
-use std::alloc::Global;
-use std::fs::{DirEntry, Metadata};
+use std::fs::Metadata;
 use std::io;
-use std::io::ErrorKind;
 use std::os::unix::fs::PermissionsExt;
 use std::process::{Child, ExitStatus};
 
@@ -58,28 +55,4 @@ pub fn kind_of(found: &Metadata) -> Kind
     } else {
         Kind::Other
     }
-}
-
-/// The name of an entry of a directory, none where it is not UTF-8.
-pub fn name_of(alloc: Global, entry: io::Result<DirEntry>) -> Result<Option<String>, Fault>
-    ensures name { IfOk entry (λ entry.
-        IfOk result (λ name. option_map string_bytes name ≡ Some (dir_entry_name entry))) }
-    ensures no_text { IfErr entry (λ error. IsNoText error → result ≡ Ok None) }
-    ensures err { IfErr entry (λ error. ¬ IsNoText error → result ≡ Err (fault_at error)) }
-    ensures answered { result ≢ Err Halt }
-{
-    match entry {
-        Ok(entry) => match String::from_str(alloc, entry.file_name()) {
-            Ok(name) => Ok(Some(name)),
-            Err(_) => Err(Fault::NoMemory),
-        },
-        Err(error) if is_no_text(&error) => Ok(None),
-        Err(error) => Err(fault_of(&error)),
-    }
-}
-
-fn is_no_text(error: &io::Error) -> bool
-    ensures { IsTrue result ↔ IsNoText error.now }
-{
-    matches!(error.kind(), ErrorKind::InvalidFilename) && error.raw_os_error().is_none()
 }

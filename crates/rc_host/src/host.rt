@@ -11,8 +11,9 @@ ghost use Rattle.rc_host.specs.Table.{held_at, IsLeastFree, AreLeastFree, HoldsT
 ghost use Rattle.rc_host.specs.Host.{shell_of, files_of, children_of, ChangesFilesAlone, ChangesChildrenAlone};
 ghost use Rattle.rc_host.specs.Host.{AddsFile, AddsPipe, AddsChild, IsThere, AreThere, IsOwn};
 
-use crate::answers::{end_of, kind_of, name_of};
+use crate::answers::{end_of, kind_of};
 use crate::command::command_of;
+use crate::directory::names_in;
 use crate::fault::fault_of;
 use crate::files::{OpenFile, here_file, options_of, write_text};
 use crate::planning::plan;
@@ -256,14 +257,7 @@ impl World for HostWorld {
         ensures same { self.new ≡ self.old }
         ensures answered { result ≢ Err Halt }
     {
-        let entries = fs::read_dir(&self.rt, path).map_err(|error| fault_of(&error))?;
-        let mut names = Vec::new(self.rt.alloc());
-        for entry in entries {
-            if let Some(name) = name_of(self.rt.alloc(), entry)? {
-                names.push(name).map_err(|_| Fault::NoMemory)?;
-            }
-        }
-        Ok(names)
+        names_in(&self.rt, path)
     }
 
     fn probe(&mut self, path: &str) -> Result<Kind, Fault>

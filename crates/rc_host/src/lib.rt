@@ -3,6 +3,7 @@
 
 mod answers;
 mod command;
+mod directory;
 mod fault;
 mod files;
 mod host;

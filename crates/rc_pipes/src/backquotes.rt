@@ -13,7 +13,7 @@ use crate::launches::start_shell;
 use crate::reading::{longest_output, read_all};
 use rc_builtin::Started;
 use rc_scope::State;
-use rc_text::{lossy, split};
+use rc_text::{into_lossy, split};
 use rc_tree_types::Cmd;
 use rc_world::{Handle, Slot, Slots, Stop, World, calls};
 use std::alloc::{AllocError, Global};
@@ -30,11 +30,11 @@ fn concat(alloc: Global, texts: &[String]) -> Result<String, AllocError>
 }
 
 /// The members of what was read, by `$ifs`.
-fn members_of(alloc: Global, state: &State, bytes: &[u8]) -> Result<Vec<String>, AllocError>
-    ensures { IfOk result (λ members. map string_bytes members.items ≡ members_of (state_of state.now) bytes.now) }
+fn members_of(alloc: Global, state: &State, bytes: Vec<u8>) -> Result<Vec<String>, AllocError>
+    ensures { IfOk result (λ members. map string_bytes members.items ≡ members_of (state_of state.now) bytes.items) }
 {
     let separators = concat(alloc, state.value("ifs"))?;
-    let text = lossy(alloc, bytes)?;
+    let text = into_lossy(alloc, bytes)?;
     split(alloc, &text, &separators)
 }
 
@@ -64,7 +64,7 @@ fn back_child<W: World>(
     calls::close(world, read_end)?;
     let status = wait_child(alloc, world, child)?;
     state.set_status(output.why.unwrap_or(&status))?;
-    let members = members_of(alloc, state, &output.bytes)?;
+    let members = members_of(alloc, state, output.bytes)?;
     Ok(members)
 }
 

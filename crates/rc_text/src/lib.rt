@@ -13,7 +13,7 @@ mod words;
 pub use concatenation::{ConcatError, concat, concat_words};
 pub use lists::{List, count, spaced_unmarked};
 pub use numbers::number_of;
-pub use output::{lossy, split};
+pub use output::{into_lossy, lossy, split};
 pub use rc_characters::{first_char, is_name_char, push_quoted, quote, unquote};
 pub use selection::select;
 pub use values::{flat, is_true};

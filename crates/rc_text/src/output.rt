@@ -24,6 +24,20 @@ pub fn lossy(alloc: Global, bytes: &[u8]) -> Result<String, AllocError>
     Ok(text)
 }
 
+/// The same, where the bytes are not needed any more: they are not copied where they are a text without a byte 0.
+#[tactic(auto, using(crate::proofs::Decoding::whole_text))]
+pub fn into_lossy(alloc: Global, bytes: Vec<u8>) -> Result<String, AllocError>
+    ensures { IfOk result (λ text. string_bytes text ≡ text_of bytes.items) }
+{
+    if bytes.contains(&0) {
+        return lossy(alloc, &bytes);
+    }
+    match String::from_utf8(bytes) {
+        Ok(text) => Ok(text),
+        Err(error) => lossy(alloc, error.as_bytes()),
+    }
+}
+
 /// The longest runs of characters that are not among the separators.
 pub fn split(alloc: Global, text: &str, separators: &str) -> Result<Vec<String>, AllocError>
     ensures { IfOk result (λ members. map string_bytes members.items ≡ split text.now separators.now) }

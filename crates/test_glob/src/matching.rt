@@ -1,5 +1,5 @@
 //! A text and a pattern.
-use rc_glob::matched;
+use rc_glob::{matched, matches};
 use rc_text::Word;
 use std::test::Fail;
 
@@ -9,5 +9,14 @@ fn a_star_stands_for_any_characters(rt: HostRuntime) -> Result<(), Fail> {
     let subject = [Word::written(alloc, "a text that takes memory", true)?];
     let patterns = [Word::written(alloc, "a*memory", false)?];
     assert!(rt; matched(&subject, &patterns));
+    Ok(())
+}
+
+#[test]
+fn a_star_stands_for_no_directory_of_a_path(rt: HostRuntime) -> Result<(), Fail> {
+    let star = Word::written(rt.alloc(), "*", false)?;
+    assert!(rt; !matches(&star, ".", true) && !matches(&star, "..", true));
+    assert!(rt; matches(&star, ".h", true));
+    assert!(rt; matches(&star, ".", false) && matches(&star, "..", false));
     Ok(())
 }

@@ -74,8 +74,7 @@ returns g c =
     let out = c.in_ok-output.output in
     let status : c.deref.result.now ≡ string_bytes c.in_ok-status.status = search rules in
     let why : c.unwrap_or.result.now ≡ back_status (got_of out).why c.deref.result.now = why_or out.why c.deref.result c.unwrap_or.result c.unwrap_or.ensures in
-    let bytes : c.deref-2.result.now ≡ out.bytes.items = search rules in
-    rw (c.in-Child.is, c.in_ok-members.ensures, c.in_ok-set_status.ensures.ok, why, status, bytes)
+    rw (c.in-Child.is, c.in_ok-members.ensures, c.in_ok-set_status.ensures.ok, why, status)
     (ran_finished c.args.read_end.0 c.args.write_end.0 (state_of c.args.state.now) c.in-Child.child.0 _ _ _ c.in_ok-close.ensures
     (got_of out) _ (rw c.longest_output.ensures at (c.in_ok-output.ensures (state_of c.args.state.now)))
     _ _ c.in_ok-close-2.ensures _ _ (c.in_ok-status.ensures (state_of c.args.state.now)))
