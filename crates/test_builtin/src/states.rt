@@ -4,6 +4,7 @@ use crate::support::{list, state_with};
 use rc_scope::State;
 use rc_tree_types::Cmd;
 use rc_world::ChildNo;
+use std::rc::Rc;
 use std::test::Fail;
 
 #[test]
@@ -62,6 +63,28 @@ fn out_of_memory_defines_nothing(rt: HostRuntime) -> Result<(), Fail> {
     let defined = state.define("f", Cmd::Empty);
     assert_eq!(rt; state.function("f").is_some(), defined.is_ok());
     defined?;
+    Ok(())
+}
+
+#[test]
+fn out_of_memory_shares_no_body(rt: HostRuntime) -> Result<(), Fail> {
+    let alloc = rt.alloc();
+    let mut state = State::new(alloc);
+    let body = Rc::new(alloc, Cmd::Empty)?;
+    let defined = state.define_shared("f", &body);
+    assert_eq!(rt; state.function("f").is_some(), defined.is_ok());
+    defined?;
+    Ok(())
+}
+
+#[test]
+fn out_of_memory_shifts_nothing(rt: HostRuntime) -> Result<(), Fail> {
+    let alloc = rt.alloc();
+    let mut state = state_with(alloc, "x", &["a"])?;
+    let shifted = state.shift(1);
+    assert_eq!(rt; state.value("x").len(), 1);
+    assert_eq!(rt; state.value("*").len(), 0);
+    shifted?;
     Ok(())
 }
 
