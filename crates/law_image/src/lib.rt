@@ -5,6 +5,7 @@ ghost use Rattle.rc_model.specs.Handed.HandedLaws.{HandedReadsBack, ReadsProper,
 ghost use Rattle.rc_model.specs.Handed.TreeLaws.{HasSpelling, OneSpelling, OneTree, ReadsSpellings, TreesReadBack};
 ghost use Rattle.rc_model.specs.Handed.WordsLaws.{HasWords, OneListOfWords, OneTreeOfWords, PiecesByRule, ReadsWords};
 ghost use Rattle.rc_model.specs.Handed.WordsLaws.{WordsByRule, WordsReadBack};
+ghost use Rattle.law_image.specs.States.{BeginsProper, EndsStayProper, FunctionsStayProper, VariablesStayProper};
 
 /// A tree has one spelling, and a text spells one tree.
 pub fn trees_have_one_spelling()
@@ -39,4 +40,12 @@ pub fn handed_is_read()
 /// Whatever is read, the tree is a script and the state is proper.
 pub fn proper_is_read()
     ensures { ReadsProper × ReadsScripts }
+{}
+
+/// The empty state is proper, and what changes a state keeps it so.
+pub fn states_stay_proper()
+    ensures begins { BeginsProper }
+    ensures variables { VariablesStayProper }
+    ensures functions { FunctionsStayProper }
+    ensures ends { EndsStayProper }
 {}
