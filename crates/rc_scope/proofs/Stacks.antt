@@ -1,13 +1,13 @@
 -- The stacks of a map and a log, as values are looked up, put in and taken out.
-use Rattle.std.proofs.Common.{◌≡◌, ℕ, Bool, true, false, cond, not, ◌&&◌, if◌then◌else◌, List, [], ◌∷◌, ◌++◌, map, reverse, Option, Some, None, refl, sym, ap, ◌∙◌, string_bytes, unwrap_or, option_map, is_some, subst, Result, Ok, Err, OnOk, OnErr, length, suc, append_assoc}
-use Rattle.std.specs.Cmp.Lexicographic.{slice_cmp, bytes_decides, nat_list_eq_equiv}
+use Rattle.std.proofs.Common.{◌≡◌, ℕ, Bool, true, false, cond, not, ◌&&◌, if◌then◌else◌, List, [], ◌∷◌, ◌++◌, map, reverse, Option, Some, None, refl, sym, ap, ◌∙◌, string_bytes, unwrap_or, option_map, is_some, subst, Result, Ok, Err, OnOk, OnErr, length, suc, append_assoc, ◌<◌, get_or, drop}
+use Rattle.std.specs.Cmp.Lexicographic.{bytes_decides, nat_list_eq_equiv}
 use Rattle.std.specs.Cmp.{eq_by_cmp_equiv}
 use mathlib.Core.Bool.{true≢false}
 use Rattle.std.specs.declared.cmp.Ordering.{Ordering}
 use Rattle.std.specs.declared.cmp.Ordering.TheVariants.{Less, Equal, Greater}
-use Rattle.std.specs.Ordering.{nat_cmp, is_eq, match_ordering}
+use Rattle.std.specs.Ordering.{is_eq, match_ordering}
 use Rattle.std.specs.Map.{lookup, remove_entry, set_value, keys_of}
-use Rattle.std.specs.BTreeMap.{insert_entry, is_at}
+use Rattle.std.specs.BTreeMap.{insert_entry}
 use Rattle.std.specs.Str.{bytes_eq}
 use Rattle.std.specs.String.{string_cmp, string_cmp_total}
 use Rattle.std.specs.List.Sorted.{IsStrictlySortedBy}
@@ -20,9 +20,13 @@ use Rattle.std.proofs.lemmas.Map.Keys.{sorted_tail, IsDistinct-from_sorted}
 use Rattle.std.proofs.lemmas.Map.Text.{is_eq-slice_cmp}
 use Rattle.rc_model.specs.Syntax.Text.{text_cmp}
 use Rattle.rc_model.specs.Run.State.{status_name, visible, covered, put_values}
-use Rattle.rc_scope.specs.Stacks.{texts_of, is_local_of, covered_in, stack_of, variable_of, stack_in, covers_in, stacks_of, locals_of, uncovered, without_newest, Uncovers, Covers, is_listed, flat_names}
+use Rattle.std.specs.BTreeMap.{BTreeMap}
+use Rattle.rc_scope.specs.Rows.{is_named, entries_of}
+use Rattle.rc_scope.specs.Bindings.{bindings_in, visible_values}
+use Rattle.rc_scope.proofs.Rows.{rows_from, set_none}
+use Rattle.rc_scope.specs.Stacks.{texts_of, is_local_of, covered_in, stack_of, variable_of, stack_in, covers_in, stacks_of, locals_of, uncovered, without_newest, Uncovers, Covers, is_listed, flat_names, names_in}
 use Rattle.rc_scope.specs.declared.variables.Variables.{Variables}
-use Rattle.rc_scope.specs.declared.variables.Value.{Value}
+use Rattle.rc_scope.specs.declared.values.Value.{Value}
 use Rattle.rc_scope.specs.declared.variables.Local.{Local}
 
 abbrev Entries : Type 0
@@ -30,10 +34,6 @@ Entries = List (String Global × Value)
 
 abbrev Stack : Type 0
 Stack = List (List (List ℕ))
-
--- whether an entry is that of a name
-abbrev pub is_named : List ℕ → String Global → Bool
-is_named q = is_at (λ k. slice_cmp nat_cmp q (string_bytes k))
 
 -- ** what is found
 
@@ -250,12 +250,12 @@ pub ruleset variables = (visible_variable, newest)
 -- ** the map and the log together
 
 -- the newest local ends
-pub popped : (v w : Variables) (l : Local) → v.log.items ≡ w.log.items ++ l ∷ [] → Uncovers l v.values.entries w.values.entries → stacks_of w ≡ uncovered (locals_of v) (stacks_of v)
+pub popped : (v w : Variables) (l : Local) → v.log.items ≡ w.log.items ++ l ∷ [] → Uncovers l v.values w.values → stacks_of w ≡ uncovered (locals_of v) (stacks_of v)
 unfolding stacks_of locals_of
 popped v w l h uncovers =
     let rs = reverse w.log.items in
     let log : reverse v.log.items ≡ l ∷ rs = ap reverse h ∙ newest w.log.items l in
-    uncovers rs ∙ ap (λ ls. uncovered (map (λ m. string_bytes m.name) ls) (map (variable_of ls) v.values.entries)) (sym log)
+    uncovers rs ∙ ap (λ ls. uncovered (map (λ m. string_bytes m.name) ls) (map (variable_of ls) v.values)) (sym log)
 
 pub popped_locals : (v w : Variables) (l : Local) → v.log.items ≡ w.log.items ++ l ∷ [] → locals_of w ≡ without_newest (locals_of v)
 unfolding locals_of
@@ -264,22 +264,22 @@ popped_locals v w l h = ap (λ ls. without_newest (map (λ m. string_bytes m.nam
 -- with none open
 pub none_open : (v : Variables) → v.log.items ≡ [] → stacks_of v ≡ uncovered (locals_of v) (stacks_of v)
 unfolding stacks_of locals_of
-none_open v h = ap (λ ls. uncovered (map (λ m. string_bytes m.name) (reverse ls)) (map (variable_of (reverse v.log.items)) v.values.entries)) (sym h)
+none_open v h = ap (λ ls. uncovered (map (λ m. string_bytes m.name) (reverse ls)) (map (variable_of (reverse v.log.items)) v.values)) (sym h)
 
 pub none_open_locals : (v : Variables) → v.log.items ≡ [] → locals_of v ≡ without_newest (locals_of v)
 unfolding locals_of
 none_open_locals v h = rw h refl
 
 -- a local is opened
-pub pushed : (v w : Variables) (l : Local) (name : List ℕ) (texts : List (List ℕ)) → w.log.items ≡ v.log.items ++ l ∷ [] → Covers name texts v.values.entries w.values.entries l.covered
+pub pushed : (v w : Variables) (l : Local) (name : List ℕ) (texts : List (List ℕ)) → w.log.items ≡ v.log.items ++ l ∷ [] → Covers name texts v.values w.values l.covered
     → string_bytes l.name ≡ name → bytes_eq name status_name ≡ false → stacks_of w ≡ put_values (stacks_of v) name (texts ∷ stack_in (stacks_of v) name)
 unfolding stacks_of
 pushed v w l name texts h r own other =
     let rs = reverse v.log.items in
-    let vs = map (variable_of rs) v.values.entries in
-    ap (λ ls. map (variable_of ls) w.values.entries) (ap reverse h ∙ newest v.log.items l)
+    let vs = map (variable_of rs) v.values in
+    ap (λ ls. map (variable_of ls) w.values) (ap reverse h ∙ newest v.log.items l)
     ∙ ap (map (variable_of (l ∷ rs))) r.puts
-    ∙ push_variable rs l r.key r.value v.values.entries r.ordered (own ∙ sym r.named) (ap (λ q. bytes_eq q status_name) r.named ∙ other) r.covers r.found
+    ∙ push_variable rs l r.key r.value v.values r.ordered (own ∙ sym r.named) (ap (λ q. bytes_eq q status_name) r.named ∙ other) r.covers r.found
     ∙ ap (λ q. put_values vs q (texts_of r.value ∷ stack_in vs q)) r.named
     ∙ ap (λ ts. put_values vs name (ts ∷ stack_in vs name)) r.shows
 
@@ -287,22 +287,28 @@ pub pushed_locals : (v w : Variables) (l : Local) → w.log.items ≡ v.log.item
 unfolding locals_of
 pushed_locals v w l h = ap (map (λ m. string_bytes m.name)) (ap reverse h ∙ newest v.log.items l)
 
-pub pushed_status : (v w : Variables) (l : Local) → w.log.items ≡ v.log.items ++ l ∷ [] → w.values.entries ≡ v.values.entries → string_bytes l.name ≡ status_name → stacks_of w ≡ stacks_of v
+pub pushed_status : (v w : Variables) (l : Local) → w.log.items ≡ v.log.items ++ l ∷ [] → w.values ≡ v.values → string_bytes l.name ≡ status_name → stacks_of w ≡ stacks_of v
 unfolding stacks_of
 pushed_status v w l h e name =
-    ap (λ ls. map (variable_of ls) w.values.entries) (ap reverse h ∙ newest v.log.items l)
+    ap (λ ls. map (variable_of ls) w.values) (ap reverse h ∙ newest v.log.items l)
     ∙ ap (map (variable_of (l ∷ reverse v.log.items))) e
-    ∙ status_local (reverse v.log.items) l v.values.entries name
+    ∙ status_local (reverse v.log.items) l v.values name
 
 -- ** what a local covers becomes visible
 
 pub uncover_status : (l : Local) (es : List (String Global × Value)) → bytes_eq (string_bytes l.name) status_name ≡ true → Uncovers l es es
 uncover_status l es h = λ ls. rw h (sym (status_local ls l es ((bytes_decides (string_bytes l.name) status_name).0 h)))
 
-pub uncover_value : {T E : Type 0} (l : Local) (es fs : List (String Global × Value)) (r : Result T E) → bytes_eq (string_bytes l.name) status_name ≡ false → covers_in (string_bytes l.name) es ≡ true → IsStrictlySortedBy string_cmp (keys_of es)
-    → OnOk r (fs ≡ insert_entry string_cmp es l.name l.covered) → OnErr r (lookup (is_named (string_bytes l.name)) es ≡ None) → Uncovers l es fs
-uncover_value l es fs (Ok x) h covers sorted puts absent = λ ls. rw (h, puts) (pop_variable ls l es sorted h covers)
-uncover_value l es fs (Err e) h covers sorted puts absent = λ ls. absurd (true≢false (sym covers ∙ ap (λ o. unwrap_or (option_map (λ (v : Value). v.covers) o) false) absent))
+written_covering : (k : String Global) (w : Value) (es : List (String Global × Value)) (o : Named) → IsStrictlySortedBy string_cmp (keys_of es) → lookup (is_named (string_bytes k)) es ≡ o → unwrap_or (option_map (λ (x : Value). x.covers) o) false ≡ true
+    → set_value (is_named (string_bytes k)) es w ≡ insert_entry string_cmp es k w
+written_covering k w es None sorted found h = absurd (true≢false (sym h))
+written_covering k w es (Some v) sorted found h = write_as_insert k v w es sorted found
+
+pub uncover_over : (l : Local) (es fs : List (String Global × Value)) → bytes_eq (string_bytes l.name) status_name ≡ false → covers_in (string_bytes l.name) es ≡ true → IsStrictlySortedBy string_cmp (keys_of es)
+    → fs ≡ set_value (is_named (string_bytes l.name)) es l.covered → Uncovers l es fs
+uncover_over l es fs h covers sorted writes =
+    let puts : fs ≡ insert_entry string_cmp es l.name l.covered = writes ∙ written_covering l.name l.covered es (lookup (is_named (string_bytes l.name)) es) sorted refl covers in
+    λ ls. rw (h, puts) (pop_variable ls l es sorted h covers)
 
 pub uncover_none : (l : Local) (es fs : List (String Global × Value)) → bytes_eq (string_bytes l.name) status_name ≡ false → covers_in (string_bytes l.name) es ≡ false
     → lookup (is_named (string_bytes l.name)) fs ≡ None → fs ≡ remove_entry (is_named (string_bytes l.name)) es → Uncovers l es fs
@@ -323,3 +329,49 @@ pub name_off : (ls : List Local) (w all : List (List ℕ)) (e : String Global ×
 name_off ls w all e es h inv = ap (λ b. w ++ (if b then string_bytes e.0 ∷ flat_names (map (variable_of ls) es) else flat_names (map (variable_of ls) es))) (sym h) ∙ inv
 
 pub ruleset names = (name_on, name_off)
+
+-- ** the variables of each row
+
+names_any : (ls ms : List Local) (es : List (String Global × Value)) → flat_names (map (variable_of ls) es) ≡ flat_names (map (variable_of ms) es)
+names_any ls ms [] = refl
+names_any ls ms (e ∷ es) = ap (λ ns. if is_listed (string_bytes e.0) (texts_of e.1) then string_bytes e.0 ∷ ns else ns) (names_any ls ms es)
+
+if_append : (b : Bool) (x : List ℕ) (l m n : List (List ℕ)) → l ≡ m ++ n → (if b then x ∷ l else l) ≡ (if b then x ∷ m else m) ++ n
+if_append true x l m n h = ap (λ k. x ∷ k) h
+if_append false x l m n h = h
+
+names_append : (es fs : List (String Global × Value)) → names_in (es ++ fs) ≡ names_in es ++ names_in fs
+names_append [] fs = refl
+names_append (e ∷ es) fs = if_append (is_listed (string_bytes e.0) (texts_of e.1)) (string_bytes e.0) _ _ (names_in fs) (names_append es fs)
+
+pub all_names : (v : Variables) → flat_names (stacks_of v) ≡ names_in v.values
+unfolding stacks_of
+all_names v = names_any (reverse v.log.items) [] v.values
+
+-- the names of a row are added
+pub names_step : (w all : List (List ℕ)) (rows : List (BTreeMap (String Global) Value)) (i j : ℕ) (row : BTreeMap (String Global) Value) → j ≡ suc i → i < length rows → row ≡ get_or rows i row
+    → w ++ names_in (entries_of (drop i rows)) ≡ all → (w ++ names_in row.entries) ++ names_in (entries_of (drop j rows)) ≡ all
+names_step w all rows i j row next lt is inv =
+    append_assoc w (names_in row.entries) (names_in (entries_of (drop j rows)))
+    ∙ ap (λ l. w ++ l) (sym (ap names_in (rows_from rows i j row next lt is) ∙ names_append row.entries (entries_of (drop j rows)))) ∙ inv
+
+pub all_bindings : (ls : List Local) (es : List (String Global × Value)) → visible_values (map (variable_of ls) es) ≡ bindings_in es
+all_bindings ls [] = refl
+all_bindings ls (e ∷ es) = ap (λ l. (string_bytes e.0, texts_of e.1) ∷ l) (all_bindings ls es)
+
+bindings_append : (es fs : List (String Global × Value)) → bindings_in (es ++ fs) ≡ bindings_in es ++ bindings_in fs
+bindings_append [] fs = refl
+bindings_append (e ∷ es) fs = ap (λ l. (string_bytes e.0, texts_of e.1) ∷ l) (bindings_append es fs)
+
+-- the variables of a row are added
+pub bindings_step : (w all : List (List ℕ × List (List ℕ))) (rows : List (BTreeMap (String Global) Value)) (i j : ℕ) (row : BTreeMap (String Global) Value) → j ≡ suc i → i < length rows → row ≡ get_or rows i row
+    → w ++ bindings_in (entries_of (drop i rows)) ≡ all → (w ++ bindings_in row.entries) ++ bindings_in (entries_of (drop j rows)) ≡ all
+bindings_step w all rows i j row next lt is inv =
+    append_assoc w (bindings_in row.entries) (bindings_in (entries_of (drop j rows)))
+    ∙ ap (λ l. w ++ l) (sym (ap bindings_in (rows_from rows i j row next lt is) ∙ bindings_append row.entries (entries_of (drop j rows)))) ∙ inv
+
+-- ** a value written over what may be there
+
+pub written_either : (q : List ℕ) (r : Result Value Value) (es fs : List (String Global × Value)) (w : Value) → OnOk r (fs ≡ set_value (is_named q) es w) → OnErr r (lookup (is_named q) es ≡ None) → OnErr r (fs ≡ es) → fs ≡ set_value (is_named q) es w
+written_either q (Ok v) es fs w new absent same = new
+written_either q (Err v) es fs w new absent same = same ∙ sym (set_none (is_named q) es w (none_passes_from_lookup (is_named q) es absent))

@@ -1,3 +1,4 @@
+pub mod Rows
 pub mod Stacks
 pub mod Bindings
 pub mod Bodies

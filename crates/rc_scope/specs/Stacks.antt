@@ -10,7 +10,7 @@ use Rattle.rc_model.specs.Syntax.Text.{text_cmp}
 use Rattle.std.specs.declared.alloc.Global.{Global}
 use Rattle.std.specs.declared.string.String.{String}
 use Rattle.rc_model.specs.Run.State.{status_name, visible, covered, put_values}
-use Rattle.rc_scope.specs.declared.variables.Value.{Value}
+use Rattle.rc_scope.specs.declared.values.Value.{Value}
 use Rattle.rc_scope.specs.declared.variables.Local.{Local}
 use Rattle.rc_scope.specs.declared.variables.Variables.{Variables}
 
@@ -40,7 +40,7 @@ variable_of ls e = (string_bytes e.0, stack_of ls (string_bytes e.0) e.1)
 
 -- each name with its values, the visible one first
 unfoldable pub stacks_of : Variables → List (List ℕ × List (List (List ℕ)))
-stacks_of v = map (variable_of (reverse v.log.items)) v.values.entries
+stacks_of v = map (variable_of (reverse v.log.items)) v.values
 
 -- the names of the open locals, the newest first
 unfoldable pub locals_of : Variables → List (List ℕ)
@@ -75,6 +75,10 @@ is_listed name value = not (length value == 0) && not (bytes_eq name status_name
 abbrev pub flat_names : List (List ℕ × List (List (List ℕ))) → List (List ℕ)
 flat_names [] = []
 flat_names (v ∷ vs) = if is_listed v.0 (visible v.1) then v.0 ∷ flat_names vs else flat_names vs
+
+-- the names of these variables that have members
+abbrev pub names_in : List (String Global × Value) → List (List ℕ)
+names_in es = flat_names (map (variable_of []) es)
 
 -- a value of these members is put in over what the name has, which is the other one
 pub record Covers (name : List ℕ) (texts : List (List ℕ)) (before after : List (String Global × Value))

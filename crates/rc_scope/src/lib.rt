@@ -6,6 +6,7 @@ mod functions;
 mod names;
 mod state;
 mod texts;
+mod values;
 mod variables;
 
 pub use names::{has_digits, is_function_name, is_name, is_readable};

@@ -1,24 +1,20 @@
 //! The variables of a shell: one map from each name to its visible value, and a log of what locals have covered.
 
-ghost use Rattle.std.specs.Prelude.{◌≡◌, ◌∷◌, [], false, drop, map, string_bytes, OnOk, OnErr, IfOk};
+ghost use Rattle.std.specs.Prelude.{◌≡◌, ◌∷◌, ◌++◌, [], None, false, drop, map, string_bytes, OnOk, OnErr, IfOk};
 ghost use Rattle.std.specs.Str.{bytes_eq};
 ghost use Rattle.rc_model.specs.Run.State.{status_name, visible, covered, put_values};
-ghost use Rattle.std.specs.BTreeMap.{IsUnchanged};
-ghost use Rattle.rc_scope.specs.Stacks.{uncovered, without_newest, flat_names, is_listed, Covers, Uncovers};
+ghost use Rattle.std.specs.Map.{lookup, set_value, keys_of};
+ghost use Rattle.std.specs.List.Sorted.{IsStrictlySortedBy};
+ghost use Rattle.std.specs.String.{string_cmp};
+ghost use Rattle.rc_scope.specs.Rows.{is_named};
+ghost use Rattle.rc_scope.specs.Bindings.{bindings_of, bindings_in};
+ghost use Rattle.rc_scope.specs.Stacks.{names_in, uncovered, without_newest, flat_names, is_listed, Covers, Uncovers};
 
 use crate::names::is_status;
 use crate::texts::drop_first;
+use crate::values::{Value, Values};
 use std::alloc::{AllocError, Global};
 use std::collections::BTreeMap;
-use std::mem::replace;
-
-/// The value of a variable, as it is visible or covered.
-#[derive(Drop)]
-pub struct Value {
-    texts: Vec<String>,
-    /// Whether it covers another one, which the log has.
-    covers: bool,
-}
 
 /// An open local.
 #[derive(Drop)]
@@ -31,7 +27,7 @@ pub struct Local {
 /// The variables of a shell, with its open locals.
 #[derive(Drop)]
 pub struct Variables {
-    values: BTreeMap<String, Value>,
+    values: Values,
     /// The open locals, the newest last.
     log: Vec<Local>,
 }
@@ -51,9 +47,39 @@ fn is_listed(name: &str, texts: &[String]) -> bool
     !texts.is_empty() && !is_status(name)
 }
 
+/// Adds the names of the variables in a row that have members.
+#[tactic(auto, using(crate::proofs::Stacks::names))]
+fn push_names(names: &mut Vec<String>, row: &BTreeMap<String, Value>) -> Result<(), AllocError>
+    ensures { OnOk result (map string_bytes names.new.items
+        ≡ map string_bytes names.old.items ++ names_in row.now.entries) }
+{
+    for (name, value) in row {
+        if is_listed(name, value.texts.as_slice()) {
+            names.push(name.clone()?)?;
+        }
+    }
+    Ok(())
+}
+
+/// Adds each variable of a row with its visible value.
+fn push_bindings<'a>(
+    all: &mut Vec<Binding<'a>>,
+    row: &'a BTreeMap<String, Value>,
+) -> Result<(), AllocError>
+    ensures { OnOk result (bindings_of all.new.items ≡ bindings_of all.old.items ++ bindings_in row.now.entries) }
+{
+    for (name, value) in row {
+        all.push(Binding {
+            name,
+            value: value.texts.as_slice(),
+        })?;
+    }
+    Ok(())
+}
+
 impl Variables {
     ghost use Rattle.rc_scope.specs.Stacks.{stacks_of, locals_of, stack_in, covers_in};
-    ghost use Rattle.rc_scope.specs.Bindings.{bindings_of, visible_values};
+    ghost use Rattle.rc_scope.specs.Bindings.{visible_values};
 
     /// No variables.
     #[tactic(auto, unfolding(crate::specs::Stacks::stacks_of, crate::specs::Stacks::locals_of))]
@@ -62,7 +88,7 @@ impl Variables {
         ensures locals { locals_of result ≡ [] }
     {
         Variables {
-            values: BTreeMap::new(alloc),
+            values: Values::new(alloc),
             log: Vec::new(alloc),
         }
     }
@@ -80,7 +106,7 @@ impl Variables {
 
     /// Whether the visible value covers another one.
     fn covers(&self, name: &str) -> bool
-        ensures { result ≡ covers_in name.now self.now.values.entries }
+        ensures { result ≡ covers_in name.now self.now.values }
     {
         match self.values.get(name) {
             Some(value) => value.covers,
@@ -97,19 +123,12 @@ impl Variables {
         ensures locals { locals_of self.new ≡ locals_of self.old }
         ensures err { OnErr result (stacks_of self.new ≡ stacks_of self.old) }
     {
-        if let Some(value) = self.values.get_mut(name) {
-            value.texts = texts;
+        let covers = self.covers(name);
+        let Err(value) = self.values.replace(name, Value { texts, covers }) else {
             return Ok(());
-        }
+        };
         let name = String::from_str(alloc, name)?;
-        self.values.insert(
-            name,
-            Value {
-                texts,
-                covers: false,
-            },
-        )?;
-        Ok(())
+        self.values.insert(alloc, name, value)
     }
 
     /// Takes the first members of the visible value away. An `Err` changes nothing.
@@ -121,37 +140,47 @@ impl Variables {
         ensures locals { locals_of self.new ≡ locals_of self.old }
         ensures err { OnErr result (stacks_of self.new ≡ stacks_of self.old) }
     {
-        let Some(value) = self.values.get_mut(name) else {
+        let covers = self.covers(name);
+        let texts = Vec::new(alloc);
+        let Ok(mut value) = self.values.replace(name, Value { texts, covers }) else {
             return self.set(alloc, name, Vec::new(alloc));
         };
         drop_first(&mut value.texts, count);
+        let _ = self.values.replace(name, value);
         Ok(())
     }
 
     /// Puts in a value over what the name has, and gives that: an empty one where it has none.
     fn cover(&mut self, alloc: Global, name: &str, texts: Vec<String>) -> Result<Value, AllocError>
         ensures ok { IfOk result (λ old.
-            Covers name.now (map string_bytes texts.items) self.old.values.entries self.new.values.entries old) }
-        ensures err { OnErr result (IsUnchanged self.old.values self.new.values) }
+            Covers name.now (map string_bytes texts.items) self.old.values self.new.values old) }
+        ensures err { OnErr result (self.new.values ≡ self.old.values) }
         ensures log { self.new.log ≡ self.old.log }
     {
-        if let Some(value) = self.values.get_mut(name) {
-            return Ok(replace(
-                value,
-                Value {
-                    texts,
-                    covers: true,
-                },
-            ));
+        let covering = Value {
+            texts,
+            covers: true,
+        };
+        match self.values.replace(name, covering) {
+            Ok(covered) => Ok(covered),
+            Err(Value { texts, .. }) => self.put(alloc, name, texts),
         }
+    }
+
+    /// Puts in a value of a name that has none, and gives an empty one.
+    fn put(&mut self, alloc: Global, name: &str, texts: Vec<String>) -> Result<Value, AllocError>
+        requires { lookup (is_named name.now) self.old.values ≡ None }
+        ensures ok { IfOk result (λ old.
+            Covers name.now (map string_bytes texts.items) self.old.values self.new.values old) }
+        ensures err { OnErr result (self.new.values ≡ self.old.values) }
+        ensures log { self.new.log ≡ self.old.log }
+    {
         let name = String::from_str(alloc, name)?;
-        self.values.insert(
-            name,
-            Value {
-                texts,
-                covers: false,
-            },
-        )?;
+        let value = Value {
+            texts,
+            covers: false,
+        };
+        self.values.insert(alloc, name, value)?;
         Ok(Value {
             texts: Vec::new(alloc),
             covers: false,
@@ -195,19 +224,33 @@ impl Variables {
         Ok(())
     }
 
-    /// What a local covers becomes visible. It allocates nothing: its name is in the map.
-    fn uncover(&mut self, local: Local)
-        ensures values { Uncovers local self.old.values.entries self.new.values.entries }
+    /// Writes what is covered over the value of a name, and says whether that value covers another.
+    fn restore(&mut self, name: &str, covered: Value) -> bool
+        ensures covers { result ≡ covers_in name.now self.old.values }
+        ensures written { self.new.values ≡ set_value (is_named name.now) self.old.values covered }
+        ensures ordered { IsStrictlySortedBy string_cmp (keys_of self.old.values) }
         ensures log { self.new.log ≡ self.old.log }
     {
-        if is_status(&local.name) {
+        match self.values.replace(name, covered) {
+            Ok(ended) => ended.covers,
+            Err(_) => false,
+        }
+    }
+
+    /// What a local covers becomes visible. It allocates nothing: its name is there.
+    fn uncover(&mut self, local: Local)
+        ensures values { Uncovers local self.old.values self.new.values }
+        ensures log { self.new.log ≡ self.old.log }
+    {
+        let Local { name, covered } = local;
+        let name = name.as_str();
+        if is_status(name) {
             return;
         }
-        if !self.covers(&local.name) {
-            let _ = self.values.remove(local.name.as_str());
+        if self.restore(name, covered) {
             return;
         }
-        let _ = self.values.insert(local.name, local.covered);
+        self.values.remove(name);
     }
 
     /// The newest local ends.
@@ -228,10 +271,8 @@ impl Variables {
         ensures { IfOk result (λ names. map string_bytes names.items ≡ flat_names (stacks_of self.now)) }
     {
         let mut names = Vec::new(alloc);
-        for (name, value) in &self.values {
-            if is_listed(name, value.texts.as_slice()) {
-                names.push(name.clone()?)?;
-            }
+        for row in self.values.rows() {
+            push_names(&mut names, row)?;
         }
         Ok(names)
     }
@@ -242,11 +283,8 @@ impl Variables {
         ensures { IfOk result (λ all. bindings_of all.items ≡ visible_values (stacks_of self.now)) }
     {
         let mut all = Vec::new(alloc);
-        for (name, value) in &self.values {
-            all.push(Binding {
-                name,
-                value: value.texts.as_slice(),
-            })?;
+        for row in self.values.rows() {
+            push_bindings(&mut all, row)?;
         }
         Ok(all)
     }
