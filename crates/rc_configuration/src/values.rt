@@ -49,6 +49,7 @@ pub fn put_texts(words: &mut Stack<Word>, texts: Vec<String>) -> Result<(), Allo
     ensures { OnOk result (words.new ≡ plain_words (map string_bytes texts.items) ∷ words.old) }
 {
     words.begin()?;
+    words.reserve(texts.len())?;
     for text in texts {
         words.push(Word::plain(text))?;
     }

@@ -54,6 +54,13 @@ impl<T: Drop> Stack<T> {
         Ok(())
     }
 
+    /// Makes room for this many more elements.
+    pub fn reserve(&mut self, count: usize) -> Result<(), AllocError>
+        ensures { self.new ≡ self.old }
+    {
+        self.items.reserve(count)
+    }
+
     /// A list comes on top.
     pub fn put(&mut self, mut list: Vec<T>) -> Result<(), AllocError>
         ensures { OnOk result (self.new ≡ list.items ∷ self.old) }
