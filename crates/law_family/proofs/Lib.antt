@@ -1,3 +1,5 @@
+pub mod Accounts
+pub mod WriteEnds
 pub mod Family
 pub mod Members
 pub mod Outcome

@@ -9,7 +9,8 @@ use Rattle.rc_model.specs.Family.Accounts.{put, Account, account, after, at_star
 use Rattle.rc_model.specs.Family.Family.{Process, Family, Step, shell_of, shell_started, child_process, recorded, with_trace, with_child, stepped, family, first, ArePossible, EachOf, born, starts, OneAtATime, StandFrom, OnePerStart, WasStarted, HandedSo, IsFamily, Sane}
 use Rattle.law_traces.proofs.Keep.{put_self, put_other}
 use Rattle.law_traces.proofs.Traces.{ended_leaves_nothing}
-use Rattle.law_family.proofs.Family.{Sound, put_field, launch_is, InRange, in_range, stays, more, inv_first, inv_family, write_ends, no_ring, pending_allowed, meant_sound, meant_nothing_lost}
+use Rattle.law_family.proofs.Accounts.{Sound, put_field, pending_allowed, meant_sound, meant_nothing_lost}
+use Rattle.law_family.proofs.Family.{launch_is, InRange, in_range, stays, more, inv_first, inv_family, write_ends, no_ring}
 
 abbrev number_of : Option (Launch × ℕ) → ℕ → ℕ
 number_of None m = m

@@ -1,18 +1,19 @@
 -- The descent and the grammar agree.
-use Rattle.std.proofs.Common.{◌≡◌, ℕ, ◌<◌, ◌≤◌, max, Bool, true, false, ◌&&◌, List, [], Ok, Err, ◌⊎◌, inl, inr, if◌then◌else◌, refl, sym, ap, subst, ◌∙◌, arith, nat_le}
+use Rattle.std.proofs.Common.{◌≡◌, ℕ, ◌<◌, ◌≤◌, max, Bool, true, false, List, [], Ok, Err, ◌⊎◌, inl, inr, if◌then◌else◌, refl, sym, ap, subst, ◌∙◌, arith, nat_le}
 use Rattle.std.proofs.lemmas.Bool.{leb-true, leb-false}
 use Rattle.std.proofs.lemmas.Bool.Decides.{nat_tests}
 use Rattle.rc_model.specs.Syntax.Tokens.{Lexeme}
 use Rattle.rc_model.specs.Syntax.Tree.{Node, Many}
 use Rattle.rc_model.specs.Syntax.Tree as t
-use Rattle.rc_model.specs.Syntax.WellFormed.{depth, most_stages, most_stages_in}
+use Rattle.rc_model.specs.Syntax.WellFormed.{depth, most_stages}
 use Rattle.rc_model.specs.Syntax.Grammar.{HaveTree}
 use Rattle.rc_model.specs.Mirrors.Descent as d
 use Rattle.rc_model.specs.Mirrors.Descent.{Fault, Read}
 use Rattle.rc_model.specs.Mirrors.ParsingLaws.{FindsOnlyTrees, FindsEachTree, HasOneTree, HasNoTree, HasTooManyStages, IsTooDeep}
 use Rattle.law_grammar.proofs.Lists.{done, ok_same, if_ok}
 use Rattle.law_grammar.proofs.Soundness.{read_sound}
-use Rattle.law_grammar.proofs.Completeness.{Meets, read_good}
+use Rattle.law_grammar.proofs.CompletenessOfArguments.{Meets}
+use Rattle.law_grammar.proofs.Completeness.{read_good}
 use Rattle.law_grammar.proofs.FewStages.{few_stages_read}
 
 whole_found : (o : Read (Many t.item)) (tree : Node t.cmd) → d.whole o ≡ Ok tree →

@@ -1,8 +1,16 @@
 pub mod Shorter
 pub mod Lists
+pub mod SoundnessOfArguments
+pub mod SoundnessOfForms
+pub mod SoundnessOfPipelines
 pub mod Soundness
+pub mod CompletenessOfArguments
+pub mod CompletenessOfForms
+pub mod CompletenessOfPipelines
 pub mod Completeness
 pub mod Narrow
+pub mod FewStagesInArguments
+pub mod FewStagesInForms
 pub mod FewStages
 pub mod Laws
 pub mod Zeros

@@ -1,7 +1,8 @@
 -- Proper states, and what changes them.
 use Rattle.std.specs.Prelude.{IsTrue, ℕ, List}
 use Rattle.rc_model.specs.Syntax.Tree.{Node, cmd}
-use Rattle.rc_model.specs.Run.State.{State, new_state, is_name, is_function_name, set_value, push_local, pop_local, define, undefine}
+use Rattle.rc_model.specs.Run.State.{State, new_state, is_name, is_function_name, set_value, push_local, pop_local}
+use Rattle.rc_model.specs.Run.State.{define, undefine}
 use Rattle.rc_model.specs.Handed.Proper.{IsProper, IsProperTree}
 
 -- a variable that is set, or covered by a local, leaves a proper state, where its name is one
@@ -11,8 +12,8 @@ VariablesStayProper = (s : State) (name : List ℕ) (value : List (List ℕ)) �
 
 -- a function that is defined leaves a proper state, where its name is one and its body a proper tree
 abbrev pub FunctionsStayProper : Type 0
-FunctionsStayProper = (s : State) (name : List ℕ) (body : Node cmd) → IsTrue (is_function_name name) → IsProperTree body →
-    IsProper s → IsProper (define s name body)
+FunctionsStayProper = (s : State) (name : List ℕ) (body : Node cmd) → IsTrue (is_function_name name) →
+    IsProperTree body → IsProper s → IsProper (define s name body)
 
 -- the end of a local leaves a proper state, and so do functions that are taken away
 abbrev pub EndsStayProper : Type 0

@@ -1,6 +1,9 @@
 pub mod Gives
 pub mod Pieces
-pub mod Fixed
+pub mod Steps
+pub mod Marks
+pub mod Keywords
+pub mod Operators
 pub mod Quotes
 pub mod Words
 pub mod Names

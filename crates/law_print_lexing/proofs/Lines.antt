@@ -6,7 +6,8 @@ use Rattle.rc_model.specs.Syntax.Tokens.{Lexeme}
 use Rattle.rc_model.specs.Syntax.Printing as p
 use Rattle.law_print_lexing.specs.Lexemes.{LexemeLine, ended, parting, listed, body_lines}
 use Rattle.law_print_lexing.proofs.Pieces.{Piece, IsApart, IsCalm, Ends, followed, calmed, empty, between}
-use Rattle.law_print_lexing.proofs.Fixed.{space, space_ends, semicolon, semicolon_ends, ampersand, ampersand_ends}
+use Rattle.law_print_lexing.proofs.Marks.{space, space_ends, semicolon, semicolon_ends}
+use Rattle.law_print_lexing.proofs.Operators.{ampersand, ampersand_ends}
 
 -- the texts of lines with their lexemes
 pub data Lines : List p.Line → List LexemeLine → Type 0 where

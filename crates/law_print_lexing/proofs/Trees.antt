@@ -25,7 +25,9 @@ use Rattle.law_print_lexing.proofs.Words.{word_piece, case_word}
 use Rattle.law_print_lexing.proofs.Quotes.{quoted_piece}
 use Rattle.law_print_lexing.proofs.Names.{NamePiece, bare_name, quoted_name, named_name, var_piece, count_piece, flat_piece, subscript_piece}
 use Rattle.law_print_lexing.proofs.Lines.{Lines, no_lines, line, lines_append, listed_piece, body_of}
-use Rattle.law_print_lexing.proofs.Fixed as f
+use Rattle.law_print_lexing.proofs.Marks as marks
+use Rattle.law_print_lexing.proofs.Keywords as keywords
+use Rattle.law_print_lexing.proofs.Operators as operators
 
 retext : {A B : k.Before → Type 0} {F : List ℕ → Type 0} {a b : List ℕ} {ls : List Lexeme} → a ≡ b → Piece A B F a ls → Piece A B F b ls
 retext {A} {B} {F} {a} {b} {ls} e q = subst (λ w. Piece A B F w ls) e q
@@ -34,13 +36,13 @@ relex : {A B : k.Before → Type 0} {F : List ℕ → Type 0} {a : List ℕ} {ls
 relex {A} {B} {F} {a} {ls} {ms} e q = subst (λ w. Piece A B F a w) e q
 
 sign_piece : (l : Logic) → Piece IsCalm IsApart Anything (p.sign l) (x.sign l ∷ [])
-sign_piece And = f.and_and
-sign_piece Or = f.or_or
+sign_piece And = operators.and_and
+sign_piece Or = operators.or_or
 
 sign_ends : (l : Logic) (rest : List ℕ) → Ends ((sign_piece l).chars ++ rest)
 unfolding sign_piece
-sign_ends And rest = f.and_and_ends rest
-sign_ends Or rest = f.or_or_ends rest
+sign_ends And rest = operators.and_and_ends rest
+sign_ends Or rest = operators.or_or_ends rest
 
 output_case : (P : ℕ → Type 0) (slot : ℕ) → is_output slot ≡ true → P 1 → P 2 → P slot
 output_case P slot o one two = go (slot == 2) refl
@@ -52,16 +54,16 @@ output_case P slot o one two = go (slot == 2) refl
 bar_piece : (slot : ℕ) → is_output slot ≡ true → (q : Piece IsCalm IsApart Anything (p.bar slot) (k.Bar slot ∷ [])) × ((rest : List ℕ) → Ends (q.chars ++ rest))
 bar_piece slot o =
     output_case (λ s. (q : Piece IsCalm IsApart Anything (p.bar s) (k.Bar s ∷ [])) × ((rest : List ℕ) → Ends (q.chars ++ rest))) slot o
-    (f.bar_one, f.bar_one_ends) (f.bar_two, f.bar_two_ends)
+    (operators.bar_one, operators.bar_one_ends) (operators.bar_two, operators.bar_two_ends)
 
 opening_piece : (m : Mode) (slot : ℕ) → opens m slot ≡ true → Piece IsApart IsApart Anything (p.opening m slot) (k.Redirection m slot ∷ [])
 opening_piece Read slot o =
     let same : slot ≡ 0 = grind (arith, nat_tests) in
-    subst (λ s. Piece IsApart IsApart Anything (p.opening Read s) (k.Redirection Read s ∷ [])) (sym same) f.read_open
+    subst (λ s. Piece IsApart IsApart Anything (p.opening Read s) (k.Redirection Read s ∷ [])) (sym same) operators.read_open
 opening_piece Write slot o =
-    output_case (λ s. Piece IsApart IsApart Anything (p.opening Write s) (k.Redirection Write s ∷ [])) slot o f.write_open f.write_open_two
+    output_case (λ s. Piece IsApart IsApart Anything (p.opening Write s) (k.Redirection Write s ∷ [])) slot o operators.write_open operators.write_open_two
 opening_piece Append slot o =
-    output_case (λ s. Piece IsApart IsApart Anything (p.opening Append s) (k.Redirection Append s ∷ [])) slot o f.append_open f.append_open_two
+    output_case (λ s. Piece IsApart IsApart Anything (p.opening Append s) (k.Redirection Append s ∷ [])) slot o operators.append_open operators.append_open_two
 
 copying_piece : (to from : ℕ) → copies to from ≡ true → Piece IsApart IsApart Anything (p.copying to from) (k.CopyTo to from ∷ [])
 copying_piece to from o = go (to == 2) refl
@@ -71,18 +73,18 @@ copying_piece to from o = go (to == 2) refl
         let two : to ≡ 2 = grind (arith, nat_tests) in
         let one : from ≡ 1 = grind (arith, nat_tests) in
         subst (λ s. Piece IsApart IsApart Anything (p.copying s from) (k.CopyTo s from ∷ [])) (sym two)
-        (subst (λ s. Piece IsApart IsApart Anything (p.copying 2 s) (k.CopyTo 2 s ∷ [])) (sym one) f.copy_to_two)
+        (subst (λ s. Piece IsApart IsApart Anything (p.copying 2 s) (k.CopyTo 2 s ∷ [])) (sym one) operators.copy_to_two)
     go false e =
         let one : to ≡ 1 = grind (arith, nat_tests) in
         let two : from ≡ 2 = grind (arith, nat_tests) in
         subst (λ s. Piece IsApart IsApart Anything (p.copying s from) (k.CopyTo s from ∷ [])) (sym one)
-        (subst (λ s. Piece IsApart IsApart Anything (p.copying 1 s) (k.CopyTo 1 s ∷ [])) (sym two) f.copy_to_one)
+        (subst (λ s. Piece IsApart IsApart Anything (p.copying 1 s) (k.CopyTo 1 s ∷ [])) (sym two) operators.copy_to_one)
 
 assigned_piece : (e : Bool) (ps : List (List ℕ)) {text : List ℕ} {ls ms : List Lexeme} → Piece IsApart IsCalm Ends (joined (codes " ") ps) ls →
     Piece IsApart IsCalm Ends text ms →
     Piece IsApart IsCalm Ends (if e then joined (codes " ") ps else joined (codes " ") ps ++ (codes " " ++ text)) (if e then ls else ls ++ ms)
 assigned_piece true ps q r = q
-assigned_piece false ps q r = between q f.space f.space_ends r (λ rest e. tt)
+assigned_piece false ps q r = between q marks.space marks.space_ends r (λ rest e. tt)
 
 redirected_piece : (e s : Bool) (rs : List (List ℕ)) {text : List ℕ} {ls ms : List Lexeme} → Piece IsApart IsCalm Ends (joined (codes " ") rs) ls →
     Tail (flat_map (λ r. codes " " ++ r) rs) ls → Piece IsApart IsApart Anything (flat_map (λ r. r ++ codes " ") rs) ls → Piece IsApart IsCalm Ends text ms →
@@ -108,40 +110,40 @@ mutual
       (redirs_before redirs w.0) (cmd_piece body false w.1)
   cmd_piece (t.Pipeline stages last) begins w = led (stages_piece stages begins w.0) (cmd_piece last false w.1)
   cmd_piece (t.AndOr first links) begins w = tailed (cmd_piece first begins w.0) (links_tail links w.1)
-  cmd_piece (t.Not body) begins w = led f.bang (cmd_piece body false w)
-  cmd_piece (t.Subshell body) begins w = led f.at (cmd_piece body false w)
+  cmd_piece (t.Not body) begins w = led keywords.bang (cmd_piece body false w)
+  cmd_piece (t.Subshell body) begins w = led keywords.at (cmd_piece body false w)
   cmd_piece (t.If condition body) begins w =
-      led f.if_paren (between (cmd_piece condition false w.0) f.close_head f.close_head_ends (cmd_piece body false w.1) (λ rest e. tt))
-  cmd_piece (t.IfNot body) begins w = led f.if_not (cmd_piece body false w)
+      led keywords.if_paren (between (cmd_piece condition false w.0) marks.close_head marks.close_head_ends (cmd_piece body false w.1) (λ rest e. tt))
+  cmd_piece (t.IfNot body) begins w = led keywords.if_not (cmd_piece body false w)
   cmd_piece (t.While condition body) begins w =
-      led f.while_paren (between (cmd_piece condition false w.0) f.close_head f.close_head_ends (cmd_piece body false w.1) (λ rest e. tt))
+      led keywords.while_paren (between (cmd_piece condition false w.0) marks.close_head marks.close_head_ends (cmd_piece body false w.1) (λ rest e. tt))
   cmd_piece (t.ForAll name body) begins w =
-      led f.for_paren (between (arg_piece name w.0) f.close_head f.close_head_ends (cmd_piece body false w.1) (λ rest e. tt))
+      led keywords.for_paren (between (arg_piece name w.0) marks.close_head marks.close_head_ends (cmd_piece body false w.1) (λ rest e. tt))
   cmd_piece (t.For name words body) begins w =
-      led f.for_paren (between (arg_piece name w.0) f.in_word f.in_word_ends
-      (between (args_piece words w.1.0) f.close_head f.close_head_ends (cmd_piece body false w.1.1) (λ rest e. tt)) (λ rest e. tt))
+      led keywords.for_paren (between (arg_piece name w.0) keywords.in_word keywords.in_word_ends
+      (between (args_piece words w.1.0) marks.close_head marks.close_head_ends (cmd_piece body false w.1.1) (λ rest e. tt)) (λ rest e. tt))
   cmd_piece (t.Switch subject branches) begins w =
-      settled (led f.switch_word (between (arg_piece subject w.0) f.brace_after f.brace_after_ends
-      (followed (listed_piece (branches_lines branches w.1)) f.close_brace (λ rest e. f.close_brace_ends rest)) (λ rest e. tt)))
-  cmd_piece (t.Match subject patterns) begins w = led f.match_word (tailed (arg_piece subject w.0) (args_tail patterns w.1))
+      settled (led keywords.switch_word (between (arg_piece subject w.0) marks.brace_after marks.brace_after_ends
+      (followed (listed_piece (branches_lines branches w.1)) marks.close_brace (λ rest e. marks.close_brace_ends rest)) (λ rest e. tt)))
+  cmd_piece (t.Match subject patterns) begins w = led keywords.match_word (tailed (arg_piece subject w.0) (args_tail patterns w.1))
   cmd_piece (t.Define names body) begins w =
-      settled (led f.fn_word (between (args_piece names w.0) f.brace_after f.brace_after_ends
-      (followed (cmd_piece body false w.1) f.close_brace (λ rest e. f.close_brace_ends rest)) (λ rest e. tt)))
-  cmd_piece (t.Undefine names) begins w = led f.fn_word (args_piece names w)
-  cmd_piece (t.Brace body) begins w = settled (led f.open_brace (followed (cmd_piece body false w) f.close_brace (λ rest e. f.close_brace_ends rest)))
+      settled (led keywords.fn_word (between (args_piece names w.0) marks.brace_after marks.brace_after_ends
+      (followed (cmd_piece body false w.1) marks.close_brace (λ rest e. marks.close_brace_ends rest)) (λ rest e. tt)))
+  cmd_piece (t.Undefine names) begins w = led keywords.fn_word (args_piece names w)
+  cmd_piece (t.Brace body) begins w = settled (led marks.open_brace (followed (cmd_piece body false w) marks.close_brace (λ rest e. marks.close_brace_ends rest)))
 
   pub arg_piece : (a : Node t.arg) → IsWritable a → Piece IsApart IsCalm Ends (arg_text a) (arg_lexemes a)
   arg_piece (t.Lit text true) w = quoted_piece text w.0 w.1
   arg_piece (t.Lit text false) w = word_piece text w.0.0 w.0.1 w.1.0 w.1.1
   arg_piece (t.Concat parts) w = parts_piece parts w
-  arg_piece (t.Paren words) w = settled (led f.open_paren (followed (args_piece words w) f.close_paren (λ rest e. f.close_paren_ends rest)))
+  arg_piece (t.Paren words) w = settled (led marks.open_paren (followed (args_piece words w) marks.close_paren (λ rest e. marks.close_paren_ends rest)))
   arg_piece (t.Var name) w = var_piece (name_piece name w)
   arg_piece (t.Count name) w = count_piece (name_piece name w)
   arg_piece (t.Flat name) w = flat_piece (name_piece name w)
   arg_piece (t.Sub name subscripts) w =
       retext (ap (λ l. 36 ∷ l) (append_assoc (arg_text name) (codes "(") (joined (codes " ") (arg_texts subscripts) ++ codes ")")))
-      (settled (led (subscript_piece (name_piece name w.0)) (followed (args_piece subscripts w.1) f.close_paren (λ rest e. f.close_paren_ends rest))))
-  arg_piece (t.Back body) w = settled (led f.back_brace (followed (cmd_piece body false w) f.close_brace (λ rest e. f.close_brace_ends rest)))
+      (settled (led (subscript_piece (name_piece name w.0)) (followed (args_piece subscripts w.1) marks.close_paren (λ rest e. marks.close_paren_ends rest))))
+  arg_piece (t.Back body) w = settled (led marks.back_brace (followed (cmd_piece body false w) marks.close_brace (λ rest e. marks.close_brace_ends rest)))
 
   name_piece : (a : Node t.arg) → IsWritableName a → NamePiece (arg_text a) (name_lexemes a)
   name_piece (t.Lit text true) w = quoted_name text w.0 w.1
@@ -165,7 +167,7 @@ mutual
 
   args_tail : (ws : Many t.arg) → AreWritable ws → Tail (flat_map (λ u. codes " " ++ u) (arg_texts ws)) (args_lexemes ws)
   args_tail none w = no_tail
-  args_tail (more a as') w = both (marked f.space f.space_ends (arg_piece a w.0)) (args_tail as' w.1)
+  args_tail (more a as') w = both (marked marks.space marks.space_ends (arg_piece a w.0)) (args_tail as' w.1)
 
   parts_piece : (ws : Many t.arg) → AreWritable ws → Piece IsApart IsCalm Ends (joined (codes "^") (arg_texts ws)) (first_part ws)
   parts_piece none w = empty
@@ -173,16 +175,16 @@ mutual
 
   parts_tail : (ws : Many t.arg) → AreWritable ws → Tail (flat_map (λ u. codes "^" ++ u) (arg_texts ws)) (further_parts ws)
   parts_tail none w = no_tail
-  parts_tail (more a as') w = both (marked f.caret f.caret_ends (arg_piece a w.0)) (parts_tail as' w.1)
+  parts_tail (more a as') w = both (marked marks.caret marks.caret_ends (arg_piece a w.0)) (parts_tail as' w.1)
 
   pairs_piece : (ps : Many t.pair) → AreWritable ps → Piece IsApart IsCalm Ends (joined (codes " ") (pair_texts ps)) (pairs_lexemes ps)
   pairs_piece none w = empty
-  pairs_piece (more (t.Pair n v) ps) w = tailed (between (arg_piece n w.0.0) f.equals f.equals_ends (arg_piece v w.0.1) (λ rest e. tt)) (pairs_tail ps w.1)
+  pairs_piece (more (t.Pair n v) ps) w = tailed (between (arg_piece n w.0.0) marks.equals marks.equals_ends (arg_piece v w.0.1) (λ rest e. tt)) (pairs_tail ps w.1)
 
   pairs_tail : (ps : Many t.pair) → AreWritable ps → Tail (flat_map (λ u. codes " " ++ u) (pair_texts ps)) (pairs_lexemes ps)
   pairs_tail none w = no_tail
   pairs_tail (more (t.Pair n v) ps) w =
-      both (marked f.space f.space_ends (between (arg_piece n w.0.0) f.equals f.equals_ends (arg_piece v w.0.1) (λ rest e. tt))) (pairs_tail ps w.1)
+      both (marked marks.space marks.space_ends (between (arg_piece n w.0.0) marks.equals marks.equals_ends (arg_piece v w.0.1) (λ rest e. tt))) (pairs_tail ps w.1)
 
   redirs_piece : (rs : Many t.redir) → AreWritable rs → Piece IsApart IsCalm Ends (joined (codes " ") (redir_texts rs)) (redirs_lexemes rs)
   redirs_piece none w = empty
@@ -190,13 +192,13 @@ mutual
 
   redirs_tail : (rs : Many t.redir) → AreWritable rs → Tail (flat_map (λ u. codes " " ++ u) (redir_texts rs)) (redirs_lexemes rs)
   redirs_tail none w = no_tail
-  redirs_tail (more r rs) w = both (marked f.space f.space_ends (redir_piece r w.0)) (redirs_tail rs w.1)
+  redirs_tail (more r rs) w = both (marked marks.space marks.space_ends (redir_piece r w.0)) (redirs_tail rs w.1)
 
   redirs_before : (rs : Many t.redir) → AreWritable rs → Piece IsApart IsApart Anything (flat_map (λ r. r ++ codes " ") (redir_texts rs)) (redirs_lexemes rs)
   redirs_before none w = nothing_yet
   redirs_before (more r rs) w =
       relex (ap (λ l. l ++ redirs_lexemes rs) (append-nil (redir_lexemes r)))
-      (led (followed (redir_piece r w.0) f.space (λ rest e. f.space_ends rest)) (redirs_before rs w.1))
+      (led (followed (redir_piece r w.0) marks.space (λ rest e. marks.space_ends rest)) (redirs_before rs w.1))
 
   stages_piece : (ss : Many t.stage) (begins : Bool) → AreWritable ss → Piece IsApart IsApart Anything (stages_text ss begins) (stages_lexemes ss begins)
   stages_piece none begins w = nothing_yet

@@ -13,7 +13,7 @@ ghost use Rattle.rc_scope.specs.States.{state_of};
 
 use crate::environment::entries;
 use rc_model::limits::LONGEST_ARGUMENT;
-use rc_scope::{State, copy_texts};
+use rc_scope::State;
 use rc_world::{ChildNo, Ending, Kind, Launch, Program, Slots, Stop, World, calls};
 use std::alloc::{AllocError, Global};
 
@@ -208,18 +208,17 @@ fn wait_started<W: World>(
     Ok(())
 }
 
-/// What is asked for a program.
+/// What is asked for a program, which is given its arguments as they are.
 fn launch(
     alloc: Global,
     state: &State,
     slots: Slots,
     path: String,
-    args: &[String],
+    args: Vec<String>,
 ) -> Result<Launch, AllocError>
     ensures { IfOk result (λ launch. launch_of launch
-        ≡ program_launch slots (string_bytes path) (map string_bytes args.now) (state_of state.now)) }
+        ≡ program_launch slots (string_bytes path) (map string_bytes args.items) (state_of state.now)) }
 {
-    let args = copy_texts(alloc, args)?;
     let env = entries(alloc, state)?;
     Ok(Launch {
         program: Program::Path(path),
@@ -237,11 +236,11 @@ fn run_at<W: World>(
     state: &mut State,
     slots: Slots,
     name: &str,
-    args: &[String],
+    args: Vec<String>,
     path: String,
 ) -> Result<(), Stop>
     ensures does { Does W.events world.old world.new state_of state.old state.new
-        (run_found slots name.now (map string_bytes args.now) (Some (string_bytes path))) (λ x. x) result }
+        (run_found slots name.now (map string_bytes args.items) (Some (string_bytes path))) (λ x. x) result }
     ensures err { OnErr result (state_of state.new ≡ state_of state.old) }
 {
     let launch = launch(alloc, state, slots, path, args)?;
@@ -257,11 +256,11 @@ fn run_found<W: World>(
     state: &mut State,
     slots: Slots,
     name: &str,
-    args: &[String],
+    args: Vec<String>,
     path: Option<String>,
 ) -> Result<(), Stop>
     ensures does { Does W.events world.old world.new state_of state.old state.new
-        (run_found slots name.now (map string_bytes args.now) (path_of path)) (λ x. x) result }
+        (run_found slots name.now (map string_bytes args.items) (path_of path)) (λ x. x) result }
     ensures err { OnErr result (state_of state.new ≡ state_of state.old) }
 {
     match path {
@@ -278,10 +277,10 @@ pub fn run_program<W: World>(
     state: &mut State,
     slots: Slots,
     name: &str,
-    args: &[String],
+    args: Vec<String>,
 ) -> Result<(), Stop>
     ensures does { Does W.events world.old world.new state_of state.old state.new
-        (run_program slots name.now (map string_bytes args.now)) (λ x. x) result }
+        (run_program slots name.now (map string_bytes args.items)) (λ x. x) result }
     ensures err { OnErr result (state_of state.new ≡ state_of state.old) }
 {
     let path = find_program(alloc, world, state, name)?;

@@ -1,12 +1,12 @@
 -- The state that a script begins in.
 use Rattle.std.specs.Prelude.{ℕ, List, [], ◌∷◌, length, not, ◌==◌, ◌&&◌, if◌then◌else◌, codes}
-use Rattle.rc_model.specs.Handed.Environment.{bindings, fresh_state, variables_in, with_args}
+use Rattle.rc_model.specs.Handed.Environment.{bindings, fresh_state, variables_in}
 use Rattle.rc_model.specs.Run.State.{State, set_value, value_of}
 use Rattle.rc_cli.specs.Requests.{Request}
 
--- what arguments and the entries of any program denote: neither functions nor a status are read
-unfoldable pub given_state : List (List ℕ) → List (List ℕ) → State
-given_state args entries = fresh_state (with_args args (variables_in (bindings entries))) [] []
+-- what the entries of any program denote: neither functions nor a status are read
+unfoldable pub given_state : (entries : List (List ℕ)) → State
+given_state entries = fresh_state (variables_in (bindings entries)) [] []
 
 -- a variable without members gets these, where there are any
 unfoldable pub with_default : (name : List ℕ) → List (List ℕ) → State → State
@@ -28,6 +28,7 @@ with_defaults s =
     (with_default (codes "path") default_path
     (with_default (codes "ifs") default_ifs s))
 
--- `$*` are the arguments of the script, and the environment gives the other variables
+-- `$*` are the arguments of the script, also where there are none, and the environment gives the other variables
 unfoldable pub first_state : Request → (entries : List (List ℕ)) → State
-first_state r entries = record (with_defaults (given_state r.arguments entries)) { strict = r.strict }
+first_state r entries =
+    record (with_defaults (set_value (given_state entries) (codes "*") r.arguments)) { strict = r.strict }

@@ -1,12 +1,13 @@
 //! The state that a script begins in.
-ghost use Rattle.std.specs.Prelude.{◌≡◌, IfOk, OnOk, map, string_bytes};
+ghost use Rattle.std.specs.Prelude.{◌≡◌, IfOk, OnOk, codes, map, string_bytes};
+ghost use Rattle.rc_model.specs.Run.State.{set_value};
 ghost use Rattle.rc_scope.specs.States.{state_of};
 ghost use Rattle.rc_cli.specs.Asked.{asked};
 ghost use Rattle.rc_cli.specs.Start.{first_state, given_state, with_default, with_defaults};
 
 use crate::request::Request;
 use rc_image::read_state;
-use rc_scope::State;
+use rc_scope::{State, copy_texts};
 use std::alloc::{AllocError, Global};
 
 /// The state that the script of this request begins in, with these entries of the environment.
@@ -19,23 +20,32 @@ pub fn first_state(
     ensures { IfOk result (λ state. state_of state
         ≡ first_state (asked request.entry) (map string_bytes entries.now)) }
 {
-    let mut state = given_state(alloc, request.arguments, entries)?;
+    let mut state = given_state(alloc, entries)?;
+    set_arguments(alloc, &mut state, request.arguments)?;
     set_defaults(alloc, &mut state)?;
     state.set_strict(request.strict);
     Ok(state)
 }
 
-/// The state that arguments and the entries of any program denote.
+/// The state that the entries of any program denote.
 #[tactic(auto, unfolding(crate::specs::Start::given_state))]
-fn given_state(alloc: Global, arguments: &[String], entries: &[String]) -> Result<State, AllocError>
-    ensures { IfOk result (λ state. state_of state
-        ≡ given_state (map string_bytes arguments.now) (map string_bytes entries.now)) }
+fn given_state(alloc: Global, entries: &[String]) -> Result<State, AllocError>
+    ensures { IfOk result (λ state. state_of state ≡ given_state (map string_bytes entries.now)) }
 {
-    match read_state(alloc, false, arguments, entries) {
+    match read_state(alloc, false, &[], entries) {
         Ok(state) => Ok(state),
         // No function is read, and so no image is at fault.
         Err(_) => Err(AllocError),
     }
+}
+
+/// Sets `$*`, also where there are no arguments.
+fn set_arguments(alloc: Global, state: &mut State, arguments: &[String]) -> Result<(), AllocError>
+    ensures { OnOk result (state_of state.new
+        ≡ set_value (state_of state.old) (codes "*") (map string_bytes arguments.now)) }
+{
+    let arguments = copy_texts(alloc, arguments)?;
+    state.set("*", arguments).map_err(|_| AllocError)
 }
 
 /// Sets what the environment leaves out.

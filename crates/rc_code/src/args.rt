@@ -1,15 +1,31 @@
 //! The code of arguments.
 
 ghost use Rattle.std.specs.Prelude.{OnOk};
-ghost use Rattle.rc_model.specs.Code.Layout.{arg_code, parts_code};
+ghost use Rattle.rc_model.specs.Code.Layout.{Do, Word, arg_code, parts_code};
 ghost use Rattle.rc_tree_types.specs.View.{arg_tree, args_tree};
 ghost use Rattle.rc_code.specs.Emission.{Writes, list_code};
 
 use crate::code::Op;
 use crate::kept::kept_tree;
 use crate::listing::Listing;
+use rc_literal::Literal;
 use rc_tree::Arg;
 use std::alloc::{AllocError, Global};
+use std::rc::Rc;
+
+/// A word, whose literal all its evaluations share.
+#[tactic(auto, using(crate::proofs::Parts::emitting))]
+pub fn emit_word(
+    alloc: Global,
+    code: &mut Listing,
+    text: &str,
+    quoted: bool,
+) -> Result<(), AllocError>
+    ensures { OnOk result (Writes code.old code.new (Do (Word text.now quoted))) }
+{
+    let literal = Literal::new(alloc, text, quoted)?;
+    code.put(Op::Word(Rc::new(alloc, literal)?))
+}
 
 #[cycle(emit)]
 #[tactic(auto, using(crate::proofs::Parts::emitting))]
@@ -17,10 +33,7 @@ pub fn emit_arg(alloc: Global, code: &mut Listing, arg: &Arg) -> Result<(), Allo
     ensures { OnOk result (Writes code.old code.new (arg_code (arg_tree arg.now))) }
 {
     match arg {
-        Arg::Lit { text, quoted } => code.put(Op::Word {
-            text: text.clone()?,
-            quoted: *quoted,
-        }),
+        Arg::Lit { text, quoted } => emit_word(alloc, code, text, *quoted),
         Arg::Concat(parts) => emit_parts(alloc, code, parts),
         Arg::Paren(words) => emit_list(alloc, code, words),
         Arg::Var(name) => {

@@ -6,6 +6,7 @@ ghost use Rattle.rc_tree_types.specs.View.{cmd_tree, stages_tree, pieces_tree};
 ghost use Rattle.rc_code.specs.Views.{op_of, code_of, listing_of, tree_at, stages_at, pieces_at};
 
 use crate::listing::Listing;
+use rc_literal::Literal;
 use rc_tree::{Cmd, Mode, Piece, Stage};
 use std::alloc::{AllocError, Global};
 use std::rc::Rc;
@@ -16,7 +17,7 @@ pub enum Op {
     /// Pushes the empty list.
     Nil,
     /// Pushes a list of one word.
-    Word { text: String, quoted: bool },
+    Word(Rc<Literal>),
     Join,
     Concat,
     Value,

@@ -7,7 +7,7 @@ ghost use Rattle.rc_tree_types.specs.View.{cmd_tree, arg_tree, args_tree, pairs_
 ghost use Rattle.rc_code.specs.Emission.{Writes, star_code, members_code, pairs_alone, redir_code, redirs_alone};
 ghost use Rattle.rc_code.specs.Emission.{subject_code, match_code, define_code, undefine_code, subshell_code};
 
-use crate::args::{emit_arg, emit_list};
+use crate::args::{emit_arg, emit_list, emit_word};
 use crate::code::Op;
 use crate::kept::{kept_pieces, kept_tree};
 use crate::listing::Listing;
@@ -35,10 +35,7 @@ pub fn emit_simple(
 pub fn emit_star(alloc: Global, code: &mut Listing, name: &Arg) -> Result<(), AllocError>
     ensures { OnOk result (Writes code.old code.new (star_code (arg_tree name.now))) }
 {
-    code.put(Op::Word {
-        text: String::from_str(alloc, "*")?,
-        quoted: false,
-    })?;
+    emit_word(alloc, code, "*", false)?;
     code.put(Op::Value)?;
     emit_arg(alloc, code, name)
 }

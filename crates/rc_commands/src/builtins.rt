@@ -1,6 +1,6 @@
 //! The built-in commands, and programs.
 
-ghost use Rattle.std.specs.Prelude.{◌≡◌, ◌≢◌, map, string_bytes};
+ghost use Rattle.std.specs.Prelude.{◌≡◌, ◌≢◌, ◌∷◌, [], IfNone, IfSome, map, string_bytes};
 ghost use Rattle.rc_model.specs.Run.Builtins.{Called, Finished, exec, finished, run_builtin, wait_for};
 ghost use Rattle.rc_model.specs.Run.Builtins.{without_functions};
 ghost use Rattle.rc_model.specs.Run.Acts.{run_program};
@@ -20,6 +20,18 @@ use rc_scope::State;
 use rc_world::{Slots, Stop, World};
 use std::alloc::Global;
 
+/// The name that words begin with, and the arguments after it.
+fn name_and_args(mut words: Vec<String>) -> Option<(String, Vec<String>)>
+    ensures none { IfNone result (words.items ≡ []) }
+    ensures some { IfSome result (λ found. words.items ≡ found.0 ∷ found.1.items) }
+{
+    if words.is_empty() {
+        return None;
+    }
+    let name = words.remove(0);
+    Some((name, words))
+}
+
 /// `exec`: the shell ends with the status of a program.
 #[tactic(auto, using(crate::proofs::Left::words_refused))]
 fn exec<W: World>(
@@ -27,16 +39,16 @@ fn exec<W: World>(
     world: &mut W,
     state: &mut State,
     slots: Slots,
-    words: &[String],
+    words: Vec<String>,
 ) -> Result<Outcome, Stop>
     ensures { RunsWords (W.events world.old) (W.events world.new)
-        (exec slots (map string_bytes words.now) (state_of state.old)) (state_of state.new) result }
+        (exec slots (map string_bytes words.items) (state_of state.old)) (state_of state.new) result }
 {
-    let Some((name, args)) = words.split_first() else {
+    let Some((name, args)) = name_and_args(words) else {
         state.set_status("usage")?;
         return Ok(Outcome::Finished);
     };
-    run_program(alloc, world, state, slots, name, args)?;
+    run_program(alloc, world, state, slots, &name, args)?;
     Ok(Outcome::Exit)
 }
 
@@ -68,24 +80,25 @@ fn run_builtin<W: World>(
     state: &mut State,
     slots: Slots,
     builtin: Builtin,
-    args: &[String],
+    args: Vec<String>,
 ) -> Result<Outcome, Stop>
     requires { builtin ≢ BuiltinWord }
     ensures { (again : Shell Called) → RunsWords (W.events world.old) (W.events world.new)
-        (run_builtin again slots builtin (map string_bytes args.now) (state_of state.old)) (state_of state.new) result }
+        (run_builtin again slots builtin (map string_bytes args.items) (state_of state.old))
+        (state_of state.new) result }
 {
     match builtin {
-        Builtin::Dot => return dot(alloc, world, state, args),
-        Builtin::Eval => return Ok(eval(alloc, state, args)?),
+        Builtin::Dot => return dot(alloc, world, state, &args),
+        Builtin::Eval => return Ok(eval(alloc, state, &args)?),
         Builtin::Exec => return exec(alloc, world, state, slots, args),
         Builtin::Exit => {
-            exit_status(alloc, state, args)?;
+            exit_status(alloc, state, &args)?;
             return Ok(Outcome::Exit);
         }
-        Builtin::Cd => change_dir(alloc, world, state, args)?,
-        Builtin::Shift => shift(state, args)?,
-        Builtin::Whatis => whatis(alloc, world, state, slots, args)?,
-        Builtin::Wait => wait(alloc, world, state, args)?,
+        Builtin::Cd => change_dir(alloc, world, state, &args)?,
+        Builtin::Shift => shift(state, &args)?,
+        Builtin::Whatis => whatis(alloc, world, state, slots, &args)?,
+        Builtin::Wait => wait(alloc, world, state, &args)?,
         Builtin::BuiltinWord => unreachable!(),
     }
     Ok(Outcome::Finished)
@@ -99,10 +112,10 @@ fn run_other<W: World>(
     state: &mut State,
     slots: Slots,
     name: &str,
-    args: &[String],
+    args: Vec<String>,
 ) -> Result<Outcome, Stop>
     ensures { RunsWords (W.events world.old) (W.events world.new)
-        (finished (run_program slots name.now (map string_bytes args.now)) (state_of state.old))
+        (finished (run_program slots name.now (map string_bytes args.items)) (state_of state.old))
         (state_of state.new) result }
 {
     run_program(alloc, world, state, slots, name, args)?;
@@ -110,19 +123,18 @@ fn run_other<W: World>(
 }
 
 /// The words after each `builtin` that they begin with.
-fn past_builtins(words: &[String]) -> &[String]
-    ensures same { (slots : Slots) → without_functions slots (map string_bytes words.now)
-        ≡ without_functions slots (map string_bytes result.now) }
-    ensures other { BeginsOther (map string_bytes result.now) }
+fn past_builtins(mut words: Vec<String>) -> Vec<String>
+    ensures same { (slots : Slots) → without_functions slots (map string_bytes words.items)
+        ≡ without_functions slots (map string_bytes result.items) }
+    ensures other { BeginsOther (map string_bytes result.items) }
 {
-    let mut left = words;
-    while let Some((name, rest)) = left.split_first() {
+    while let Some(name) = words.first() {
         if Builtin::named(name) != Some(Builtin::BuiltinWord) {
-            return left;
+            return words;
         }
-        left = rest;
+        words.remove(0);
     }
-    left
+    words
 }
 
 /// Runs words for which functions are ignored.
@@ -132,17 +144,17 @@ pub fn run_unnamed<W: World>(
     world: &mut W,
     state: &mut State,
     slots: Slots,
-    words: &[String],
+    words: Vec<String>,
 ) -> Result<Outcome, Stop>
     ensures { RunsWords (W.events world.old) (W.events world.new)
-        (without_functions slots (map string_bytes words.now) (state_of state.old)) (state_of state.new) result }
+        (without_functions slots (map string_bytes words.items) (state_of state.old)) (state_of state.new) result }
 {
-    let Some((name, args)) = past_builtins(words).split_first() else {
+    let Some((name, args)) = name_and_args(past_builtins(words)) else {
         state.set_status("usage")?;
         return Ok(Outcome::Finished);
     };
-    match Builtin::named(name) {
+    match Builtin::named(&name) {
         Some(builtin) => run_builtin(alloc, world, state, slots, builtin, args),
-        None => run_other(alloc, world, state, slots, name, args),
+        None => run_other(alloc, world, state, slots, &name, args),
     }
 }

@@ -45,5 +45,5 @@ pub fn run_words<W: World>(
         words.remove(0);
         return Ok(Outcome::Call { args: words, body });
     }
-    run_unnamed(alloc, world, state, slots, &words)
+    run_unnamed(alloc, world, state, slots, words)
 }

@@ -10,4 +10,6 @@ mod values;
 pub use configuration::{Configuration, Move};
 pub use nest::Nest;
 pub use parts::{Frame, Scope};
-pub use values::{got, put_text, put_texts, put_value, read, take_texts, texts, variable_name};
+pub use values::{
+    got, put_members, put_text, put_texts, put_value, read, take_texts, texts, variable_name,
+};

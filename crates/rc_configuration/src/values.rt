@@ -14,7 +14,7 @@ ghost use Rattle.rc_scope.specs.States.{state_of};
 
 use rc_scope::{State, has_digits, is_name, is_readable};
 use rc_stack::Stack;
-use rc_text::Word;
+use rc_text::{Output, Word};
 use std::alloc::{AllocError, Global};
 
 /// The texts of words.
@@ -36,7 +36,7 @@ pub fn take_texts(alloc: Global, words: &mut Stack<Word>) -> Result<Vec<String>,
     let count = words.top().map_or(0, |list| list.len());
     let mut texts = Vec::with_capacity(alloc, count)?;
     while let Some(word) = words.take_last() {
-        texts.push(word.into_text())?;
+        texts.push(word.into_text(alloc)?)?;
     }
     words.drop_top();
     texts.reverse();
@@ -52,6 +52,23 @@ pub fn put_texts(words: &mut Stack<Word>, texts: Vec<String>) -> Result<(), Allo
     words.reserve(texts.len())?;
     for text in texts {
         words.push(Word::plain(text))?;
+    }
+    Ok(())
+}
+
+/// The members of output as a list of words with no marks, on top of the stack.
+#[tactic(auto, using(crate::proofs::Stacks::extends))]
+pub fn put_members(
+    alloc: Global,
+    words: &mut Stack<Word>,
+    output: &Output,
+) -> Result<(), AllocError>
+    ensures { OnOk result (words.new ≡ plain_words output.now ∷ words.old) }
+{
+    words.begin()?;
+    let mut members = output.members(alloc)?;
+    while let Some(member) = members.next() {
+        words.push(Word::plain(String::from_str(alloc, member)?))?;
     }
     Ok(())
 }

@@ -8,7 +8,7 @@ ghost use Rattle.rc_configuration.specs.Configs.{children_of};
 ghost use Rattle.rc_configuration.specs.Configs.{config_of};
 ghost use Rattle.rc_configuration.specs.Outcomes.{Steps};
 
-use rc_configuration::{Configuration, Move, Scope, put_texts};
+use rc_configuration::{Configuration, Move, Scope, put_members};
 use rc_pipes::{backquote, end_refused, end_stages, start_stages};
 use rc_world::{ChildNo, Handle, Stop, World};
 use std::alloc::{AllocError, Global};
@@ -29,8 +29,8 @@ pub fn back<W: World>(
         return Ok(Move::Ended);
     };
     let slots = machine.redirs.slots();
-    let members = backquote(alloc, world, &mut machine.state, slots, body)?;
-    put_texts(&mut machine.words, members)?;
+    let output = backquote(alloc, world, &mut machine.state, slots, body)?;
+    put_members(alloc, &mut machine.words, &output)?;
     machine.place += 1;
     Ok(Move::On)
 }

@@ -5,11 +5,30 @@ ghost use Rattle.rc_model.specs.Code.Machine.{act};
 ghost use Rattle.rc_model.specs.Code.Layout as op;
 ghost use Rattle.rc_configuration.specs.Configs.{config_of};
 ghost use Rattle.rc_configuration.specs.Outcomes.{Leads};
+ghost use Rattle.rc_expressions.specs.Subjects.{TakesSubject};
 
 use rc_configuration::{Configuration, Move};
 use rc_glob::matched;
-use rc_text::spaced_unmarked;
+use rc_stack::Stack;
+use rc_text::{Word, spaced_unmarked};
 use std::alloc::{AllocError, Global};
+
+/// Takes the list on top off, as one word with no marks, its words joined by spaces. A word that stands alone is moved.
+#[tactic(auto, using(crate::proofs::Subjects::one_taken, crate::proofs::Subjects::all_taken))]
+fn take_subject(alloc: Global, words: &mut Stack<Word>) -> Result<Option<Word>, AllocError>
+    ensures { IfOk result (λ subject. TakesSubject words.old words.new subject) }
+{
+    let subject = match words.top() {
+        None => return Ok(None),
+        Some([_]) => match words.take_last() {
+            Some(word) => word.unmarked(alloc)?,
+            None => return Ok(None),
+        },
+        Some(list) => spaced_unmarked(alloc, list)?,
+    };
+    words.drop_top();
+    Ok(Some(subject))
+}
 
 /// The list on top becomes what patterns are held against.
 pub fn make_subject(machine: &mut Configuration, alloc: Global) -> Result<Move, AllocError>
@@ -17,11 +36,9 @@ pub fn make_subject(machine: &mut Configuration, alloc: Global) -> Result<Move, 
     ensures { IfOk result (λ moved.
         Leads (act (Some op.Subject) (config_of machine.old)) (config_of machine.new) moved) }
 {
-    let Some(words) = machine.words.top() else {
+    let Some(subject) = take_subject(alloc, &mut machine.words)? else {
         return Ok(Move::Ended);
     };
-    let subject = spaced_unmarked(alloc, words)?;
-    machine.words.drop_top();
     machine.words.begin()?;
     machine.words.push(subject)?;
     machine.place += 1;

@@ -7,8 +7,8 @@ use Rattle.rc_model.specs.Run.Patterns.{stands_for, parts_match, parts_from, Out
 use Rattle.rc_model.specs.Mirrors.Greedy.{after_one, after_star, Move, PastStar, PastOne, AtEnd, Miss, past_one, one_move, move_by, move, goes_back, after_move, greedy_from}
 use Rattle.law_patterns.proofs.Going.{greedy_from-is}
 use Rattle.law_patterns.proofs.Steps.{after_one-shorter, some_same}
-use Rattle.rc_text.specs.declared.words.Ch.{Ch}
-use Rattle.rc_text.specs.Views.{marks}
+use Rattle.rc_literal.specs.declared.Ch.{Ch}
+use Rattle.rc_literal.specs.Views.{marks}
 use Rattle.std.specs.List.{list_all}
 
 -- ** which move it is

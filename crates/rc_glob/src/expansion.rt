@@ -7,7 +7,7 @@ ghost use Rattle.rc_model.specs.Run.State.{State};
 ghost use Rattle.rc_model.specs.Run.Shell.{Next};
 ghost use Rattle.rc_model.specs.Run.FileNames.{components, expanded, expanded_word, fitting_names, directory, if_there};
 ghost use Rattle.rc_model.specs.Run.FileNames.{walk};
-ghost use Rattle.rc_text.specs.Views.{marks};
+ghost use Rattle.rc_literal.specs.Views.{marks};
 ghost use Rattle.rc_world.specs.Comes.{Asks, Comes};
 ghost use Rattle.rc_glob.specs.Paths.{expanded_texts, paths_from};
 
@@ -124,7 +124,7 @@ pub fn expand<W: World>(alloc: Global, world: &mut W, word: &Word) -> Result<Vec
         (λ texts. Next (map string_bytes texts.items) s) result }
 {
     let list = expand_word(alloc, world, word)?;
-    Ok(list.into_texts()?)
+    Ok(list.into_texts(alloc)?)
 }
 
 /// What each of the words stands for, one after the other.

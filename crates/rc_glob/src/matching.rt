@@ -5,7 +5,7 @@ ghost use Rattle.std.specs.Str.{chars};
 ghost use Rattle.rc_model.specs.Run.Patterns.{is_dots, matched, matches, Outside, parts_from, parts_match, stands_for};
 ghost use Rattle.rc_model.specs.Mirrors.Greedy.{after_one, after_star, move};
 ghost use Rattle.rc_model.specs.Syntax.Words.{has_pattern, is_pattern};
-ghost use Rattle.rc_text.specs.Views.{mark_of, marks};
+ghost use Rattle.rc_literal.specs.Views.{mark_of, marks};
 ghost use Rattle.rc_glob.specs.Moves.{move_of, LeavesLess};
 ghost use Rattle.rc_glob.specs.Subjects.{is_met};
 

@@ -2,7 +2,7 @@
 ghost use Rattle.std.specs.Prelude.{◌≡◌, ◌==◌, ◌||◌, filter, map, string_bytes};
 ghost use Rattle.std.specs.List.{list_any};
 ghost use Rattle.rc_model.specs.Run.FileNames.{is_no_name, ordered};
-ghost use Rattle.rc_text.specs.Views.{marks};
+ghost use Rattle.rc_literal.specs.Views.{marks};
 ghost use Rattle.rc_glob.specs.Names.{is_fitting};
 
 use crate::matching::is_match;

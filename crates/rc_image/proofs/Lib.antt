@@ -5,6 +5,7 @@ pub mod Cuts
 pub mod Faults
 pub mod Lengths
 pub mod Puts
+pub mod Variables
 pub mod Denoted
 pub mod States
 pub mod Launches

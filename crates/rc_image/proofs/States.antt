@@ -10,7 +10,7 @@ use Rattle.rc_model.specs.Handed.TreeReading as m
 use Rattle.rc_model.specs.Handed.TreeReading.{◌>>=◌}
 use Rattle.rc_model.specs.Handed.Environment.{Bindings, Functions, bindings, variables_in, own_functions, own_status, with_args, fresh_state, read_state}
 use Rattle.rc_image.specs.Entries.{with_arguments}
-use Rattle.rc_image.proofs.Denoted.{single}
+use Rattle.rc_image.proofs.Variables.{single}
 
 -- ** `$*`
 

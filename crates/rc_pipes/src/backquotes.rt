@@ -1,4 +1,4 @@
-//! Backquotes: what a command writes becomes words.
+//! Backquotes: what a command writes.
 
 ghost use Rattle.std.specs.Prelude.{◌≡◌, IfOk, map, string_bytes};
 ghost use Rattle.std.specs.List.{concat};
@@ -13,7 +13,7 @@ use crate::launches::start_shell;
 use crate::reading::{longest_output, read_all};
 use rc_builtin::Started;
 use rc_scope::State;
-use rc_text::{into_lossy, split};
+use rc_text::{Output, into_lossy};
 use rc_tree_types::Cmd;
 use rc_world::{Handle, Slot, Slots, Stop, World, calls};
 use std::alloc::{AllocError, Global};
@@ -29,13 +29,13 @@ fn concat(alloc: Global, texts: &[String]) -> Result<String, AllocError>
     Ok(all)
 }
 
-/// The members of what was read, by `$ifs`.
-fn members_of(alloc: Global, state: &State, bytes: Vec<u8>) -> Result<Vec<String>, AllocError>
-    ensures { IfOk result (λ members. map string_bytes members.items ≡ members_of (state_of state.now) bytes.items) }
+/// What was read, with the characters of `$ifs` between its members.
+fn output_of(alloc: Global, state: &State, bytes: Vec<u8>) -> Result<Output, AllocError>
+    ensures { IfOk result (λ output. output ≡ members_of (state_of state.now) bytes.items) }
 {
     let separators = concat(alloc, state.value("ifs"))?;
     let text = into_lossy(alloc, bytes)?;
-    split(alloc, &text, &separators)
+    Ok(Output::new(text, separators))
 }
 
 /// What a backquote gives once its shell is started, and the status that it leaves.
@@ -46,10 +46,10 @@ fn back_child<W: World>(
     read_end: Handle,
     write_end: Handle,
     started: Started,
-) -> Result<Vec<String>, Stop>
+) -> Result<Output, Stop>
     ensures { let act = back_child read_end.0 write_end.0 (started_of started) in
         Does W.events world.old world.new state_of state.old state.new act
-        (λ members. map string_bytes members.items) result }
+        (λ output. output) result }
 {
     calls::close(world, write_end)?;
     let child = match started {
@@ -57,31 +57,31 @@ fn back_child<W: World>(
         Started::NoChild(why) => {
             calls::close(world, read_end)?;
             state.set_status(why)?;
-            return Ok(Vec::new(alloc));
+            return Ok(Output::empty(alloc));
         }
     };
-    let output = read_all(alloc, world, read_end, longest_output())?;
+    let read = read_all(alloc, world, read_end, longest_output())?;
     calls::close(world, read_end)?;
     let status = wait_child(alloc, world, child)?;
-    state.set_status(output.why.unwrap_or(&status))?;
-    let members = members_of(alloc, state, output.bytes)?;
-    Ok(members)
+    state.set_status(read.why.unwrap_or(&status))?;
+    let output = output_of(alloc, state, read.bytes)?;
+    Ok(output)
 }
 
-/// What a command writes, as words.
+/// What a command writes. Its members become words.
 pub fn backquote<W: World>(
     alloc: Global,
     world: &mut W,
     state: &mut State,
     slots: Slots,
     body: &Cmd,
-) -> Result<Vec<String>, Stop>
+) -> Result<Output, Stop>
     ensures { Does W.events world.old world.new state_of state.old state.new
-        (backquote slots (cmd_tree body.now)) (λ members. map string_bytes members.items) result }
+        (backquote slots (cmd_tree body.now)) (λ output. output) result }
 {
     let Some((read_end, write_end)) = calls::pipe(world)? else {
         state.set_status("cannot pipe")?;
-        return Ok(Vec::new(alloc));
+        return Ok(Output::empty(alloc));
     };
     let inner = Slots {
         output: Slot::To(write_end),

@@ -1,12 +1,13 @@
 //! Values by the names of variables. Those whose names begin with the same byte are in one row.
 
-ghost use Rattle.std.specs.Prelude.{◌≡◌, [], ◌<◌, length, None, Some, IfOk, IfErr, OnOk, OnErr};
+ghost use Rattle.std.specs.Prelude.{◌≡◌, [], ◌<◌, length, None, Some, is_some, true, IfOk, IfErr, OnOk, OnErr};
 ghost use Rattle.std.specs.Option.{option_copied};
 ghost use Rattle.std.specs.List.Sorted.{IsStrictlySortedBy};
 ghost use Rattle.std.specs.Map.{lookup, set_value, remove_entry, keys_of};
 ghost use Rattle.std.specs.BTreeMap.{insert_entry};
 ghost use Rattle.std.specs.String.{string_cmp};
 ghost use Rattle.rc_scope.specs.Rows.{row_of, is_named, entries_of, Grows};
+ghost use Rattle.rc_scope.specs.Stacks.{covers_in};
 
 use std::alloc::{AllocError, Global};
 use std::collections::BTreeMap;
@@ -106,6 +107,28 @@ impl Values {
             return Ok(replace(old, value));
         }
         Err(value)
+    }
+
+    /// Writes texts over those of the value at a name; or gives them back where there is none.
+    pub fn write(&mut self, name: &str, texts: Vec<String>) -> Result<(), Vec<String>>
+        ensures found { OnOk result (is_some (lookup (is_named name.now) self.old) ≡ true) }
+        ensures new { OnOk result (self.new ≡ set_value (is_named name.now) self.old
+            (record { texts = texts; covers = covers_in name.now self.old })) }
+        ensures absent { OnErr result (lookup (is_named name.now) self.old ≡ None) }
+        ensures back { IfErr result (λ given. given ≡ texts) }
+        ensures same { OnErr result (self.new ≡ self.old) }
+        ensures ordered { IsStrictlySortedBy string_cmp (keys_of self.old) }
+    {
+        let row = row_of(name);
+        if self.rows.len() <= row {
+            return Err(texts);
+        }
+        let row = &mut self.rows[row];
+        if let Some(value) = row.get_mut(name) {
+            value.texts = texts;
+            return Ok(());
+        }
+        Err(texts)
     }
 
     /// Puts a value in at a name. An `Err` changes nothing.

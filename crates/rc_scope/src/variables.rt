@@ -104,16 +104,6 @@ impl Variables {
         }
     }
 
-    /// Whether the visible value covers another one.
-    fn covers(&self, name: &str) -> bool
-        ensures { result ≡ covers_in name.now self.now.values }
-    {
-        match self.values.get(name) {
-            Some(value) => value.covers,
-            None => false,
-        }
-    }
-
     /// Changes the visible value. An `Err` changes nothing.
     #[tactic(auto, using(crate::proofs::Stacks::variables), unfolding(crate::specs::Stacks::stacks_of, crate::specs::Stacks::locals_of))]
     pub fn set(&mut self, alloc: Global, name: &str, texts: Vec<String>) -> Result<(), AllocError>
@@ -123,11 +113,14 @@ impl Variables {
         ensures locals { locals_of self.new ≡ locals_of self.old }
         ensures err { OnErr result (stacks_of self.new ≡ stacks_of self.old) }
     {
-        let covers = self.covers(name);
-        let Err(value) = self.values.replace(name, Value { texts, covers }) else {
+        let Err(texts) = self.values.write(name, texts) else {
             return Ok(());
         };
         let name = String::from_str(alloc, name)?;
+        let value = Value {
+            texts,
+            covers: false,
+        };
         self.values.insert(alloc, name, value)
     }
 
@@ -140,9 +133,11 @@ impl Variables {
         ensures locals { locals_of self.new ≡ locals_of self.old }
         ensures err { OnErr result (stacks_of self.new ≡ stacks_of self.old) }
     {
-        let covers = self.covers(name);
-        let texts = Vec::new(alloc);
-        let Ok(mut value) = self.values.replace(name, Value { texts, covers }) else {
+        let empty = Value {
+            texts: Vec::new(alloc),
+            covers: false,
+        };
+        let Ok(mut value) = self.values.replace(name, empty) else {
             return self.set(alloc, name, Vec::new(alloc));
         };
         drop_first(&mut value.texts, count);

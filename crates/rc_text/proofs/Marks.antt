@@ -9,37 +9,20 @@ use Rattle.std.specs.List.{list_any, flat_map}
 use Rattle.std.specs.Str.{chars, encode_utf8_all, IsUtf8}
 use Rattle.std.specs.declared.alloc.Global.{Global}
 use Rattle.std.specs.declared.string.String.{String}
-use Rattle.rc_model.specs.Syntax.Words.{Word, has_pattern, is_pattern, is_pattern_char, plain_words, spaced_words, unmarked, word_text, written}
-use Rattle.rc_text.specs.declared.words.Ch.{Ch}
+use Rattle.rc_model.specs.Syntax.Words.{Word, has_pattern, is_pattern, plain_words, spaced_words, unmarked, word_text, written}
+use Rattle.rc_literal.specs.declared.Ch.{Ch}
+use Rattle.rc_literal.specs.Views.{mark_of, marks}
+use Rattle.rc_literal.proofs.Marks.{unmarked_patterns}
 use Rattle.std.specs.declared.boxed.Box.{Box}
+use Rattle.std.specs.declared.rc.Rc.{Rc}
 use Rattle.rc_text.specs.declared.words.Letters.{Letters}
-use Rattle.rc_text.specs.declared.words.Letters.TheVariants.{Plain, Marked, Mixed}
+use Rattle.rc_text.specs.declared.words.Letters.TheVariants.{Plain, Marked, Mixed, Literal}
 use Rattle.rc_text.specs.declared.words.MixedText.{MixedText}
-use Rattle.rc_text.specs.Views.{mark_of, marks, word_of, AreMarked}
+use Rattle.rc_text.specs.Views.{word_of, AreMarked, HaveMark}
 
 pub list_any_marks : (p : ℕ × Bool → Bool) (chs : List Ch) → list_any p (marks chs) ≡ list_any (λ ch. p (mark_of ch)) chs
 list_any_marks p [] = refl
 list_any_marks p (ch ∷ chs) = ap (λ b. p (mark_of ch) || b) (list_any_marks p chs)
-
--- characters that are all marked, or all not
-abbrev pub marked_by : Bool → ℕ → Ch
-marked_by b c = record { c = c; pat = b }
-
-pub marks_of : (b : Bool) (cs : List ℕ) → marks (map (marked_by b) cs) ≡ map (λ c. (c, b)) cs
-marks_of b [] = refl
-marks_of b (c ∷ cs) = ap (λ ms. (c, b) ∷ ms) (marks_of b cs)
-
--- characters with a mark are added
-pub marks_added : (b : Bool) (old new : List Ch) (cs : List ℕ) → new ≡ old ++ map (marked_by b) cs → marks new ≡ marks old ++ map (λ c. (c, b)) cs
-marks_added b old new cs h = ap marks h ∙ map-append mark_of old (map (marked_by b) cs) ∙ ap (λ ms. marks old ++ ms) (marks_of b cs)
-
--- what holds of a call that went well
-pub at_ok : {E P : Type 0} {r : Result (Unit {0}) E} {u : Unit {0}} → r ≡ Ok u → OnOk r P → P
-at_ok {P = P} e h = subst (λ r. OnOk r P) e h
-
-pub on_ok : {E P Q : Type 0} (r : Result (Unit {0}) E) → (P → Q) → OnOk r P → OnOk r Q
-on_ok (Ok u) f h = f h
-on_ok (Err e) f h = tt
 
 -- what was pushed is there where memory was
 pub pushed : {E A : Type 0} (r : Result (Unit {0}) E) (new more old : A) → new ≡ (if is_ok r then more else old) → OnOk r (new ≡ more)
@@ -73,15 +56,6 @@ pub written-append : (left right : List ℕ) (quoted : Bool) → IsUtf8 left →
 written-append left right quoted u =
     ap (map (λ c. (c, not quoted))) (chars-append left right u) ∙ map-append (λ c. (c, not quoted)) (chars left) (chars right)
 
--- pattern characters of marked texts, and of texts with no marks
-pub marked_patterns : (cs : List ℕ) → list_any is_pattern (map (λ c. (c, true)) cs) ≡ list_any is_pattern_char cs
-marked_patterns [] = refl
-marked_patterns (c ∷ cs) = ap (λ b. is_pattern_char c || b) (marked_patterns cs)
-
-unmarked_patterns : (cs : List ℕ) → list_any is_pattern (map (λ c. (c, false)) cs) ≡ false
-unmarked_patterns [] = refl
-unmarked_patterns (c ∷ cs) = unmarked_patterns cs
-
 either_false : (a b : Bool) → a || b ≡ false → (a ≡ false) × (b ≡ false)
 either_false true b h = absurd (let n : ⊥ = cc in n)
 either_false false b h = (refl, h)
@@ -91,18 +65,38 @@ patterns-append [] right h k = k
 patterns-append (m ∷ left) right h k = let b = either_false (is_pattern m) (has_pattern left) h in ap (λ z. z || has_pattern (left ++ right)) b.0 ∙ patterns-append left right b.1 k
 
 -- letters with no marks of their own have no pattern characters
-pub no_patterns : (letters : Letters) → AreMarked letters → ((mixed : _) → letters ≡ Mixed mixed → ⊥) → has_pattern (word_of letters) ≡ false
-no_patterns (Plain text) h n = unmarked_patterns (chars (string_bytes text))
-no_patterns (Marked text) h n = h
-no_patterns (Mixed mixed) h n = absurd (n mixed refl)
+pub no_patterns : (letters : Letters) → AreMarked letters → ((mixed : _) → letters ≡ Mixed mixed → ⊥) →
+    ((literal : _) → letters ≡ Literal literal → ⊥) → has_pattern (word_of letters) ≡ false
+no_patterns (Plain text) h n l = unmarked_patterns (chars (string_bytes text))
+no_patterns (Marked text) h n l = h
+no_patterns (Mixed mixed) h n l = absurd (n mixed refl)
+no_patterns (Literal literal) h n l = absurd (l literal refl)
 
--- marked letters have none
-pub marked_patterns_none : (letters : Letters) (text : String Global) (w : Word) → letters ≡ Marked text → AreMarked letters → word_of letters ≡ w → has_pattern w ≡ false
-marked_patterns_none letters text w e h v = ap has_pattern (sym v ∙ ap word_of e) ∙ subst AreMarked e h
+-- letters of a text whose characters have one mark, and no pattern character among them
+abbrev pub HaveOneMark : Bool → Word → Type 0
+HaveOneMark mark w = HaveMark mark w × (has_pattern w ≡ false)
 
--- characters with one mark, whose marks are taken away and given again
-written_again : (b : Bool) (text : List ℕ) (w : Word) → w ≡ map (λ c. (c, b)) (chars text) → map (λ c. (c, b)) (map (λ (m : ℕ × Bool). m.0) w) ≡ w
-written_again b text w e = ap (λ v. map (λ c. (c, b)) (map (λ (m : ℕ × Bool). m.0) v)) e ∙ ap (map (λ c. (c, b))) (without b (chars text)) ∙ sym e
+one_mark : (b : Bool) (cs : List ℕ) → HaveMark b (map (λ c. (c, b)) cs)
+one_mark b cs = ap (map (λ c. (c, b))) (without b cs)
+
+pub plain_mark : (letters : Letters) (text : String Global) (w : Word) → letters ≡ Plain text → word_of letters ≡ w → HaveOneMark false w
+plain_mark letters text w e v =
+    subst (HaveOneMark false) (sym (ap word_of e) ∙ v) (one_mark false (chars (string_bytes text)), unmarked_patterns (chars (string_bytes text)))
+
+pub marked_mark : (letters : Letters) (text : String Global) (w : Word) → letters ≡ Marked text → AreMarked letters → word_of letters ≡ w → HaveOneMark true w
+marked_mark letters text w e h v =
+    subst (HaveOneMark true) (sym (ap word_of e) ∙ v) (one_mark true (chars (string_bytes text)), subst AreMarked e h)
+
+pub literal_mark : (letters : Letters) (literal : Rc (List ℕ × Bool) Global) (w : Word) → letters ≡ Literal literal → word_of letters ≡ w →
+    has_pattern (written literal.value.0 literal.value.1) ≡ false → HaveOneMark (not literal.value.1) w
+literal_mark letters literal w e v h =
+    subst (HaveOneMark (not literal.value.1)) (sym (ap word_of e) ∙ v) (one_mark (not literal.value.1) (chars literal.value.0), h)
+
+-- the characters of a literal are those of its text
+pub literal_characters : (letters : Letters) (literal : Rc (List ℕ × Bool) Global) (w : Word) → letters ≡ Literal literal → word_of letters ≡ w →
+    map (λ (c : ℕ × Bool). c.0) w ≡ chars literal.value.0
+literal_characters letters literal w e v =
+    ap (map (λ (c : ℕ × Bool). c.0)) (sym v ∙ ap word_of e) ∙ written_characters literal.value.0 literal.value.1
 
 -- the text of two words
 module _ (text left right : List ℕ) (u : IsUtf8 left) (e : text ≡ left ++ right) (v w : Word) where
@@ -114,19 +108,22 @@ module _ (text left right : List ℕ) (u : IsUtf8 left) (e : text ≡ left ++ ri
       ∙ ap (λ z. chars left ++ z) (sym k)
       ∙ sym (ap chars e ∙ chars-append left right u)
 
-  -- the words of two texts, all of whose characters are marked, or none
-  pub joined_written : (quoted : Bool) (before after : List ℕ) → chars left ≡ map (λ (m : ℕ × Bool). m.0) v → chars right ≡ map (λ (m : ℕ × Bool). m.0) w →
-      v ≡ written before quoted → w ≡ written after quoted → written text quoted ≡ v ++ w
-  joined_written quoted before after h k i j =
-      ap (map (λ c. (c, not quoted))) (sym (joined_characters h k) ∙ map-append (λ (m : ℕ × Bool). m.0) v w)
-      ∙ map-append (λ c. (c, not quoted)) (map (λ (m : ℕ × Bool). m.0) v) (map (λ (m : ℕ × Bool). m.0) w)
-      ∙ ap (λ z. z ++ map (λ c. (c, not quoted)) (map (λ (m : ℕ × Bool). m.0) w)) (written_again (not quoted) before v i)
-      ∙ ap (λ z. v ++ z) (written_again (not quoted) after w j)
+  -- two words whose characters all have one mark
+  pub joined_marks : (mark : Bool) → chars left ≡ map (λ (m : ℕ × Bool). m.0) v → chars right ≡ map (λ (m : ℕ × Bool). m.0) w →
+      HaveMark mark v → HaveMark mark w → map (λ c. (c, mark)) (chars text) ≡ v ++ w
+  joined_marks mark h k i j =
+      ap (map (λ c. (c, mark))) (sym (joined_characters h k) ∙ map-append (λ (m : ℕ × Bool). m.0) v w)
+      ∙ map-append (λ c. (c, mark)) (map (λ (m : ℕ × Bool). m.0) v) (map (λ (m : ℕ × Bool). m.0) w)
+      ∙ ap (λ z. z ++ map (λ c. (c, mark)) (map (λ (m : ℕ × Bool). m.0) w)) i
+      ∙ ap (λ z. v ++ z) j
 
 -- the text of a word at the end of another text, and a space before it
 unmarked_written : (w : Word) → map (λ c. (c, false)) (map (λ (m : ℕ × Bool). m.0) w) ≡ unmarked w
 unmarked_written [] = refl
 unmarked_written (m ∷ ms) = ap (λ ns. (m.0, false) ∷ ns) (unmarked_written ms)
+
+pub text_unmarked : (text : List ℕ) (w v : Word) → map (λ (c : ℕ × Bool). c.0) w ≡ chars text → w ≡ v → written text true ≡ unmarked v
+text_unmarked text w v h e = ap (map (λ c. (c, false))) (sym h) ∙ unmarked_written w ∙ ap unmarked e
 
 pub text_added : (before after text : List ℕ) (w : Word) → IsUtf8 before → after ≡ before ++ text → chars text ≡ map (λ (m : ℕ × Bool). m.0) w →
     written after true ≡ written before true ++ unmarked w

@@ -2,17 +2,16 @@
 use Rattle.std.proofs.Common.{◌≡◌, ◌<◌, ℕ, Bool, false, true, cond, not, suc, List, [], ◌∷◌, ◌++◌, map, length, take, refl, sym, ap, subst, ◌∙◌, append_assoc, arith}
 use Rattle.std.proofs.lemmas.Bool.{ne_eqb}
 use Rattle.std.proofs.Math.Seq.{take-append_seam}
-use Rattle.std.proofs.lemmas.List.{append-nil, length-append}
+use Rattle.std.proofs.lemmas.List.{length-append}
 use Rattle.std.proofs.lemmas.List.Elements.{All-cons, All-nil}
 use Rattle.std.proofs.lemmas.List.Splits.{slice_split_at, slice_split_none}
-use Rattle.std.proofs.lemmas.Str.{chars-append, chars_from_encodes, chars_past_char, encodes-chars, IsCharBoundary-at_seam, IsUtf8-past_char, IsUtf8-take, length-encode, len_utf8_bounds}
+use Rattle.std.proofs.lemmas.Str.{chars-append, chars_from_encodes, chars-nil, chars_past_char, encodes-chars, IsCharBoundary-at_seam, IsUtf8-past_char, IsUtf8-take, length-encode, len_utf8_bounds}
 use Rattle.std.specs.Prelude.{◌==◌, filter}
 use Rattle.std.specs.Char.{encode_utf8}
 use Rattle.std.specs.List.{All, slice_split}
 use Rattle.std.specs.Str.{IsUtf8, NoCharPasses, NonePass, chars, encode_utf8_all}
 use Rattle.rc_model.specs.Run.Lists.{split}
-use Rattle.rc_model.specs.Run.Splitting.{is_among}
-use Rattle.rc_text.specs.Members.{among, EndsMember, IsCut}
+use Rattle.rc_text.specs.Members.{among, members_in, IsCut}
 
 none_list : (p : ℕ → Bool) (cs : List ℕ) → NonePass p cs → All (λ c. p c ≡ false) cs
 none_list p [] h = All-nil (λ c. p c ≡ false)
@@ -46,7 +45,7 @@ shorter separators rest front back cut =
 abbrev filled : List (List ℕ) → List (List ℕ)
 filled parts = filter (λ run. not (length run == 0)) parts
 
-abbrev with_member : List ℕ → List (List ℕ) → List (List ℕ)
+abbrev pub with_member : List ℕ → List (List ℕ) → List (List ℕ)
 with_member [] others = others
 with_member (c ∷ cs) others = (c ∷ cs) ∷ others
 
@@ -58,47 +57,53 @@ filled_member (c ∷ cs) others = ap (λ b. cond (not b) ((c ∷ cs) ∷ filled 
 no_bytes : (c : ℕ) (rest : List ℕ) → encode_utf8 c ++ rest ≡ [] → ⊥
 no_bytes c rest e = absurd (omega (arith, ap length e, length-append (encode_utf8 c) rest, length-encode c, (len_utf8_bounds c).0))
 
--- what is still to come after the end of a member
-rest_after : (before after : List (List ℕ)) (member cs : List ℕ) (others : List (List ℕ)) → encode_utf8_all cs ≡ member → EndsMember before member after →
-    after ++ map encode_utf8_all others ≡ before ++ map encode_utf8_all (with_member cs others)
-rest_after before after [] [] others e h = ap (λ t. t ++ map encode_utf8_all others) h
-rest_after before after [] (c ∷ cs) others e h = absurd (no_bytes c (encode_utf8_all cs) e)
-rest_after before after (b ∷ bs) [] others e h = cc
-rest_after before after (b ∷ bs) (c ∷ cs) others e h =
-    ap (λ t. t ++ map encode_utf8_all others) h ∙ append_assoc before ((b ∷ bs) ∷ []) (map encode_utf8_all others)
-    ∙ ap (λ m. before ++ m ∷ map encode_utf8_all others) (sym e)
+-- the members of a text whose first run is this one
+spelled : (member cs : List ℕ) (others : List (List ℕ)) → encode_utf8_all cs ≡ member → map encode_utf8_all (with_member cs others) ≡ with_member member (map encode_utf8_all others)
+spelled [] [] others e = refl
+spelled [] (c ∷ cs) others e = absurd (no_bytes c (encode_utf8_all cs) e)
+spelled (b ∷ bs) [] others e = cc
+spelled (b ∷ bs) (c ∷ cs) others e = ap (λ m. m ∷ map encode_utf8_all others) e
 
-module _ (separators cuts : List ℕ) (are : cuts ≡ chars separators) where
+-- a member that has begun, and one that has not
+pub begun : (member : List ℕ) (others : List (List ℕ)) → length member == 0 ≡ false → with_member member others ≡ member ∷ others
+begun [] others e = absurd (let n : ⊥ = cc in n)
+begun (b ∷ bs) others e = refl
+
+pub not_begun : (member : List ℕ) (others : List (List ℕ)) → length member == 0 ≡ true → with_member member others ≡ others
+not_begun [] others e = refl
+not_begun (b ∷ bs) others e = absurd (let d : (suc (length bs) == 0) ≡ false = ne_eqb (suc (length bs)) 0 (λ h. absurd (omega arith)) in let n : ⊥ = cc in n)
+
+pub none_in : (cuts : List ℕ) → members_in cuts [] ≡ []
+none_in cuts = ap (λ cs. map encode_utf8_all (filled (slice_split (among cuts) cs))) chars-nil
+
+pub no_members : split [] [] ≡ []
+no_members = none_in (chars [])
+
+module _ (cuts : List ℕ) where
   abbrev parts : List ℕ → List (List ℕ)
-  parts cs = slice_split (is_among separators) cs
+  parts cs = slice_split (among cuts) cs
 
   -- what follows the first separator is cut in the same way
-  first_cut : (rest front back : List ℕ) (c : ℕ) → IsUtf8 front → IsUtf8 (encode_utf8 c ++ back) → NoCharPasses (is_among separators) front → is_among separators c ≡ true →
-      rest ≡ front ++ (encode_utf8 c ++ back) → split rest separators ≡ map encode_utf8_all (with_member (chars front) (filled (parts (chars back))))
-  first_cut rest front back c u v none among e =
+  first_cut : (rest front back : List ℕ) (c : ℕ) → IsUtf8 front → IsUtf8 (encode_utf8 c ++ back) → NoCharPasses (among cuts) front → among cuts c ≡ true →
+      rest ≡ front ++ (encode_utf8 c ++ back) → members_in cuts rest ≡ map encode_utf8_all (with_member (chars front) (filled (parts (chars back))))
+  first_cut rest front back c u v none is e =
       ap (λ t. map encode_utf8_all (filled (parts t)))
       (ap chars e ∙ chars-append front (encode_utf8 c ++ back) u ∙ ap (λ t. chars front ++ t) (chars_past_char (encode_utf8 c ++ back) back c v refl))
-      ∙ ap (λ t. map encode_utf8_all (filled t)) (slice_split_at (is_among separators) (chars front) c (chars back) (none_chars (is_among separators) front u none) among)
+      ∙ ap (λ t. map encode_utf8_all (filled t)) (slice_split_at (among cuts) (chars front) c (chars back) (none_chars (among cuts) front u none) is)
       ∙ ap (map encode_utf8_all) (filled_member (chars front) (parts (chars back)))
 
-  -- the member before the first separator is added to those before it
-  pub cut_step : (text rest front back : List ℕ) (before after : List (List ℕ)) → IsUtf8 rest → IsCut cuts rest front back →
-      EndsMember before front after → before ++ split rest separators ≡ split text separators → after ++ split back separators ≡ split text separators
-  cut_step text rest front back before after u cut ended so_far =
+  -- the member before the first separator, and those after it
+  pub after_cut : (rest front back : List ℕ) → IsUtf8 rest → IsCut cuts rest front back → members_in cuts rest ≡ with_member front (members_in cuts back)
+  after_cut rest front back u cut =
       let c = cut.c in
-      let none : NoCharPasses (is_among separators) front = subst (λ cs. NoCharPasses (among cs) front) are cut.none in
-      let is : is_among separators c ≡ true = subst (λ cs. among cs c ≡ true) are cut.is in
-      let v = IsUtf8-after none.0 front (encode_utf8 c ++ back) none.1 (subst IsUtf8 cut.split u) in
+      let v = IsUtf8-after cut.none.0 front (encode_utf8 c ++ back) cut.none.1 (subst IsUtf8 cut.split u) in
       let w = IsUtf8-before rest front (encode_utf8 c ++ back) u v cut.split in
-      rest_after before after front (chars front) (filled (parts (chars back))) (encodes-chars front w) ended
-      ∙ ap (λ t. before ++ t) (sym (first_cut rest front back c w v none is cut.split))
-      ∙ so_far
+      first_cut rest front back c w v cut.none cut.is cut.split
+      ∙ spelled front (chars front) (filled (parts (chars back))) (encodes-chars front w)
 
   -- where no separator is left, the rest is the last member
-  pub last_step : (text rest : List ℕ) (before after : List (List ℕ)) → IsUtf8 rest → NoCharPasses (among cuts) rest → EndsMember before rest after →
-      before ++ split rest separators ≡ split text separators → after ≡ split text separators
-  last_step text rest before after u none ended so_far =
-      sym (append-nil after) ∙ rest_after before after rest (chars rest) [] (encodes-chars rest u) ended
-      ∙ ap (λ t. before ++ map encode_utf8_all t) (sym (filled_member (chars rest) []))
-      ∙ ap (λ t. before ++ map encode_utf8_all (filled t)) (sym (slice_split_none (is_among separators) (chars rest) (none_chars (is_among separators) rest u (subst (λ cs. NoCharPasses (among cs) rest) are none))))
-      ∙ so_far
+  pub last_member : (rest : List ℕ) → IsUtf8 rest → NoCharPasses (among cuts) rest → members_in cuts rest ≡ with_member rest []
+  last_member rest u none =
+      ap (λ t. map encode_utf8_all (filled t)) (slice_split_none (among cuts) (chars rest) (none_chars (among cuts) rest u none))
+      ∙ ap (map encode_utf8_all) (filled_member (chars rest) [])
+      ∙ spelled rest (chars rest) [] (encodes-chars rest u)

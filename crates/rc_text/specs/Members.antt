@@ -1,8 +1,8 @@
--- Separators, and the end of a member.
-use Rattle.std.specs.Prelude.{◌≡◌, ℕ, Bool, true, ◌==◌, List, [], ◌∷◌, ◌++◌}
+-- Separators, and the members between them.
+use Rattle.std.specs.Prelude.{◌≡◌, ℕ, Bool, true, not, ◌==◌, List, ◌++◌, length, map, filter}
 use Rattle.std.specs.Char.{encode_utf8}
-use Rattle.std.specs.List.{list_any}
-use Rattle.std.specs.Str.{NoCharPasses}
+use Rattle.std.specs.List.{list_any, slice_split}
+use Rattle.std.specs.Str.{NoCharPasses, chars, encode_utf8_all}
 
 -- whether a character is among the separators
 abbrev pub among : (separators : List ℕ) (c : ℕ) → Bool
@@ -15,7 +15,7 @@ pub record IsCut (separators text front back : List ℕ) : Type 0 where
   pub is : among separators c ≡ true
   pub split : text ≡ front ++ (encode_utf8 c ++ back)
 
--- the member is added to the others, if it has begun
-abbrev pub EndsMember : (before : List (List ℕ)) (member : List ℕ) (after : List (List ℕ)) → Type 0
-EndsMember before [] after = after ≡ before
-EndsMember before (b ∷ bs) after = after ≡ before ++ (b ∷ bs) ∷ []
+-- the longest runs of characters that are no separators
+abbrev pub members_in : (separators text : List ℕ) → List (List ℕ)
+members_in separators text =
+    map encode_utf8_all (filter (λ run. not (length run == 0)) (slice_split (among separators) (chars text)))

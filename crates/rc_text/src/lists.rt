@@ -71,14 +71,14 @@ impl List {
     }
 
     /// The texts of the words.
-    pub fn into_texts(self) -> Result<Vec<String>, AllocError>
+    pub fn into_texts(self, alloc: Global) -> Result<Vec<String>, AllocError>
         ensures { IfOk result (λ texts. map string_bytes texts.items ≡ word_texts self) }
     {
-        let alloc = *self.0.allocator();
-        self.0
-            .into_iter()
-            .map(|word| word.into_text())
-            .collect(alloc)
+        let mut texts = Vec::with_capacity(alloc, self.words().len())?;
+        for word in self.into_words()? {
+            texts.push(word.into_text(alloc)?)?;
+        }
+        Ok(texts)
     }
 }
 

@@ -1,11 +1,9 @@
 //! What the output of a command becomes.
-ghost use Rattle.std.specs.Prelude.{◌≡◌, map, string_bytes, IfOk, MatchOption, OnOk};
-ghost use Rattle.std.specs.Str.{NoCharPasses};
+ghost use Rattle.std.specs.Prelude.{◌≡◌, map, string_bytes, IfOk};
 ghost use Rattle.rc_model.specs.Run.Acts.{text_of};
 ghost use Rattle.rc_model.specs.Run.Lists.{split};
-ghost use Rattle.rc_text.specs.Members.{among, EndsMember, IsCut};
 
-use crate::separators::Separators;
+use crate::members::Members;
 use bstr::ByteSlice;
 use std::alloc::{AllocError, Global};
 
@@ -42,34 +40,10 @@ pub fn into_lossy(alloc: Global, bytes: Vec<u8>) -> Result<String, AllocError>
 pub fn split(alloc: Global, text: &str, separators: &str) -> Result<Vec<String>, AllocError>
     ensures { IfOk result (λ members. map string_bytes members.items ≡ split text.now separators.now) }
 {
-    let separators = Separators::new(alloc, separators)?;
-    let mut members = Vec::new(alloc);
-    let mut rest = text;
-    while let Some((member, more)) = cut(rest, &separators) {
-        push_member(alloc, &mut members, member)?;
-        rest = more;
+    let mut members = Members::new(alloc, text, separators)?;
+    let mut texts = Vec::new(alloc);
+    while let Some(member) = members.next() {
+        texts.push(String::from_str(alloc, member)?)?;
     }
-    push_member(alloc, &mut members, rest)?;
-    Ok(members)
-}
-
-/// The text before the first separator, and what follows it.
-fn cut<'a>(text: &'a str, separators: &Separators) -> Option<(&'a str, &'a str)>
-    ensures { MatchOption result (NoCharPasses (among separators.now) text.now)
-        (λ parts. IsCut separators.now text.now parts.0.now parts.1.now) }
-{
-    let skipped = separators.skipped(text);
-    let (front, back) = text[skipped..].split_once(|c: char| separators.contains(c))?;
-    Some((&text[..skipped + front.len()], back))
-}
-
-/// Adds the member, unless it is empty.
-fn push_member(alloc: Global, members: &mut Vec<String>, member: &str) -> Result<(), AllocError>
-    ensures { OnOk result (EndsMember
-        (map string_bytes members.old.items) member.now (map string_bytes members.new.items)) }
-{
-    if !member.is_empty() {
-        members.push(String::from_str(alloc, member)?)?;
-    }
-    Ok(())
+    Ok(texts)
 }

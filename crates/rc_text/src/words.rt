@@ -1,20 +1,15 @@
 //! Words: characters, each of them marked or not.
-ghost use Rattle.std.specs.Prelude.{◌≡◌, [], ◌++◌, Bool, true, false, map, string_bytes, IfOk, OnOk, MatchOption};
-ghost use Rattle.std.specs.List.{list_any};
+ghost use Rattle.std.specs.Prelude.{◌≡◌, [], ◌++◌, true, false, map, string_bytes, IfOk, IfSome, OnOk, MatchOption};
 ghost use Rattle.std.specs.Str.{chars};
-ghost use Rattle.rc_model.specs.Syntax.Words.{has_pattern, is_pattern, is_pattern_char, word_text, written};
-ghost use Rattle.rc_text.specs.Views.{mark_of, marks, word_of, AreMarked};
+ghost use Rattle.rc_model.specs.Syntax.Words.{has_pattern, unmarked, word_text, written};
+ghost use Rattle.rc_literal.specs.Views.{marks};
+ghost use Rattle.rc_text.specs.Views.{word_of, AreMarked, HaveMark};
 
+use rc_literal::{Ch, Literal, is_pattern, push_text};
 use std::alloc::{AllocError, Global};
 use std::default::MadeWith;
 use std::marker::Model;
-
-/// A character of a word. Where `pat` marks it, it may be a pattern character.
-#[derive(Clone, Copy)]
-pub struct Ch {
-    pub c: char,
-    pub pat: bool,
-}
+use std::rc::Rc;
 
 /// A text with a mark for each of its characters.
 #[derive(Drop)]
@@ -33,6 +28,8 @@ pub(crate) enum Letters {
     Marked(String),
     /// Each has a mark of its own. Few words are such, and the box keeps the others small.
     Mixed(Box<MixedText>),
+    /// A word as a script has it, which is shared with all its evaluations.
+    Literal(Rc<Literal>),
 }
 
 /// A word: characters, each of them marked or not.
@@ -56,24 +53,6 @@ impl MadeWith<Global> for Word {
     }
 }
 
-fn is_pattern_char(c: char) -> bool
-    ensures { result ≡ is_pattern_char c }
-{
-    matches!(c, '*' | '?' | '[')
-}
-
-fn is_pattern(ch: Ch) -> bool
-    ensures { result ≡ is_pattern (mark_of ch) }
-{
-    ch.pat && is_pattern_char(ch.c)
-}
-
-fn has_pattern_char(text: &str) -> bool
-    ensures { result ≡ list_any is_pattern_char (chars text.now) }
-{
-    text.chars().any(|c| is_pattern_char(c))
-}
-
 fn any_pattern(chars: &[Ch]) -> bool
     ensures { result ≡ has_pattern (marks chars.now) }
 {
@@ -88,22 +67,6 @@ fn joined_text(alloc: Global, left: &str, right: &str) -> Result<String, AllocEr
     text.push_str(left)?;
     text.push_str(right)?;
     Ok(text)
-}
-
-/// Adds the characters of the text, all marked or none.
-fn push_text(all: &mut Vec<Ch>, text: &str, pat: bool) -> Result<(), AllocError>
-    ensures { OnOk result (marks all.new.items ≡ marks all.old.items ++ map (λ c. (c, pat)) (chars text.now)) }
-{
-    all.extend(text.chars().map(|c| Ch { c, pat }))
-}
-
-/// The characters of the text, all marked.
-fn all_marked(alloc: Global, text: &str) -> Result<Vec<Ch>, AllocError>
-    ensures { IfOk result (λ all. marks all.items ≡ written text.now false) }
-{
-    let mut all = Vec::with_capacity(alloc, text.len())?;
-    push_text(&mut all, text, true)?;
-    Ok(all)
 }
 
 impl Word {
@@ -134,14 +97,15 @@ impl Word {
     pub fn written(alloc: Global, text: &str, quoted: bool) -> Result<Word, AllocError>
         ensures { IfOk result (λ word. word ≡ written text.now quoted) }
     {
-        let copy = String::from_str(alloc, text)?;
-        if quoted {
-            Ok(Word::plain(copy))
-        } else if has_pattern_char(text) {
-            Word::mixed(alloc, copy, all_marked(alloc, text)?)
-        } else {
-            Ok(Word(Letters::Marked(copy)))
-        }
+        let literal = Literal::new(alloc, text, quoted)?;
+        Ok(Word(Letters::Literal(Rc::new(alloc, literal)?)))
+    }
+
+    /// A word of a script, which is not copied. It fails only where the literal has too many owners.
+    pub fn literal(literal: &Rc<Literal>) -> Result<Word, AllocError>
+        ensures { IfOk result (λ word. word ≡ written literal.now.value.0 literal.now.value.1) }
+    {
+        Ok(Word(Letters::Literal(literal.clone()?)))
     }
 
     /// Two words in one.
@@ -149,10 +113,36 @@ impl Word {
         ensures { IfOk result (λ word. word ≡ left.now ++ right.now) }
     {
         let text = joined_text(alloc, left.text(), right.text())?;
-        match (&left.0, &right.0) {
-            (Letters::Plain(_), Letters::Plain(_)) => Ok(Word::plain(text)),
-            (Letters::Marked(_), Letters::Marked(_)) => Ok(Word(Letters::Marked(text))),
+        match (left.common_mark(), right.common_mark()) {
+            (Some(mark), Some(other)) if mark == other => Ok(Word::with_mark(text, mark)),
             _ => Word::mixed(alloc, text, Word::all_chars(alloc, left, right)?),
+        }
+    }
+
+    /// A text whose characters all have this mark, and none of them is a pattern character.
+    fn with_mark(text: String, mark: bool) -> Word
+        requires { has_pattern (map (λ c. (c, mark)) (chars (string_bytes text))) ≡ false }
+        ensures { result ≡ map (λ c. (c, mark)) (chars (string_bytes text)) }
+    {
+        if mark {
+            Word(Letters::Marked(text))
+        } else {
+            Word::plain(text)
+        }
+    }
+
+    /// The mark of all its characters, where none of them is a pattern character.
+    fn common_mark(&self) -> Option<bool>
+        ensures { IfSome result (λ mark. HaveMark mark self.now × (has_pattern self.now ≡ false)) }
+    {
+        match &self.0 {
+            Letters::Plain(_) => Some(false),
+            Letters::Marked(_) => Some(true),
+            Letters::Mixed(_) => None,
+            Letters::Literal(literal) => match literal.pattern() {
+                Some(_) => None,
+                None => Some(!literal.is_quoted()),
+            },
         }
     }
 
@@ -175,6 +165,7 @@ impl Word {
             Letters::Plain(text) => push_text(chars, text, false),
             Letters::Marked(text) => push_text(chars, text, true),
             Letters::Mixed(mixed) => chars.extend_from_slice(mixed.chars.as_slice()),
+            Letters::Literal(literal) => push_text(chars, literal.text(), !literal.is_quoted()),
         }
     }
 
@@ -186,16 +177,34 @@ impl Word {
         match &self.0 {
             Letters::Plain(text) | Letters::Marked(text) => text.as_str(),
             Letters::Mixed(mixed) => mixed.text.as_str(),
+            Letters::Literal(literal) => literal.text(),
         }
     }
 
-    /// The characters without their marks.
-    pub fn into_text(self) -> String
-        ensures { string_bytes result ≡ word_text self }
+    /// The characters without their marks. Only those of a literal are copied.
+    pub fn into_text(self, alloc: Global) -> Result<String, AllocError>
+        ensures { IfOk result (λ text. string_bytes text ≡ word_text self) }
     {
         match self.0 {
-            Letters::Plain(text) | Letters::Marked(text) => text,
-            Letters::Mixed(mixed) => Box::into_inner(mixed).text,
+            Letters::Plain(text) => Ok(text),
+            Letters::Marked(text) => Ok(text),
+            Letters::Mixed(mixed) => Ok(Box::into_inner(mixed).text),
+            Letters::Literal(literal) => String::from_str(alloc, literal.text()),
+        }
+    }
+
+    /// The same characters with no marks. Only those of a literal that is not quoted are copied.
+    pub fn unmarked(self, alloc: Global) -> Result<Word, AllocError>
+        ensures { IfOk result (λ word. word ≡ unmarked self) }
+    {
+        match self.0 {
+            Letters::Plain(text) => Ok(Word::plain(text)),
+            Letters::Marked(text) => Ok(Word::plain(text)),
+            Letters::Mixed(mixed) => Ok(Word::plain(Box::into_inner(mixed).text)),
+            Letters::Literal(literal) => {
+                let text = String::from_str(alloc, literal.text())?;
+                Ok(Word::plain(text))
+            }
         }
     }
 
@@ -208,6 +217,7 @@ impl Word {
             Letters::Mixed(mixed) if any_pattern(mixed.chars.as_slice()) => {
                 Some(mixed.chars.as_slice())
             }
+            Letters::Literal(literal) => literal.pattern(),
             _ => None,
         }
     }
@@ -230,6 +240,7 @@ impl Word {
                 let text = mixed.text.clone()?;
                 Word::mixed(*text.allocator(), text, mixed.chars.clone()?)
             }
+            Letters::Literal(literal) => Word::literal(literal),
         }
     }
 }

@@ -15,13 +15,13 @@ returns-in_err-launch-clause-does g c = passed_up _ _ _ _ c.from_residual.result
 pub returns-in_err-child-clause-does : goal.returns-in_err-child-clause-does
 returns-in_err-child-clause-does g c =
     let s = state_of c.args.state.now in
-    let l = program_launch c.args.slots (string_bytes c.args.path) (map string_bytes c.args.args.now) s in
+    let l = program_launch c.args.slots (string_bytes c.args.path) (map string_bytes c.args.args.items) s in
     passed_up _ _ _ _ c.from_residual-in_err-child.result c.in_err-child.field-0.0 c.from_residual-in_err-child.ensures.1
     (left_under _ _ _ (started l s) (λ x t. wait_started c.args.slots c.args.name.now x t) leaves (left_as _ _ _ _ _ (ap (λ x. started x s) (sym c.in_ok-launch.ensures)) (c.in_err-child.ensures s)))
 
 pub returns-clause-does : goal.returns-clause-does
 returns-clause-does g c =
     let s = state_of c.args.state.now in
-    let l = program_launch c.args.slots (string_bytes c.args.path) (map string_bytes c.args.args.now) s in
+    let l = program_launch c.args.slots (string_bytes c.args.path) (map string_bytes c.args.args.items) s in
     comes_next _ _ _ (started l s) _ _ (λ x t. wait_started c.args.slots c.args.name.now x t) leaves _ c.wait_started.result
     (ran_as _ _ _ _ _ (ap (λ x. started x s) (sym c.in_ok-launch.ensures)) (c.in_ok-child.ensures s)) c.wait_started.ensures.does

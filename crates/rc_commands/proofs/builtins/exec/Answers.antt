@@ -12,19 +12,19 @@ use Rattle.rc_commands.proofs.builtins.exec.Goals as goal
 pub returns-in_err-run_program : goal.returns-in_err-run_program
 returns-in_err-run_program g c =
     let s = state_of c.args.state.now in
-    let name = string_bytes c.in-Some.name.now in
-    let args = map string_bytes c.in-Some.args.now in
+    let name = string_bytes c.in-Some.name in
+    let args = map string_bytes c.in-Some.args.items in
     let named : c.deref.result.now ≡ name = search rules in
     words_left _ _ _ _ c.from_residual-in_err-run_program.result c.in_err-run_program.field-0.0 c.from_residual-in_err-run_program.ensures.1
-    (left_as _ _ _ _ _ (ap (λ ws. exec c.args.slots (map string_bytes ws) s) c.in-Some.ensures.cases.0)
+    (left_as _ _ _ _ _ (ap (λ ws. exec c.args.slots (map string_bytes ws) s) c.in-Some.ensures.some)
     (left_under _ _ _ (run_program c.args.slots name args s) (λ x. exits) leaves (rw named at c.in_err-run_program.ensures.does)))
 
 pub returns : goal.returns
 returns g c =
     let s = state_of c.args.state.now in
-    let name = string_bytes c.in-Some.name.now in
-    let args = map string_bytes c.in-Some.args.now in
+    let name = string_bytes c.in-Some.name in
+    let args = map string_bytes c.in-Some.args.items in
     let named : c.deref.result.now ≡ name = search rules in
-    ran_as _ _ _ _ _ (ap (λ ws. exec c.args.slots (map string_bytes ws) s) c.in-Some.ensures.cases.0)
+    ran_as _ _ _ _ _ (ap (λ ws. exec c.args.slots (map string_bytes ws) s) c.in-Some.ensures.some)
     (ran_next _ _ _ (run_program c.args.slots name args s) tt (state_of c.run_program.new.state) (λ x. exits) leaves _
     (rw named at c.in_ok-run_program.ensures.does) (ran_none _ _))

@@ -11,10 +11,10 @@ use Rattle.rc_commands.proofs.builtins.run_other.Goals as goal
 pub returns-in_err-run_program : goal.returns-in_err-run_program
 returns-in_err-run_program g c =
     words_left _ _ _ _ c.from_residual.result c.in_err-run_program.field-0.0 c.from_residual.ensures.1
-    (left_under _ _ _ (run_program c.args.slots c.args.name.now (map string_bytes c.args.args.now) (state_of c.args.state.now)) (λ x. pure Finished) leaves
+    (left_under _ _ _ (run_program c.args.slots c.args.name.now (map string_bytes c.args.args.items) (state_of c.args.state.now)) (λ x. pure Finished) leaves
     c.in_err-run_program.ensures.does)
 
 pub returns : goal.returns
 returns g c =
-    ran_next _ _ _ (run_program c.args.slots c.args.name.now (map string_bytes c.args.args.now) (state_of c.args.state.now)) tt (state_of c.run_program.new.state)
+    ran_next _ _ _ (run_program c.args.slots c.args.name.now (map string_bytes c.args.args.items) (state_of c.args.state.now)) tt (state_of c.run_program.new.state)
     (λ x. pure Finished) leaves _ c.in_ok-run_program.ensures.does (ran_none _ _)

@@ -7,32 +7,32 @@ use Rattle.rc_commands.proofs.builtins.run_unnamed.Goals as goal
 
 pub run_builtin-requires : goal.run_builtin-requires
 run_builtin-requires g c =
-    let builtin : builtin_named (string_bytes c.in-Some.name.now) ≡ Some c.in-Some-named.builtin = search rules in
-    λ e. subst (λ ws. BeginsOther (map string_bytes ws)) c.in-Some.ensures.cases.0 c.past_builtins.ensures.other (builtin ∙ ap Some e)
+    let builtin : builtin_named (string_bytes c.in-Some.name) ≡ Some c.in-Some-named.builtin = search rules in
+    λ e. subst (λ ws. BeginsOther (map string_bytes ws)) c.in-Some.ensures.some c.past_builtins.ensures.other (builtin ∙ ap Some e)
 
 pub returns-in-Some-named : goal.returns-in-Some-named
 returns-in-Some-named g c =
     let s = state_of c.args.state.now in
     let slots = c.args.slots in
-    let words = map string_bytes c.args.words.now in
-    let left = map string_bytes c.past_builtins.result.now in
-    let name = string_bytes c.in-Some.name.now in
-    let args = map string_bytes c.in-Some.args.now in
+    let words = map string_bytes c.args.words.items in
+    let left = map string_bytes c.past_builtins.result.items in
+    let name = string_bytes c.in-Some.name in
+    let args = map string_bytes c.in-Some.args.items in
     let builtin : builtin_named name ≡ Some c.in-Some-named.builtin = search rules in
     words_as _ _ _ _ _ _
-    (ap (λ m. m s) (unnamed_past slots words left name args _ (c.past_builtins.ensures.same slots) (ap (map string_bytes) c.in-Some.ensures.cases.0) builtin))
+    (ap (λ m. m s) (unnamed_past slots words left name args _ (c.past_builtins.ensures.same slots) (ap (map string_bytes) c.in-Some.ensures.some) builtin))
     (c.run_builtin.ensures (without_functions slots args))
 
-pub returns-in-None : goal.returns-in-None
-returns-in-None g c =
+pub returns : goal.returns
+returns g c =
     let s = state_of c.args.state.now in
     let slots = c.args.slots in
-    let words = map string_bytes c.args.words.now in
-    let left = map string_bytes c.past_builtins.result.now in
-    let name = string_bytes c.in-Some.name.now in
-    let args = map string_bytes c.in-Some.args.now in
+    let words = map string_bytes c.args.words.items in
+    let left = map string_bytes c.past_builtins.result.items in
+    let name = string_bytes c.in-Some.name in
+    let args = map string_bytes c.in-Some.args.items in
     let named : c.deref-in-None.result.now ≡ name = search rules in
     let other : builtin_named name ≡ None = search rules in
     words_as _ _ _ _ _ _
-    (ap (λ m. m s) (unnamed_past slots words left name args None (c.past_builtins.ensures.same slots) (ap (map string_bytes) c.in-Some.ensures.cases.0) other))
+    (ap (λ m. m s) (unnamed_past slots words left name args None (c.past_builtins.ensures.same slots) (ap (map string_bytes) c.in-Some.ensures.some) other))
     (rw named at c.run_other.ensures)

@@ -1,7 +1,7 @@
 use Rattle.std.proofs.Common.{rules, map, string_bytes, ap, ◌∙◌}
 use Rattle.std.proofs.lemmas.Fn.{filter_same}
 use Rattle.rc_model.specs.Run.FileNames.{ordered}
-use Rattle.rc_text.specs.Views.{marks}
+use Rattle.rc_literal.specs.Views.{marks}
 use Rattle.rc_glob.specs.Names.{is_fitting}
 use Rattle.rc_glob.proofs.Sorting.{kept_texts}
 use Rattle.rc_glob.proofs.names.fitting_names.Goals as goal

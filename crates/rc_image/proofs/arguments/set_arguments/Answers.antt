@@ -2,7 +2,7 @@ use Rattle.std.proofs.Common.{◌≡◌, ap, ◌∙◌, length, codes, arith}
 use Rattle.std.proofs.lemmas.Grind.{common_steps}
 use Rattle.rc_model.specs.Run.State.{set_value}
 use Rattle.rc_scope.specs.States.{state_of}
-use Rattle.rc_image.proofs.Denoted.{on_ok}
+use Rattle.rc_image.proofs.Variables.{on_ok}
 use Rattle.rc_image.proofs.States.{no_arguments, some_arguments}
 use Rattle.rc_image.proofs.arguments.set_arguments.Goals as goal
 

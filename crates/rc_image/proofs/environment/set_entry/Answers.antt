@@ -2,7 +2,7 @@ use Rattle.std.proofs.Common.{ap, sym, ◌∙◌, map, string_bytes}
 use Rattle.rc_model.specs.Handed.Environment.{with_cut}
 use Rattle.rc_scope.specs.States.{state_of}
 use Rattle.rc_image.specs.Entries.{values_state}
-use Rattle.rc_image.proofs.Denoted.{skip_next, on_ok, entry_set}
+use Rattle.rc_image.proofs.Variables.{skip_next, on_ok, entry_set}
 use Rattle.rc_image.proofs.environment.set_entry.Goals as goal
 
 pub returns-then-is_ignored : goal.returns-then-is_ignored

@@ -28,7 +28,7 @@ pub returns-in_default : goal.returns-in_default
 returns-in_default g c =
     let body = cmd_tree c.args.body.now in
     let s = state_of c.args.state.now in
-    rw (c.new.ensures.items, c.in_ok-set_status.ensures.ok)
+    rw (c.empty.ensures, c.in_ok-set_status.ensures.ok)
     (ran_answered _ _ _ make_pipe as_pair None (λ ends. back_pipe c.args.slots body ends s) _
     (rw c.in_default.is at c.in_ok-read_end.ensures) (ran_none _ _))
 

@@ -1,7 +1,7 @@
-use Rattle.std.proofs.Common.{◌≡◌, ap, sym, subst, ◌∙◌, string_bytes}
+use Rattle.std.proofs.Common.{◌≡◌, ℕ, Bool, List, ap, sym, subst, ◌∙◌, refl, string_bytes}
 use Rattle.std.specs.Str.{chars, IsUtf8}
 use Rattle.rc_text.specs.declared.words.MixedText.{MixedText}
-use Rattle.rc_text.proofs.Marks.{alike_characters, mixed_characters, text_of_word}
+use Rattle.rc_text.proofs.Marks.{alike_characters, literal_characters, mixed_characters, text_of_word}
 use Rattle.rc_text.proofs.words.Word.text.Goals as goal
 
 pub returns-in-Mixed-clause-text : goal.returns-in-Mixed-clause-text
@@ -17,3 +17,13 @@ returns-in-Plain-clause-text c =
 pub returns-in-Plain-clause-characters : goal.returns-in-Plain-clause-characters
 returns-in-Plain-clause-characters c =
     ap chars c.as_str-in-Plain.ensures.value ∙ sym (alike_characters _ _ c.in-Plain.is) ∙ cc
+
+pub returns-in-Literal-clause-text : goal.returns-in-Literal-clause-text
+returns-in-Literal-clause-text c =
+    let e : c.text.result.now ≡ c.in-Literal.literal.value.0 = c.text.ensures ∙ ap (λ (p : List ℕ × Bool). p.0) c.deref-in-Literal.ensures in
+    e ∙ text_of_word _ _ _ (subst IsUtf8 e c.text.utf8) (literal_characters _ _ _ c.in-Literal.is c.self.view_is) refl
+
+pub returns-in-Literal-clause-characters : goal.returns-in-Literal-clause-characters
+returns-in-Literal-clause-characters c =
+    let e : c.text.result.now ≡ c.in-Literal.literal.value.0 = c.text.ensures ∙ ap (λ (p : List ℕ × Bool). p.0) c.deref-in-Literal.ensures in
+    ap chars e ∙ sym (literal_characters _ _ _ c.in-Literal.is c.self.view_is)

@@ -2,8 +2,8 @@ use Rattle.std.proofs.Common.{rules}
 use Rattle.std.proofs.lemmas.Iterator.{YieldsList-from_chars, YieldsList-from_map}
 use Rattle.std.proofs.lemmas.Iterator.Adapters.{items_from_extend}
 use Rattle.std.specs.Str.{chars}
-use Rattle.rc_text.proofs.Marks.{marked_by, marks_added, on_ok}
-use Rattle.rc_text.proofs.words.push_text.Goals as goal
+use Rattle.rc_literal.proofs.Marks.{marked_by, marks_added, on_ok}
+use Rattle.rc_literal.proofs.push_text.Goals as goal
 
 pub returns : goal.returns
 returns c =

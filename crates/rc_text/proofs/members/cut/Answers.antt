@@ -5,7 +5,7 @@ use Rattle.std.specs.Prelude.{MatchOption}
 use Rattle.std.specs.Str.{NoCharPasses}
 use Rattle.rc_text.specs.Members.{among, IsCut}
 use Rattle.rc_text.proofs.Cuts.{cut_boundary, cut_front, is_cut, none_after}
-use Rattle.rc_text.proofs.output.cut.Goals as goal
+use Rattle.rc_text.proofs.members.cut.Goals as goal
 
 pub returns-in_err-front : goal.returns-in_err-front
 returns-in_err-front c =
