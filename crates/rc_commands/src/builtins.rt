@@ -21,7 +21,7 @@ use rc_world::{Slots, Stop, World};
 use std::alloc::Global;
 
 /// The name that words begin with, and the arguments after it.
-fn name_and_args(mut words: Vec<String>) -> Option<(String, Vec<String>)>
+pub fn name_and_args(mut words: Vec<String>) -> Option<(String, Vec<String>)>
     ensures none { IfNone result (words.items ≡ []) }
     ensures some { IfSome result (λ found. words.items ≡ found.0 ∷ found.1.items) }
 {
@@ -88,7 +88,7 @@ fn run_builtin<W: World>(
         (state_of state.new) result }
 {
     match builtin {
-        Builtin::Dot => return dot(alloc, world, state, &args),
+        Builtin::Dot => return dot(alloc, world, state, args),
         Builtin::Eval => return Ok(eval(alloc, state, &args)?),
         Builtin::Exec => return exec(alloc, world, state, slots, args),
         Builtin::Exit => {

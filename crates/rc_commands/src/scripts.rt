@@ -9,11 +9,12 @@ ghost use Rattle.rc_commands.specs.Outcomes.{RunsWords};
 ghost use Rattle.rc_commands.specs.Scripts.{Compiles};
 ghost use Rattle.rc_scope.specs.States.{state_of};
 
+use crate::builtins::name_and_args;
 use crate::commands::Outcome;
 use rc_code::{Code, compile};
 use rc_parser::{InputError, parse};
 use rc_pipes::read_file;
-use rc_scope::{State, copy_texts};
+use rc_scope::State;
 use rc_text::flat;
 use rc_world::{Stop, World};
 use std::alloc::{AllocError, Global};
@@ -50,13 +51,12 @@ fn run_text(
     alloc: Global,
     state: &mut State,
     text: &[u8],
-    args: &[String],
+    args: Vec<String>,
 ) -> Result<Outcome, AllocError>
     ensures { IfOk result (λ outcome. (recorded : Option (List Event)) → RunsWords recorded recorded
-        (as_body_with (map string_bytes args.now) (tree_of text.now) (state_of state.old))
+        (as_body_with (map string_bytes args.items) (tree_of text.now) (state_of state.old))
         (state_of state.new) (Ok outcome)) }
 {
-    let args = copy_texts(alloc, args)?;
     let Some(body) = compiled(alloc, state, text)? else {
         return Ok(Outcome::Finished);
     };
@@ -69,16 +69,16 @@ pub fn dot<W: World>(
     alloc: Global,
     world: &mut W,
     state: &mut State,
-    words: &[String],
+    words: Vec<String>,
 ) -> Result<Outcome, Stop>
     ensures { RunsWords (W.events world.old) (W.events world.new)
-        (dot (map string_bytes words.now) (state_of state.old)) (state_of state.new) result }
+        (dot (map string_bytes words.items) (state_of state.old)) (state_of state.new) result }
 {
-    let Some((name, args)) = words.split_first() else {
+    let Some((name, args)) = name_and_args(words) else {
         state.set_status("usage")?;
         return Ok(Outcome::Finished);
     };
-    let Some(file) = read_file(alloc, world, state, name)? else {
+    let Some(file) = read_file(alloc, world, state, &name)? else {
         state.set_status("cannot open")?;
         return Ok(Outcome::Finished);
     };

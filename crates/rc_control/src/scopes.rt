@@ -84,7 +84,7 @@ fn bind(
     ensures { OnOk result
         (config_of machine.new ≡ bound_to (config_of machine.old) name.now (string_bytes member) bound) }
 {
-    let mut value = Vec::new(alloc);
+    let mut value = Vec::with_capacity(alloc, 1)?;
     value.push(member)?;
     let set = if bound {
         machine.state.set(name, value)

@@ -86,7 +86,6 @@ pub fn concat<W: World>(
 }
 
 /// Patterns become the names of files that they stand for.
-#[tactic(auto, using(rc_configuration::proofs::Left::step_refused))]
 pub fn glob<W: World>(
     machine: &mut Configuration,
     alloc: Global,
@@ -103,6 +102,25 @@ pub fn glob<W: World>(
         machine.place += 1;
         return Ok(Move::On);
     }
+    expand_top(machine, alloc, world)
+}
+
+/// The list on top becomes the names of files that it stands for. Few lists have a pattern, and the others should not
+/// pay for what this one needs.
+#[inline(never)]
+#[tactic(auto, using(rc_configuration::proofs::Left::step_refused))]
+fn expand_top<W: World>(
+    machine: &mut Configuration,
+    alloc: Global,
+    world: &mut W,
+) -> Result<Move, Stop>
+    requires { machine.old.place < 2 ^ 63 }
+    ensures { Steps (W.events world.old) (W.events world.new)
+        (act (Some op.Glob) (config_of machine.old)) (config_of machine.new) result }
+{
+    let Some(words) = machine.words.top() else {
+        return Ok(Move::Ended);
+    };
     let names = expand_all(alloc, world, words)?;
     machine.words.drop_top();
     machine.words.put(names.into_words()?)?;

@@ -27,7 +27,8 @@ use Rattle.rc_scope.proofs.Rows.{rows_from, set_none}
 use Rattle.rc_scope.specs.Stacks.{texts_of, is_local_of, covered_in, stack_of, variable_of, stack_in, covers_in, stacks_of, locals_of, uncovered, without_newest, Uncovers, Covers, is_listed, flat_names, names_in}
 use Rattle.rc_scope.specs.declared.variables.Variables.{Variables}
 use Rattle.rc_scope.specs.declared.values.Value.{Value}
-use Rattle.rc_scope.specs.declared.variables.Local.{Local}
+use Rattle.rc_scope.specs.declared.locals.Local.{Local}
+use Rattle.rc_scope.specs.Locals.{name_of}
 
 abbrev Entries : Type 0
 Entries = List (String Global × Value)
@@ -185,23 +186,23 @@ own_local : (l : Local) (ls : List Local) (n : List ℕ) → is_local_of n l ≡
 own_local l ls n h = ap (λ b. if b then texts_of l.covered ∷ (if l.covered.covers then covered_in ls n else []) else covered_in ls n) h
 
 -- the log below a local is the same for other names
-other_name : (l : Local) (ls : List Local) (q n : List ℕ) (w : Value) → string_bytes l.name ≡ q → bytes_eq q n ≡ false → stack_of (l ∷ ls) n w ≡ stack_of ls n w
+other_name : (l : Local) (ls : List Local) (q n : List ℕ) (w : Value) → name_of l.name ≡ q → bytes_eq q n ≡ false → stack_of (l ∷ ls) n w ≡ stack_of ls n w
 other_name l ls q n w name h =
-    let other : bytes_eq n (string_bytes l.name) ≡ false = ap (bytes_eq n) name ∙ nat_list_eq_equiv.symm n q ∙ h in
+    let other : bytes_eq n (name_of l.name) ≡ false = ap (bytes_eq n) name ∙ nat_list_eq_equiv.symm n q ∙ h in
     not_local l ls n w (ap (λ b. b && not (bytes_eq n status_name)) other)
 
-is_own : (l : Local) (q : List ℕ) → string_bytes l.name ≡ q → bytes_eq q status_name ≡ false → is_local_of q l ≡ true
+is_own : (l : Local) (q : List ℕ) → name_of l.name ≡ q → bytes_eq q status_name ≡ false → is_local_of q l ≡ true
 is_own l q name h =
-    let same : bytes_eq q (string_bytes l.name) ≡ true = (bytes_decides q (string_bytes l.name)).1 (sym name) in
+    let same : bytes_eq q (name_of l.name) ≡ true = (bytes_decides q (name_of l.name)).1 (sym name) in
     ap (λ b. b && not (bytes_eq q status_name)) same ∙ ap not h
 
 -- what a local of a name covers is what the name had
-push_found : (ls : List Local) (l : Local) (q : List ℕ) (covers : Bool) (p : Option Stack) (o : Named) → string_bytes l.name ≡ q → bytes_eq q status_name ≡ false → p ≡ option_map (stack_of ls q) o
+push_found : (ls : List Local) (l : Local) (q : List ℕ) (covers : Bool) (p : Option Stack) (o : Named) → name_of l.name ≡ q → bytes_eq q status_name ≡ false → p ≡ option_map (stack_of ls q) o
     → covers ≡ is_some o → l.covered ≡ unwrap_or o l.covered → (if covers then covered_in (l ∷ ls) q else []) ≡ unwrap_or p []
 push_found ls l q covers p None name h found is same = rw (found, is) refl
 push_found ls l q covers p (Some v) name h found is same = rw (found, is) (own_local l ls q (is_own l q name h) ∙ ap (stack_of ls q) same)
 
-pub push_variable : (ls : List Local) (l : Local) (k : String Global) (v : Value) (es : List (String Global × Value)) → IsStrictlySortedBy string_cmp (keys_of es) → string_bytes l.name ≡ string_bytes k → bytes_eq (string_bytes k) status_name ≡ false
+pub push_variable : (ls : List Local) (l : Local) (k : String Global) (v : Value) (es : List (String Global × Value)) → IsStrictlySortedBy string_cmp (keys_of es) → name_of l.name ≡ string_bytes k → bytes_eq (string_bytes k) status_name ≡ false
     → v.covers ≡ is_some (lookup (is_named (string_bytes k)) es) → l.covered ≡ unwrap_or (lookup (is_named (string_bytes k)) es) l.covered
     → map (variable_of (l ∷ ls)) (insert_entry string_cmp es k v) ≡ put_values (map (variable_of ls) es) (string_bytes k) (texts_of v ∷ stack_in (map (variable_of ls) es) (string_bytes k))
 push_variable ls l k v es sorted name h is same =
@@ -209,19 +210,19 @@ push_variable ls l k v es sorted name h is same =
     ∙ ap (λ c. insert_entry text_cmp (map (variable_of ls) es) (string_bytes k) (texts_of v ∷ c)) (push_found ls l (string_bytes k) v.covers _ (lookup (is_named (string_bytes k)) es) name h (lookup_variable ls (string_bytes k) es) is same)
 
 -- a local ends that covers a value
-pub pop_variable : (ls : List Local) (l : Local) (es : List (String Global × Value)) → IsStrictlySortedBy string_cmp (keys_of es) → bytes_eq (string_bytes l.name) status_name ≡ false → covers_in (string_bytes l.name) es ≡ true
-    → map (variable_of ls) (insert_entry string_cmp es l.name l.covered) ≡ put_values (map (variable_of (l ∷ ls)) es) (string_bytes l.name) (covered (stack_in (map (variable_of (l ∷ ls)) es) (string_bytes l.name)))
-pop_variable ls l es sorted h covers =
-    let q = string_bytes l.name in
+pub pop_variable : (ls : List Local) (l : Local) (k : String Global) (es : List (String Global × Value)) → IsStrictlySortedBy string_cmp (keys_of es) → name_of l.name ≡ string_bytes k → bytes_eq (string_bytes k) status_name ≡ false → covers_in (string_bytes k) es ≡ true
+    → map (variable_of ls) (insert_entry string_cmp es k l.covered) ≡ put_values (map (variable_of (l ∷ ls)) es) (string_bytes k) (covered (stack_in (map (variable_of (l ∷ ls)) es) (string_bytes k)))
+pop_variable ls l k es sorted name h covers =
+    let q = string_bytes k in
     let stack : covered (stack_in (map (variable_of (l ∷ ls)) es) q) ≡ stack_of ls q l.covered =
-    covered_variable (l ∷ ls) q es ∙ ap (λ b. if b then covered_in (l ∷ ls) q else []) covers ∙ own_local l ls q (is_own l q refl h) in
-    rw stack (insert_variable (l ∷ ls) ls l.name l.covered es sorted (λ n w e. sym (other_name l ls q n w refl e)))
+    covered_variable (l ∷ ls) q es ∙ ap (λ b. if b then covered_in (l ∷ ls) q else []) covers ∙ own_local l ls q (is_own l q name h) in
+    rw stack (insert_variable (l ∷ ls) ls k l.covered es sorted (λ n w e. sym (other_name l ls q n w name e)))
 
 -- a local ends that covers none
-pub drop_variable : (ls : List Local) (l : Local) (es : List (String Global × Value)) → lookup (is_named (string_bytes l.name)) (remove_entry (is_named (string_bytes l.name)) es) ≡ None → covers_in (string_bytes l.name) es ≡ false
-    → map (variable_of ls) (remove_entry (is_named (string_bytes l.name)) es) ≡ put_values (map (variable_of (l ∷ ls)) es) (string_bytes l.name) (covered (stack_in (map (variable_of (l ∷ ls)) es) (string_bytes l.name)))
+pub drop_variable : (ls : List Local) (l : Local) (es : List (String Global × Value)) → lookup (is_named (name_of l.name)) (remove_entry (is_named (name_of l.name)) es) ≡ None → covers_in (name_of l.name) es ≡ false
+    → map (variable_of ls) (remove_entry (is_named (name_of l.name)) es) ≡ put_values (map (variable_of (l ∷ ls)) es) (name_of l.name) (covered (stack_in (map (variable_of (l ∷ ls)) es) (name_of l.name)))
 drop_variable ls l es gone covers =
-    let q = string_bytes l.name in
+    let q = name_of l.name in
     let stack : covered (stack_in (map (variable_of (l ∷ ls)) es) q) ≡ [] =
     covered_variable (l ∷ ls) q es ∙ ap (λ b. if b then covered_in (l ∷ ls) q else []) covers in
     rw stack (others (l ∷ ls) ls q (remove_entry (is_named q) es) (λ n w e. sym (other_name l ls q n w refl e)) (none_passes_from_lookup (is_named q) (remove_entry (is_named q) es) gone)
@@ -232,11 +233,11 @@ and_false true = refl
 and_false false = refl
 
 -- a local of the status covers nothing
-no_local : (l : Local) (n : List ℕ) (b : Bool) → string_bytes l.name ≡ status_name → bytes_eq n status_name ≡ b → is_local_of n l ≡ false
-no_local l n true name h = ap (λ c. bytes_eq n (string_bytes l.name) && not c) h ∙ and_false (bytes_eq n (string_bytes l.name))
+no_local : (l : Local) (n : List ℕ) (b : Bool) → name_of l.name ≡ status_name → bytes_eq n status_name ≡ b → is_local_of n l ≡ false
+no_local l n true name h = ap (λ c. bytes_eq n (name_of l.name) && not c) h ∙ and_false (bytes_eq n (name_of l.name))
 no_local l n false name h = ap (λ c. bytes_eq n c && not (bytes_eq n status_name)) name ∙ ap (λ c. c && not (bytes_eq n status_name)) h
 
-pub status_local : (ls : List Local) (l : Local) (es : List (String Global × Value)) → string_bytes l.name ≡ status_name → map (variable_of (l ∷ ls)) es ≡ map (variable_of ls) es
+pub status_local : (ls : List Local) (l : Local) (es : List (String Global × Value)) → name_of l.name ≡ status_name → map (variable_of (l ∷ ls)) es ≡ map (variable_of ls) es
 status_local ls l [] name = refl
 status_local ls l (e ∷ es) name = rw (not_local l ls (string_bytes e.0) e.1 (no_local l (string_bytes e.0) _ name refl), status_local ls l es name) refl
 
@@ -255,16 +256,16 @@ unfolding stacks_of locals_of
 popped v w l h uncovers =
     let rs = reverse w.log.items in
     let log : reverse v.log.items ≡ l ∷ rs = ap reverse h ∙ newest w.log.items l in
-    uncovers rs ∙ ap (λ ls. uncovered (map (λ m. string_bytes m.name) ls) (map (variable_of ls) v.values)) (sym log)
+    uncovers rs ∙ ap (λ ls. uncovered (map (λ m. name_of m.name) ls) (map (variable_of ls) v.values)) (sym log)
 
 pub popped_locals : (v w : Variables) (l : Local) → v.log.items ≡ w.log.items ++ l ∷ [] → locals_of w ≡ without_newest (locals_of v)
 unfolding locals_of
-popped_locals v w l h = ap (λ ls. without_newest (map (λ m. string_bytes m.name) ls)) (sym (ap reverse h ∙ newest w.log.items l))
+popped_locals v w l h = ap (λ ls. without_newest (map (λ m. name_of m.name) ls)) (sym (ap reverse h ∙ newest w.log.items l))
 
 -- with none open
 pub none_open : (v : Variables) → v.log.items ≡ [] → stacks_of v ≡ uncovered (locals_of v) (stacks_of v)
 unfolding stacks_of locals_of
-none_open v h = ap (λ ls. uncovered (map (λ m. string_bytes m.name) (reverse ls)) (map (variable_of (reverse v.log.items)) v.values)) (sym h)
+none_open v h = ap (λ ls. uncovered (map (λ m. name_of m.name) (reverse ls)) (map (variable_of (reverse v.log.items)) v.values)) (sym h)
 
 pub none_open_locals : (v : Variables) → v.log.items ≡ [] → locals_of v ≡ without_newest (locals_of v)
 unfolding locals_of
@@ -272,7 +273,7 @@ none_open_locals v h = rw h refl
 
 -- a local is opened
 pub pushed : (v w : Variables) (l : Local) (name : List ℕ) (texts : List (List ℕ)) → w.log.items ≡ v.log.items ++ l ∷ [] → Covers name texts v.values w.values l.covered
-    → string_bytes l.name ≡ name → bytes_eq name status_name ≡ false → stacks_of w ≡ put_values (stacks_of v) name (texts ∷ stack_in (stacks_of v) name)
+    → name_of l.name ≡ name → bytes_eq name status_name ≡ false → stacks_of w ≡ put_values (stacks_of v) name (texts ∷ stack_in (stacks_of v) name)
 unfolding stacks_of
 pushed v w l name texts h r own other =
     let rs = reverse v.log.items in
@@ -283,11 +284,11 @@ pushed v w l name texts h r own other =
     ∙ ap (λ q. put_values vs q (texts_of r.value ∷ stack_in vs q)) r.named
     ∙ ap (λ ts. put_values vs name (ts ∷ stack_in vs name)) r.shows
 
-pub pushed_locals : (v w : Variables) (l : Local) → w.log.items ≡ v.log.items ++ l ∷ [] → locals_of w ≡ string_bytes l.name ∷ locals_of v
+pub pushed_locals : (v w : Variables) (l : Local) → w.log.items ≡ v.log.items ++ l ∷ [] → locals_of w ≡ name_of l.name ∷ locals_of v
 unfolding locals_of
-pushed_locals v w l h = ap (map (λ m. string_bytes m.name)) (ap reverse h ∙ newest v.log.items l)
+pushed_locals v w l h = ap (map (λ m. name_of m.name)) (ap reverse h ∙ newest v.log.items l)
 
-pub pushed_status : (v w : Variables) (l : Local) → w.log.items ≡ v.log.items ++ l ∷ [] → w.values ≡ v.values → string_bytes l.name ≡ status_name → stacks_of w ≡ stacks_of v
+pub pushed_status : (v w : Variables) (l : Local) → w.log.items ≡ v.log.items ++ l ∷ [] → w.values ≡ v.values → name_of l.name ≡ status_name → stacks_of w ≡ stacks_of v
 unfolding stacks_of
 pushed_status v w l h e name =
     ap (λ ls. map (variable_of ls) w.values) (ap reverse h ∙ newest v.log.items l)
@@ -296,22 +297,34 @@ pushed_status v w l h e name =
 
 -- ** what a local covers becomes visible
 
-pub uncover_status : (l : Local) (es : List (String Global × Value)) → bytes_eq (string_bytes l.name) status_name ≡ true → Uncovers l es es
-uncover_status l es h = λ ls. rw h (sym (status_local ls l es ((bytes_decides (string_bytes l.name) status_name).0 h)))
+pub uncover_status : (l : Local) (es : List (String Global × Value)) → bytes_eq (name_of l.name) status_name ≡ true → Uncovers l es es
+uncover_status l es h = λ ls. rw h (sym (status_local ls l es ((bytes_decides (name_of l.name) status_name).0 h)))
 
-written_covering : (k : String Global) (w : Value) (es : List (String Global × Value)) (o : Named) → IsStrictlySortedBy string_cmp (keys_of es) → lookup (is_named (string_bytes k)) es ≡ o → unwrap_or (option_map (λ (x : Value). x.covers) o) false ≡ true
-    → set_value (is_named (string_bytes k)) es w ≡ insert_entry string_cmp es k w
-written_covering k w es None sorted found h = absurd (true≢false (sym h))
-written_covering k w es (Some v) sorted found h = write_as_insert k v w es sorted found
+over_at_key : (ls : List Local) (l : Local) (k : String Global) (v : Value) (es : List (String Global × Value)) → IsStrictlySortedBy string_cmp (keys_of es) → name_of l.name ≡ string_bytes k
+    → bytes_eq (string_bytes k) status_name ≡ false → covers_in (string_bytes k) es ≡ true → lookup (is_named (string_bytes k)) es ≡ Some v
+    → map (variable_of ls) (set_value (is_named (string_bytes k)) es l.covered) ≡ put_values (map (variable_of (l ∷ ls)) es) (string_bytes k) (covered (stack_in (map (variable_of (l ∷ ls)) es) (string_bytes k)))
+over_at_key ls l k v es sorted name h covers found =
+    ap (map (variable_of ls)) (write_as_insert k v l.covered es sorted found) ∙ pop_variable ls l k es sorted name h covers
 
-pub uncover_over : (l : Local) (es fs : List (String Global × Value)) → bytes_eq (string_bytes l.name) status_name ≡ false → covers_in (string_bytes l.name) es ≡ true → IsStrictlySortedBy string_cmp (keys_of es)
-    → fs ≡ set_value (is_named (string_bytes l.name)) es l.covered → Uncovers l es fs
+over_found : (ls : List Local) (l : Local) (q : List ℕ) (es : List (String Global × Value)) (o : Named) → lookup (is_named q) es ≡ o → unwrap_or (option_map (λ (x : Value). x.covers) o) false ≡ true
+    → IsStrictlySortedBy string_cmp (keys_of es) → name_of l.name ≡ q → bytes_eq q status_name ≡ false → covers_in q es ≡ true
+    → map (variable_of ls) (set_value (is_named q) es l.covered) ≡ put_values (map (variable_of (l ∷ ls)) es) q (covered (stack_in (map (variable_of (l ∷ ls)) es) q))
+over_found ls l q es None found is sorted name h covers = absurd (true≢false (sym is))
+over_found ls l q es (Some v) found is sorted name h covers =
+    let place = place_from_lookup (is_named q) es v found in
+    let key : q ≡ string_bytes place.1 = (bytes_decides q (string_bytes place.1)).0 (sym (is_eq-slice_cmp q (string_bytes place.1)) ∙ place.3) in
+    subst (λ n. lookup (is_named n) es ≡ Some v → name_of l.name ≡ n → bytes_eq n status_name ≡ false → covers_in n es ≡ true
+    → map (variable_of ls) (set_value (is_named n) es l.covered) ≡ put_values (map (variable_of (l ∷ ls)) es) n (covered (stack_in (map (variable_of (l ∷ ls)) es) n)))
+    (sym key) (λ f n s c. over_at_key ls l place.1 v es sorted n s c f) found name h covers
+
+pub uncover_over : (l : Local) (es fs : List (String Global × Value)) → bytes_eq (name_of l.name) status_name ≡ false → covers_in (name_of l.name) es ≡ true → IsStrictlySortedBy string_cmp (keys_of es)
+    → fs ≡ set_value (is_named (name_of l.name)) es l.covered → Uncovers l es fs
 uncover_over l es fs h covers sorted writes =
-    let puts : fs ≡ insert_entry string_cmp es l.name l.covered = writes ∙ written_covering l.name l.covered es (lookup (is_named (string_bytes l.name)) es) sorted refl covers in
-    λ ls. rw (h, puts) (pop_variable ls l es sorted h covers)
+    let q = name_of l.name in
+    λ ls. rw (h, writes) (over_found ls l q es (lookup (is_named q) es) refl covers sorted refl h covers)
 
-pub uncover_none : (l : Local) (es fs : List (String Global × Value)) → bytes_eq (string_bytes l.name) status_name ≡ false → covers_in (string_bytes l.name) es ≡ false
-    → lookup (is_named (string_bytes l.name)) fs ≡ None → fs ≡ remove_entry (is_named (string_bytes l.name)) es → Uncovers l es fs
+pub uncover_none : (l : Local) (es fs : List (String Global × Value)) → bytes_eq (name_of l.name) status_name ≡ false → covers_in (name_of l.name) es ≡ false
+    → lookup (is_named (name_of l.name)) fs ≡ None → fs ≡ remove_entry (is_named (name_of l.name)) es → Uncovers l es fs
 uncover_none l es fs h covers gone takes = λ ls. rw (h, takes) (drop_variable ls l es (rw takes at gone) covers)
 
 -- ** lists of names and values

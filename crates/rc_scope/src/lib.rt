@@ -3,6 +3,7 @@
 
 mod children;
 mod functions;
+mod locals;
 mod names;
 mod state;
 mod texts;

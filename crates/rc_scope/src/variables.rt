@@ -10,19 +10,12 @@ ghost use Rattle.rc_scope.specs.Rows.{is_named};
 ghost use Rattle.rc_scope.specs.Bindings.{bindings_of, bindings_in};
 ghost use Rattle.rc_scope.specs.Stacks.{names_in, uncovered, without_newest, flat_names, is_listed, Covers, Uncovers};
 
+use crate::locals::{Local, LocalName};
 use crate::names::is_status;
 use crate::texts::drop_first;
 use crate::values::{Value, Values};
 use std::alloc::{AllocError, Global};
 use std::collections::BTreeMap;
-
-/// An open local.
-#[derive(Drop)]
-pub struct Local {
-    name: String,
-    /// What it covers: nothing where its name had no value.
-    covered: Value,
-}
 
 /// The variables of a shell, with its open locals.
 #[derive(Drop)]
@@ -193,7 +186,7 @@ impl Variables {
         ensures err { OnErr result (stacks_of self.new ≡ stacks_of self.old) }
         ensures err_locals { OnErr result (locals_of self.new ≡ locals_of self.old) }
     {
-        let local = String::from_str(alloc, name)?;
+        let local = LocalName::of(alloc, name)?;
         self.log.reserve(1)?;
         let covered = self.cover(alloc, name, texts)?;
         self.log.push(Local {
@@ -210,12 +203,14 @@ impl Variables {
         ensures ok { OnOk result (locals_of self.new ≡ status_name ∷ locals_of self.old) }
         ensures err { OnErr result (locals_of self.new ≡ locals_of self.old) }
     {
-        let name = String::from_str(alloc, "status")?;
         let covered = Value {
             texts: Vec::new(alloc),
             covers: false,
         };
-        self.log.push(Local { name, covered })?;
+        self.log.push(Local {
+            name: LocalName::Status,
+            covered,
+        })?;
         Ok(())
     }
 

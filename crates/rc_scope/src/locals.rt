@@ -1,0 +1,46 @@
+//! The open locals of a shell.
+
+ghost use Rattle.std.specs.Prelude.{◌≡◌, IfOk};
+ghost use Rattle.rc_scope.specs.Locals.{name_of};
+
+use crate::values::Value;
+use std::alloc::{AllocError, Global};
+
+/// The name of a local. Those that the shell itself gives take no memory: each call of a function binds `$*`.
+#[derive(Drop)]
+pub enum LocalName {
+    Arguments,
+    Status,
+    Other(String),
+}
+
+impl LocalName {
+    /// This name.
+    pub fn of(alloc: Global, name: &str) -> Result<LocalName, AllocError>
+        ensures { IfOk result (λ local. name_of local ≡ name.now) }
+    {
+        if name == "*" {
+            return Ok(LocalName::Arguments);
+        }
+        Ok(LocalName::Other(String::from_str(alloc, name)?))
+    }
+
+    /// The name as a text.
+    pub fn as_str(&self) -> &str
+        ensures { result.now ≡ name_of self.now }
+    {
+        match self {
+            LocalName::Arguments => "*",
+            LocalName::Status => "status",
+            LocalName::Other(name) => name.as_str(),
+        }
+    }
+}
+
+/// An open local.
+#[derive(Drop)]
+pub struct Local {
+    pub name: LocalName,
+    /// What it covers: nothing where its name had no value.
+    pub covered: Value,
+}
