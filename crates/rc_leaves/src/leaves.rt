@@ -14,7 +14,7 @@ use rc_model::{InputError, Logic};
 use rc_tree::{Arg, Piece, Redir};
 use std::alloc::{AllocError, Global};
 
-/// So many bytes, where they are a text without byte 0.
+/// This many bytes, where they are a text without byte 0.
 #[tactic(auto, using(crate::proofs::Strings::strings))]
 fn string_at(alloc: Global, count: usize, bytes: &[u8]) -> Result<(String, &[u8]), ReadError>
     ensures { Gives (λ x. (string_bytes x.0, x.1.now)) result (string_by count bytes.now) }

@@ -33,7 +33,7 @@ pub fn longest_file() -> usize
     limits::LONGEST_SCRIPT
 }
 
-/// Reads up to the empty answer, and until there are more than so many bytes.
+/// Reads up to the empty answer, and until there are more than this many bytes.
 pub fn read_all<W: World>(
     alloc: Global,
     world: &mut W,

@@ -23,7 +23,7 @@ use rc_model::{InputError, Logic, Mode};
 use rc_tree::{Arg, Branch, Cmd, Item, Redir, Stage};
 use std::alloc::Global;
 
-/// A command with at most so many levels.
+/// A command with at most this many levels.
 #[cycle(read)]
 #[tactic(auto, using(crate::proofs::Mirror::levels))]
 pub fn read_cmd(alloc: Global, left: usize, bytes: &[u8]) -> Result<(Box<Cmd>, &[u8]), ReadError>
@@ -36,7 +36,7 @@ pub fn read_cmd(alloc: Global, left: usize, bytes: &[u8]) -> Result<(Box<Cmd>, &
     read_cmd_of(alloc, left - 1, shape, rest)
 }
 
-/// A command by its shape. Its parts have at most so many levels.
+/// A command by its shape. Its parts have at most this many levels.
 #[cycle(read)]
 #[tactic(auto, using(std::proofs::lemmas::Grind::common_steps), unfolding(crate::specs::Reading::cmd_of))]
 fn read_cmd_of(
@@ -148,7 +148,7 @@ fn read_subject(
     }
 }
 
-/// An argument with at most so many levels.
+/// An argument with at most this many levels.
 #[cycle(read)]
 #[tactic(auto, using(crate::proofs::Mirror::levels))]
 fn read_arg(alloc: Global, left: usize, bytes: &[u8]) -> Result<(Box<Arg>, &[u8]), ReadError>

@@ -14,7 +14,7 @@ pub fn one_program(alloc: Global) -> Result<Tape, AllocError> {
     ]?))
 }
 
-/// The failure of a test where memory was refused, when so many calls were made.
+/// The failure of a test where memory was refused, when this many calls were made.
 pub fn refused_after(rt: &impl Abort, tape: &Tape, calls: usize) -> Fail {
     assert_eq!(rt; tape.calls().len(), calls);
     Fail::from(AllocError)

@@ -14,7 +14,7 @@ fn tree(alloc: Global, script: &str) -> Result<Box<Cmd>, Fail> {
     }
 }
 
-/// A pipeline of so many empty blocks and one empty command.
+/// A pipeline of this many empty blocks and one empty command.
 fn pipeline(alloc: Global, blocks: usize) -> Result<Box<Cmd>, AllocError> {
     let mut stages = Vec::new(alloc);
     for _ in 0..blocks {
@@ -28,7 +28,7 @@ fn pipeline(alloc: Global, blocks: usize) -> Result<Box<Cmd>, AllocError> {
     Ok(Box::new(alloc, Cmd::Pipeline(stages, last))?)
 }
 
-/// A command of so many levels.
+/// A command of this many levels.
 fn deep(alloc: Global, levels: usize) -> Result<Box<Cmd>, AllocError> {
     let mut tree = Box::new(alloc, Cmd::Empty)?;
     for _ in 1..levels {

@@ -89,7 +89,7 @@ pub fn repeated(alloc: Global, options: &str, text: &str) -> Result<String> {
     Ok(repeated)
 }
 
-/// A text so many times.
+/// A text this many times.
 fn so_many(alloc: Global, times: usize, written: &str) -> Result<String, AllocError> {
     let once = unescaped(alloc, written)?;
     let mut many = String::new(alloc);

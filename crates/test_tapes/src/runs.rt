@@ -15,7 +15,7 @@ use rc_tree::Cmd;
 use rc_world::Tape;
 use std::alloc::Global;
 
-/// What comes of a row with at most so many instructions.
+/// What comes of a row with at most this many instructions.
 pub fn run(alloc: Global, row: &Row<'_>, calls: &Calls, limit: u64) -> Result<Story> {
     if row.is_of_the_program() {
         return run_program(alloc, row, calls);
@@ -92,7 +92,7 @@ impl Stepped {
         }))
     }
 
-    /// Runs at most so many instructions, one at a time.
+    /// Runs at most this many instructions, one at a time.
     pub fn step(&mut self, alloc: Global, limit: u64) -> Result<()> {
         for _ in 0..limit {
             self.progress = self.machine.run(alloc, &mut self.tape, 1)?;
