@@ -10,7 +10,7 @@ returns-in-Eval g c again =
     let s = state_of c.args.state.now in
     let slots = c.args.slots in
     let is : c.args.builtin ≡ Eval = search rules in
-    let lent : c.deref-in-Eval.result.now ≡ c.args.args.items = search rules in
+    let lent : c.deref.result.now ≡ c.args.args.items = search rules in
     let recorded = g.W.World.events c.args.world.now in
     words_as recorded recorded _ _ (state_of c.eval.new.state) (Ok c.in_ok-eval-in-Eval.field-0)
     (ap (λ b. run_builtin again slots b (map string_bytes c.args.args.items) s) is ∙ ap (λ ws. run_builtin again slots Eval (map string_bytes ws) s) (sym lent))
