@@ -6,6 +6,7 @@ use Rattle.rc_model.specs.Run.Plans.{Plan, done_with, ask, cut, Played, Ends, Wa
 use Rattle.rc_model.specs.Run.Script.{whole}
 use Rattle.rc_model.specs.Handed.Proper.{IsProper}
 use Rattle.rc_model.specs.Handed.HandedLaws.{ReadsBack, AllReadBack, ScriptsReadBack, EndsAreProper, TracesReadBack, TracesEndProper}
+use Rattle.law_traces.proofs.Traces.{made_after}
 use Rattle.law_handed.proofs.Safe.{Safe}
 use Rattle.law_handed.proofs.Cmds.{safe_whole}
 
@@ -13,11 +14,6 @@ use Rattle.law_handed.proofs.Cmds.{safe_whole}
 record PlayedSo {X : Type 0} (Q : X → Type 0) (r : Played X) : Type 0 where
   back : AllReadBack (calls_made r)
   end : (made : List Call) (x : X) (left : List Answer) → r ≡ Ends made x left → Q x
-
-made_after : {X : Type 0} (c : Call) (r : Played X) → calls_made (after_call c r) ≡ c ∷ calls_made r
-made_after c (Ends made x left) = refl
-made_after c (Waits made) = refl
-made_after c (Cut made) = refl
 
 end_before : {X : Type 0} (Q : X → Type 0) (c : Call) (r : Played X) → PlayedSo Q r → (made : List Call) (x : X) (left : List Answer) → after_call c r ≡ Ends made x left → Q x
 end_before Q c (Ends cs y rest) k made x left e = let same : y ≡ x = cc in subst Q same (k.end cs y rest refl)

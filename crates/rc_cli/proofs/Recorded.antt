@@ -18,7 +18,6 @@ use Rattle.rc_shell.specs.declared.run.Ran.{Ran}
 use Rattle.rc_shell.specs.declared.run.Ran.TheVariants as ran
 use Rattle.rc_shell.specs.declared.run.ShellFault.{ShellFault}
 use Rattle.rc_shell.specs.declared.run.ShellFault.TheVariants as shell
-use Rattle.rc_cli.specs.Requests.{Source}
 use Rattle.rc_cli.specs.Runs.{Answers, IsNotRun, IsRun, Program, RunsAsMeant, handed, most_instructions, text_from}
 use Rattle.rc_cli.specs.declared.fault.RunFault.{RunFault}
 use Rattle.rc_cli.specs.declared.fault.RunFault.TheVariants.{Usage, CannotRead, Syntax, BadImage}
@@ -30,7 +29,7 @@ IsReason p (shell.Syntax fault) = IsNotRun p (Syntax fault)
 IsReason p (shell.Image fault) = IsNotRun p BadImage
 IsReason p shell.NoMemory = Unit {0}
 
-module _ (before after : Option (List Event)) (source : Source) (p : Program) where
+module _ (before after : Option (List Event)) (p : Program) where
   -- there is a tree to run
   abbrev pub HasTree : Type 0
   HasTree = (t : Node cmd) × (s : State) × IsRun p t s
@@ -40,7 +39,7 @@ module _ (before after : Option (List Event)) (source : Source) (p : Program) wh
   OfEach r = (t : Node cmd) (s : State) → IsRun p t s → Recorded before after (λ trace. executed.RunsAsMeant most_instructions t s trace r)
 
   pub answered : (r : Result Ran ShellFault) (result : Result ℕ RunFault) → Answers r result → OnOk r HasTree → IfErr r (IsReason p) → OfEach r →
-      ((fault : RunFault) → IsNotRun p fault → after ≡ before) → RunsAsMeant before after source p result
+      ((fault : RunFault) → IsNotRun p fault → after ≡ before) → RunsAsMeant before after p result
   answered (Ok (ran.Ended end)) result a h w each silent =
       let k = each h.0 h.1 h.2 in
       rw a.1 (h.0, h.1, h.2, (k.0, k.1, (state_of end, k.2, a.2)))
@@ -76,12 +75,12 @@ script_silent before after script start h NoMemory k = absurd k
 script_silent before after script start h Limit k = absurd k
 script_silent before after script start h Halted k = absurd k
 
-pub script_answered : (before after : Option (List Event)) (source : Source) (script : List ℕ) (s start : State) (r : Result Ran ShellFault) (result : Result ℕ RunFault) → s ≡ start → Answers r result →
+pub script_answered : (before after : Option (List Event)) (script : List ℕ) (s start : State) (r : Result Ran ShellFault) (result : Result ℕ RunFault) → s ≡ start → Answers r result →
     OnOk r ((t : Node cmd) × IsAccepted script t) → IfErr r (λ e. IfSyntax e (λ fault. IsRefused script fault)) →
     ((t : Node cmd) → IsAccepted script t → Recorded before after (λ trace. executed.RunsAsMeant most_instructions t s trace r)) →
-    ((fault : SyntaxFault) → IsRefused script fault → after ≡ before) → RunsAsMeant before after source (text_from script start) result
-script_answered before after source script s start r result is a h w each silent =
-    answered before after source (text_from script start) r result a (script_tree script start r h) (script_reasons script start r w)
+    ((fault : SyntaxFault) → IsRefused script fault → after ≡ before) → RunsAsMeant before after (text_from script start) result
+script_answered before after script s start r result is a h w each silent =
+    answered before after (text_from script start) r result a (script_tree script start r h) (script_reasons script start r w)
     (λ t z k. subst (λ y. Recorded before after (λ trace. executed.RunsAsMeant most_instructions t y trace r)) (is ∙ sym k.1) (each t k.0))
     (script_silent before after script start silent)
 
@@ -118,9 +117,9 @@ image_silent before after read h NoMemory k = absurd k
 image_silent before after read h Limit k = absurd k
 image_silent before after read h Halted k = absurd k
 
-pub image_answered : (before after : Option (List Event)) (source : Source) (read : Read) (r : Result Ran ShellFault) (result : Result ℕ RunFault) → Answers r result →
+pub image_answered : (before after : Option (List Event)) (read : Read) (r : Result Ran ShellFault) (result : Result ℕ RunFault) → Answers r result →
     OnOk r ((t : Node cmd) × (s : State) × (read ≡ Ok (t, s))) → IfErr r (λ e. IfImage e (λ fault. Fails fault read × (fault ≢ f.NoMemory))) →
     IfDenoted read before after (λ t s trace. executed.RunsAsMeant most_instructions t s trace r) →
-    ((fault : reading.ImageFault) → read ≡ Err fault → after ≡ before) → RunsAsMeant before after source (handed read) result
-image_answered before after source read r result a h w each silent =
-    answered before after source (handed read) r result a h (image_reasons read r w) each (image_silent before after read silent)
+    ((fault : reading.ImageFault) → read ≡ Err fault → after ≡ before) → RunsAsMeant before after (handed read) result
+image_answered before after read r result a h w each silent =
+    answered before after (handed read) r result a h (image_reasons read r w) each (image_silent before after read silent)

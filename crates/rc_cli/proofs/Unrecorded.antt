@@ -1,12 +1,14 @@
--- Runs that made no call.
-use Rattle.std.proofs.Common.{◌≡◌, ◌⊎◌, inl, inr, ℕ, List, [], take, Option, Some, None, Result, Err, IfSome, option_map, refl, Bor}
+-- Runs that made no call, and what comes of the reading of a script.
+use Rattle.std.proofs.Common.{◌≡◌, ◌≢◌, ◌⊎◌, inl, inr, ℕ, List, [], take, Option, Some, None, Result, Ok, Err, IfSome, option_map, refl, Bor}
+use Rattle.std.specs.Prelude.{IfOk, IfErr, Vec}
+use Rattle.std.specs.declared.alloc.Global.{Global}
 use Rattle.rc_model.specs.Run.Calls.{Event}
 use Rattle.rc_shell.proofs.Runs.{told_nothing}
-use Rattle.rc_cli.specs.Requests.{Request, Source, name_of}
-use Rattle.rc_cli.specs.Runs.{IsScriptOf, Program, RunsAsMeant, RunsInput, RunsScript, most_instructions, text_from}
+use Rattle.rc_cli.specs.Requests.{Request, name_of}
+use Rattle.rc_cli.specs.Runs.{IsScriptOf, IsUnread, Program, RunsAsMeant, RunsInput, RunsRead, most_instructions, text_from}
 use Rattle.rc_cli.specs.Start.{first_state}
 use Rattle.rc_cli.specs.declared.fault.RunFault.{RunFault}
-use Rattle.rc_cli.specs.declared.fault.RunFault.TheVariants.{CannotRead, NoMemory}
+use Rattle.rc_cli.specs.declared.fault.RunFault.TheVariants.{Usage, CannotRead, NoMemory}
 
 -- an input has a script
 script_of : (known : Option (List ℕ)) → (script : List ℕ) × IsScriptOf known script
@@ -14,32 +16,35 @@ script_of None = ([], tt)
 script_of (Some bytes) = (take 1048577 bytes, refl)
 
 -- a run that was left out of memory before its first call
-pub left_untold : (recorded : Option (List Event)) (source : Source) (p : Program) → RunsAsMeant recorded recorded source p (Err NoMemory)
-left_untold recorded source p = (λ t s is. told_nothing most_instructions t s recorded recorded, λ fault reason. refl)
+pub left_untold : (recorded : Option (List Event)) (p : Program) → RunsAsMeant recorded recorded p (Err NoMemory)
+left_untold recorded p = (λ t s is. told_nothing most_instructions t s recorded recorded, λ fault reason. refl)
 
--- a run whose script was not read
-unread : (recorded : Option (List Event)) (source : Source) (p : Program) (name : Bor (List ℕ)) (fault : RunFault)
-    → name_of source ≡ Some name.now → (fault ≡ CannotRead name) ⊎ (fault ≡ NoMemory)
-    → RunsAsMeant recorded recorded source p (Err fault)
-unread recorded source p name fault named (inl e) = rw e (named, refl)
-unread recorded source p name fault named (inr e) = rw e (left_untold recorded source p)
+-- why a script was not read
+abbrev IsReadingFault : Bor (List ℕ) → RunFault → Type 0
+IsReadingFault name fault = (fault ≡ CannotRead name) ⊎ (fault ≡ NoMemory)
 
--- a run whose input was not read
-pub unread_input : {R A : Type 0} (left : R → Option (List ℕ)) (input : Option R) (recorded : Option (List Event)) (r : Request) (entries : List (List ℕ))
-    (name : Bor (List ℕ)) (fault : RunFault) (read : Result A RunFault) → name_of r.source ≡ Some name.now
-    → read ≡ Err fault → (input ≡ None → read ≡ Err (CannotRead name))
-    → (fault ≡ CannotRead name) ⊎ (fault ≡ NoMemory) → RunsInput (option_map left input) recorded recorded r entries (Err fault)
-unread_input left None recorded r entries name fault read named was unopened either =
-    let e = unopened refl in
-    let same : fault ≡ CannotRead name = cc in
-    rw same (named, refl)
-unread_input left (Some x) recorded r entries name fault read named was unopened either =
-    let known = script_of (left x) in (known.0, known.1, unread recorded r.source (text_from known.0 (first_state r entries)) name fault named either)
+-- a reading is no wrong use
+pub no_wrong_use : (name : Bor (List ℕ)) (read : Result (Vec ℕ Global) RunFault) → IfErr read (IsReadingFault name) → read ≢ Err Usage
+no_wrong_use name (Ok script) h e = absurd cc
+no_wrong_use name (Err fault) (inl h) e = absurd (let n : ⊥ = cc in n)
+no_wrong_use name (Err fault) (inr h) e = absurd (let n : ⊥ = cc in n)
 
--- a run whose input was read
-pub read_input : {R : Type 0} (left : R → Option (List ℕ)) (input : Option R) (before after : Option (List Event))
-    (r : Request) (entries : List (List ℕ)) (script : List ℕ) (result : Result ℕ RunFault) → (input ≡ None → ⊥)
-    → IfSome input (λ x. IsScriptOf (left x) script) → RunsScript before after r entries script result
-    → RunsInput (option_map left input) before after r entries result
-read_input left None before after r entries script result opened of meant = absurd (opened refl)
-read_input left (Some x) before after r entries script result opened of meant = (script, of, meant)
+module _ (before after : Option (List Event)) (r : Request) (entries : List (List ℕ)) (name : Bor (List ℕ)) (result : Result ℕ RunFault) (named : name_of r.source ≡ Some name.now) where
+  -- nothing was run, since the script could not be read
+  unread : (fault : RunFault) → fault ≡ CannotRead name → (result ≡ Err fault) × (after ≡ before) → IsUnread before after r result
+  unread fault e h = rw (h.0, e) (named, h.1)
+
+  -- the run of an input is what came of its reading
+  pub input_run : {R : Type 0} (left : R → Option (List ℕ)) (input : Option R) (read : Result (Vec ℕ Global) RunFault) → (input ≡ None → read ≡ Err (CannotRead name))
+      → IfOk read (λ script. IfSome input (λ x. IsScriptOf (left x) script.items)) → IfErr read (IsReadingFault name)
+      → RunsRead before after r entries read result → RunsInput (option_map left input) before after r entries result
+  input_run left None (Ok script) unopened of either h = absurd (let e = unopened refl in let n : ⊥ = cc in n)
+  input_run left None (Err fault) unopened of either h =
+      let e = unopened refl in
+      let same : fault ≡ CannotRead name = cc in
+      unread fault same h
+  input_run left (Some x) (Ok script) unopened of either h = inr (script.items, of, h)
+  input_run left (Some x) (Err fault) unopened of (inl e) h = inl (unread fault e h)
+  input_run left (Some x) (Err fault) unopened of (inr e) h =
+      let known = script_of (left x) in
+      inr (known.0, known.1, rw (h.0, e, h.1) (left_untold before (text_from known.0 (first_state r entries))))

@@ -1,5 +1,6 @@
 -- What a run of the program does, by what its arguments ask for, its environment and the script that it reads.
-use Rattle.std.specs.Prelude.{◌≡◌, ℕ, ◌^◌, List, take, Option, Some, None, IfSome, Result, Ok, Err}
+use Rattle.std.specs.Prelude.{◌≡◌, ◌⊎◌, ℕ, ◌^◌, List, Vec, take, Option, Some, None, IfSome, Result, Ok, Err}
+use Rattle.std.specs.declared.alloc.Global.{Global}
 use Rattle.rc_model.specs.Handed.Arguments.{read_image}
 use Rattle.rc_model.specs.Handed.TreeReading.{ImageFault}
 use Rattle.rc_model.specs.Run.Calls.{Event}
@@ -55,17 +56,17 @@ EndsWith t start trace status =
     (end : State) × EndsWithin most_instructions t start trace end × IsProcessStatus end.status status
 
 -- a run by its result: what its world recorded of it
-abbrev pub RunsAsMeant : Option (List Event) → Option (List Event) → Source → Program → Result ℕ RunFault → Type 0
-RunsAsMeant before after source p (Ok status) = RecordedOf before after p (λ t s trace. EndsWith t s trace status)
-RunsAsMeant before after source p (Err Usage) = ⊥
-RunsAsMeant before after source p (Err (CannotRead name)) = (name_of source ≡ Some name.now) × (after ≡ before)
-RunsAsMeant before after source p (Err (Syntax fault)) = IsNotRun p (Syntax fault) × (after ≡ before)
-RunsAsMeant before after source p (Err BadImage) = IsNotRun p BadImage × (after ≡ before)
-RunsAsMeant before after source p (Err Halted) =
+abbrev pub RunsAsMeant : Option (List Event) → Option (List Event) → Program → Result ℕ RunFault → Type 0
+RunsAsMeant before after p (Ok status) = RecordedOf before after p (λ t s trace. EndsWith t s trace status)
+RunsAsMeant before after p (Err Usage) = ⊥
+RunsAsMeant before after p (Err (CannotRead name)) = ⊥
+RunsAsMeant before after p (Err (Syntax fault)) = IsNotRun p (Syntax fault) × (after ≡ before)
+RunsAsMeant before after p (Err BadImage) = IsNotRun p BadImage × (after ≡ before)
+RunsAsMeant before after p (Err Halted) =
     RecordedOf before after p (λ t s trace. HaltsWithin most_instructions t s trace)
-RunsAsMeant before after source p (Err Limit) =
+RunsAsMeant before after p (Err Limit) =
     RecordedOf before after p (λ t s trace. StopsAtLimit most_instructions t s trace)
-RunsAsMeant before after source p (Err NoMemory) =
+RunsAsMeant before after p (Err NoMemory) =
     ((t : Node cmd) (s : State) → IsRun p t s →
     Recorded before after (λ trace. IsBegunWithin most_instructions t s trace))
     × ((fault : RunFault) → IsNotRun p fault → after ≡ before)
@@ -80,25 +81,32 @@ IsScriptOf known script = IfSome known (λ bytes. script ≡ take 1048577 bytes)
 abbrev pub RunsScript : Option (List Event) → Option (List Event) → Request → (entries : List (List ℕ)) →
     List ℕ → Result ℕ RunFault → Type 0
 RunsScript before after r entries script result =
-    RunsAsMeant before after r.source (text_from script (first_state r entries)) result
+    RunsAsMeant before after (text_from script (first_state r entries)) result
 
 -- a run of what the words and the entries denote
 abbrev pub RunsImage : Option (List Event) → Option (List Event) → Request → (entries : List (List ℕ)) →
     Result ℕ RunFault → Type 0
 RunsImage before after r entries result =
-    RunsAsMeant before after r.source (handed (read_image r.strict r.arguments entries)) result
+    RunsAsMeant before after (handed (read_image r.strict r.arguments entries)) result
 
--- nothing is run where the input of a script couldn't be opened, and the fault names it
+-- nothing is run, since the script can't be read: the fault names its input
 abbrev pub IsUnread : Option (List Event) → Option (List Event) → Request → Result ℕ RunFault → Type 0
 IsUnread before after r (Err (CannotRead name)) = (name_of r.source ≡ Some name.now) × (after ≡ before)
 IsUnread before after r _ = ⊥
 
--- a run of the script that an input has
+-- what comes of the reading of a script: a run of it, or nothing for the reason that it was not read
+abbrev pub RunsRead : Option (List Event) → Option (List Event) → Request → (entries : List (List ℕ)) →
+    Result (Vec ℕ Global) RunFault → Result ℕ RunFault → Type 0
+RunsRead before after r entries (Ok script) result = RunsScript before after r entries script.items result
+RunsRead before after r entries (Err fault) result = (result ≡ Err fault) × (after ≡ before)
+
+-- a run of the script that an input has, unless it can't be read
 abbrev pub RunsInput : Option (Option (List ℕ)) → Option (List Event) → Option (List Event) → Request →
     (entries : List (List ℕ)) → Result ℕ RunFault → Type 0
 RunsInput None before after r entries result = IsUnread before after r result
 RunsInput (Some known) before after r entries result =
-    (script : List ℕ) × IsScriptOf known script × RunsScript before after r entries script result
+    IsUnread before after r result
+    ⊎ ((script : List ℕ) × IsScriptOf known script × RunsScript before after r entries script result)
 
 -- a run of what is asked for: the script is the text that is given, or that of the input, or an image
 abbrev RunsSource : Source → Option (Option (List ℕ)) → Option (List Event) → Option (List Event) → Request →

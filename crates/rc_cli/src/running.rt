@@ -2,7 +2,7 @@
 ghost use Rattle.std.specs.Prelude.{◌≡◌, ◌≢◌, ◌↔◌, Err, None, Some, IfSome, map, option_map, string_bytes};
 ghost use Rattle.rc_cli.specs.Asked.{asked};
 ghost use Rattle.rc_cli.specs.Requests.{request_of, name_of};
-ghost use Rattle.rc_cli.specs.Runs.{Answers, RunsImage, RunsInput, RunsRequest, RunsScript};
+ghost use Rattle.rc_cli.specs.Runs.{Answers, RunsImage, RunsInput, RunsRead, RunsRequest, RunsScript};
 
 use crate::fault::RunFault;
 use crate::reading::read_script;
@@ -56,10 +56,30 @@ fn run_input<'a, W: World, R: Read + Drop>(
     ensures meant { RunsInput (option_map (λ r. R.remaining r) input) (W.events world.old) (W.events world.new)
         (asked request.entry) (map string_bytes entries.now) result }
 {
-    let script = read_script(alloc, input, name)?;
-    run_script(alloc, world, request, entries, &script)
+    let read = read_script(alloc, input, name);
+    run_read(alloc, world, request, entries, read)
 }
 
+/// Runs the script that was read, or answers why it was not.
+fn run_read<'a, W: World>(
+    alloc: Global,
+    world: &mut W,
+    request: Request<'a>,
+    entries: &[String],
+    read: Result<Vec<u8>, RunFault<'a>>,
+) -> Result<u8, RunFault<'a>>
+    requires { read ≢ Err RunFault.Usage }
+    ensures usage { result ≢ Err RunFault.Usage }
+    ensures meant { RunsRead (W.events world.old) (W.events world.new)
+        (asked request.entry) (map string_bytes entries.now) read.entry result }
+{
+    match read {
+        Ok(script) => run_script(alloc, world, request, entries, &script),
+        Err(fault) => Err(fault),
+    }
+}
+
+/// Runs a script.
 fn run_script<'a, W: World>(
     alloc: Global,
     world: &mut W,

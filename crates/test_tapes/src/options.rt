@@ -82,7 +82,7 @@ pub fn repeated(alloc: Global, options: &str, text: &str) -> Result<String> {
         if let Some(repeat) = option.strip_prefix("repeat ") {
             let (mark, repeat) = repeat.split_once(' ').unwrap_or((repeat, ""));
             let (times, once) = repeat.split_once(' ').unwrap_or((repeat, ""));
-            let many = so_many(alloc, times.parse::<usize>()?, once)?;
+            let many = many_times(alloc, times.parse::<usize>()?, once)?;
             repeated = repeated.replace(alloc, mark, many.as_str())?;
         }
     }
@@ -90,7 +90,7 @@ pub fn repeated(alloc: Global, options: &str, text: &str) -> Result<String> {
 }
 
 /// A text this many times.
-fn so_many(alloc: Global, times: usize, written: &str) -> Result<String, AllocError> {
+fn many_times(alloc: Global, times: usize, written: &str) -> Result<String, AllocError> {
     let once = unescaped(alloc, written)?;
     let mut many = String::new(alloc);
     for _ in 0..times {

@@ -5,13 +5,12 @@ use crate::rows::Row;
 use crate::story::{End, Story};
 use anyhow::{Result, anyhow};
 use rc_cli::run_rc;
-use rc_code::compile;
+use rc_code::{Code, compile};
 use rc_image::{ImageFault, read_image};
 use rc_machine::{Machine, Progress};
 use rc_parser::{InputError, parse};
 use rc_scope::State;
 use rc_shell::{Ran, ShellFault, execute, execute_image};
-use rc_tree::Cmd;
 use rc_world::Tape;
 use std::alloc::Global;
 
@@ -54,17 +53,17 @@ fn run_program(alloc: Global, row: &Row<'_>, calls: &Calls) -> Result<Story> {
     Ok(Story::of(alloc, tape.calls(), end)?)
 }
 
-/// The tree of a row and the state before it, unless the script or the image is refused.
-fn begun(alloc: Global, row: &Row<'_>) -> Result<Option<(Cmd, State)>> {
+/// The code of a row and the state before it, unless the script or the image is refused.
+fn begun(alloc: Global, row: &Row<'_>) -> Result<Option<(Code, State)>> {
     let Some(handed) = row.handed(alloc)? else {
         return match parse(alloc, row.script.as_bytes()) {
-            Ok(tree) => Ok(Some((tree, row.state(alloc)?))),
+            Ok(tree) => Ok(Some((compile(alloc, &tree)?, row.state(alloc)?))),
             Err(InputError::Fault(_)) => Ok(None),
             Err(InputError::NoMemory) => Err(anyhow!("no memory")),
         };
     };
     match read_image(alloc, handed.is_strict, &handed.words, &handed.entries) {
-        Ok(begun) => Ok(Some(begun)),
+        Ok((tree, state)) => Ok(Some((compile(alloc, &tree)?, state))),
         Err(ImageFault::NoMemory) => Err(anyhow!("no memory")),
         Err(_) => Ok(None),
     }
@@ -81,10 +80,9 @@ pub struct Stepped {
 impl Stepped {
     /// The machine of a row before its first instruction, unless its script or image is refused.
     pub fn new(alloc: Global, row: &Row<'_>, calls: &Calls) -> Result<Option<Stepped>> {
-        let Some((tree, state)) = begun(alloc, row)? else {
+        let Some((code, state)) = begun(alloc, row)? else {
             return Ok(None);
         };
-        let code = compile(alloc, &tree)?;
         Ok(Some(Stepped {
             machine: Machine::new(alloc, code, state),
             tape: Tape::new(calls.answers(alloc)?),

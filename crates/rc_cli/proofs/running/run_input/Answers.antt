@@ -1,11 +1,13 @@
-use Rattle.std.proofs.Common.{refl, map, string_bytes}
-use Rattle.std.proofs.lemmas.Result.{err_from_is_err_and}
+use Rattle.std.proofs.Common.{map, string_bytes}
 use Rattle.rc_cli.specs.Asked.{asked}
-use Rattle.rc_cli.proofs.Unrecorded.{unread_input}
+use Rattle.rc_cli.proofs.Unrecorded.{input_run, no_wrong_use}
 use Rattle.rc_cli.proofs.running.run_input.Goals as goal
 
-pub returns-in_err-script-clause-meant : goal.returns-in_err-script-clause-meant
-returns-in_err-script-clause-meant g c =
-    let p = err_from_is_err_and c.from_residual.result c.from_residual.ensures.1 in
-    rw (p.1, p.2) (unread_input (λ r. g.R.Read.remaining r) c.args.input _ (asked c.args.request) (map string_bytes c.args.entries.now) c.args.name _ _
-    c.requires refl c.in_err-script.ensures.unopened c.in_err-script.ensures.err)
+pub run_read-requires : goal.run_read-requires
+run_read-requires g c = no_wrong_use c.args.name c.read_script-read.result c.read_script-read.ensures.err
+
+pub returns-clause-meant : goal.returns-clause-meant
+returns-clause-meant g c =
+    input_run (g.W.World.events c.args.world.now) (g.W.World.events c.run_read.new.world) (asked c.args.request) (map string_bytes c.args.entries.now) c.args.name
+    c.run_read.result c.requires (λ r. g.R.Read.remaining r) c.args.input c.read_script-read.result
+    c.read_script-read.ensures.unopened c.read_script-read.ensures.script c.read_script-read.ensures.err c.run_read.ensures.meant

@@ -11,10 +11,10 @@ use Rattle.rc_cli.proofs.running.run_script.Goals as goal
 pub returns-in_err-state-clause-meant : goal.returns-in_err-state-clause-meant
 returns-in_err-state-clause-meant g c =
     let p = err_from_is_err_and c.from_residual.result c.from_residual.ensures.1 in
-    rw (p.1, p.2) (left_untold _ (asked c.args.request).source (text_from c.args.script.now (first_state (asked c.args.request) (map string_bytes c.args.entries.now))))
+    rw (p.1, p.2) (left_untold _ (text_from c.args.script.now (first_state (asked c.args.request) (map string_bytes c.args.entries.now))))
 
 pub returns-clause-meant : goal.returns-clause-meant
 returns-clause-meant g c =
-    script_answered (g.W.World.events c.args.world.now) (g.W.World.events c.execute.new.world) (asked c.args.request).source c.args.script.now
+    script_answered (g.W.World.events c.args.world.now) (g.W.World.events c.execute.new.world) c.args.script.now
     (state_of c.in_ok-state.state) (first_state (asked c.args.request) (map string_bytes c.args.entries.now)) c.execute.result c.answer.result
     c.in_ok-state.ensures c.answer.ensures.answers c.execute.ensures.accepted c.execute.ensures.syntax c.execute.ensures.meant c.execute.ensures.silent
