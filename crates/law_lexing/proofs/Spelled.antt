@@ -1,12 +1,13 @@
 -- The lexemes of a text are spelled as lexemes are.
 use Rattle.std.proofs.Common.{◌≡◌, refl, ap, sym, ◌∙◌, subst, ℕ, Bool, true, false, not, ◌==◌, if◌then◌else◌, List, [], ◌∷◌}
-use Rattle.std.proofs.Common.{◌++◌, map, Some, Result, Ok, Err, rules}
+use Rattle.std.proofs.Common.{◌++◌, Some, Result, Ok, Err, rules}
 use Rattle.std.specs.Prelude.{option_map, find, bytes_eq}
 use Rattle.std.specs.List.{list_all}
 use Rattle.std.specs.Str.{chars}
 use Rattle.std.proofs.lemmas.Bool.{and_parts, and_from}
 use Rattle.std.proofs.lemmas.Str.{chars-encodes, scalars-chars}
 use lib.Utf8.{scalar, scalars, encodes}
+use Rattle.rc_model.specs.Syntax.Accepted.{lexemes}
 use Rattle.rc_model.specs.Syntax.Text.{without_zero}
 use Rattle.rc_model.specs.Syntax.Tokens.{Lexeme, Token, Place, Before, Spells, Cuts, Lexes, Outcome, Run, Class, InQuotes, Bodies, word_goes_on}
 use Rattle.rc_model.specs.Syntax.Tokens.{name_goes_on, is_in_word, class_of, is_name_char}
@@ -102,9 +103,6 @@ lexeme_spelled _ _ _ _ (k.quoted prev cs rest q b) s z =
     subst IsText (sym same) (text_of u.inner u.scalar u.clean)
 lexeme_spelled _ _ _ _ (k.operated prev cs rest l a o n g) s z =
     meant_spelled prev rest l (found_spelled cs l operators operators_spelled o)
-
-abbrev lexemes : List Token → List Lexeme
-lexemes ts = map (λ t. t.lexeme) ts
 
 spelled_append : (xs ys : List Token) → AreSpelled (lexemes xs) → AreSpelled (lexemes ys) → AreSpelled (lexemes (xs ++ ys))
 spelled_append [] ys w v = v
