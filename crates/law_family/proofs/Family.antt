@@ -36,7 +36,7 @@ slot_held a slots zero h = h.input
 slot_held a slots (suc zero) h = h.output
 slot_held a slots (suc (suc n)) h = h.errors
 
-abbrev launch_of : Option (Launch × ℕ) → Launch → Launch
+abbrev pub launch_of : Option (Launch × ℕ) → Launch → Launch
 launch_of None l = l
 launch_of (Some o) l = o.0
 

@@ -10,7 +10,7 @@ use Rattle.rc_model.specs.Family.Family.{Process, Family, Step, shell_of, shell_
 use Rattle.law_traces.proofs.Keep.{put_self, put_other}
 use Rattle.law_traces.proofs.Traces.{ended_leaves_nothing}
 use Rattle.law_family.proofs.Accounts.{Sound, put_field, pending_allowed, meant_sound, meant_nothing_lost}
-use Rattle.law_family.proofs.Family.{launch_is, InRange, in_range, stays, more, inv_first, inv_family, write_ends, no_ring}
+use Rattle.law_family.proofs.Family.{launch_is, InRange, in_range, stays, more, inv_first, inv_family, write_ends, no_ring, launch_of}
 
 abbrev number_of : Option (Launch × ℕ) → ℕ → ℕ
 number_of None m = m
@@ -24,10 +24,6 @@ answer_is (start k) (child m) l n e = by_program k.program e
     by_program (Some p) e = absurd cc
 answer_is (start k) _ l n e = absurd cc
 answer_is _ x l n e = absurd cc
-
-abbrev launch_of : Option (Launch × ℕ) → Launch → Launch
-launch_of None l = l
-launch_of (Some o) l = o.0
 
 program_is : (c : Call) (x : Answer) (l : Launch) (n : ℕ) → shell_started c x ≡ Some (l, n) → l.program ≡ None
 program_is (start k) (child m) l n e = by_program k.program refl e

@@ -1,6 +1,6 @@
 -- A tree has one spelling, which is the one that is written.
 use Rattle.std.specs.Prelude.{IsTrue, codes, nat_le}
-use Rattle.std.proofs.Common.{◌≡◌, ℕ, ◌+◌, ◌≤◌, ◌<◌, List, [], ◌∷◌, ◌++◌, length, Bool, true, ◌&&◌, ◌||◌, refl, sym, ap, ◌∙◌, append_assoc, arith}
+use Rattle.std.proofs.Common.{◌≡◌, ℕ, ◌+◌, ◌≤◌, ◌<◌, List, [], ◌∷◌, ◌++◌, length, Bool, ◌&&◌, ◌||◌, refl, sym, ap, ◌∙◌, append_assoc, arith}
 use Rattle.std.specs.Str.{is_utf8}
 use Rattle.std.specs.Fmt.{decimal}
 use Rattle.std.proofs.lemmas.Fmt.{decimal_digit}
@@ -15,6 +15,7 @@ use Rattle.rc_model.specs.Syntax.Tree as t
 use Rattle.rc_model.specs.Handed.Image.{node_image, many_image, list_image, text_image, literal_mark, opening_mark}
 use Rattle.rc_model.specs.Syntax.WellFormed.{is_sound, are_sound, is_output, opens, copies, has_text, has_some, has_several, has_stages}
 use Rattle.rc_model.specs.Handed.TreeSpelling.{◌⨾◌, Is, Number, Output, Crossing, Texted, Listed, Opened, Spells, SpellsAll, all_in, all_in_many, has_characters, within}
+use Rattle.rc_model.specs.Handed.TreeReading.{any}
 use Rattle.law_image.proofs.Counts.{number_is, number_of_decimal}
 
 pub joins : {P Q : List ℕ → Type 0} {text : List ℕ} (j : (P ⨾ Q) text) (a b : List ℕ) → j.front ≡ a → j.back ≡ b → text ≡ a ++ b
@@ -110,9 +111,6 @@ size n = nat_le n greatest_number
 abbrev short : List ℕ → Bool
 short text = nat_le (length text) greatest_number
 
-abbrev anything : ℕ → Bool
-anything n = true
-
 texted : (x : List ℕ) → IsTrue (without_zero x) → IsTrue (is_utf8 x) → IsTrue (short x) → Texted x (text_image x)
 texted x z u h = record { characters = and_from (is_utf8 x) _ u z; spelled = listing (length x) 58 x (leb-true (length x) greatest_number h) refl }
 
@@ -134,47 +132,47 @@ mutual
 
   pub spelled : {s : Sort} (x : Node s) → IsTrue (is_sound x) → IsTrue (has_characters x) → IsTrue (within greatest_number x) → Spells x (node_image x)
   spelled t.Empty s u w = refl
-  spelled (t.Seq items) s u w = let ul0 = and_parts (anything (count items)) (all_in_many is_utf8 anything items) u in let wl0 = and_parts (size (count items)) (all_in_many short size items) w in mark _ ((list_image (count items) (many_image items))) (listing (count items) 44 (many_image items) (leb-true (count items) greatest_number wl0.0) (all_spelled items s ul0.1 wl0.1))
-  spelled (t.Simple words) s u w = let s0 = and_parts (has_some words) (are_sound words) s in let ul0 = and_parts (anything (count words)) (all_in_many is_utf8 anything words) u in let wl0 = and_parts (size (count words)) (all_in_many short size words) w in mark _ ((list_image (count words) (many_image words))) (listing (count words) 44 (many_image words) (leb-true (count words) greatest_number wl0.0) (all_spelled words s0.1 ul0.1 wl0.1))
-  spelled (t.Assign pairs body) s u w = let s0 = and_parts (has_some pairs) (are_sound pairs && is_sound body) s in let s1 = and_parts (are_sound pairs) (is_sound body) s0.1 in let u0 = and_parts ((anything (count pairs) && all_in_many is_utf8 anything pairs)) (all_in is_utf8 anything body) u in let ul0 = and_parts (anything (count pairs)) (all_in_many is_utf8 anything pairs) u0.0 in let w0 = and_parts ((size (count pairs) && all_in_many short size pairs)) (all_in short size body) w in let wl0 = and_parts (size (count pairs)) (all_in_many short size pairs) w0.0 in mark _ ((list_image (count pairs) (many_image pairs)) ++ (node_image body)) (put (list_image (count pairs) (many_image pairs)) ((node_image body)) (listing (count pairs) 44 (many_image pairs) (leb-true (count pairs) greatest_number wl0.0) (all_spelled pairs s1.0 ul0.1 wl0.1)) (spelled body s1.1 u0.1 w0.1))
-  spelled (t.Redirect redirs body) s u w = let s0 = and_parts (has_some redirs) (are_sound redirs && is_sound body) s in let s1 = and_parts (are_sound redirs) (is_sound body) s0.1 in let u0 = and_parts ((anything (count redirs) && all_in_many is_utf8 anything redirs)) (all_in is_utf8 anything body) u in let ul0 = and_parts (anything (count redirs)) (all_in_many is_utf8 anything redirs) u0.0 in let w0 = and_parts ((size (count redirs) && all_in_many short size redirs)) (all_in short size body) w in let wl0 = and_parts (size (count redirs)) (all_in_many short size redirs) w0.0 in mark _ ((list_image (count redirs) (many_image redirs)) ++ (node_image body)) (put (list_image (count redirs) (many_image redirs)) ((node_image body)) (listing (count redirs) 44 (many_image redirs) (leb-true (count redirs) greatest_number wl0.0) (all_spelled redirs s1.0 ul0.1 wl0.1)) (spelled body s1.1 u0.1 w0.1))
-  spelled (t.Pipeline stages last) s u w = let s0 = and_parts (has_stages stages) (are_sound stages && is_sound last) s in let s1 = and_parts (are_sound stages) (is_sound last) s0.1 in let u0 = and_parts ((anything (count stages) && all_in_many is_utf8 anything stages)) (all_in is_utf8 anything last) u in let ul0 = and_parts (anything (count stages)) (all_in_many is_utf8 anything stages) u0.0 in let w0 = and_parts ((size (count stages) && all_in_many short size stages)) (all_in short size last) w in let wl0 = and_parts (size (count stages)) (all_in_many short size stages) w0.0 in mark _ ((list_image (count stages) (many_image stages)) ++ (node_image last)) (put (list_image (count stages) (many_image stages)) ((node_image last)) (listing (count stages) 44 (many_image stages) (leb-true (count stages) greatest_number wl0.0) (all_spelled stages s1.0 ul0.1 wl0.1)) (spelled last s1.1 u0.1 w0.1))
-  spelled (t.AndOr first links) s u w = let s0 = and_parts (has_some links) (is_sound first && are_sound links) s in let s1 = and_parts (is_sound first) (are_sound links) s0.1 in let u0 = and_parts (all_in is_utf8 anything first) ((anything (count links) && all_in_many is_utf8 anything links)) u in let ul1 = and_parts (anything (count links)) (all_in_many is_utf8 anything links) u0.1 in let w0 = and_parts (all_in short size first) ((size (count links) && all_in_many short size links)) w in let wl1 = and_parts (size (count links)) (all_in_many short size links) w0.1 in mark _ ((node_image first) ++ (list_image (count links) (many_image links))) (put (node_image first) ((list_image (count links) (many_image links))) (spelled first s1.0 u0.0 w0.0) (listing (count links) 44 (many_image links) (leb-true (count links) greatest_number wl1.0) (all_spelled links s1.1 ul1.1 wl1.1)))
+  spelled (t.Seq items) s u w = let ul0 = and_parts (any (count items)) (all_in_many is_utf8 any items) u in let wl0 = and_parts (size (count items)) (all_in_many short size items) w in mark _ ((list_image (count items) (many_image items))) (listing (count items) 44 (many_image items) (leb-true (count items) greatest_number wl0.0) (all_spelled items s ul0.1 wl0.1))
+  spelled (t.Simple words) s u w = let s0 = and_parts (has_some words) (are_sound words) s in let ul0 = and_parts (any (count words)) (all_in_many is_utf8 any words) u in let wl0 = and_parts (size (count words)) (all_in_many short size words) w in mark _ ((list_image (count words) (many_image words))) (listing (count words) 44 (many_image words) (leb-true (count words) greatest_number wl0.0) (all_spelled words s0.1 ul0.1 wl0.1))
+  spelled (t.Assign pairs body) s u w = let s0 = and_parts (has_some pairs) (are_sound pairs && is_sound body) s in let s1 = and_parts (are_sound pairs) (is_sound body) s0.1 in let u0 = and_parts ((any (count pairs) && all_in_many is_utf8 any pairs)) (all_in is_utf8 any body) u in let ul0 = and_parts (any (count pairs)) (all_in_many is_utf8 any pairs) u0.0 in let w0 = and_parts ((size (count pairs) && all_in_many short size pairs)) (all_in short size body) w in let wl0 = and_parts (size (count pairs)) (all_in_many short size pairs) w0.0 in mark _ ((list_image (count pairs) (many_image pairs)) ++ (node_image body)) (put (list_image (count pairs) (many_image pairs)) ((node_image body)) (listing (count pairs) 44 (many_image pairs) (leb-true (count pairs) greatest_number wl0.0) (all_spelled pairs s1.0 ul0.1 wl0.1)) (spelled body s1.1 u0.1 w0.1))
+  spelled (t.Redirect redirs body) s u w = let s0 = and_parts (has_some redirs) (are_sound redirs && is_sound body) s in let s1 = and_parts (are_sound redirs) (is_sound body) s0.1 in let u0 = and_parts ((any (count redirs) && all_in_many is_utf8 any redirs)) (all_in is_utf8 any body) u in let ul0 = and_parts (any (count redirs)) (all_in_many is_utf8 any redirs) u0.0 in let w0 = and_parts ((size (count redirs) && all_in_many short size redirs)) (all_in short size body) w in let wl0 = and_parts (size (count redirs)) (all_in_many short size redirs) w0.0 in mark _ ((list_image (count redirs) (many_image redirs)) ++ (node_image body)) (put (list_image (count redirs) (many_image redirs)) ((node_image body)) (listing (count redirs) 44 (many_image redirs) (leb-true (count redirs) greatest_number wl0.0) (all_spelled redirs s1.0 ul0.1 wl0.1)) (spelled body s1.1 u0.1 w0.1))
+  spelled (t.Pipeline stages last) s u w = let s0 = and_parts (has_stages stages) (are_sound stages && is_sound last) s in let s1 = and_parts (are_sound stages) (is_sound last) s0.1 in let u0 = and_parts ((any (count stages) && all_in_many is_utf8 any stages)) (all_in is_utf8 any last) u in let ul0 = and_parts (any (count stages)) (all_in_many is_utf8 any stages) u0.0 in let w0 = and_parts ((size (count stages) && all_in_many short size stages)) (all_in short size last) w in let wl0 = and_parts (size (count stages)) (all_in_many short size stages) w0.0 in mark _ ((list_image (count stages) (many_image stages)) ++ (node_image last)) (put (list_image (count stages) (many_image stages)) ((node_image last)) (listing (count stages) 44 (many_image stages) (leb-true (count stages) greatest_number wl0.0) (all_spelled stages s1.0 ul0.1 wl0.1)) (spelled last s1.1 u0.1 w0.1))
+  spelled (t.AndOr first links) s u w = let s0 = and_parts (has_some links) (is_sound first && are_sound links) s in let s1 = and_parts (is_sound first) (are_sound links) s0.1 in let u0 = and_parts (all_in is_utf8 any first) ((any (count links) && all_in_many is_utf8 any links)) u in let ul1 = and_parts (any (count links)) (all_in_many is_utf8 any links) u0.1 in let w0 = and_parts (all_in short size first) ((size (count links) && all_in_many short size links)) w in let wl1 = and_parts (size (count links)) (all_in_many short size links) w0.1 in mark _ ((node_image first) ++ (list_image (count links) (many_image links))) (put (node_image first) ((list_image (count links) (many_image links))) (spelled first s1.0 u0.0 w0.0) (listing (count links) 44 (many_image links) (leb-true (count links) greatest_number wl1.0) (all_spelled links s1.1 ul1.1 wl1.1)))
   spelled (t.Not body) s u w = mark _ ((node_image body)) (spelled body s u w)
   spelled (t.Subshell body) s u w = mark _ ((node_image body)) (spelled body s u w)
-  spelled (t.If condition body) s u w = let s0 = and_parts (is_sound condition) (is_sound body) s in let u0 = and_parts (all_in is_utf8 anything condition) (all_in is_utf8 anything body) u in let w0 = and_parts (all_in short size condition) (all_in short size body) w in mark _ ((node_image condition) ++ (node_image body)) (put (node_image condition) ((node_image body)) (spelled condition s0.0 u0.0 w0.0) (spelled body s0.1 u0.1 w0.1))
+  spelled (t.If condition body) s u w = let s0 = and_parts (is_sound condition) (is_sound body) s in let u0 = and_parts (all_in is_utf8 any condition) (all_in is_utf8 any body) u in let w0 = and_parts (all_in short size condition) (all_in short size body) w in mark _ ((node_image condition) ++ (node_image body)) (put (node_image condition) ((node_image body)) (spelled condition s0.0 u0.0 w0.0) (spelled body s0.1 u0.1 w0.1))
   spelled (t.IfNot body) s u w = mark _ ((node_image body)) (spelled body s u w)
-  spelled (t.While condition body) s u w = let s0 = and_parts (is_sound condition) (is_sound body) s in let u0 = and_parts (all_in is_utf8 anything condition) (all_in is_utf8 anything body) u in let w0 = and_parts (all_in short size condition) (all_in short size body) w in mark _ ((node_image condition) ++ (node_image body)) (put (node_image condition) ((node_image body)) (spelled condition s0.0 u0.0 w0.0) (spelled body s0.1 u0.1 w0.1))
-  spelled (t.ForAll name body) s u w = let s0 = and_parts (is_sound name) (is_sound body) s in let u0 = and_parts (all_in is_utf8 anything name) (all_in is_utf8 anything body) u in let w0 = and_parts (all_in short size name) (all_in short size body) w in mark _ ((node_image name) ++ (node_image body)) (put (node_image name) ((node_image body)) (spelled name s0.0 u0.0 w0.0) (spelled body s0.1 u0.1 w0.1))
-  spelled (t.For name words body) s u w = let s0 = and_parts (is_sound name) (are_sound words && is_sound body) s in let s1 = and_parts (are_sound words) (is_sound body) s0.1 in let u0 = and_parts (all_in is_utf8 anything name) ((anything (count words) && all_in_many is_utf8 anything words) && all_in is_utf8 anything body) u in let u1 = and_parts ((anything (count words) && all_in_many is_utf8 anything words)) (all_in is_utf8 anything body) u0.1 in let ul1 = and_parts (anything (count words)) (all_in_many is_utf8 anything words) u1.0 in let w0 = and_parts (all_in short size name) ((size (count words) && all_in_many short size words) && all_in short size body) w in let w1 = and_parts ((size (count words) && all_in_many short size words)) (all_in short size body) w0.1 in let wl1 = and_parts (size (count words)) (all_in_many short size words) w1.0 in mark _ ((node_image name) ++ ((list_image (count words) (many_image words)) ++ (node_image body))) (put (node_image name) ((list_image (count words) (many_image words)) ++ (node_image body)) (spelled name s0.0 u0.0 w0.0) (put (list_image (count words) (many_image words)) ((node_image body)) (listing (count words) 44 (many_image words) (leb-true (count words) greatest_number wl1.0) (all_spelled words s1.0 ul1.1 wl1.1)) (spelled body s1.1 u1.1 w1.1)))
-  spelled (t.Switch subject branches) s u w = let s0 = and_parts (is_sound subject) (are_sound branches) s in let u0 = and_parts (all_in is_utf8 anything subject) ((anything (count branches) && all_in_many is_utf8 anything branches)) u in let ul1 = and_parts (anything (count branches)) (all_in_many is_utf8 anything branches) u0.1 in let w0 = and_parts (all_in short size subject) ((size (count branches) && all_in_many short size branches)) w in let wl1 = and_parts (size (count branches)) (all_in_many short size branches) w0.1 in mark _ ((node_image subject) ++ (list_image (count branches) (many_image branches))) (put (node_image subject) ((list_image (count branches) (many_image branches))) (spelled subject s0.0 u0.0 w0.0) (listing (count branches) 44 (many_image branches) (leb-true (count branches) greatest_number wl1.0) (all_spelled branches s0.1 ul1.1 wl1.1)))
-  spelled (t.Match subject patterns) s u w = let s0 = and_parts (is_sound subject) (are_sound patterns) s in let u0 = and_parts (all_in is_utf8 anything subject) ((anything (count patterns) && all_in_many is_utf8 anything patterns)) u in let ul1 = and_parts (anything (count patterns)) (all_in_many is_utf8 anything patterns) u0.1 in let w0 = and_parts (all_in short size subject) ((size (count patterns) && all_in_many short size patterns)) w in let wl1 = and_parts (size (count patterns)) (all_in_many short size patterns) w0.1 in mark _ ((node_image subject) ++ (list_image (count patterns) (many_image patterns))) (put (node_image subject) ((list_image (count patterns) (many_image patterns))) (spelled subject s0.0 u0.0 w0.0) (listing (count patterns) 44 (many_image patterns) (leb-true (count patterns) greatest_number wl1.0) (all_spelled patterns s0.1 ul1.1 wl1.1)))
-  spelled (t.Define names body) s u w = let s0 = and_parts (has_some names) (are_sound names && is_sound body) s in let s1 = and_parts (are_sound names) (is_sound body) s0.1 in let u0 = and_parts ((anything (count names) && all_in_many is_utf8 anything names)) (all_in is_utf8 anything body) u in let ul0 = and_parts (anything (count names)) (all_in_many is_utf8 anything names) u0.0 in let w0 = and_parts ((size (count names) && all_in_many short size names)) (all_in short size body) w in let wl0 = and_parts (size (count names)) (all_in_many short size names) w0.0 in mark _ ((list_image (count names) (many_image names)) ++ (node_image body)) (put (list_image (count names) (many_image names)) ((node_image body)) (listing (count names) 44 (many_image names) (leb-true (count names) greatest_number wl0.0) (all_spelled names s1.0 ul0.1 wl0.1)) (spelled body s1.1 u0.1 w0.1))
-  spelled (t.Undefine names) s u w = let s0 = and_parts (has_some names) (are_sound names) s in let ul0 = and_parts (anything (count names)) (all_in_many is_utf8 anything names) u in let wl0 = and_parts (size (count names)) (all_in_many short size names) w in mark _ ((list_image (count names) (many_image names))) (listing (count names) 44 (many_image names) (leb-true (count names) greatest_number wl0.0) (all_spelled names s0.1 ul0.1 wl0.1))
+  spelled (t.While condition body) s u w = let s0 = and_parts (is_sound condition) (is_sound body) s in let u0 = and_parts (all_in is_utf8 any condition) (all_in is_utf8 any body) u in let w0 = and_parts (all_in short size condition) (all_in short size body) w in mark _ ((node_image condition) ++ (node_image body)) (put (node_image condition) ((node_image body)) (spelled condition s0.0 u0.0 w0.0) (spelled body s0.1 u0.1 w0.1))
+  spelled (t.ForAll name body) s u w = let s0 = and_parts (is_sound name) (is_sound body) s in let u0 = and_parts (all_in is_utf8 any name) (all_in is_utf8 any body) u in let w0 = and_parts (all_in short size name) (all_in short size body) w in mark _ ((node_image name) ++ (node_image body)) (put (node_image name) ((node_image body)) (spelled name s0.0 u0.0 w0.0) (spelled body s0.1 u0.1 w0.1))
+  spelled (t.For name words body) s u w = let s0 = and_parts (is_sound name) (are_sound words && is_sound body) s in let s1 = and_parts (are_sound words) (is_sound body) s0.1 in let u0 = and_parts (all_in is_utf8 any name) ((any (count words) && all_in_many is_utf8 any words) && all_in is_utf8 any body) u in let u1 = and_parts ((any (count words) && all_in_many is_utf8 any words)) (all_in is_utf8 any body) u0.1 in let ul1 = and_parts (any (count words)) (all_in_many is_utf8 any words) u1.0 in let w0 = and_parts (all_in short size name) ((size (count words) && all_in_many short size words) && all_in short size body) w in let w1 = and_parts ((size (count words) && all_in_many short size words)) (all_in short size body) w0.1 in let wl1 = and_parts (size (count words)) (all_in_many short size words) w1.0 in mark _ ((node_image name) ++ ((list_image (count words) (many_image words)) ++ (node_image body))) (put (node_image name) ((list_image (count words) (many_image words)) ++ (node_image body)) (spelled name s0.0 u0.0 w0.0) (put (list_image (count words) (many_image words)) ((node_image body)) (listing (count words) 44 (many_image words) (leb-true (count words) greatest_number wl1.0) (all_spelled words s1.0 ul1.1 wl1.1)) (spelled body s1.1 u1.1 w1.1)))
+  spelled (t.Switch subject branches) s u w = let s0 = and_parts (is_sound subject) (are_sound branches) s in let u0 = and_parts (all_in is_utf8 any subject) ((any (count branches) && all_in_many is_utf8 any branches)) u in let ul1 = and_parts (any (count branches)) (all_in_many is_utf8 any branches) u0.1 in let w0 = and_parts (all_in short size subject) ((size (count branches) && all_in_many short size branches)) w in let wl1 = and_parts (size (count branches)) (all_in_many short size branches) w0.1 in mark _ ((node_image subject) ++ (list_image (count branches) (many_image branches))) (put (node_image subject) ((list_image (count branches) (many_image branches))) (spelled subject s0.0 u0.0 w0.0) (listing (count branches) 44 (many_image branches) (leb-true (count branches) greatest_number wl1.0) (all_spelled branches s0.1 ul1.1 wl1.1)))
+  spelled (t.Match subject patterns) s u w = let s0 = and_parts (is_sound subject) (are_sound patterns) s in let u0 = and_parts (all_in is_utf8 any subject) ((any (count patterns) && all_in_many is_utf8 any patterns)) u in let ul1 = and_parts (any (count patterns)) (all_in_many is_utf8 any patterns) u0.1 in let w0 = and_parts (all_in short size subject) ((size (count patterns) && all_in_many short size patterns)) w in let wl1 = and_parts (size (count patterns)) (all_in_many short size patterns) w0.1 in mark _ ((node_image subject) ++ (list_image (count patterns) (many_image patterns))) (put (node_image subject) ((list_image (count patterns) (many_image patterns))) (spelled subject s0.0 u0.0 w0.0) (listing (count patterns) 44 (many_image patterns) (leb-true (count patterns) greatest_number wl1.0) (all_spelled patterns s0.1 ul1.1 wl1.1)))
+  spelled (t.Define names body) s u w = let s0 = and_parts (has_some names) (are_sound names && is_sound body) s in let s1 = and_parts (are_sound names) (is_sound body) s0.1 in let u0 = and_parts ((any (count names) && all_in_many is_utf8 any names)) (all_in is_utf8 any body) u in let ul0 = and_parts (any (count names)) (all_in_many is_utf8 any names) u0.0 in let w0 = and_parts ((size (count names) && all_in_many short size names)) (all_in short size body) w in let wl0 = and_parts (size (count names)) (all_in_many short size names) w0.0 in mark _ ((list_image (count names) (many_image names)) ++ (node_image body)) (put (list_image (count names) (many_image names)) ((node_image body)) (listing (count names) 44 (many_image names) (leb-true (count names) greatest_number wl0.0) (all_spelled names s1.0 ul0.1 wl0.1)) (spelled body s1.1 u0.1 w0.1))
+  spelled (t.Undefine names) s u w = let s0 = and_parts (has_some names) (are_sound names) s in let ul0 = and_parts (any (count names)) (all_in_many is_utf8 any names) u in let wl0 = and_parts (size (count names)) (all_in_many short size names) w in mark _ ((list_image (count names) (many_image names))) (listing (count names) 44 (many_image names) (leb-true (count names) greatest_number wl0.0) (all_spelled names s0.1 ul0.1 wl0.1))
   spelled (t.Brace body) s u w = mark _ ((node_image body)) (spelled body s u w)
-  spelled (t.Concat parts) s u w = let s0 = and_parts (has_several parts) (are_sound parts) s in let ul0 = and_parts (anything (count parts)) (all_in_many is_utf8 anything parts) u in let wl0 = and_parts (size (count parts)) (all_in_many short size parts) w in mark _ ((list_image (count parts) (many_image parts))) (listing (count parts) 44 (many_image parts) (leb-true (count parts) greatest_number wl0.0) (all_spelled parts s0.1 ul0.1 wl0.1))
-  spelled (t.Paren words) s u w = let ul0 = and_parts (anything (count words)) (all_in_many is_utf8 anything words) u in let wl0 = and_parts (size (count words)) (all_in_many short size words) w in mark _ ((list_image (count words) (many_image words))) (listing (count words) 44 (many_image words) (leb-true (count words) greatest_number wl0.0) (all_spelled words s ul0.1 wl0.1))
+  spelled (t.Concat parts) s u w = let s0 = and_parts (has_several parts) (are_sound parts) s in let ul0 = and_parts (any (count parts)) (all_in_many is_utf8 any parts) u in let wl0 = and_parts (size (count parts)) (all_in_many short size parts) w in mark _ ((list_image (count parts) (many_image parts))) (listing (count parts) 44 (many_image parts) (leb-true (count parts) greatest_number wl0.0) (all_spelled parts s0.1 ul0.1 wl0.1))
+  spelled (t.Paren words) s u w = let ul0 = and_parts (any (count words)) (all_in_many is_utf8 any words) u in let wl0 = and_parts (size (count words)) (all_in_many short size words) w in mark _ ((list_image (count words) (many_image words))) (listing (count words) 44 (many_image words) (leb-true (count words) greatest_number wl0.0) (all_spelled words s ul0.1 wl0.1))
   spelled (t.Var name) s u w = mark _ ((node_image name)) (spelled name s u w)
   spelled (t.Count name) s u w = mark _ ((node_image name)) (spelled name s u w)
   spelled (t.Flat name) s u w = mark _ ((node_image name)) (spelled name s u w)
-  spelled (t.Sub name subscripts) s u w = let s0 = and_parts (is_sound name) (are_sound subscripts) s in let u0 = and_parts (all_in is_utf8 anything name) ((anything (count subscripts) && all_in_many is_utf8 anything subscripts)) u in let ul1 = and_parts (anything (count subscripts)) (all_in_many is_utf8 anything subscripts) u0.1 in let w0 = and_parts (all_in short size name) ((size (count subscripts) && all_in_many short size subscripts)) w in let wl1 = and_parts (size (count subscripts)) (all_in_many short size subscripts) w0.1 in mark _ ((node_image name) ++ (list_image (count subscripts) (many_image subscripts))) (put (node_image name) ((list_image (count subscripts) (many_image subscripts))) (spelled name s0.0 u0.0 w0.0) (listing (count subscripts) 44 (many_image subscripts) (leb-true (count subscripts) greatest_number wl1.0) (all_spelled subscripts s0.1 ul1.1 wl1.1)))
+  spelled (t.Sub name subscripts) s u w = let s0 = and_parts (is_sound name) (are_sound subscripts) s in let u0 = and_parts (all_in is_utf8 any name) ((any (count subscripts) && all_in_many is_utf8 any subscripts)) u in let ul1 = and_parts (any (count subscripts)) (all_in_many is_utf8 any subscripts) u0.1 in let w0 = and_parts (all_in short size name) ((size (count subscripts) && all_in_many short size subscripts)) w in let wl1 = and_parts (size (count subscripts)) (all_in_many short size subscripts) w0.1 in mark _ ((node_image name) ++ (list_image (count subscripts) (many_image subscripts))) (put (node_image name) ((list_image (count subscripts) (many_image subscripts))) (spelled name s0.0 u0.0 w0.0) (listing (count subscripts) 44 (many_image subscripts) (leb-true (count subscripts) greatest_number wl1.0) (all_spelled subscripts s0.1 ul1.1 wl1.1)))
   spelled (t.Back body) s u w = mark _ ((node_image body)) (spelled body s u w)
   spelled (t.Item body background) s u w = mark _ ((node_image body)) (spelled body s u w)
-  spelled (t.Pair name value) s u w = let s0 = and_parts (is_sound name) (is_sound value) s in let u0 = and_parts (all_in is_utf8 anything name) (all_in is_utf8 anything value) u in let w0 = and_parts (all_in short size name) (all_in short size value) w in (put (node_image name) ((node_image value)) (spelled name s0.0 u0.0 w0.0) (spelled value s0.1 u0.1 w0.1))
+  spelled (t.Pair name value) s u w = let s0 = and_parts (is_sound name) (is_sound value) s in let u0 = and_parts (all_in is_utf8 any name) (all_in is_utf8 any value) u in let w0 = and_parts (all_in short size name) (all_in short size value) w in (put (node_image name) ((node_image value)) (spelled name s0.0 u0.0 w0.0) (spelled value s0.1 u0.1 w0.1))
   spelled (t.Stage body slot) s u w = let s0 = and_parts (is_output slot) (is_sound body) s in put (decimal slot) ((node_image body)) (output slot s0.0) (spelled body s0.1 u w)
   spelled (t.Link logic body) s u w = mark _ ((node_image body)) (spelled body s u w)
-  spelled (t.Branch patterns body) s u w = let s0 = and_parts (are_sound patterns) (is_sound body) s in let u0 = and_parts ((anything (count patterns) && all_in_many is_utf8 anything patterns)) (all_in is_utf8 anything body) u in let ul0 = and_parts (anything (count patterns)) (all_in_many is_utf8 anything patterns) u0.0 in let w0 = and_parts ((size (count patterns) && all_in_many short size patterns)) (all_in short size body) w in let wl0 = and_parts (size (count patterns)) (all_in_many short size patterns) w0.0 in (put (list_image (count patterns) (many_image patterns)) ((node_image body)) (listing (count patterns) 44 (many_image patterns) (leb-true (count patterns) greatest_number wl0.0) (all_spelled patterns s0.0 ul0.1 wl0.1)) (spelled body s0.1 u0.1 w0.1))
+  spelled (t.Branch patterns body) s u w = let s0 = and_parts (are_sound patterns) (is_sound body) s in let u0 = and_parts ((any (count patterns) && all_in_many is_utf8 any patterns)) (all_in is_utf8 any body) u in let ul0 = and_parts (any (count patterns)) (all_in_many is_utf8 any patterns) u0.0 in let w0 = and_parts ((size (count patterns) && all_in_many short size patterns)) (all_in short size body) w in let wl0 = and_parts (size (count patterns)) (all_in_many short size patterns) w0.0 in (put (list_image (count patterns) (many_image patterns)) ((node_image body)) (listing (count patterns) 44 (many_image patterns) (leb-true (count patterns) greatest_number wl0.0) (all_spelled patterns s0.0 ul0.1 wl0.1)) (spelled body s0.1 u0.1 w0.1))
   spelled (t.Open mode slot path) s u w = let s0 = and_parts (opens mode slot) (is_sound path) s in opened mode slot (Spells path) (node_image path) s0.0 (spelled path s0.1 u w)
-  spelled (t.Here pieces) s u w = let ul0 = and_parts (anything (count pieces)) (all_in_many is_utf8 anything pieces) u in let wl0 = and_parts (size (count pieces)) (all_in_many short size pieces) w in mark _ ((list_image (count pieces) (many_image pieces))) (listing (count pieces) 44 (many_image pieces) (leb-true (count pieces) greatest_number wl0.0) (all_spelled pieces s ul0.1 wl0.1))
+  spelled (t.Here pieces) s u w = let ul0 = and_parts (any (count pieces)) (all_in_many is_utf8 any pieces) u in let wl0 = and_parts (size (count pieces)) (all_in_many short size pieces) w in mark _ ((list_image (count pieces) (many_image pieces))) (listing (count pieces) 44 (many_image pieces) (leb-true (count pieces) greatest_number wl0.0) (all_spelled pieces s ul0.1 wl0.1))
   spelled (t.Lit x quoted) s u w = mark (literal_mark quoted) (text_image x) (texted x (and_parts (quoted || has_text x) _ s).1 u w)
   spelled (t.Copy to from) s u w = mark (codes "=") (decimal to ++ decimal from) (crossing to from s)
   spelled (t.Text x) s u w = mark (codes "t") (text_image x) (texted x s u w)
   spelled (t.Name x) s u w = mark (codes "v") (text_image x) (texted x s u w)
 
-  all_spelled : {s : Sort} (ns : Many s) → IsTrue (are_sound ns) → IsTrue (all_in_many is_utf8 anything ns) → IsTrue (all_in_many short size ns) → SpellsAll ns (many_image ns)
+  all_spelled : {s : Sort} (ns : Many s) → IsTrue (are_sound ns) → IsTrue (all_in_many is_utf8 any ns) → IsTrue (all_in_many short size ns) → SpellsAll ns (many_image ns)
   all_spelled none s u w = refl
   all_spelled (more n ns) s u w =
       let s0 = and_parts (is_sound n) (are_sound ns) s in
-      let u0 = and_parts (all_in is_utf8 anything n) (all_in_many is_utf8 anything ns) u in
+      let u0 = and_parts (all_in is_utf8 any n) (all_in_many is_utf8 any ns) u in
       let w0 = and_parts (all_in short size n) (all_in_many short size ns) w in
       put (node_image n) (many_image ns) (spelled n s0.0 u0.0 w0.0) (all_spelled ns s0.1 u0.1 w0.1)

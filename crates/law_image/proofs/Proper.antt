@@ -15,6 +15,7 @@ use Rattle.rc_model.specs.Syntax.Tree.{Node, cmd}
 use Rattle.rc_model.specs.Run.State.{State, new_state, visible, covered, values_of, status_name, is_name, is_function_name, put_values, set_value, push_local, end_local, pop_local, define, undefine}
 use Rattle.rc_model.specs.Handed.Arguments.{with_top, flat, entry_state}
 use Rattle.rc_model.specs.Handed.Proper.{Above, Ordered, IsProperTree, AllProperTrees, is_own_name, IsProper}
+use Rattle.rc_model.specs.Handed.Environment.{Variables}
 use Rattle.law_image.proofs.Entries.{by_order, keys_hold}
 
 above_after : {X : Type 0} (x k : List ℕ) (es : List (List ℕ × X)) → text_cmp x k ≡ Less → Above k es → Above x es
@@ -52,30 +53,27 @@ keys_remove P {X = X} test (e ∷ es) h =
     let k = and_parts (P e.0) (list_all (λ e. P e.0) es) h in
     remove_if (λ (z : List (List ℕ × X)). IsTrue (list_all (λ e. P e.0) z)) (test e.0) _ _ k.1 (and_from (P e.0) _ k.0 (keys_remove P test es k.1))
 
-abbrev Values : Type 0
-Values = List (List ℕ × List (List (List ℕ)))
-
-pub record ProperValues (vs : Values) : Type 0 where
+pub record ProperValues (vs : Variables) : Type 0 where
   pub names : IsTrue (list_all (λ b. is_own_name b.0) vs)
   pub ordered : Ordered vs
 
-values_put : (vs : Values) (name : List ℕ) (value : List (List (List ℕ))) → ProperValues vs → IsTrue (is_own_name name) → ProperValues (put_values vs name value)
+values_put : (vs : Variables) (name : List ℕ) (value : List (List (List ℕ))) → ProperValues vs → IsTrue (is_own_name name) → ProperValues (put_values vs name value)
 values_put vs name [] p n = record { names = keys_remove is_own_name (bytes_eq name) vs p.names; ordered = ordered_remove (bytes_eq name) vs p.ordered }
 values_put vs name (v ∷ value) p n = record { names = keys_hold is_own_name vs name (v ∷ value) p.names n; ordered = ordered_insert vs name (v ∷ value) p.ordered }
 
 -- a name that has values is one of a variable
-held_if : (name : List ℕ) (e : List ℕ × List (List (List ℕ))) (es : Values) (x : List (List (List ℕ))) → IsTrue (is_own_name e.0) → (lookup (bytes_eq name) es ≡ Some x → IsTrue (is_own_name name)) → (t : Bool) → bytes_eq name e.0 ≡ t
+held_if : (name : List ℕ) (e : List ℕ × List (List (List ℕ))) (es : Variables) (x : List (List (List ℕ))) → IsTrue (is_own_name e.0) → (lookup (bytes_eq name) es ≡ Some x → IsTrue (is_own_name name)) → (t : Bool) → bytes_eq name e.0 ≡ t
     → (if t then Some e.1 else lookup (bytes_eq name) es) ≡ Some x → IsTrue (is_own_name name)
 held_if name e es x n f true h g = ap is_own_name ((bytes_eq-Decides name e.0).0 h) ∙ n
 held_if name e es x n f false h g = f g
 
-held : (name : List ℕ) (es : Values) (x : List (List (List ℕ))) → IsTrue (list_all (λ b. is_own_name b.0) es) → lookup (bytes_eq name) es ≡ Some x → IsTrue (is_own_name name)
+held : (name : List ℕ) (es : Variables) (x : List (List (List ℕ))) → IsTrue (list_all (λ b. is_own_name b.0) es) → lookup (bytes_eq name) es ≡ Some x → IsTrue (is_own_name name)
 held name [] x n h = absurd (cc)
 held name (e ∷ es) x n h =
     let k = and_parts (is_own_name e.0) (list_all (λ b. is_own_name b.0) es) n in
     held_if name e es x k.0 (λ g. held name es x k.1 g) (bytes_eq name e.0) refl h
 
-uncover_by : (vs : Values) (name : List ℕ) (o : Option (List (List (List ℕ)))) → lookup (bytes_eq name) vs ≡ o → ProperValues vs → ProperValues (put_values vs name (covered (unwrap_or o [])))
+uncover_by : (vs : Variables) (name : List ℕ) (o : Option (List (List (List ℕ)))) → lookup (bytes_eq name) vs ≡ o → ProperValues vs → ProperValues (put_values vs name (covered (unwrap_or o [])))
 uncover_by vs name None e p = record { names = keys_remove is_own_name (bytes_eq name) vs p.names; ordered = ordered_remove (bytes_eq name) vs p.ordered }
 uncover_by vs name (Some x) e p = values_put vs name (covered x) p (held name vs x p.names e)
 
@@ -149,19 +147,19 @@ proper_undefine s (name ∷ names) p = proper_undefine (record s { functions = r
 })
 
 -- the state in which a subshell begins
-above_top : (x name : List ℕ) (value : List (List ℕ)) (vs : Values) → text_cmp x name ≡ Less → Above x vs → Above x (with_top name value vs)
+above_top : (x name : List ℕ) (value : List (List ℕ)) (vs : Variables) → text_cmp x name ≡ Less → Above x vs → Above x (with_top name value vs)
 above_top x name [] vs l a = a
 above_top x name (m ∷ ms) vs l a = (l, a)
 
-above_flat : (x : List ℕ) (vs : Values) → Above x vs → Above x (flat vs)
+above_flat : (x : List ℕ) (vs : Variables) → Above x vs → Above x (flat vs)
 above_flat x [] a = tt
 above_flat x (b ∷ vs) a = above_top x b.0 (visible b.1) (flat vs) a.0 (above_flat x vs a.1)
 
-proper_top : (name : List ℕ) (value : List (List ℕ)) (vs : Values) → IsTrue (is_own_name name) → Above name vs → ProperValues vs → ProperValues (with_top name value vs)
+proper_top : (name : List ℕ) (value : List (List ℕ)) (vs : Variables) → IsTrue (is_own_name name) → Above name vs → ProperValues vs → ProperValues (with_top name value vs)
 proper_top name [] vs n a p = p
 proper_top name (m ∷ ms) vs n a p = record { names = and_from (is_own_name name) _ n p.names; ordered = (a, p.ordered) }
 
-proper_flat : (vs : Values) → ProperValues vs → ProperValues (flat vs)
+proper_flat : (vs : Variables) → ProperValues vs → ProperValues (flat vs)
 proper_flat [] p = p
 proper_flat (b ∷ vs) p =
     let k = and_parts (is_own_name b.0) (list_all (λ b. is_own_name b.0) vs) p.names in

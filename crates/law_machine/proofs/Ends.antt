@@ -18,9 +18,10 @@ use Rattle.law_machine.proofs.Legs.{spot}
 use Rattle.law_machine.proofs.Forms.{end_of, at_return}
 use Rattle.law_machine.proofs.Follow.{meaning_runs}
 use Rattle.law_machine.proofs.Turns.{turns_go_on}
+use Rattle.law_machine.specs.Limits.{IsOver}
 
 -- a call whose answer halts or is given, and what follows it
-abbrev answered : {X : Type 0} → Call → Bool → Played X → Played X
+abbrev pub answered : {X : Type 0} → Call → Bool → Played X → Played X
 answered c halted p = if halted then Waits (c ∷ []) else after_call c p
 
 answered_alike : {X : Type 0} (c : Call) (halted : Bool) (p r : Played X) → p ≡ r → answered c halted p ≡ answered c halted r
@@ -83,11 +84,6 @@ follows_from n d s0 (ask c go) f (a ∷ rest) r =
 follows_from n d s0 cut f given r = record { j = r.by.0; enough = r.by.1; is = ap (λ p. play p given) r.by.2 }
 
 -- the two runs, of which one may be longer
-abbrev IsOver : {X : Type 0} → Played X → Type 0
-IsOver (Ends made x left) = Unit {0}
-IsOver (Waits made) = Unit {0}
-IsOver (Cut made) = ⊥
-
 within_over : {X : Type 0} (p q : Played X) → IsOver p → Within p q → q ≡ p
 within_over (Ends made x left) q o h = h
 within_over (Waits made) q o h = h

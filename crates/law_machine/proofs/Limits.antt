@@ -1,6 +1,5 @@
 -- From some number of instructions on, a run ends or waits.
 use Rattle.std.proofs.Common.{◌≡◌, ℕ, ◌≤◌, List, [], ◌∷◌, ◌++◌, Bool, true, false, refl, sym, ap, ◌∙◌, subst}
-use Rattle.std.specs.Prelude.{if◌then◌else◌}
 use Rattle.rc_model.specs.Run.Calls.{Answer, Call, Event, answers, calls, fitting, is_halt}
 use Rattle.rc_model.specs.Run.Plans.{Plan, done_with, ask, cut, Played, Ends, Waits, Cut, after_call, play}
 use Rattle.rc_model.specs.Run.Script.{Within, run, script, StopsAtLimit}
@@ -8,12 +7,9 @@ use Rattle.rc_model.specs.Run.State.{State}
 use Rattle.rc_model.specs.Code.Machine.{exec, begin}
 use Rattle.rc_model.specs.Syntax.Tree.{Node, cmd}
 use Rattle.law_machine.specs.Limits.{IsOver, LimitsEnd}
-use Rattle.law_machine.proofs.Ends.{agrees}
+use Rattle.law_machine.proofs.Ends.{agrees, answered}
 
 -- a plan that was cut is cut over more answers too
-abbrev answered : {X : Type 0} → Call → Bool → Played X → Played X
-answered c halted p = if halted then Waits (c ∷ []) else after_call c p
-
 cut_after : {X : Type 0} (c : Call) (halted : Bool) (p r : Played X) (made : List Call)
     → ((rest : List Call) → p ≡ Cut rest → r ≡ Cut rest) → answered c halted p ≡ Cut made → answered c halted r ≡ Cut made
 cut_after c true p r made go h = absurd cc

@@ -20,7 +20,7 @@ Entries = List (List ℕ × Unit {0})
 abbrev keys : Entries → List (List ℕ)
 keys es = map (λ n. n.0) es
 
-abbrev Below : List ℕ → List (List ℕ) → Type 0
+abbrev pub Below : List ℕ → List (List ℕ) → Type 0
 Below x ks = AllByRecursion (λ q. text_cmp x q ≡ Less) ks
 
 equal_texts : (x y : List ℕ) → text_cmp x y ≡ Equal → x ≡ y

@@ -1,6 +1,5 @@
 -- The answers to its calls decide what a word becomes.
 use Rattle.std.proofs.Common.{◌≡◌, ◌≢◌, List, [], ◌∷◌, refl, sym, ap, ◌∙◌, inl, inr, ℕ}
-use Rattle.std.specs.List.{AllByRecursion}
 use Rattle.std.specs.List.Sorted.{IsStrictlySortedBy}
 use Rattle.std.specs.declared.cmp.Ordering.TheVariants.{Less}
 use Rattle.std.proofs.lemmas.Cmp.{nat_list_cmp_total}
@@ -9,9 +8,7 @@ use Rattle.rc_model.specs.Syntax.Words.{Word, plain_words}
 use Rattle.rc_model.specs.Run.Calls.{Call, Answer}
 use Rattle.rc_model.specs.Run.PathNames.{IsIn, Expands, found, itself}
 use Rattle.law_patterns.proofs.Once.{less_itself}
-
-abbrev Below : List ℕ → List (List ℕ) → Type 0
-Below x ks = AllByRecursion (λ q. text_cmp x q ≡ Less) ks
+use Rattle.law_patterns.proofs.Sorted.{Below}
 
 below_in : (x p : List ℕ) (ks : List (List ℕ)) → Below x ks → IsIn p ks → text_cmp x p ≡ Less
 below_in x p [] h i = absurd i

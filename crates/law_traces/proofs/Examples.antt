@@ -1,5 +1,5 @@
 -- Accounts of small traces, computed.
-use Rattle.std.proofs.Common.{◌≡◌, List, [], ◌∷◌, Some, None, refl, arith}
+use Rattle.std.proofs.Common.{◌≡◌, List, [], ◌∷◌, Some, None, refl, arith, ◌++◌}
 use Rattle.std.specs.Prelude.{codes}
 use Rattle.rc_model.specs.Run.Calls.{Event, event, to_file, plain, Launch, open_file, file, make_pipe, pair, start, child, close, read, wait, done, refused}
 use Rattle.rc_model.specs.declared.call.Fault.TheVariants.{Other}
@@ -21,22 +21,18 @@ two = event make_pipe (pair 3 4) ∷ event (start (shell (record { input = Own 0
 abbrev of : List Event → Account
 of es = account (at_start new_state) es
 
-abbrev and_then : List Event → List Event → List Event
-and_then [] l = l
-and_then (e ∷ es) l = e ∷ and_then es l
-
 -- `a | b | c`: the second pipe (at place 3) comes to the pipeline of the first (at place 0)
-flat : (of (and_then two (event (close 3) done ∷ []))).line 3 ≡ 0
+flat : (of (two ++ (event (close 3) done ∷ []))).line 3 ≡ 0
 unfolding one put
 flat = refl
 
 -- `a | {b | exit}`: it does not
-nested : (of (and_then two (event (close 5) done ∷ []))).line 3 ≡ 3
+nested : (of (two ++ (event (close 5) done ∷ []))).line 3 ≡ 3
 unfolding one put
 nested = refl
 
 -- a wait before the read end is closed is refused
-early : NoneHeld (of (and_then two (event (close 3) done ∷ []))) (Some 0) → ⊥
+early : NoneHeld (of (two ++ (event (close 3) done ∷ []))) (Some 0) → ⊥
 unfolding one put
 early k = let less = k 5 (omega arith) in omega arith
 
@@ -54,17 +50,17 @@ unfolding one put
 pipe_first k = k.in_turn
 
 -- a child is waited for while its pipe's read end is held
-wait_first : Allowed (of (and_then one_stage (event (close 4) done ∷ []))) (wait 1) → ⊥
+wait_first : Allowed (of (one_stage ++ (event (close 4) done ∷ []))) (wait 1) → ⊥
 unfolding one put
 wait_first k = let less = k.apart 3 (omega arith) in omega arith
 
 -- a refused close is called again
-close_twice : Allowed (of (and_then one_stage (event (close 4) done ∷ event (close 3) done ∷ []))) (close 3) → ⊥
+close_twice : Allowed (of (one_stage ++ (event (close 4) done ∷ event (close 3) done ∷ []))) (close 3) → ⊥
 unfolding one put
 close_twice k = omega (arith, k.names)
 
 -- after a refused pipe the read end before it stays open
-left_open : Allowed (of (and_then one_stage (event (close 4) done ∷ event make_pipe (refused Other) ∷ []))) (wait 1) → ⊥
+left_open : Allowed (of (one_stage ++ (event (close 4) done ∷ event make_pipe (refused Other) ∷ []))) (wait 1) → ⊥
 unfolding one put
 left_open k = let less = k.apart 3 (omega arith) in omega arith
 
@@ -77,7 +73,7 @@ unfolding one
 unclosed k = omega (arith, k.files 3)
 
 -- a child that was not started stands in the background list
-not_started : NothingLeft new_state (and_then null_opened (event (start (shell plain)) (refused Other) ∷ event (close 3) done ∷ [])) (add_child new_state 1) → ⊥
+not_started : NothingLeft new_state (null_opened ++ (event (start (shell plain)) (refused Other) ∷ event (close 3) done ∷ [])) (add_child new_state 1) → ⊥
 unfolding one
 not_started k = omega (arith, k.owed 1)
 

@@ -1,25 +1,20 @@
 -- Families of shells after some steps, computed.
 use Rattle.std.proofs.Common.{◌≡◌, ℕ, List, [], ◌∷◌, ◌++◌, refl}
 use Rattle.std.proofs.Math.Utf8.{encode}
-use Rattle.std.specs.Prelude.{codes, unwrap_or, false}
+use Rattle.std.specs.Prelude.{codes, false}
 use Rattle.std.specs.Fmt.{digits}
 use Rattle.std.specs.Str.{chars, is_utf8}
-use Rattle.rc_model.specs.Run.Calls.{to_file, plain, Call, Answer, Launch, make_pipe, close, wait, read, probe, pair, child, done, found}
+use Rattle.rc_model.specs.Run.Calls.{to_file, plain, Call, Answer, make_pipe, close, wait, read, probe, pair, child, done, found}
 use Rattle.rc_model.specs.declared.call.Kind.TheVariants.{Program}
-use Rattle.rc_model.specs.Run.State.{State, new_state}
 use Rattle.rc_model.specs.Syntax.Tree.{Node, cmd, none, more, Empty, Brace, Pipeline, Stage, Subshell, Assign, Pair, Back, Lit}
 use Rattle.rc_model.specs.Handed.Arguments.{reads}
 use Rattle.rc_model.specs.Handed.Image.{node_image, many_image}
 use Rattle.rc_model.specs.Handed.TreeReading.{cmd_at, arg_at}
 use Rattle.rc_model.specs.Family.Accounts.{one, put}
-use Rattle.rc_model.specs.Family.Family.{Family, Step, IsPending, HasEnded, family, first, reads_from, writes_to, end_of, holding}
+use Rattle.rc_model.specs.Family.Family.{Family, Step, IsPending, HasEnded, family, first, reads_from, writes_to, end_of, holding, read_launch}
 use Rattle.law_traces.proofs.Rows.{looking, word, alone, stage, program}
 
 -- ** a family
-
--- what a shell makes of its launch: nothing where it can't be read
-abbrev reading : Launch → Node cmd × State
-reading l = unwrap_or (reads l.args l.entries) (Empty, new_state)
 
 -- a process, its call and the answer
 abbrev step : ℕ → Call → Answer → Step
@@ -27,7 +22,7 @@ step k call answer = record { at = k; call = call; answer = answer }
 
 -- the family of a script after these steps
 abbrev after : Node cmd → List Step → Family
-after c es = family reading (first reading c looking) es
+after c es = family read_launch (first read_launch c looking) es
 
 -- ** one shell
 

@@ -12,43 +12,34 @@ use Rattle.rc_model.specs.declared.call.Mode.TheVariants.{Write}
 use Rattle.rc_model.specs.declared.call.Slot.TheVariants.{Own}
 use Rattle.rc_model.specs.declared.call.Slots.{Slots}
 use Rattle.rc_model.specs.Run.Plans.{Ends}
-use Rattle.rc_model.specs.Run.State.{State, new_state, set_value, with_status}
-use Rattle.rc_model.specs.Syntax.Tree.{Node, cmd, none, more, Simple, Redirect, Pipeline, Stage, Open, Lit}
+use Rattle.rc_model.specs.Run.State.{with_status}
+use Rattle.rc_model.specs.Syntax.Tree.{Node, cmd, none, more, Redirect, Pipeline, Stage, Open, Lit}
 use Rattle.rc_model.specs.Handed.Image.{node_image, many_image, program_launch, shell_launch}
 use Rattle.rc_model.specs.Run.Script.{script}
 use Rattle.rc_model.specs.Family.Accounts.{one, put, IsFresh, NothingLeft}
 use Rattle.law_traces.proofs.Traces.{ended_leaves_nothing}
-
--- programs are looked for in one directory
-abbrev s0 : State
-s0 = set_value new_state (codes "path") (codes "/bin" ∷ [])
-
-abbrev a : Node cmd
-a = Simple (more (Lit (codes "a") false) none)
-
-abbrev b : Node cmd
-b = Simple (more (Lit (codes "b") false) none)
+use Rattle.law_traces.proofs.Rows.{looking, word}
 
 -- `{a | b} >f`
 abbrev piped : Node cmd
-piped = Redirect (more (Open Write 1 (Lit (codes "f") false)) none) (Pipeline (more (Stage a 1) none) b)
+piped = Redirect (more (Open Write 1 (Lit (codes "f") false)) none) (Pipeline (more (Stage (word (codes "a")) 1) none) (word (codes "b")))
 
 abbrev opened : List Event → List Event
 opened es = event (open_file (codes "f") Write) (file 3) ∷ es
 
 abbrev starts_a : Slots → Event
-starts_a slots = event (start (shell_launch slots a s0)) (child 1)
+starts_a slots = event (start (shell_launch slots (word (codes "a")) looking)) (child 1)
 
 abbrev started : List Event → List Event
 started es = opened (event make_pipe (pair 4 5) ∷ starts_a (record { input = Own 0; output = to_file 5; errors = Own 2 }) ∷ event (close 5) done ∷ es)
 
 abbrev runs_b : List Event → List Event
 runs_b es = started (event (probe (codes "/bin/b")) (found Program)
-    ∷ event (start (program_launch (record { input = to_file 4; output = to_file 3; errors = Own 2 }) (codes "/bin/b") [] s0)) (child 2) ∷ es)
+    ∷ event (start (program_launch (record { input = to_file 4; output = to_file 3; errors = Own 2 }) (codes "/bin/b") [] looking)) (child 2) ∷ es)
 
 -- the script ends with this status, by these calls over these answers
 abbrev EndsBy : List ℕ → Node cmd → List Event → Type 0
-EndsBy status c trace = script 0 c s0 (answers trace) ≡ Ends (calls trace) (with_status s0 status) []
+EndsBy status c trace = script 0 c looking (answers trace) ≡ Ends (calls trace) (with_status looking status) []
 
 -- the file is refused
 abbrev no_file : List Event
@@ -68,7 +59,7 @@ no_pipe_ends = refl
 
 -- the start of the first stage is refused
 abbrev no_start : List Event
-no_start = opened (event make_pipe (pair 4 5) ∷ event (start (shell_launch (record { input = Own 0; output = to_file 5; errors = Own 2 }) a s0)) (refused Other)
+no_start = opened (event make_pipe (pair 4 5) ∷ event (start (shell_launch (record { input = Own 0; output = to_file 5; errors = Own 2 }) (word (codes "a")) looking)) (refused Other)
     ∷ event (close 5) done ∷ event (close 4) done ∷ event (close 3) done ∷ [])
 
 no_start_ends : EndsBy (codes "cannot start") piped no_start
@@ -102,67 +93,64 @@ no_first_wait_ends = refl
 
 -- what is left, by the law
 module _ where
-  file_fresh : IsFresh s0 no_file
+  file_fresh : IsFresh looking no_file
   unfolding one put
   file_fresh = record { differ = λ k. omega arith; fresh = (tt, (tt, tt)) }
 
-  no_file_left : NothingLeft s0 no_file (with_status s0 (codes "error"))
-  no_file_left = ended_leaves_nothing piped s0 no_file (with_status s0 (codes "error")) (0, no_file_ends) file_fresh
+  no_file_left : NothingLeft looking no_file (with_status looking (codes "error"))
+  no_file_left = ended_leaves_nothing piped looking no_file (with_status looking (codes "error")) (0, no_file_ends) file_fresh
 
-  pipe_fresh : IsFresh s0 no_pipe
+  pipe_fresh : IsFresh looking no_pipe
   unfolding one put
   pipe_fresh = record { differ = λ k. omega arith; fresh = (refl, (tt, (tt, tt))) }
 
-  no_pipe_left : NothingLeft s0 no_pipe (with_status s0 (codes "cannot pipe"))
-  no_pipe_left = ended_leaves_nothing piped s0 no_pipe (with_status s0 (codes "cannot pipe")) (0, no_pipe_ends) pipe_fresh
+  no_pipe_left : NothingLeft looking no_pipe (with_status looking (codes "cannot pipe"))
+  no_pipe_left = ended_leaves_nothing piped looking no_pipe (with_status looking (codes "cannot pipe")) (0, no_pipe_ends) pipe_fresh
 
-  start_fresh : IsFresh s0 no_start
+  start_fresh : IsFresh looking no_start
   unfolding one put
   start_fresh = record { differ = λ k. omega arith; fresh = (refl, ((refl, refl, λ e. absurd (omega arith)), (tt, (tt, (tt, (tt, tt)))))) }
 
-  no_start_left : NothingLeft s0 no_start (with_status s0 (codes "cannot start"))
-  no_start_left = ended_leaves_nothing piped s0 no_start (with_status s0 (codes "cannot start")) (0, no_start_ends) start_fresh
+  no_start_left : NothingLeft looking no_start (with_status looking (codes "cannot start"))
+  no_start_left = ended_leaves_nothing piped looking no_start (with_status looking (codes "cannot start")) (0, no_start_ends) start_fresh
 
-  program_fresh : IsFresh s0 no_program
+  program_fresh : IsFresh looking no_program
   unfolding one put
   program_fresh = record { differ = λ k. omega arith; fresh = (refl, ((refl, refl, λ e. absurd (omega arith)), (refl, (tt, (tt, (tt, (tt, (tt, (tt, tt))))))))) }
 
-  no_program_left : NothingLeft s0 no_program (with_status s0 (codes "|not found"))
-  no_program_left = ended_leaves_nothing piped s0 no_program (with_status s0 (codes "|not found")) (0, no_program_ends) program_fresh
+  no_program_left : NothingLeft looking no_program (with_status looking (codes "|not found"))
+  no_program_left = ended_leaves_nothing piped looking no_program (with_status looking (codes "|not found")) (0, no_program_ends) program_fresh
 
-  last_wait_fresh : IsFresh s0 no_last_wait
+  last_wait_fresh : IsFresh looking no_last_wait
   unfolding one put
   last_wait_fresh = record { differ = λ k. omega arith; fresh = (refl, ((refl, refl, λ e. absurd (omega arith)), (refl, (tt, (tt, (refl, (tt, (tt, (tt, (tt, tt)))))))))) }
 
-  no_last_wait_left : NothingLeft s0 no_last_wait (with_status s0 (codes "|cannot wait"))
-  no_last_wait_left = ended_leaves_nothing piped s0 no_last_wait (with_status s0 (codes "|cannot wait")) (0, no_last_wait_ends) last_wait_fresh
+  no_last_wait_left : NothingLeft looking no_last_wait (with_status looking (codes "|cannot wait"))
+  no_last_wait_left = ended_leaves_nothing piped looking no_last_wait (with_status looking (codes "|cannot wait")) (0, no_last_wait_ends) last_wait_fresh
 
-  first_wait_fresh : IsFresh s0 no_first_wait
+  first_wait_fresh : IsFresh looking no_first_wait
   unfolding one put
   first_wait_fresh = record { differ = λ k. omega arith; fresh = (refl, ((refl, refl, λ e. absurd (omega arith)), (refl, (tt, (tt, (refl, (tt, (tt, (tt, (tt, tt)))))))))) }
 
-  no_first_wait_left : NothingLeft s0 no_first_wait (with_status s0 (codes "cannot wait|"))
-  no_first_wait_left = ended_leaves_nothing piped s0 no_first_wait (with_status s0 (codes "cannot wait|")) (0, no_first_wait_ends) first_wait_fresh
+  no_first_wait_left : NothingLeft looking no_first_wait (with_status looking (codes "cannot wait|"))
+  no_first_wait_left = ended_leaves_nothing piped looking no_first_wait (with_status looking (codes "cannot wait|")) (0, no_first_wait_ends) first_wait_fresh
 
 -- `a | b | c`, where the second start is refused
-abbrev c : Node cmd
-c = Simple (more (Lit (codes "c") false) none)
-
 abbrev three : Node cmd
-three = Pipeline (more (Stage a 1) (more (Stage b 1) none)) c
+three = Pipeline (more (Stage (word (codes "a")) 1) (more (Stage (word (codes "b")) 1) none)) (word (codes "c"))
 
 abbrev no_second_start : List Event
 no_second_start = event make_pipe (pair 3 4) ∷ starts_a (record { input = Own 0; output = to_file 4; errors = Own 2 }) ∷ event (close 4) done
-    ∷ event make_pipe (pair 5 6) ∷ event (start (shell_launch (record { input = to_file 3; output = to_file 6; errors = Own 2 }) b s0)) (refused Other)
+    ∷ event make_pipe (pair 5 6) ∷ event (start (shell_launch (record { input = to_file 3; output = to_file 6; errors = Own 2 }) (word (codes "b")) looking)) (refused Other)
     ∷ event (close 6) done ∷ event (close 5) done ∷ event (close 3) done ∷ event (wait 1) (ended (Code 0)) ∷ []
 
 no_second_start_ends : EndsBy (codes "|cannot start") three no_second_start
 unfolding chars encode digits node_image many_image
 no_second_start_ends = refl
 
-second_fresh : IsFresh s0 no_second_start
+second_fresh : IsFresh looking no_second_start
 unfolding one put
 second_fresh = record { differ = λ k. omega arith; fresh = ((refl, refl, λ e. absurd (omega arith)), (refl, (tt, ((refl, refl, λ e. absurd (omega arith)), (tt, (tt, (tt, (tt, (tt, tt))))))))) }
 
-no_second_start_left : NothingLeft s0 no_second_start (with_status s0 (codes "|cannot start"))
-no_second_start_left = ended_leaves_nothing three s0 no_second_start (with_status s0 (codes "|cannot start")) (0, no_second_start_ends) second_fresh
+no_second_start_left : NothingLeft looking no_second_start (with_status looking (codes "|cannot start"))
+no_second_start_left = ended_leaves_nothing three looking no_second_start (with_status looking (codes "|cannot start")) (0, no_second_start_ends) second_fresh
