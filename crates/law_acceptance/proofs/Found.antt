@@ -1,7 +1,6 @@
 -- The tree of a text is found exactly where the text is accepted.
 use Rattle.std.proofs.Common.{◌≡◌, ℕ, ◌≤◌, Bool, true, false, ◌&&◌, List, length, Option, Some, None, Result, Ok, Err, if◌then◌else◌, refl, sym, ap, ◌∙◌, arith, nat_le}
-use Rattle.std.proofs.lemmas.Bool.{leb-true, and_parts}
-use Rattle.std.proofs.lemmas.Bool.Decides.{nat_tests}
+use Rattle.std.proofs.lemmas.Bool.{leb-true, and_parts, le-leb, and_from}
 use Rattle.std.specs.Str.{is_utf8}
 use Rattle.rc_model.specs.Syntax.Tokens.{Token, Lexes}
 use Rattle.rc_model.specs.declared.fault.SyntaxFault.{SyntaxFault}
@@ -42,15 +41,9 @@ taken : (b : Bool) (x y : Option (Node cmd)) → b ≡ true → x ≡ y → (if 
 taken true x y b h = h
 taken false x y b h = absurd cc
 
-is_short : (n m : ℕ) → n ≤ m → nat_le n m ≡ true
-is_short n m h = grind (arith, nat_tests)
-
-both : (a b : Bool) → a ≡ true → b ≡ true → (a && b) ≡ true
-both a b h k = rw h k
-
 each_accepted : (script : List ℕ) (tree : Node cmd) → IsAccepted script tree → tree_of script ≡ Some tree
 each_accepted script tree a =
-    let ok = both (is_utf8 script) (nat_le (length script) longest_script) a.has.text (is_short (length script) longest_script a.has.short) in
+    let ok = and_from (is_utf8 script) (nat_le (length script) longest_script) a.has.text (le-leb (length script) longest_script a.has.short) in
     let read = ap tree_of_tokens (sym ((law script).only (Ok a.tokens) a.has.cut)) in
     let known = ap found (finds_each_tree 200 (lexemes a.tokens) tree (omega arith) a.tree_is) in
     taken (is_utf8 script && nat_le (length script) longest_script) (tree_of_tokens (lexed script)) (Some tree) ok (read ∙ known)

@@ -1,7 +1,6 @@
 -- The descent and the grammar agree.
 use Rattle.std.proofs.Common.{◌≡◌, ℕ, ◌<◌, ◌≤◌, max, Bool, true, false, List, [], Ok, Err, ◌⊎◌, inl, inr, if◌then◌else◌, refl, sym, ap, subst, ◌∙◌, arith, nat_le}
-use Rattle.std.proofs.lemmas.Bool.{leb-true, leb-false}
-use Rattle.std.proofs.lemmas.Bool.Decides.{nat_tests}
+use Rattle.std.proofs.lemmas.Bool.{leb-true, leb-false, le-leb}
 use Rattle.rc_model.specs.Syntax.Tokens.{Lexeme}
 use Rattle.rc_model.specs.Syntax.Tree.{Node, Many}
 use Rattle.rc_model.specs.Syntax.Tree as t
@@ -57,12 +56,9 @@ finds_each_tree levels ts tree le a =
     let p = a.script in
     let deep = a.shallow in
     let found = within levels (depth tree) (most_stages tree) (d.read levels (d.a_list false) ts) (p.0, []) (script_meets levels ts tree p) (omega arith) a.narrow in
-    let shallow : nat_le (depth (t.Seq p.0)) 200 ≡ true = subst (λ z. nat_le (depth z) 200 ≡ true) p.2 (at_most (depth tree) 200 deep) in
+    let shallow : nat_le (depth (t.Seq p.0)) 200 ≡ true = subst (λ z. nat_le (depth z) 200 ≡ true) p.2 (le-leb (depth tree) 200 deep) in
     ap (λ o. d.whole o) found ∙ whole_shallow p.0 shallow ∙ ap (λ z. Ok z) (sym p.2)
   where
-    at_most : (n m : ℕ) → n ≤ m → nat_le n m ≡ true
-    at_most n m h = grind (arith, nat_tests)
-
     whole_shallow : (is : Many t.item) → nat_le (depth (t.Seq is)) 200 ≡ true → d.whole (Ok (is, [])) ≡ Ok (t.Seq is)
     whole_shallow is k = rw k refl
 

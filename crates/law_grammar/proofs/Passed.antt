@@ -1,5 +1,6 @@
 -- What is left of spelled lexemes, once newlines and carets are passed over, is spelled.
 use Rattle.std.proofs.Common.{◌≡◌, subst, Bool, true, false, List, [], ◌∷◌, Some}
+use Rattle.std.proofs.lemmas.Option.{same_Some}
 use Rattle.rc_model.specs.Syntax.Tokens.{Lexeme}
 use Rattle.rc_model.specs.Syntax.Tokens as k
 use Rattle.rc_model.specs.Syntax.Grammar.{past_newlines, past_caret, past_blanks, after_caret}
@@ -19,11 +20,8 @@ past_caret_spelled [] w = w
 past_caret_spelled (k.FreeCaret ∷ ts) w = w.1
 past_caret_spelled (l ∷ ts) w = w
 
-some_same : {a b : List Lexeme} → Some a ≡ Some b → a ≡ b
-some_same e = cc
-
 pub after_caret_spelled : (ts next : List Lexeme) → after_caret ts ≡ Some next → AreSpelled ts → AreSpelled next
 after_caret_spelled [] next e w = cc
-after_caret_spelled (k.Caret ∷ ts) next e w = subst AreSpelled (some_same e) w.1
-after_caret_spelled (k.FreeCaret ∷ ts) next e w = subst AreSpelled (some_same e) w.1
+after_caret_spelled (k.Caret ∷ ts) next e w = subst AreSpelled (same_Some _ _ e) w.1
+after_caret_spelled (k.FreeCaret ∷ ts) next e w = subst AreSpelled (same_Some _ _ e) w.1
 after_caret_spelled (l ∷ ts) next e w = cc

@@ -1,5 +1,6 @@
 -- A phrase takes tokens: what is after it is no longer than the whole, and mostly shorter.
-use Rattle.std.proofs.Common.{◌≡◌, ℕ, ◌+◌, ◌<◌, ◌≤◌, Bool, true, false, List, ◌∷◌, length, Some, ap, arith, unwrap_or}
+use Rattle.std.proofs.Common.{◌≡◌, ℕ, ◌+◌, ◌<◌, ◌≤◌, Bool, true, false, List, ◌∷◌, length, Some, ap, arith}
+use Rattle.std.proofs.lemmas.Option.{same_Some}
 use Rattle.rc_model.specs.Syntax.Tokens.{Lexeme, Newline, FreeCaret, Caret}
 use Rattle.rc_model.specs.Syntax.Grammar.{Phrase, Level, Out, past_newlines, past_blanks, past_caret, after_caret}
 use Rattle.rc_model.specs.Syntax.Grammar as g
@@ -16,12 +17,9 @@ pub past_caret-shorter : (ts : List Lexeme) → length (past_caret ts) ≤ lengt
 past_caret-shorter (FreeCaret ∷ ts) = omega arith
 past_caret-shorter ts = omega arith
 
-pub some_same : {X : Type 0} (x y : X) → Some x ≡ Some y → x ≡ y
-some_same x y h = ap (λ o. unwrap_or o x) h
-
 pub after_caret-shorter : (ts next : List Lexeme) → after_caret ts ≡ Some next → length next < length ts
-after_caret-shorter (Caret ∷ ts) next h = let e = ap length (some_same ts next h) in omega arith
-after_caret-shorter (FreeCaret ∷ ts) next h = let e = ap length (some_same ts next h) in omega arith
+after_caret-shorter (Caret ∷ ts) next h = let e = ap length (same_Some ts next h) in omega arith
+after_caret-shorter (FreeCaret ∷ ts) next h = let e = ap length (same_Some ts next h) in omega arith
 after_caret-shorter ts next h = absurd cc
 
 caret-shorter : (inside : Bool) (ts next : List Lexeme) → after_caret (past_blanks inside ts) ≡ Some next → length (past_blanks inside next) < length ts

@@ -1,7 +1,6 @@
 -- The parts of a tree that a shell holds.
 use Rattle.std.proofs.Common.{◌≡◌, ℕ, suc, ◌≤◌, max, Bool, true, ◌&&◌, arith, nat_le}
-use Rattle.std.proofs.lemmas.Bool.{and_parts, and_from, leb-true}
-use Rattle.std.proofs.lemmas.Bool.Decides.{nat_tests}
+use Rattle.std.proofs.lemmas.Bool.{and_parts, and_from, leb-true, le-leb}
 use Rattle.rc_model.specs.Syntax.Tree.{Sort, Node, Many, cmd}
 use Rattle.rc_model.specs.Syntax.WellFormed.{is_sound, are_sound, depth, depths}
 use Rattle.rc_model.specs.Handed.TreeSpelling.{has_characters}
@@ -52,12 +51,9 @@ three x ys z r =
     let l = many_one ys z k.1 in
     (k.0, l.0, l.1)
 
-is_short : (n m : ℕ) → n ≤ m → nat_le n m ≡ true
-is_short n m h = grind (arith, nat_tests)
-
 -- a command that is a part is a tree that a shell holds
 pub script_of : {c : Node cmd} → IsPart c → IsProperTree c
-script_of {c = c} r = record { sound = and_from (is_sound c) (nat_le (depth c) 200) r.sound (is_short (depth c) 200 r.levels); characters = r.characters }
+script_of {c = c} r = record { sound = and_from (is_sound c) (nat_le (depth c) 200) r.sound (le-leb (depth c) 200 r.levels); characters = r.characters }
 
 pub part_of : {c : Node cmd} → IsProperTree c → IsPart c
 part_of {c = c} s = let k = and_parts (is_sound c) (nat_le (depth c) 200) s.sound in record { sound = k.0; characters = s.characters; levels = leb-true (depth c) 200 k.1 }

@@ -5,9 +5,10 @@ use Rattle.std.specs.List.{concat}
 use Rattle.std.specs.Str.{IsUtf8, IsCharBoundary}
 use Rattle.std.proofs.Math.Seq.{take-append_seam, drop-append_seam}
 use Rattle.std.proofs.lemmas.List.{take-append-drop, length-take-le, length-drop}
-use Rattle.std.proofs.lemmas.Bool.{and_parts, and_from, le-leb, leb-true, leb-false, cases_lt, false≢true}
+use Rattle.std.proofs.lemmas.Bool.{and_parts, and_from, le-leb, leb-true, leb-false, cases_lt, false≢true, lt-leb}
 use Rattle.std.proofs.lemmas.Bool.Decides.{nat_tests}
 use Rattle.std.proofs.lemmas.Str.{IsUtf8-drop, IsCharBoundary-start}
+use Rattle.std.proofs.lemmas.Option.{same_Some}
 use Rattle.rc_model.specs.Handed.Pieces.{most_pieces, IsLongest, ArePieces, no_more, next, AreWords, in_one, in_pieces, one_word, several_words, begins_whole, can_cut, last_cut, pieces, words_of}
 use Rattle.rc_model.specs.Handed.WordsLaws.{PiecesByRule, WordsByRule}
 
@@ -105,16 +106,13 @@ pub mapped_back : {A B : Type 0} (f : A → B) (o : Option A) (y : B) → option
 mapped_back f None y h = absurd (cc)
 mapped_back f (Some x) y h = (x, refl, cc)
 
-some_same : {A : Type 0} (x y : A) → Some x ≡ Some y → x ≡ y
-some_same x y h = cc
-
 not_empty : (b : ℕ) (bs : List ℕ) → b ∷ bs ≡ [] → ⊥
 not_empty b bs h = cc
 
 found_pieces : (most limit : ℕ) (text : List ℕ) (words : List (List ℕ)) → IsUtf8 text → pieces most limit text ≡ Some words → ArePieces limit text words × (length words ≤ most)
 unfolding pieces
-found_pieces zero limit [] words u h = subst (λ w. ArePieces limit [] w × (length w ≤ zero)) (some_same [] words h) (no_more, omega arith)
-found_pieces (suc most) limit [] words u h = subst (λ w. ArePieces limit [] w × (length w ≤ suc most)) (some_same [] words h) (no_more, omega arith)
+found_pieces zero limit [] words u h = subst (λ w. ArePieces limit [] w × (length w ≤ zero)) (same_Some [] words h) (no_more, omega arith)
+found_pieces (suc most) limit [] words u h = subst (λ w. ArePieces limit [] w × (length w ≤ suc most)) (same_Some [] words h) (no_more, omega arith)
 found_pieces zero limit (b ∷ bs) words u h = absurd (cc)
 found_pieces (suc most) limit (b ∷ bs) words u h =
     let m = mapped_back (λ rest. first_piece limit (b ∷ bs) ∷ rest) (pieces most limit (past_piece limit (b ∷ bs))) words h in
@@ -178,7 +176,7 @@ pieces_room (suc most) limit (b ∷ bs) words h =
 
 by_length : (limit : ℕ) (text : List ℕ) (t : Bool) → nat_le (length (codes "rc1;" ++ text)) limit ≡ t → (words : List (List ℕ)) → IsUtf8 text
     → (if t then Some (one_word text) else option_map several_words (pieces most_pieces limit text)) ≡ Some words → AreWords limit text words
-by_length limit text true e words u h = subst (AreWords limit text) (some_same (one_word text) words h) (in_one (leb-true (length (codes "rc1;" ++ text)) limit e))
+by_length limit text true e words u h = subst (AreWords limit text) (same_Some (one_word text) words h) (in_one (leb-true (length (codes "rc1;" ++ text)) limit e))
 by_length limit text false e words u h =
     let m = mapped_back several_words (pieces most_pieces limit text) words h in
     let p = found_pieces most_pieces limit text m.0 u m.1 in
@@ -187,14 +185,11 @@ by_length limit text false e words u h =
 found_words : (limit : ℕ) (text : List ℕ) (words : List (List ℕ)) → IsUtf8 text → words_of limit text ≡ Some words → AreWords limit text words
 found_words limit text words u h = by_length limit text (nat_le (length (codes "rc1;" ++ text)) limit) refl words u h
 
-too_long : (n limit : ℕ) → limit < n → nat_le n limit ≡ false
-too_long n limit h = grind (arith, nat_tests, h)
-
 words_found : (limit : ℕ) (text : List ℕ) (words : List (List ℕ)) → IsUtf8 text → AreWords limit text words → words_of limit text ≡ Some words
 words_found limit text words u (in_one h) =
     ap (λ t. if t then Some (one_word text) else option_map several_words (pieces most_pieces limit text)) (le-leb (length (codes "rc1;" ++ text)) limit h)
 words_found limit text words u (in_pieces ps h p l) =
-    ap (λ t. if t then Some (one_word text) else option_map several_words (pieces most_pieces limit text)) (too_long (length (codes "rc1;" ++ text)) limit h)
+    ap (λ t. if t then Some (one_word text) else option_map several_words (pieces most_pieces limit text)) (lt-leb (length (codes "rc1;" ++ text)) limit h)
     ∙ ap (option_map several_words) (pieces_found limit most_pieces text ps u p l)
 
 pub words_by_rule : WordsByRule

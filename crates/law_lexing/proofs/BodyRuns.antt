@@ -1,8 +1,8 @@
 -- The machine reads the bodies of here documents.
-use Rattle.std.proofs.Common.{◌≡◌, ◌≢◌, ℕ, Bool, true, false, cond, not, ◌==◌, List, [], ◌∷◌, ◌++◌, length, refl, sym, ap, ◌∙◌, append_assoc, arith, length-append}
+use Rattle.std.proofs.Common.{◌≡◌, ◌≢◌, ℕ, Bool, true, false, cond, ◌==◌, List, [], ◌∷◌, ◌++◌, length, refl, sym, ap, ◌∙◌, append_assoc, arith, length-append}
 use Rattle.std.specs.Prelude.{Err}
 use Rattle.std.proofs.lemmas.List.{append-nil}
-use Rattle.std.proofs.lemmas.Bool.{eqb-false}
+use Rattle.std.proofs.lemmas.Bool.{eqb-false, not-true}
 use Rattle.std.proofs.lemmas.Slice.Eq.{bytes_eq-Decides}
 use Rattle.std.proofs.lemmas.Str.{encodes-append, length-encode, len_utf8_bounds}
 use Rattle.std.specs.Char.{encode_utf8}
@@ -29,15 +29,11 @@ line_by : (d : Due) (body line : List ℕ) (due : List Due) (p : Place) (c : ℕ
 line_by d body line due p c cs t.LineEnd h = absurd (h refl)
 line_by d body line due p c cs k h = join_nil (run (Body d body (line ++ encode_utf8 c)) due (t.after_char p c) cs)
 
-not_newline : (b : Bool) → not b ≡ true → b ≡ false
-not_newline false h = refl
-not_newline true h = absurd cc
-
 line_runs : {cs rest : List ℕ} → t.Run t.line_goes_on cs rest → (d : Due) (body line : List ℕ) (due : List Due) (p : Place) →
     run (Body d body line) due p (cs ++ rest) ≡ run (Body d body (line ++ encode_utf8_all cs)) due (t.after_chars p cs) rest
 line_runs (t.stop rest h) d body line due p = ap (λ z. run (Body d body z) due p rest) (sym (append-nil line))
 line_runs (t.next c cs rest h r) d body line due p =
-    line_by d body line due p c (cs ++ rest) (t.class_of c) (λ e. eqb-false c 10 (not_newline (c == 10) h) (line_end_is c e))
+    line_by d body line due p c (cs ++ rest) (t.class_of c) (λ e. eqb-false c 10 (not-true (c == 10) h) (line_end_is c e))
     ∙ line_runs r d body (line ++ encode_utf8 c) due (t.after_char p c)
     ∙ ap (λ z. run (Body d body z) due (t.after_chars (t.after_char p c) cs) rest) (append_assoc line (encode_utf8 c) (encode_utf8_all cs))
 

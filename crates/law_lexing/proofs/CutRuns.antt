@@ -4,7 +4,7 @@ use Rattle.std.specs.Prelude.{Some, None, Err, ◌&&◌}
 use Rattle.std.specs.List.{list_any, list_all}
 use Rattle.rc_model.specs.Syntax.Text.{begins_with}
 use Rattle.std.proofs.lemmas.List.{append-nil}
-use Rattle.std.proofs.lemmas.Bool.{eqb-true, eqb-false}
+use Rattle.std.proofs.lemmas.Bool.{eqb-true, eqb-false, or_from, not-false, not-true}
 use Rattle.std.proofs.lemmas.Str.{encodes-append}
 use Rattle.std.specs.Char.{encode_utf8}
 use Rattle.std.specs.Str.{encode_utf8_all}
@@ -70,15 +70,10 @@ ordinary_by false false false true e f g h i j k l = absurd cc
 ordinary_by false false false false true f g h i j k l = absurd cc
 ordinary_by false false false false false true g h i j k l = absurd cc
 
-or_false : (a b : Bool) → a ≡ false → b ≡ false → (a || b) ≡ false
-or_false false false e f = refl
-or_false true b e f = absurd cc
-or_false false true e f = absurd cc
-
 pub name_class : (c : ℕ) → t.is_name_char c ≡ true → t.class_of c ≡ t.Ordinary
 name_class c h =
     ordinary_by (t.begins_operator (c ∷ [])) ((c == 32) || (c == 9)) (c == 10) (c == 35) (c == 39) (c == 92)
-    (begins_none c h t.operators refl) (or_false (c == 32) (c == 9) (differs c 32 h refl) (differs c 9 h refl)) (differs c 10 h refl) (differs c 35 h refl) (differs c 39 h refl) (differs c 92 h refl)
+    (begins_none c h t.operators refl) (or_from (c == 32) (c == 9) (differs c 32 h refl) (differs c 9 h refl)) (differs c 10 h refl) (differs c 35 h refl) (differs c 39 h refl) (differs c 92 h refl)
 
 name_begun : (due : List Due) (p : Place) (c : ℕ) (rest : List ℕ) → t.is_name_char c ≡ true →
     run (Between t.DollarBefore) due p (c ∷ rest) ≡ run (Name p (encode_utf8 c)) due (t.after_char p c) rest
@@ -91,19 +86,11 @@ comment_runs : {cs rest : List ℕ} → t.Run t.line_goes_on cs rest → (due : 
     run Comment due p (cs ++ rest) ≡ run (Between t.Apart) due (t.after_chars p cs) rest
 comment_runs (t.stop rest h) due p = at_end rest h
   where
-    newline : (b : Bool) → not b ≡ false → b ≡ true
-    newline true e = refl
-    newline false e = absurd cc
-
     at_end : (text : List ℕ) → t.line_goes_on text ≡ false → run Comment due p text ≡ run (Between t.Apart) due p text
     at_end [] e = refl
-    at_end (c ∷ cs) e = let k = newline_class c (newline (c == 10) e) in ap (run_at Comment due p c cs) k ∙ sym (ap (run_at (Between t.Apart) due p c cs) k)
-comment_runs (t.next c cs rest h r) due p = by (t.class_of c) (λ e. eqb-false c 10 (other (c == 10) h) (line_end_is c e)) ∙ comment_runs r due (t.after_char p c)
+    at_end (c ∷ cs) e = let k = newline_class c (not-false (c == 10) e) in ap (run_at Comment due p c cs) k ∙ sym (ap (run_at (Between t.Apart) due p c cs) k)
+comment_runs (t.next c cs rest h r) due p = by (t.class_of c) (λ e. eqb-false c 10 (not-true (c == 10) h) (line_end_is c e)) ∙ comment_runs r due (t.after_char p c)
   where
-    other : (b : Bool) → not b ≡ true → b ≡ false
-    other false e = refl
-    other true e = absurd cc
-
     by : (k : Class) → k ≢ t.LineEnd → run_at Comment due p c (cs ++ rest) k ≡ run Comment due (t.after_char p c) (cs ++ rest)
     by t.LineEnd e = absurd (e refl)
     by k e = join_nil (run Comment due (t.after_char p c) (cs ++ rest))

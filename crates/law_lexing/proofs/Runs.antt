@@ -1,9 +1,9 @@
 -- The machine reads each piece of a cut.
-use Rattle.std.proofs.Common.{◌≡◌, ◌≢◌, ℕ, Bool, true, false, cond, not, ◌==◌, List, [], ◌∷◌, ◌++◌, refl, sym, ap, ◌∙◌, append_assoc, lit<}
+use Rattle.std.proofs.Common.{◌≡◌, ◌≢◌, ℕ, Bool, true, false, cond, ◌==◌, List, [], ◌∷◌, ◌++◌, refl, sym, ap, ◌∙◌, append_assoc, lit<}
 use Rattle.std.specs.Prelude.{◌&&◌}
 use Rattle.rc_model.specs.Syntax.Text.{begins_with}
 use Rattle.std.proofs.lemmas.List.{append-nil}
-use Rattle.std.proofs.lemmas.Bool.{eqb-true, eqb-false}
+use Rattle.std.proofs.lemmas.Bool.{eqb-true, eqb-false, not-false, not-true}
 use Rattle.std.proofs.lemmas.Str.{encode_ascii}
 use Rattle.std.specs.Char.{encode_utf8}
 use Rattle.std.specs.Str.{encode_utf8_all}
@@ -55,11 +55,7 @@ word_ends_by : (prev : Before) (q : Place) (text : List ℕ) (due : List Due) (p
     run_at (Word prev q text) due p c cs k
     ≡ t.join (t.tokens_of prev (t.Word text) q p) [] (run_at (Between (t.as_before prev (t.Word text))) (t.due_after prev (t.Word text) due) p c cs k)
 word_ends_by prev q text due p c cs t.Ordinary h = absurd cc
-word_ends_by prev q text due p c cs t.Backslash h = word_before_newline prev q text due p c cs (not_false (t.at_newline cs) h)
-  where
-    not_false : (b : Bool) → not b ≡ false → b ≡ true
-    not_false true e = refl
-    not_false false e = absurd cc
+word_ends_by prev q text due p c cs t.Backslash h = word_before_newline prev q text due p c cs (not-false (t.at_newline cs) h)
 word_ends_by prev q text due p c cs t.Operates h = ends_at prev (t.Word text) q due p c cs t.Operates
 word_ends_by prev q text due p c cs t.Blank h = ends_at prev (t.Word text) q due p c cs t.Blank
 word_ends_by prev q text due p c cs t.LineEnd h = ends_at prev (t.Word text) q due p c cs t.LineEnd
@@ -88,12 +84,8 @@ word_goes_by : (prev : Before) (q : Place) (text : List ℕ) (due : List Due) (p
 word_goes_by prev q text due p c rest t.Ordinary e h = join_nil (run (Word prev q (text ++ encode_utf8 c)) due (t.after_char p c) rest)
 word_goes_by prev q text due p c rest t.Backslash e h =
     join_nil (run (WordBackslash prev q text p) due (t.after_char p c) rest)
-    ∙ after_backslash prev q text p due (t.after_char p c) rest (not_true (t.at_newline rest) h)
+    ∙ after_backslash prev q text p due (t.after_char p c) rest (not-true (t.at_newline rest) h)
     ∙ ap (λ bs. run (Word prev q (text ++ bs)) due (t.after_char p c) rest) (sym (encode_ascii 92 (lit< tt)) ∙ ap encode_utf8 (sym (backslash_is c e)))
-  where
-    not_true : (b : Bool) → not b ≡ true → b ≡ false
-    not_true false e' = refl
-    not_true true e' = absurd cc
 word_goes_by prev q text due p c rest t.Operates e h = absurd cc
 word_goes_by prev q text due p c rest t.Blank e h = absurd cc
 word_goes_by prev q text due p c rest t.LineEnd e h = absurd cc
@@ -118,12 +110,8 @@ word_begun_by prev due p c rest t.Ordinary e n h =
     ∙ join_nil (run (Word prev p (encode_utf8 c)) due (t.after_char p c) rest)
 word_begun_by prev due p c rest t.Backslash e n h =
     join_nil (run (Backslash prev p) due (t.after_char p c) rest)
-    ∙ begun_backslash prev p due (t.after_char p c) rest (not_true (t.at_newline rest) h)
+    ∙ begun_backslash prev p due (t.after_char p c) rest (not-true (t.at_newline rest) h)
     ∙ ap (λ bs. run (Word prev p bs) due (t.after_char p c) rest) (sym (encode_ascii 92 (lit< tt)) ∙ ap encode_utf8 (sym (backslash_is c e)))
-  where
-    not_true : (b : Bool) → not b ≡ true → b ≡ false
-    not_true false e' = refl
-    not_true true e' = absurd cc
 word_begun_by prev due p c rest t.Operates e n h = absurd cc
 word_begun_by prev due p c rest t.Blank e n h = absurd cc
 word_begun_by prev due p c rest t.LineEnd e n h = absurd cc

@@ -2,7 +2,7 @@
 use Rattle.std.proofs.Common.{◌≡◌, ◌≢◌, ℕ, zero, suc, ◌≤◌, ◌<◌, Bool, true, false, not, ◌==◌, List, [], ◌∷◌, ◌++◌, length, refl, sym, ap, subst, ◌∙◌, append_assoc, ◌⊎◌, inl, inr, arith, length-append}
 use Rattle.std.specs.Prelude.{Option, Some, None, Ok, Err, ◌&&◌}
 use Rattle.std.proofs.lemmas.List.{append-nil}
-use Rattle.std.proofs.lemmas.Bool.{eqb-true, eqb-false}
+use Rattle.std.proofs.lemmas.Bool.{eqb-true, eqb-false, not-false}
 use Rattle.std.proofs.lemmas.Slice.Eq.{bytes_eq-Decides}
 use Rattle.std.specs.Str.{bytes_eq, encode_utf8_all}
 use Rattle.rc_model.specs.Syntax.Text.{begins_with}
@@ -10,6 +10,7 @@ use Rattle.rc_model.specs.Syntax.Tokens as t
 use Rattle.rc_model.specs.Syntax.Tokens.{Lexeme, Token, Place, Before, Due, Outcome, Class}
 use Rattle.rc_model.specs.declared.fault.SyntaxFault.{SyntaxFault}
 use Rattle.law_lexing.proofs.Steps.{quote_is, line_end_is, hash_is, backslash_is, operates_is}
+use Rattle.law_lexing.proofs.Runs.{run_stops}
 use Rattle.rc_model.specs.declared.fault.FaultKind.TheVariants.{BadDescriptor, OpenHere, OpenQuote}
 
 -- how a text is split
@@ -136,15 +137,7 @@ one_line mark line rest r o =
     (λ h. other_line mark line rest r h o)
 
 stops_at : (c : ℕ) (cs : List ℕ) → t.line_goes_on (c ∷ cs) ≡ false → c ≡ 10
-stops_at c cs h = eqb-true c 10 (by (c == 10) h)
-  where
-    by : (b : Bool) → not b ≡ false → b ≡ true
-    by true e = refl
-    by false e = absurd cc
-
-run_stops : {more : List ℕ → Bool} {cs rest : List ℕ} → t.Run more cs rest → more rest ≡ false
-run_stops (t.stop rest h) = h
-run_stops (t.next c cs rest h r) = run_stops r
+stops_at c cs h = eqb-true c 10 (not-false (c == 10) h)
 
 body_split : (mark text : List ℕ) → ((rest : List ℕ) → length rest < length text → BodyOrNone mark rest) → (line rest : List ℕ) → text ≡ line ++ rest → t.Run t.line_goes_on line rest →
     BodyOrNone mark text

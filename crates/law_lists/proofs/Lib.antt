@@ -1,4 +1,3 @@
-pub mod Booleans
 pub mod Split
 pub mod Join
 pub mod Select

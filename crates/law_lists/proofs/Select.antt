@@ -3,13 +3,12 @@ use Rattle.std.proofs.Common.{◌≡◌, ℕ, zero, suc, ◌+◌, ◌-◌, ◌<�
 use Rattle.std.specs.Prelude.{◌↔◌}
 use Rattle.std.specs.List.{list_any, list_all, before_first, after_first, position_or_len}
 use Rattle.std.proofs.Math.Seq.{take-length}
-use Rattle.std.proofs.lemmas.Bool.{le-leb, leb-true, ne_eqb, eqb-true}
+use Rattle.std.proofs.lemmas.Bool.{le-leb, leb-true, ne_eqb, eqb-true, and_parts, or_parts, or_right}
 use Rattle.std.proofs.lemmas.Bool.Decides.{leb_tells}
 use Rattle.std.proofs.lemmas.List.{take_at, drop_at, length_push}
 use Rattle.rc_model.specs.Run.Numbers.{is_digit, digits_value, bounded, number_of}
 use Rattle.rc_model.specs.Run.Lists.{member, up_to, from_place, front, selected_by}
 use Rattle.rc_model.specs.Run.Selecting.{Names, one, range, onward, members_between, Selects, places, at_zero, other}
-use Rattle.law_lists.proofs.Booleans.{both_true}
 
 abbrev Texts : Type 0
 Texts = List (List ℕ)
@@ -78,11 +77,11 @@ no_way : {A : Type 0} → false ≡ true → A
 no_way h = absurd cc
 
 digit_no_dash : (c : ℕ) → is_digit c ≡ true → eqb c 45 ≡ false
-digit_no_dash c h = let l : 48 ≤ c = leb-true 48 c (both_true (leb 48 c) (leb c 57) h).0 in ne_eqb c 45 (λ q. absurd (omega arith))
+digit_no_dash c h = let l : 48 ≤ c = leb-true 48 c (and_parts (leb 48 c) (leb c 57) h).0 in ne_eqb c 45 (λ q. absurd (omega arith))
 
 digits_no_dash : (a : List ℕ) → list_all is_digit a ≡ true → lacks a
 digits_no_dash [] h = refl
-digits_no_dash (c ∷ a) h = let b = both_true (is_digit c) (list_all is_digit a) h in ap (λ x. x || list_any dash a) (digit_no_dash c b.0) ∙ digits_no_dash a b.1
+digits_no_dash (c ∷ a) h = let b = and_parts (is_digit c) (list_all is_digit a) h in ap (λ x. x || list_any dash a) (digit_no_dash c b.0) ∙ digits_no_dash a b.1
 
 digits_by : (b : Bool) (o : Option ℕ) (n : ℕ) → cond b o None ≡ Some n → b ≡ true
 digits_by true o n h = refl
@@ -92,21 +91,13 @@ number_no_dash : (a : List ℕ) (n : ℕ) → number_of a ≡ Some n → lacks a
 number_no_dash [] n h = refl
 number_no_dash (c ∷ a) n h = digits_no_dash (c ∷ a) (digits_by (list_all is_digit (c ∷ a)) (bounded (digits_value 0 (c ∷ a))) n h)
 
-none_of : (a b : Bool) → (a || b) ≡ false → (a ≡ false) × (b ≡ false)
-none_of true b h = no_way (sym h)
-none_of false b h = (refl, h)
-
-or_second : (a b : Bool) → b ≡ true → (a || b) ≡ true
-or_second true b h = refl
-or_second false b h = h
-
 found_dash : (a b : List ℕ) → list_any dash (a ++ 45 ∷ b) ≡ true
 found_dash [] b = refl
-found_dash (c ∷ a) b = or_second (eqb c 45) (list_any dash (a ++ 45 ∷ b)) (found_dash a b)
+found_dash (c ∷ a) b = or_right (eqb c 45) (list_any dash (a ++ 45 ∷ b)) (found_dash a b)
 
 place_of_dash : (a b : List ℕ) → lacks a → position_or_len dash (a ++ 45 ∷ b) ≡ length a
 place_of_dash [] b h = refl
-place_of_dash (c ∷ a) b h = let x = none_of (eqb c 45) (list_any dash a) h in
+place_of_dash (c ∷ a) b h = let x = or_parts (eqb c 45) (list_any dash a) h in
     ap (λ z. cond (not z) (1 + position_or_len dash (a ++ 45 ∷ b)) 0) x.0 ∙ ap (λ n. 1 + n) (place_of_dash a b x.1) ∙ (let e : 1 + length a ≡ suc (length a) = omega arith in e)
 
 before_dash : (a b : List ℕ) → lacks a → before_first dash (a ++ 45 ∷ b) ≡ a

@@ -1,13 +1,12 @@
 -- The members of a text are the only ones, and they are what splitting computes.
 use Rattle.std.proofs.Common.{◌≡◌, ◌≢◌, ℕ, suc, Bool, true, false, cond, List, [], ◌∷◌, ◌++◌, map, length, refl, sym, ap, subst, ◌∙◌, ◌&&◌, ◌||◌, not, arith}
-use Rattle.std.proofs.lemmas.Bool.{ne_eqb}
+use Rattle.std.proofs.lemmas.Bool.{ne_eqb, and_parts, or_parts}
 use Rattle.std.specs.Prelude.{◌↔◌, ◌==◌, filter}
 use Rattle.std.proofs.lemmas.List.{append-nil}
 use Rattle.std.specs.List.{list_all, list_any, slice_split, onto_first}
 use Rattle.std.specs.Str.{chars, encode_utf8_all}
 use Rattle.rc_model.specs.Run.Lists.{split}
 use Rattle.rc_model.specs.Run.Splitting.{is_cut, Splits, gap, next, is_among, AreMembers}
-use Rattle.law_lists.proofs.Booleans.{both_true}
 
 -- the parts that aren't empty
 abbrev pub filled : List (List ℕ) → List (List ℕ)
@@ -15,10 +14,6 @@ filled parts = filter (λ run. not (length run == 0)) parts
 
 abbrev pub runs : (ℕ → Bool) → List ℕ → List (List ℕ)
 runs p cs = filled (slice_split p cs)
-
-neither : (a b : Bool) → (a || b) ≡ false → (a ≡ false) × (b ≡ false)
-neither true b h = absurd cc
-neither false b h = (refl, h)
 
 not_nil : (c : ℕ) (cs : List ℕ) → (c ∷ cs) ≢ []
 not_nil c cs e = cc
@@ -79,13 +74,13 @@ module _ (p : ℕ → Bool) where
   after_gap : (g cs : List ℕ) → list_all p g ≡ true → runs p (g ++ cs) ≡ runs p cs
   after_gap [] cs h = refl
   after_gap (c ∷ g) cs h =
-      let b = both_true (p c) (list_all p g) h in
+      let b = and_parts (p c) (list_all p g) h in
       ap (λ x. filled (cond x ([] ∷ slice_split p (g ++ cs)) (onto_first c (slice_split p (g ++ cs))))) b.0 ∙ after_gap g cs b.1
 
   gap_runs : (g : List ℕ) → list_all p g ≡ true → runs p g ≡ []
   gap_runs [] h = refl
   gap_runs (c ∷ g) h =
-      let b = both_true (p c) (list_all p g) h in
+      let b = and_parts (p c) (list_all p g) h in
       ap (λ x. filled (cond x ([] ∷ slice_split p g) (onto_first c (slice_split p g)))) b.0 ∙ gap_runs g b.1
 
   cut_at : (rest : List ℕ) → is_cut p rest ≡ true → (others : List (List ℕ)) × (slice_split p rest ≡ [] ∷ others)
@@ -95,7 +90,7 @@ module _ (p : ℕ → Bool) where
   split_member : (member rest : List ℕ) (others : List (List ℕ)) → list_any p member ≡ false → slice_split p rest ≡ [] ∷ others → slice_split p (member ++ rest) ≡ member ∷ others
   split_member [] rest others h k = k
   split_member (c ∷ cs) rest others h k =
-      let b = neither (p c) (list_any p cs) h in
+      let b = or_parts (p c) (list_any p cs) h in
       ap (λ x. cond x ([] ∷ slice_split p (cs ++ rest)) (onto_first c (slice_split p (cs ++ rest)))) b.0 ∙ ap (onto_first c) (split_member cs rest others b.1 k)
 
   next_runs : (before member rest : List ℕ) → list_all p before ≡ true → member ≢ [] → list_any p member ≡ false → is_cut p rest ≡ true → runs p (before ++ (member ++ rest)) ≡ member ∷ runs p rest

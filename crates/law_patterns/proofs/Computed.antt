@@ -2,13 +2,13 @@
 use Rattle.std.proofs.Common.{◌≡◌, ℕ, zero, suc, ◌<◌, Bool, true, false, cond, eqb, List, [], ◌∷◌, ◌++◌, length, Option, Some, None, refl, sym, ap, ◌∙◌, ◌⊎◌, inl, inr, append_assoc, arith, eq-eqb, ◌&&◌, ◌||◌, not}
 use Rattle.std.specs.Prelude.{◌↔◌}
 use Rattle.std.specs.List.{list_all}
-use Rattle.std.proofs.lemmas.Bool.{eqb-true}
+use Rattle.std.proofs.lemmas.Bool.{eqb-true, or_right, and_parts}
 use Rattle.std.proofs.lemmas.List.{append-nil}
 use Rattle.rc_model.specs.Syntax.Words.{Word, has_pattern}
 use Rattle.rc_model.specs.Run.Patterns.{Pattern, This, AnyOne, AnyRun, OneOf, Nothing, Outside, Inside, is_marked, holds, class_of, parts_from, stands_for, any_run, parts_match, is_dots, matches}
 use Rattle.rc_model.specs.Run.Matching.{Kind, Star, Question, Open, Plain, kind, is_close, Fits, end, star, Matches}
 use Rattle.rc_model.specs.Mirrors.Greedy.{class_holds, class_with, class_end, class_after, one_by, after_one}
-use Rattle.law_patterns.proofs.Steps.{FitsLater, FitsOne, Fits-cons, Fits-nil, after_one-Fits, after_one-shorter, both_true}
+use Rattle.law_patterns.proofs.Steps.{FitsLater, FitsOne, Fits-cons, Fits-nil, after_one-Fits, after_one-shorter}
 
 -- what the parts of a word begin with, by the kind of its first character
 abbrev by_kind : Kind → ℕ → Word → List Pattern
@@ -38,7 +38,7 @@ and_false false = refl
 
 not_both : (c d : ℕ) (m : ℕ × Bool) → eqb c d ≡ false → is_marked c m ≡ true → is_marked d m ≡ false
 not_both c d m h k =
-    let x = eqb-true m.0 c (both_true m.1 (eqb m.0 c) k).1 in
+    let x = eqb-true m.0 c (and_parts m.1 (eqb m.0 c) k).1 in
     ap (λ z. m.1 && eqb z d) x ∙ ap (λ z. m.1 && z) h ∙ and_false m.1
 
 parts_cons : (m : ℕ × Bool) (w : Word) → parts_from Outside (m ∷ w) ≡ by_kind (kind m) m.0 w
@@ -126,17 +126,13 @@ none_parts e Question x w n = refl
 none_parts e Open x w n = ap (λ z. parts_match e z []) (parts_inside w []) ∙ inside_none e (class_end w)
 none_parts e Plain x w n = refl
 
-or_second : (a b : Bool) → b ≡ true → (a || b) ≡ true
-or_second true b h = refl
-or_second false b h = h
-
 -- a run, and what follows it
 run_true : (e : Bool) (go : List ℕ → Bool) (front rest : List ℕ) → list_all (stands_for e) front ≡ true → go rest ≡ true → any_run e go (front ++ rest) ≡ true
 run_true e go [] [] h g = g
 run_true e go [] (c ∷ cs) h g = ap (λ b. b || (stands_for e c && any_run e go cs)) g
 run_true e go (c ∷ front) rest h g =
-    let b = both_true (stands_for e c) (list_all (stands_for e) front) h in
-    or_second (go (c ∷ (front ++ rest))) (stands_for e c && any_run e go (front ++ rest)) (ap (λ z. z && any_run e go (front ++ rest)) b.0 ∙ run_true e go front rest b.1 g)
+    let b = and_parts (stands_for e c) (list_all (stands_for e) front) h in
+    or_right (go (c ∷ (front ++ rest))) (stands_for e c && any_run e go (front ++ rest)) (ap (λ z. z && any_run e go (front ++ rest)) b.0 ∙ run_true e go front rest b.1 g)
 
 abbrev Front : Bool → (List ℕ → Bool) → List ℕ → Type 0
 Front e go t = (front rest : List ℕ) × (list_all (stands_for e) front ≡ true) × (t ≡ front ++ rest) × (go rest ≡ true)
@@ -146,7 +142,7 @@ run_more e go c cs h f = (c ∷ f.0, f.1, ap (λ b. b && list_all (stands_for e)
 
 run_by : (e : Bool) (go : List ℕ → Bool) (c : ℕ) (cs : List ℕ) → (any_run e go cs ≡ true → Front e go cs) → (a : Bool) → go (c ∷ cs) ≡ a → (a || (stands_for e c && any_run e go cs)) ≡ true → Front e go (c ∷ cs)
 run_by e go c cs f true g h = ([], c ∷ cs, refl, refl, g)
-run_by e go c cs f false g h = let b = both_true (stands_for e c) (any_run e go cs) h in run_more e go c cs b.0 (f b.1)
+run_by e go c cs f false g h = let b = and_parts (stands_for e c) (any_run e go cs) h in run_more e go c cs b.0 (f b.1)
 
 run_front : (e : Bool) (go : List ℕ → Bool) (t : List ℕ) → any_run e go t ≡ true → Front e go t
 run_front e go [] h = ([], [], refl, refl, h)

@@ -4,16 +4,16 @@ use Rattle.std.specs.Prelude.{◌==◌, codes}
 use Rattle.std.specs.List.{list_any, join_with_byte, onto_first}
 use Rattle.std.specs.Str.{chars}
 use Rattle.std.proofs.lemmas.List.{append-nil}
-use Rattle.std.proofs.lemmas.Bool.{eqb-true}
+use Rattle.std.proofs.lemmas.Bool.{eqb-true, not-true, not_from_false, or_parts, and_parts}
 use Rattle.rc_model.specs.Syntax.Words.{Word, word_text, has_pattern, is_pattern, is_pattern_char}
 use Rattle.rc_model.specs.Run.Patterns.{matches}
 use Rattle.rc_model.specs.Run.Calls.{Call, Answer, list_names, as_names}
 use Rattle.rc_model.specs.Run.FileNames.{components, is_no_name, ordered, directory, fitting_names, or_itself, names_of}
 use Rattle.rc_model.specs.Run.PathNames.{IsIn, names_in, is_there, StandsFor, IsChosen, Chosen, ends_plain, Named, Expands, found, itself}
-use Rattle.law_patterns.proofs.Steps.{both_true}
 use Rattle.law_patterns.proofs.Computed.{matches-is}
 use Rattle.law_patterns.proofs.Sorted.{ordered_sorted, from_ordered, to_ordered, from_filter, to_filter, from_flat, to_flat}
 use Rattle.law_patterns.proofs.Walking.{Gives, names_found, found_step, found_there, found_from, found_of, gives_names}
+use Rattle.law_patterns.proofs.Steps.{no_way}
 
 -- texts after a slash each
 abbrev tail : List (List ℕ) → List ℕ
@@ -23,20 +23,6 @@ tail (t ∷ ts) = 47 ∷ (t ++ tail ts)
 join_tail : (t : List ℕ) (ts : List (List ℕ)) → join_with_byte 47 (t ∷ ts) ≡ t ++ tail ts
 join_tail t [] = sym (append-nil t)
 join_tail t (u ∷ ts) = ap (λ z. t ++ (47 ∷ z)) (join_tail u ts)
-
-false_true : {A : Type 0} → false ≡ true → A
-false_true h = absurd cc
-
-not_so : (b : Bool) → not b ≡ true → b ≡ false
-not_so true h = false_true h
-not_so false h = refl
-
-is_not : (b : Bool) → b ≡ false → not b ≡ true
-is_not b h = ap not h
-
-none_of : (a b : Bool) → (a || b) ≡ false → (a ≡ false) × (b ≡ false)
-none_of true b h = false_true (sym h)
-none_of false b h = (refl, h)
 
 module _ (answers : Call → Answer) where
   -- after a path with no final slash
@@ -54,13 +40,13 @@ module _ (answers : Call → Answer) where
   fitting_to : (c : Word) (path n : List ℕ) → IsIn n (fitting_names c (as_names (answers (list_names (directory path))))) → StandsFor answers path c n
   fitting_to c path n x =
       let f = from_filter (λ m. not (is_no_name m) && matches c (chars m) true) n (names_in answers path) (from_ordered n _ x) in
-      let b = both_true (not (is_no_name n)) (matches c (chars n) true) f.1 in
-      record { listed = f.0; a_name = not_so (is_no_name n) b.0; matches = (matches-is true c (chars n)).0 b.1 }
+      let b = and_parts (not (is_no_name n)) (matches c (chars n) true) f.1 in
+      record { listed = f.0; a_name = not-true (is_no_name n) b.0; matches = (matches-is true c (chars n)).0 b.1 }
 
   fitting_from : (c : Word) (path n : List ℕ) → StandsFor answers path c n → IsIn n (fitting_names c (as_names (answers (list_names (directory path)))))
   fitting_from c path n x =
       to_ordered n _ (to_filter (λ m. not (is_no_name m) && matches c (chars m) true) n (names_in answers path) x.listed
-      (ap (λ b. b && matches c (chars n) true) (is_not (is_no_name n) x.a_name) ∙ (matches-is true c (chars n)).1 x.matches))
+      (ap (λ b. b && matches c (chars n) true) (not_from_false (is_no_name n) x.a_name) ∙ (matches-is true c (chars n)).1 x.matches))
 
   abbrev To : List Word → Type 0
   To cs = (path p : List ℕ) → IsIn p (found_from answers cs path) → From cs path p
@@ -72,9 +58,9 @@ module _ (answers : Call → Answer) where
       IsIn p (cond b (names_found answers c (found_from answers cs) path) (found_from answers cs (path ++ word_text c))) → Step c cs path p
   step_to c cs path p true h hyp x =
       let f = from_flat (λ n. found_from answers cs (path ++ n)) p (fitting_names c (as_names (answers (list_names (directory path))))) x in
-      record { text = f.0; first = record { itself = λ k. false_true (sym k ∙ h); pattern = λ k. fitting_to c path f.0 f.1 }; rest = hyp (path ++ f.0) p f.2 }
+      record { text = f.0; first = record { itself = λ k. no_way (sym k ∙ h); pattern = λ k. fitting_to c path f.0 f.1 }; rest = hyp (path ++ f.0) p f.2 }
   step_to c cs path p false h hyp x =
-      record { text = word_text c; first = record { itself = λ k. refl; pattern = λ k. false_true (sym h ∙ k) }; rest = hyp (path ++ word_text c) p x }
+      record { text = word_text c; first = record { itself = λ k. refl; pattern = λ k. no_way (sym h ∙ k) }; rest = hyp (path ++ word_text c) p x }
 
   step_back : (c : Word) (cs : List Word) (path p : List ℕ) (b : Bool) → has_pattern c ≡ b → Back cs → Step c cs path p →
       IsIn p (cond b (names_found answers c (found_from answers cs) path) (found_from answers cs (path ++ word_text c)))
@@ -92,21 +78,21 @@ module _ (answers : Call → Answer) where
   ends_more c (d ∷ cs) h = refl
 
   ends_none : (c : Word) (cs : List Word) → list_any has_pattern (c ∷ cs) ≡ false → ends_plain (c ∷ cs) ≡ true
-  ends_none c [] h = is_not (has_pattern c) (none_of (has_pattern c) false h).0
-  ends_none c (d ∷ cs) h = ends_none d cs (none_of (has_pattern c) (list_any has_pattern (d ∷ cs)) h).1
+  ends_none c [] h = not_from_false (has_pattern c) (or_parts (has_pattern c) false h).0
+  ends_none c (d ∷ cs) h = ends_none d cs (or_parts (has_pattern c) (list_any has_pattern (d ∷ cs)) h).1
 
   all_plain : (cs : List Word) (path : List ℕ) → list_any has_pattern cs ≡ false → Chosen answers path cs (map word_text cs)
   all_plain [] path h = tt
   all_plain (c ∷ cs) path h =
-      let b = none_of (has_pattern c) (list_any has_pattern cs) h in
-      (record { itself = λ k. refl; pattern = λ k. false_true (sym b.0 ∙ k) }, all_plain cs ((path ++ word_text c) ++ codes "/") b.1)
+      let b = or_parts (has_pattern c) (list_any has_pattern cs) h in
+      (record { itself = λ k. refl; pattern = λ k. no_way (sym b.0 ∙ k) }, all_plain cs ((path ++ word_text c) ++ codes "/") b.1)
 
   only_plain : (cs : List Word) (path : List ℕ) (ts : List (List ℕ)) → list_any has_pattern cs ≡ false → Chosen answers path cs ts → ts ≡ map word_text cs
   only_plain [] path [] h x = refl
   only_plain [] path (t ∷ ts) h x = absurd x
   only_plain (c ∷ cs) path [] h x = absurd x
   only_plain (c ∷ cs) path (t ∷ ts) h x =
-      let b = none_of (has_pattern c) (list_any has_pattern cs) h in
+      let b = or_parts (has_pattern c) (list_any has_pattern cs) h in
       ap (λ z. z ∷ ts) (x.0.itself b.0) ∙ ap (λ z. word_text c ∷ z) (only_plain cs ((path ++ t) ++ codes "/") ts b.1 x.1)
 
   from_step : (c : Word) (cs : List Word) (path p : List ℕ) → list_any has_pattern (c ∷ cs) ≡ true → Step c cs (path ++ codes "/") p → From (c ∷ cs) path p
@@ -152,7 +138,7 @@ module _ (answers : Call → Answer) where
       }
 
   found_to : (cs : List Word) → To cs
-  found_to [] path p (inl q) = record { texts = []; chosen = tt; joined = sym q ∙ sym (append-nil path); checked = λ k. false_true k }
+  found_to [] path p (inl q) = record { texts = []; chosen = tt; joined = sym q ∙ sym (append-nil path); checked = λ k. no_way k }
   found_to [] path p (inr x) = absurd x
   found_to (c ∷ cs) path p x = found_to_by c cs path p (list_any has_pattern (c ∷ cs)) refl (found_to cs) x
 
@@ -195,7 +181,7 @@ module _ (answers : Call → Answer) where
   whole_step c cs p (t ∷ ts) h x q k = record { text = t; first = x.0; rest = record { texts = ts; chosen = x.1; joined = q ∙ join_tail t ts; checked = λ e. k (ends_more c cs h ∙ e) } }
 
   whole_back : (cs : List Word) (p : List ℕ) → list_any has_pattern cs ≡ true → Whole cs p → IsIn p (found_of answers cs)
-  whole_back [] p h x = false_true h
+  whole_back [] p h x = no_way h
   whole_back (c ∷ cs) p h x = step_back c cs [] p (has_pattern c) refl (found_back cs) (whole_step c cs p x.texts h x.chosen x.joined x.checked)
 
 both_false : (b : Bool) → cond b false false ≡ false

@@ -5,7 +5,7 @@ use Rattle.rc_model.specs.Syntax.Words.{Word, has_pattern}
 use Rattle.rc_model.specs.Run.Patterns.{parts_from, parts_match, Outside, stands_for, is_dots, matches}
 use Rattle.rc_model.specs.Run.Matching.{Kind, Star, Question, Open, Plain, kind, Fits}
 use Rattle.rc_model.specs.Mirrors.Greedy.{after_one, star_by, past_one, one_move, move_by, goes_back, after_move, greedy_from, greedy}
-use Rattle.law_patterns.proofs.Steps.{FitsLater, FitsOne, Fits-cons, no_one, nothing_fits, after_one-shorter, Claim, claim_start, claim_star, claim_one, claim_back, claim_end, claim_fails, Back}
+use Rattle.law_patterns.proofs.Steps.{FitsLater, FitsOne, Fits-cons, no_one, nothing_fits, after_one-shorter, Claim, claim_start, claim_star, claim_one, claim_back, claim_end, claim_fails, Back, no_way}
 use Rattle.law_patterns.proofs.Computed.{parts_match-Fits, Fits-parts_match}
 
 -- the answer is there, and it is right
@@ -32,9 +32,6 @@ time_back n k w t bw c bt i =
     let q : suc k * suc (length bt) ≤ suc k * length (c ∷ bt) = omega arith in
     let r : suc k * (length bt + 1) ≤ suc k * length (c ∷ bt) = mul-le-mul_left (suc k) (omega arith) in
     record { word = i.back; back = i.back; text = omega arith; time = omega arith }
-
-no_way : {A : Type 0} → false ≡ true → A
-no_way h = absurd cc
 
 module _ (e : Bool) (W : Word) (T : List ℕ) where
   -- from any place on, with n moves

@@ -7,7 +7,7 @@ use Rattle.std.specs.Str.{chars}
 use Rattle.std.specs.declared.cmp.Ordering.{Ordering}
 use Rattle.std.specs.declared.cmp.Ordering.TheVariants.{Less, Equal, Greater}
 use Rattle.std.specs.Ordering.{ordering_reverse}
-use Rattle.std.proofs.lemmas.Bool.{ne_eqb, eq-eqb}
+use Rattle.std.proofs.lemmas.Bool.{ne_eqb, eq-eqb, or_parts, and_parts, not-true}
 use Rattle.std.proofs.lemmas.Cmp.{nat_list_cmp_total}
 use Rattle.std.proofs.lemmas.List.{length-append}
 use Rattle.std.proofs.lemmas.Slice.Eq.{bytes_eq-Decides}
@@ -21,8 +21,8 @@ use Rattle.rc_model.specs.Run.State.{State}
 use Rattle.rc_model.specs.Run.Shell.{Result, Next, Exit, Shell, under, leaves, ◌>>=◌, pure}
 use Rattle.rc_model.specs.Run.FileNames.{components, is_no_name, directory, fitting_names, each_name, if_there, listed, step, walk, paths_of, or_itself, names_of}
 use Rattle.rc_model.specs.Run.PathNames.{IsIn, Agreeing}
-use Rattle.law_patterns.proofs.Steps.{both_true}
 use Rattle.law_patterns.proofs.Sorted.{ordered_sorted, from_ordered, from_filter}
+use Rattle.law_patterns.proofs.Steps.{no_way}
 
 -- each call of a plan, whatever is answered
 abbrev AllCalls : {X : Type 0} → (Call → Type 0) → Plan X → Type 0
@@ -106,25 +106,18 @@ from_among q ns c x = nearer q x.0 c (nearer (q ++ x.0) (codes "/") c x.2)
 abbrev clean : List ℕ → Type 0
 clean n = is_no_name n ≡ false
 
-no_way : {A : Type 0} → false ≡ true → A
-no_way h = absurd cc
-
-none_of : (a b : Bool) → (a || b) ≡ false → (a ≡ false) × (b ≡ false)
-none_of true b h = no_way (sym h)
-none_of false b h = (refl, h)
-
 abbrev slashed : List ℕ → Bool
 slashed n = list_any (λ c. (c == 47) || (c == 0)) n
 
 clean_name : (n : List ℕ) → clean n → ((length n == 0) ≡ false) × (slashed n ≡ false)
 clean_name n h =
-    let a = none_of (length n == 0) (bytes_eq n (codes ".") || (bytes_eq n (codes "..") || slashed n)) h in
-    let b = none_of (bytes_eq n (codes ".")) (bytes_eq n (codes "..") || slashed n) a.1 in
-    let c = none_of (bytes_eq n (codes "..")) (slashed n) b.1 in
+    let a = or_parts (length n == 0) (bytes_eq n (codes ".") || (bytes_eq n (codes "..") || slashed n)) h in
+    let b = or_parts (bytes_eq n (codes ".")) (bytes_eq n (codes "..") || slashed n) a.1 in
+    let c = or_parts (bytes_eq n (codes "..")) (slashed n) b.1 in
     (a.0, c.1)
 
 slash_there : (c : ℕ) (n : List ℕ) → c ≡ 47 → slashed (c ∷ n) ≡ false → ⊥
-slash_there c n q h = no_way (sym (none_of (c == 47) (c == 0) (none_of ((c == 47) || (c == 0)) (slashed n) h).0).0 ∙ eq-eqb c 47 q)
+slash_there c n q h = no_way (sym (or_parts (c == 47) (c == 0) (or_parts ((c == 47) || (c == 0)) (slashed n) h).0).0 ∙ eq-eqb c 47 q)
 
 same_name : (m n r t : List ℕ) → slashed m ≡ false → slashed n ≡ false → m ++ 47 ∷ r ≡ n ++ 47 ∷ t → m ≡ n
 same_name [] [] r t h k q = refl
@@ -133,7 +126,7 @@ same_name (c ∷ m) [] r t h k q = absurd (slash_there c m (cc) h)
 same_name (c ∷ m) (d ∷ n) r t h k q =
     let e : c ≡ d = cc in
     let f : m ++ 47 ∷ r ≡ n ++ 47 ∷ t = cc in
-    let g = same_name m n r t (none_of ((c == 47) || (c == 0)) (slashed m) h).1 (none_of ((d == 47) || (d == 0)) (slashed n) k).1 f in
+    let g = same_name m n r t (or_parts ((c == 47) || (c == 0)) (slashed m) h).1 (or_parts ((d == 47) || (d == 0)) (slashed n) k).1 f in
     cc
 
 cancel : (q a b : List ℕ) → q ++ a ≡ q ++ b → a ≡ b
@@ -174,11 +167,7 @@ each_once w h o q (n ∷ ns) s r k =
 fitting_clean : (c : Word) (a : Answer) → Clean (fitting_names c (as_names a))
 fitting_clean c a m x =
     let f = from_filter (λ n. not (is_no_name n) && matches c (chars n) true) m (unwrap_or (as_names a) []) (from_ordered m _ x) in
-    not_so (is_no_name m) (both_true (not (is_no_name m)) (matches c (chars m) true) f.1).0
-  where
-    not_so : (b : Bool) → not b ≡ true → b ≡ false
-    not_so true h = no_way h
-    not_so false h = refl
+    not-true (is_no_name m) (and_parts (not (is_no_name m)) (matches c (chars m) true) f.1).0
 
 -- the directory is no path below one of its names
 folder_by : (q : List ℕ) (b : Bool) → length (cond b (codes ".") q) ≤ length q + 1

@@ -1,8 +1,9 @@
 -- How a pattern is matched from left to right, with one star to go back to.
-use Rattle.std.proofs.Common.{◌≡◌, ℕ, suc, ◌<◌, ◌≤◌, Bool, true, false, cond, eqb, List, [], ◌∷◌, ◌++◌, length, Option, Some, None, refl, sym, ap, subst, ◌∙◌, ◌⊎◌, inl, inr, append_assoc, arith, eq-eqb, ◌&&◌, not, unwrap_or}
+use Rattle.std.proofs.Common.{◌≡◌, ℕ, suc, ◌<◌, ◌≤◌, Bool, true, false, cond, eqb, List, [], ◌∷◌, ◌++◌, length, Option, Some, None, refl, sym, ap, subst, ◌∙◌, ◌⊎◌, inl, inr, append_assoc, arith, eq-eqb, ◌&&◌, not}
 use Rattle.std.specs.List.{list_all}
-use Rattle.std.proofs.lemmas.Bool.{eqb-true}
+use Rattle.std.proofs.lemmas.Bool.{eqb-true, and_parts, not-true}
 use Rattle.std.proofs.lemmas.List.{length-append}
+use Rattle.std.proofs.lemmas.Option.{same_Some, cond_some}
 use Rattle.rc_model.specs.Run.Patterns.{stands_for}
 use Rattle.rc_model.specs.Run.Matching.{Kind, Star, Question, Open, Plain, kind, is_close, Fits, end, itself, question, star, class}
 use Rattle.rc_model.specs.Mirrors.Greedy.{class_holds, class_with, class_end, class_after, one_by, after_one}
@@ -15,29 +16,14 @@ FitsLater e w t = (front rest : List ℕ) × (list_all (stands_for e) front ≡ 
 abbrev pub FitsOne : Bool → List (ℕ × Bool) → List ℕ → Type 0
 FitsOne e w t = (c : ℕ) × (rest : List ℕ) × (v : List (ℕ × Bool)) × (t ≡ c ∷ rest) × (after_one e w c ≡ Some v) × Fits e v rest
 
-false_true : false ≡ true → ⊥
-false_true h = cc
-
-pub both_true : (a b : Bool) → (a && b) ≡ true → (a ≡ true) × (b ≡ true)
-both_true true b h = (refl, h)
-both_true false b h = absurd cc
-
-not_true : (b : Bool) → not b ≡ true → b ≡ false
-not_true true h = absurd cc
-not_true false h = refl
-
-guarded : {X : Type 0} (b : Bool) (x v : X) → cond b (Some x) None ≡ Some v → (b ≡ true) × (x ≡ v)
-guarded true x v h = (refl, cc)
-guarded false x v h = cc
-
-pub some_same : {X : Type 0} (x y : X) → Some x ≡ Some y → x ≡ y
-some_same x y h = ap (λ o. unwrap_or o x) h
+pub no_way : {A : Type 0} → false ≡ true → A
+no_way h = absurd cc
 
 class_end-found : (members : List (ℕ × Bool)) (close : ℕ × Bool) (word : List (ℕ × Bool)) → list_all (λ x. not (is_close x)) members ≡ true → is_close close ≡ true → class_end (members ++ close ∷ word) ≡ Some (members, word)
 class_end-found [] close word h k = ap (λ b. cond b (Some ([], word)) (class_with close (class_end word))) k
 class_end-found (m ∷ ms) close word h k =
-    let both = both_true (not (is_close m)) (list_all (λ x. not (is_close x)) ms) h in
-    ap (λ b. cond b (Some ([], ms ++ close ∷ word)) (class_with m (class_end (ms ++ close ∷ word)))) (not_true (is_close m) both.0)
+    let both = and_parts (not (is_close m)) (list_all (λ x. not (is_close x)) ms) h in
+    ap (λ b. cond b (Some ([], ms ++ close ∷ word)) (class_with m (class_end (ms ++ close ∷ word)))) (not-true (is_close m) both.0)
     ∙ ap (class_with m) (class_end-found ms close word both.1 k)
 
 -- what the class is, where it has an end
@@ -58,14 +44,14 @@ IsClass-with m w (Some q) p n hyp h =
       inside = ap (λ b. not b && list_all (λ x. not (is_close x)) q.0) n ∙ r.inside;
       closes = r.closes;
     } in
-    let same : (m ∷ q.0, q.1) ≡ p = some_same _ _ h in
+    let same : (m ∷ q.0, q.1) ≡ p = same_Some _ _ h in
     subst (λ z. IsClass (m ∷ w) z) same whole
 
 class_at : (m : ℕ × Bool) (w : List (ℕ × Bool)) (b : Bool) (p : List (ℕ × Bool) × List (ℕ × Bool)) → is_close m ≡ b → ((q : List (ℕ × Bool) × List (ℕ × Bool)) → class_end w ≡ Some q → IsClass w q) →
     cond b (Some ([], w)) (class_with m (class_end w)) ≡ Some p → IsClass (m ∷ w) p
 class_at m w true p k hyp h =
     let whole : IsClass (m ∷ w) ([], w) = record { close = m; parts = refl; inside = refl; closes = k } in
-    let same : ([], w) ≡ p = some_same _ _ h in
+    let same : ([], w) ≡ p = same_Some _ _ h in
     subst (λ z. IsClass (m ∷ w) z) same whole
 class_at m w false p k hyp h = IsClass-with m w (class_end w) p k hyp h
 
@@ -92,7 +78,7 @@ Fits-cons {e} (class m rest members close w c t k q h1 h2 holds may f) =
     )
 
 guarded_2 : {X : Type 0} (a b : Bool) (x v : X) → cond a (cond b (Some x) None) None ≡ Some v → (a ≡ true) × (b ≡ true) × (x ≡ v)
-guarded_2 true b x v h = let g = guarded b x v h in (refl, g.0, g.1)
+guarded_2 true b x v h = let g = cond_some b x v h in (refl, g.0, g.1)
 guarded_2 false b x v h = cc
 
 class_after-Fits : (e : Bool) (m : ℕ × Bool) (w : List (ℕ × Bool)) (c : ℕ) (v : List (ℕ × Bool)) (t : List ℕ) (o : Option (List (ℕ × Bool) × List (ℕ × Bool))) →
@@ -105,9 +91,9 @@ class_after-Fits e m w c v t (Some p) k q h f =
 
 one_by-Fits : (e : Bool) (m : ℕ × Bool) (w : List (ℕ × Bool)) (c : ℕ) (v : List (ℕ × Bool)) (t : List ℕ) (k : Kind) → kind m ≡ k → one_by e k m.0 w c ≡ Some v → Fits e v t → Fits e (m ∷ w) (c ∷ t)
 one_by-Fits e m w c v t Star k h f = cc
-one_by-Fits e m w c v t Question k h f = let g = guarded (stands_for e c) w v h in question m w c t k g.0 (subst (λ z. Fits e z t) (sym g.1) f)
+one_by-Fits e m w c v t Question k h f = let g = cond_some (stands_for e c) w v h in question m w c t k g.0 (subst (λ z. Fits e z t) (sym g.1) f)
 one_by-Fits e m w c v t Open k h f = class_after-Fits e m w c v t (class_end w) k refl h f
-one_by-Fits e m w c v t Plain k h f = let g = guarded (eqb m.0 c) w v h in itself m w c t k (eqb-true m.0 c g.0) (subst (λ z. Fits e z t) (sym g.1) f)
+one_by-Fits e m w c v t Plain k h f = let g = cond_some (eqb m.0 c) w v h in itself m w c t k (eqb-true m.0 c g.0) (subst (λ z. Fits e z t) (sym g.1) f)
 
 -- one character, and then the rest
 pub after_one-Fits : (e : Bool) (w : List (ℕ × Bool)) (c : ℕ) (v : List (ℕ × Bool)) (t : List ℕ) → after_one e w c ≡ Some v → Fits e v t → Fits e w (c ∷ t)
@@ -125,7 +111,7 @@ Run-push e w (d ∷ cs) v u c r h = (r.0, r.1, Run-push e r.0 cs v u c r.2 h)
 
 all_append : (p : ℕ → Bool) (xs ys : List ℕ) → list_all p xs ≡ true → list_all p ys ≡ true → list_all p (xs ++ ys) ≡ true
 all_append p [] ys h k = k
-all_append p (x ∷ xs) ys h k = let b = both_true (p x) (list_all p xs) h in ap (λ a. a && list_all p (xs ++ ys)) b.0 ∙ all_append p xs ys b.1 k
+all_append p (x ∷ xs) ys h k = let b = and_parts (p x) (list_all p xs) h in ap (λ a. a && list_all p (xs ++ ys)) b.0 ∙ all_append p xs ys b.1 k
 
 all_cons : (p : ℕ → Bool) (x : ℕ) (xs : List ℕ) → p x ≡ true → list_all p xs ≡ true → list_all p (x ∷ xs) ≡ true
 all_cons p x xs h k = ap (λ a. a && list_all p xs) h ∙ k
@@ -142,7 +128,7 @@ later_append e w g t h f = (g ++ f.0, f.1, all_append (stands_for e) g f.0 h f.2
 
 later_cases : (e : Bool) (w : List (ℕ × Bool)) (t front rest : List ℕ) → list_all (stands_for e) front ≡ true → t ≡ front ++ rest → Fits e w rest → Fits e w t ⊎ Later e w t
 later_cases e w t [] rest h q f = inl (subst (λ z. Fits e w z) (sym q) f)
-later_cases e w t (c ∷ front) rest h q f = let b = both_true (stands_for e c) (list_all (stands_for e) front) h in inr (c, front ++ rest, q, b.0, (front, rest, b.1, refl, f))
+later_cases e w t (c ∷ front) rest h q f = let b = and_parts (stands_for e c) (list_all (stands_for e) front) h in inr (c, front ++ rest, q, b.0, (front, rest, b.1, refl, f))
 
 Later-FitsLater : (e : Bool) (w : List (ℕ × Bool)) (t : List ℕ) → Later e w t → FitsLater e w t
 Later-FitsLater e w t l = subst (λ z. FitsLater e w z) (sym l.2) (later_append e w (l.0 ∷ []) l.1 (all_cons (stands_for e) l.0 [] l.3 refl) l.4)
@@ -163,11 +149,11 @@ same_class e (Some p) c d v u h k =
 -- what follows a character or class doesn't depend on the character
 same_rest_by : (e : Bool) (k : Kind) (x : ℕ) (w : List (ℕ × Bool)) (c d : ℕ) (v u : List (ℕ × Bool)) → one_by e k x w c ≡ Some v → one_by e k x w d ≡ Some u → stands_for e c ≡ true → (v ≡ u) × (stands_for e d ≡ true)
 same_rest_by e Star x w c d v u h k may = absurd cc
-same_rest_by e Question x w c d v u h k may = let a = guarded (stands_for e c) w v h in let b = guarded (stands_for e d) w u k in (sym a.1 ∙ b.1, b.0)
+same_rest_by e Question x w c d v u h k may = let a = cond_some (stands_for e c) w v h in let b = cond_some (stands_for e d) w u k in (sym a.1 ∙ b.1, b.0)
 same_rest_by e Open x w c d v u h k may = same_class e (class_end w) c d v u h k
 same_rest_by e Plain x w c d v u h k may =
-    let a = guarded (eqb x c) w v h in
-    let b = guarded (eqb x d) w u k in
+    let a = cond_some (eqb x c) w v h in
+    let b = cond_some (eqb x d) w u k in
     (sym a.1 ∙ b.1, ap (stands_for e) (sym (eqb-true x d b.0) ∙ eqb-true x c a.0) ∙ may)
 
 same_rest : (e : Bool) (w : List (ℕ × Bool)) (c d : ℕ) (v u : List (ℕ × Bool)) → after_one e w c ≡ Some v → after_one e w d ≡ Some u → stands_for e c ≡ true → (v ≡ u) × (stands_for e d ≡ true)
@@ -195,7 +181,7 @@ pub record Shifted (e : Bool) (w : List (ℕ × Bool)) (s u : List ℕ) : Type 0
 shift : (e : Bool) (w : List (ℕ × Bool)) (s : List ℕ) (v : List (ℕ × Bool)) (u : List ℕ) → Run e w s v → list_all (stands_for e) s ≡ true → Fits e w u → Shifted e v s u
 shift e w [] v u r h f = record { front = []; rest = u; parts = refl; same = refl; may = refl; fits = subst (λ z. Fits e z u) r f }
 shift e w (c ∷ s) v u r h f =
-    let b = both_true (stands_for e c) (list_all (stands_for e) s) h in
+    let b = and_parts (stands_for e c) (list_all (stands_for e) s) h in
     let o = Fits-one e w c r.0 u r.1 f in
     let same_v = same_rest e w c o.0 r.0 o.2 r.1 o.4 b.0 in
     let n = shift e r.0 s v o.1 r.2 b.1 (subst (λ z. Fits e z o.1) (sym same_v.0) o.5) in
@@ -212,13 +198,13 @@ shift e w (c ∷ s) v u r h f =
 between : (p : ℕ → Bool) (s g t u : List ℕ) → s ++ t ≡ g ++ u → length s ≤ length g → list_all p g ≡ true → (f : List ℕ) × (t ≡ f ++ u) × (list_all p f ≡ true)
 between p [] g t u q l h = (g, q, h)
 between p (c ∷ s) [] t u q l h = absurd (omega arith)
-between p (c ∷ s) (d ∷ g) t u q l h = let n : length s ≤ length g = omega arith in let e : s ++ t ≡ g ++ u = cc in between p s g t u e n (both_true (p d) (list_all p g) h).1
+between p (c ∷ s) (d ∷ g) t u q l h = let n : length s ≤ length g = omega arith in let e : s ++ t ≡ g ++ u = cc in between p s g t u e n (and_parts (p d) (list_all p g) h).1
 
 -- the first character that may not stand is found in one place only
 not_between : (p : ℕ → Bool) (s g t u : List ℕ) (c : ℕ) → s ++ (c ∷ t) ≡ g ++ u → length s < length g → list_all p g ≡ true → p c ≡ false → ⊥
 not_between p s [] t u c q l h n = absurd (omega arith)
-not_between p [] (d ∷ g) t u c q l h n = let x : c ≡ d = cc in let y : false ≡ true = sym n ∙ ap p x ∙ (both_true (p d) (list_all p g) h).0 in cc
-not_between p (b ∷ s) (d ∷ g) t u c q l h n = let k : length s < length g = omega arith in let e : s ++ (c ∷ t) ≡ g ++ u = cc in not_between p s g t u c e k (both_true (p d) (list_all p g) h).1 n
+not_between p [] (d ∷ g) t u c q l h n = let x : c ≡ d = cc in let y : false ≡ true = sym n ∙ ap p x ∙ (and_parts (p d) (list_all p g) h).0 in cc
+not_between p (b ∷ s) (d ∷ g) t u c q l h n = let k : length s < length g = omega arith in let e : s ++ (c ∷ t) ≡ g ++ u = cc in not_between p s g t u c e k (and_parts (p d) (list_all p g) h).1 n
 
 abbrev pub Back : Bool → Bool → List (ℕ × Bool) → List ℕ → Type 0
 Back e s w t = (s ≡ true) × Later e w t
@@ -238,7 +224,7 @@ pub record Claim (e : Bool) (whole : List (ℕ × Bool)) (all : List ℕ) (word 
   pub trail : s ≡ true → Passed e back_word back_text word text
 
 pub claim_start : (e : Bool) (w : List (ℕ × Bool)) (t : List ℕ) (bw : List (ℕ × Bool)) (bt : List ℕ) → Claim e w t w t false bw bt
-claim_start e w t bw bt = record { forth = λ f. inl f; here = λ f. f; later = λ b. absurd (false_true b.0); trail = λ h. absurd (false_true h) }
+claim_start e w t bw bt = record { forth = λ f. inl f; here = λ f. f; later = λ b. no_way b.0; trail = λ h. no_way h }
 
 of_star : (e : Bool) (m : ℕ × Bool) (w : List (ℕ × Bool)) (t : List ℕ) → kind m ≡ Star → ((kind m ≡ Star) × FitsLater e w t) ⊎ FitsOne e (m ∷ w) t → FitsLater e w t
 of_star e m w t k (inl x) = x.1
@@ -296,7 +282,7 @@ after_fits e w c v t h f =
     let o = Fits-one e w c v (c ∷ t) h f in
     let d : c ≡ o.0 = cc in
     let r : o.1 ≡ t = cc in
-    let same : o.2 ≡ v = some_same o.2 v (sym o.4 ∙ ap (after_one e w) (sym d) ∙ h) in
+    let same : o.2 ≡ v = same_Some o.2 v (sym o.4 ∙ ap (after_one e w) (sym d) ∙ h) in
     subst (λ z. Fits e v z) r (subst (λ z. Fits e z o.1) same o.5)
 
 one_ways : (e : Bool) (w : List (ℕ × Bool)) (c : ℕ) (v : List (ℕ × Bool)) (t : List ℕ) (s : Bool) (bw : List (ℕ × Bool)) (bt : List ℕ) → after_one e w c ≡ Some v → (s ≡ true → Passed e bw bt w (c ∷ t)) →
@@ -326,8 +312,8 @@ pub claim_one : (e : Bool) (W : List (ℕ × Bool)) (T : List ℕ) (w : List (�
 claim_one e W T w c v t s bw bt h k = record {
   forth = λ f. one_ways e w c v t s bw bt h k.trail (stands_for e c) refl (k.forth f);
   here = λ f. k.here (after_one-Fits e w c v t h f);
-  later = λ b. k.later ((both_true s (stands_for e c) b.0).0, b.1);
-  trail = λ q. pushed e bw bt w c v t h (both_true s (stands_for e c) q).1 (k.trail (both_true s (stands_for e c) q).0);
+  later = λ b. k.later ((and_parts s (stands_for e c) b.0).0, b.1);
+  trail = λ q. pushed e bw bt w c v t h (and_parts s (stands_for e c) q).1 (k.trail (and_parts s (stands_for e c) q).0);
 }
 
 -- the star takes one character more
@@ -358,9 +344,9 @@ shorter_class e w (Some p) c v q h =
 
 shorter_by : (e : Bool) (k : Kind) (x : ℕ) (w : List (ℕ × Bool)) (c : ℕ) (v : List (ℕ × Bool)) → one_by e k x w c ≡ Some v → length v < suc (length w)
 shorter_by e Star x w c v h = absurd cc
-shorter_by e Question x w c v h = let q = ap length (guarded (stands_for e c) w v h).1 in omega arith
+shorter_by e Question x w c v h = let q = ap length (cond_some (stands_for e c) w v h).1 in omega arith
 shorter_by e Open x w c v h = let l = shorter_class e w (class_end w) c v refl h in omega arith
-shorter_by e Plain x w c v h = let q = ap length (guarded (eqb x c) w v h).1 in omega arith
+shorter_by e Plain x w c v h = let q = ap length (cond_some (eqb x c) w v h).1 in omega arith
 
 pub after_one-shorter : (e : Bool) (w : List (ℕ × Bool)) (c : ℕ) (v : List (ℕ × Bool)) → after_one e w c ≡ Some v → length v < length w
 after_one-shorter e [] c v h = absurd cc

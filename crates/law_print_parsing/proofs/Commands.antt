@@ -1,6 +1,7 @@
 -- Commands that are read again where they are printed.
 use Rattle.std.proofs.Common.{◌≡◌, refl, sym, ap, ◌∙◌, Bool, true, false, not, ◌&&◌, List, ◌∷◌, ◌++◌, append_assoc, append-nil}
 use Rattle.std.proofs.Common.{◌⊎◌}
+use Rattle.std.proofs.lemmas.Bool.{not-true}
 use Rattle.rc_model.specs.Syntax.Tokens.{Lexeme, LeftParen, RightParen, LeftBrace, RightBrace}
 use Rattle.rc_model.specs.Syntax.Tree.{Node, Many, none, more}
 use Rattle.rc_model.specs.Syntax.Tree as t
@@ -153,10 +154,6 @@ simple_firm a as' p q first calm = record {
   redir = redir_on (arg_open p.opens) (args_lexemes as') ∙ arg_redir p.opens;
 }
   where
-    falsely : (b : Bool) → not b ≡ true → b ≡ false
-    falsely true k = absurd cc
-    falsely false k = refl
-
     calm_at : (begins : Bool) → not (begins && begins_with_case a) ≡ true → Opens begins (arg_lexemes a)
-    calm_at true h = calm (falsely (begins_with_case a) h)
+    calm_at true h = calm (not-true (begins_with_case a) h)
     calm_at false h = arg_open p.opens

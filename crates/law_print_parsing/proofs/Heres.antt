@@ -1,5 +1,6 @@
 -- Trees without here documents have parts without them.
 use Rattle.std.proofs.Common.{◌≡◌, refl, Bool, true, false, ◌||◌}
+use Rattle.std.proofs.lemmas.Bool.{or_from}
 use Rattle.rc_model.specs.Syntax.Tree.{Node, Many, none, more}
 use Rattle.rc_model.specs.Syntax.Tree as t
 use Rattle.rc_model.specs.Syntax.Grammar.{concat_of, redirect, stages_of, last_of, pipeline, and_or}
@@ -12,9 +13,6 @@ or_first false b h = refl
 pub or_second : (a b : Bool) → (a || b) ≡ false → b ≡ false
 or_second true b h = absurd cc
 or_second false b h = h
-
-pub or_none : (a b : Bool) → a ≡ false → b ≡ false → (a || b) ≡ false
-or_none a b h k = rw h k
 
 pub here_concat : (a : Node t.arg) (as' : Many t.arg) → has_here (concat_of a as') ≡ false → (has_here a ≡ false) × (have_here as' ≡ false)
 here_concat a none h = (h, refl)
@@ -31,8 +29,8 @@ here_stages c (more (t.Stage d slot) ss) h =
     let x : Bool = have_here (stages_of d ss) in
     let y : Bool = has_here (last_of d ss) in
     let front = or_first (has_here c || x) y h in
-    let w = here_stages d ss (or_none x y (or_second (has_here c) x front) (or_second (has_here c || x) y h)) in
-    (or_first (has_here c) x front, or_none (has_here d) (have_here ss) w.0 w.1)
+    let w = here_stages d ss (or_from x y (or_second (has_here c) x front) (or_second (has_here c || x) y h)) in
+    (or_first (has_here c) x front, or_from (has_here d) (have_here ss) w.0 w.1)
 
 pub here_pipeline : (c : Node t.cmd) (ss : Many t.stage) → has_here (pipeline c ss) ≡ false → (has_here c ≡ false) × (have_here ss ≡ false)
 here_pipeline c none h = (h, refl)

@@ -2,11 +2,12 @@
 use Rattle.std.proofs.Common.{◌≡◌, ◌&&◌, true, false, ℕ, zero, suc, ◌<◌, ◌≤◌, ◌+◌, ◌*◌, Bool, cond, List, [], ◌∷◌, length, Option, Some, None, refl, sym, ap, ◌∙◌, arith}
 use Rattle.std.proofs.Math.Nat.{mul-le-mul_left}
 use Rattle.std.proofs.lemmas.List.{length-map}
+use Rattle.std.proofs.lemmas.Option.{same_Some}
 use Rattle.rc_model.specs.Syntax.Words.{Word}
 use Rattle.rc_model.specs.Run.Patterns.{stands_for, parts_match, parts_from, Outside}
 use Rattle.rc_model.specs.Mirrors.Greedy.{after_one, after_star, Move, PastStar, PastOne, AtEnd, Miss, past_one, one_move, move_by, move, goes_back, after_move, greedy_from}
 use Rattle.law_patterns.proofs.Going.{greedy_from-is}
-use Rattle.law_patterns.proofs.Steps.{after_one-shorter, some_same}
+use Rattle.law_patterns.proofs.Steps.{after_one-shorter}
 use Rattle.rc_literal.specs.declared.Ch.{Ch}
 use Rattle.rc_literal.specs.Views.{marks}
 use Rattle.std.specs.List.{list_all}
@@ -63,7 +64,7 @@ going_one e a w v c t u s r bw bt q h g =
     let n = next_by e a w t s bw bt g.moves (PastOne c v u) q g.is in record { moves = n.0; is = ap (λ z. greedy_from n.0 e v u z bw bt) h ∙ n.1 }
 
 pub going_end : (e a : Bool) (w : Word) (t : List ℕ) (s : Bool) (bw : Word) (bt : List ℕ) → move e w t ≡ AtEnd → Going e a w t s bw bt → true ≡ a
-going_end e a w t s bw bt q g = some_same true a (next_by e a w t s bw bt g.moves AtEnd q g.is).1
+going_end e a w t s bw bt q g = same_Some true a (next_by e a w t s bw bt g.moves AtEnd q g.is).1
 
 -- back to the star
 back_by : (e a : Bool) (w : Word) (t : List ℕ) (s : Bool) (bw : Word) (bt : List ℕ) → move e w t ≡ Miss → Going e a w t s bw bt → (k : ℕ) × (goes_back (greedy_from k e) e s bw bt ≡ Some a)
@@ -83,17 +84,17 @@ going_back e a w t s bw c bt more q h k may g =
 
 pub no_star : (e a : Bool) (w : Word) (t : List ℕ) (s : Bool) (bw : Word) (bt : List ℕ) → move e w t ≡ Miss → s ≡ false → Going e a w t s bw bt → false ≡ a
 no_star e a w t s bw bt q h g =
-    let n = back_by e a w t s bw bt q g in some_same false a (ap (λ z. goes_back (greedy_from n.0 e) e z bw bt) (sym h) ∙ n.1)
+    let n = back_by e a w t s bw bt q g in same_Some false a (ap (λ z. goes_back (greedy_from n.0 e) e z bw bt) (sym h) ∙ n.1)
 
 pub no_text : (e a : Bool) (w : Word) (t : List ℕ) (s : Bool) (bw : Word) (bt : List ℕ) → move e w t ≡ Miss → s ≡ true → bt ≡ [] → Going e a w t s bw bt → false ≡ a
 no_text e a w t s bw bt q h k g =
     let n = back_by e a w t s bw bt q g in
-    some_same false a (ap (goes_back (greedy_from n.0 e) e true bw) (sym k) ∙ ap (λ z. goes_back (greedy_from n.0 e) e z bw bt) (sym h) ∙ n.1)
+    same_Some false a (ap (goes_back (greedy_from n.0 e) e true bw) (sym k) ∙ ap (λ z. goes_back (greedy_from n.0 e) e z bw bt) (sym h) ∙ n.1)
 
 pub no_further : (e a : Bool) (w : Word) (t : List ℕ) (s : Bool) (bw : Word) (c : ℕ) (bt more : List ℕ) → move e w t ≡ Miss → s ≡ true → bt ≡ c ∷ more → stands_for e c ≡ false → Going e a w t s bw bt → false ≡ a
 no_further e a w t s bw c bt more q h k may g =
     let n = back_by e a w t s bw bt q g in
-    some_same false a (
+    same_Some false a (
     ap (λ b. cond b (greedy_from n.0 e bw more true bw more) (Some false)) (sym may)
     ∙ ap (goes_back (greedy_from n.0 e) e true bw) (sym k)
     ∙ ap (λ z. goes_back (greedy_from n.0 e) e z bw bt) (sym h)

@@ -5,12 +5,9 @@ use Rattle.std.specs.Str.{bytes_eq, chars, encode_utf8_all, IsUtf8}
 use Rattle.std.proofs.lemmas.Cmp.{nat_list_eq_equiv}
 use Rattle.std.proofs.lemmas.Slice.Eq.{bytes_eq-Decides}
 use Rattle.std.proofs.lemmas.Str.{encodes-chars}
+use Rattle.std.proofs.lemmas.Bool.{or_parts}
 use Rattle.rc_model.specs.Syntax.Words.{Word, has_pattern, is_pattern}
 use Rattle.rc_model.specs.Run.Patterns.{AnyOne, AnyRun, begun_by, Inside, is_dots, matches, outside, Outside, parts_from, parts_match, This}
-
-neither : (a b : Bool) → a || b ≡ false → (a ≡ false) × (b ≡ false)
-neither true b h = absurd (let n : ⊥ = cc in n)
-neither false b h = (refl, h)
 
 part_by : (a b d : Bool) (c : ℕ) → (a || b) || d ≡ false → cond a (AnyRun ∷ []) (cond b (AnyOne ∷ []) (cond d [] (This c ∷ []))) ≡ This c ∷ []
 part_by true b d c h = absurd (let n : ⊥ = cc in n)
@@ -24,14 +21,14 @@ itself (c, true) h = part_by (c == 42) (c == 63) (c == 91) c h
 itself (c, false) h = refl
 
 no_class : (m : ℕ × Bool) → is_pattern m ≡ false → begun_by m ≡ Outside
-no_class (c, true) h = ap (λ b. cond b (Inside []) Outside) (neither ((c == 42) || (c == 63)) (c == 91) h).1
+no_class (c, true) h = ap (λ b. cond b (Inside []) Outside) (or_parts ((c == 42) || (c == 63)) (c == 91) h).1
 no_class (c, false) h = refl
 
 -- the parts of such a word are its characters
 parts_plain : (w : Word) → has_pattern w ≡ false → parts_from Outside w ≡ map (λ m. This m.0) w
 parts_plain [] h = refl
 parts_plain (m ∷ w) h =
-    let n = neither (is_pattern m) (has_pattern w) h in
+    let n = or_parts (is_pattern m) (has_pattern w) h in
     ap (λ ps. ps ++ parts_from (begun_by m) w) (itself m n.0)
     ∙ ap (λ b. This m.0 ∷ parts_from b w) (no_class m n.0)
     ∙ ap (λ ps. This m.0 ∷ ps) (parts_plain w n.1)
