@@ -45,7 +45,7 @@ clean_chars (c ∷ cs) z =
 pub clean_text : (text : List ℕ) → IsText text → without_zero text ≡ true
 clean_text text x = subst (λ bs. without_zero bs ≡ true) (encodes-chars text x.0) (clean_chars (chars text) x.1)
 
-name_char_clean : (c : ℕ) → is_name_char c ≡ true → not (c == 0) ≡ true
+pub name_char_clean : (c : ℕ) → is_name_char c ≡ true → not (c == 0) ≡ true
 name_char_clean c e = grind (arith, nat_tests)
 
 pub clean_name : (text : List ℕ) → list_all is_name_char text ≡ true → without_zero text ≡ true

@@ -1,28 +1,22 @@
 -- The pieces of a here document are of whole characters where its body is.
-use Rattle.std.proofs.Common.{◌≡◌, refl, ℕ, zero, suc, ◌<◌, get_or, Bool, true, false, ◌==◌, if◌then◌else◌, List, [], ◌∷◌, ◌++◌, append-nil, arith}
+use Rattle.std.proofs.Common.{◌≡◌, refl, ℕ, ◌<◌, Bool, true, false, ◌==◌, if◌then◌else◌, List, [], ◌∷◌, ◌++◌, append-nil, arith}
 use Rattle.std.specs.Prelude.{IsUtf8}
 use Rattle.std.specs.List.{list_all}
 use Rattle.std.specs.Str.{chars, is_utf8}
 use Rattle.std.proofs.lemmas.Bool.{and_parts, and_from}
 use Rattle.std.proofs.lemmas.Bool.Decides.{nat_tests}
-use Rattle.std.proofs.lemmas.Str.{IsUtf8-append, IsUtf8-nil, IsUtf8-from_ascii, is_utf8-from_IsUtf8, scalars-chars}
+use Rattle.std.proofs.lemmas.Str.{IsUtf8-append, IsUtf8-nil, is_utf8-from_IsUtf8, scalars-chars}
 use lib.Utf8.{encode, scalar, scalars}
 use Rattle.rc_model.specs.Syntax.Tokens.{is_name_char}
 use Rattle.rc_model.specs.Syntax.Tree.{Node, Many, none, more, snoc}
 use Rattle.rc_model.specs.Syntax.Tree as t
 use Rattle.rc_model.specs.Syntax.HereDocs.{Begun, Plain, Dollar, Naming, with_text, begun_by, begun_after, ended_by, with_last, pieces_from, pieces_of}
 use Rattle.rc_model.specs.Handed.TreeSpelling.{has_characters, all_in_many}
+use Rattle.law_image.proofs.Texts.{ascii}
 
 -- so is each of several
 abbrev pub all_have : {s : t.Sort} → Many s → Bool
 all_have ns = all_in_many is_utf8 (λ n. true) ns
-
-ascii : (b : ℕ) → b < 128 → IsUtf8 (b ∷ [])
-ascii b h = IsUtf8-from_ascii (b ∷ []) at
-  where
-    at : (i : ℕ) → get_or (b ∷ []) i 0 < 128
-    at zero = h
-    at (suc i) = omega arith
 
 one_char : (c : ℕ) → scalar c ≡ true → IsUtf8 (encode c)
 one_char c z = (c ∷ [], (and_from (scalar c) true z refl, append-nil (encode c)))

@@ -25,7 +25,7 @@ pub escaped_no_one : (x : List ℕ) → IsTrue (no_one (escaped x))
 escaped_no_one [] = refl
 escaped_no_one (b ∷ x) = no_one_step b (b == 1) (b == 2) (escaped x) refl (escaped_no_one x)
 
-past_other : (b : ℕ) (rest : List ℕ) → (b == 2) ≡ false → unescaped (b ∷ rest) ≡ b ∷ unescaped rest
+pub past_other : (b : ℕ) (rest : List ℕ) → (b == 2) ≡ false → unescaped (b ∷ rest) ≡ b ∷ unescaped rest
 past_other b [] e = refl
 past_other b (c ∷ rest) e = ap (λ t. if t then (if c == 65 then 1 ∷ unescaped rest else (if c == 66 then 2 ∷ unescaped rest else 2 ∷ unescaped (c ∷ rest))) else b ∷ unescaped (c ∷ rest)) e
 

@@ -20,7 +20,7 @@ use Rattle.rc_model.specs.Handed.TreeSpelling.{◌⨾◌, Is, Output, Crossing, 
 use Rattle.law_image.proofs.OneSpelling.{output_cases, copies_small}
 
 -- an ASCII byte, and several
-ascii : (b : ℕ) → b < 128 → IsUtf8 (b ∷ [])
+pub ascii : (b : ℕ) → b < 128 → IsUtf8 (b ∷ [])
 ascii b h = IsUtf8-from_ascii (b ∷ []) at
   where
     at : (i : ℕ) → get_or (b ∷ []) i 0 < 128

@@ -16,6 +16,8 @@ use Rattle.law_print_lexing.proofs.Gives.{Gives, lexeme}
 use Rattle.law_print_lexing.proofs.Pieces.{Piece, IsApart, apart, IsCalm, calm_name, Anything, scalars-append, clean-append, Ends, at_end}
 use Rattle.law_print_lexing.proofs.Pieces.{at_space, at_semicolon, at_caret, at_equals, at_paren, at_brace}
 use Rattle.law_print_lexing.proofs.Quotes.{quoted_chars, quoted_spelled, quoted_scalar, quoted_clean, quoted_spells}
+use Rattle.law_print_lexing.proofs.Steps.{left_paren_alone}
+use Rattle.law_grammar.proofs.Zeros.{name_char_clean}
 
 -- after a name stands the end of a word, or a subscript
 pub data NameEnds : List ℕ → Type 0 where
@@ -65,9 +67,6 @@ name_scalars (c ∷ cs) e =
     let p = and_parts (is_name_char c) (list_all is_name_char cs) e in
     let small : c < 128 = name_char_low c p.0 in
     rw (low_scalar c (omega arith)) (name_scalars cs p.1)
-
-name_char_clean : (c : ℕ) → is_name_char c ≡ true → not (c == 0) ≡ true
-name_char_clean c e = grind (arith, nat_tests)
 
 name_clean : (text : List ℕ) → list_all is_name_char text ≡ true → without_zero text ≡ true
 name_clean [] e = refl
@@ -178,10 +177,6 @@ flat_piece {text} {ls} n =
         (g NameBefore calm_name))
 
 -- a subscript begins directly after a name
-subscript_alone : (rest : List ℕ) → goes_on (40 ∷ []) rest ≡ false
-subscript_alone [] = refl
-subscript_alone (c ∷ cs) = refl
-
 pub subscript_piece : {text : List ℕ} {ls : List Lexeme} → NamePiece text ls →
     Piece IsApart IsApart Anything (codes "$" ++ (text ++ codes "(")) (k.Dollar ∷ (ls ++ k.Subscript ∷ []))
 unfolding encode
@@ -198,7 +193,7 @@ subscript_piece {text} {ls} n = record {
     gives apart rest more e g =
         let open' : Gives NameBefore (40 ∷ rest) (k.Subscript ∷ more) =
         lexeme {cs =
-        40 ∷ []} {rest = rest} refl refl (k.operated NameBefore (40 ∷ []) rest k.LeftParen refl refl (λ e. cc) (subscript_alone rest)) (g Apart apart) in
+        40 ∷ []} {rest = rest} refl refl (k.operated NameBefore (40 ∷ []) rest k.LeftParen refl refl (λ e. cc) (left_paren_alone rest)) (g Apart apart) in
         subst (λ cs. Gives Apart (36 ∷ cs) (k.Dollar ∷ (ls ++ k.Subscript ∷ []) ++ more)) (sym (append_assoc n.chars (40 ∷ []) rest))
         (subst (λ l. Gives Apart (36 ∷ (n.chars ++ 40 ∷ rest)) (k.Dollar ∷ l)) (sym (append_assoc ls (k.Subscript ∷ []) more))
         (lexeme {cs = 36 ∷ []} {rest = n.chars ++ 40 ∷ rest} refl refl (dollar (n.chars ++ 40 ∷ rest) (n.stands (40 ∷ rest)) (n.alone (40 ∷ rest)))
