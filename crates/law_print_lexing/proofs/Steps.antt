@@ -32,7 +32,7 @@ abbrev are_ordinary : List ℕ → Bool
 are_ordinary [] = true
 are_ordinary (c ∷ cs) = is_ordinary (class_of c) && are_ordinary cs
 
-abbrev is_plain : List ℕ → Bool
+abbrev pub is_plain : List ℕ → Bool
 is_plain [] = false
 is_plain (c ∷ cs) = are_ordinary (c ∷ cs)
 
