@@ -1,6 +1,6 @@
 -- How an image begins.
 use Rattle.std.proofs.Common.{◌≡◌, refl, ap, sym, ◌∙◌, ℕ, ◌<◌, ◌≤◌, Bool, true, false, ◌==◌, ◌&&◌, if◌then◌else◌, List, [], ◌∷◌, length, drop, codes, nat_le, Err, arith}
-use Rattle.std.proofs.lemmas.Bool.{le-leb}
+use Rattle.std.proofs.lemmas.Bool.{le-leb, lt-leb}
 use Rattle.std.proofs.lemmas.Grind.{common_steps}
 use Rattle.std.proofs.lemmas.Bool.Decides.{nat_tests}
 use Rattle.rc_image.proofs.Faults.{fails_as, fails_from}
@@ -25,9 +25,6 @@ last_left true true o h k = refl
 last_left true false o h k = cc
 last_left false e o h k = cc
 
-beyond : (n m : ℕ) → m < n → nat_le n m ≡ false
-beyond n m h = grind (arith, common_steps)
-
 pub version_bad : (bytes : List ℕ) → number_here bytes ≡ false → version_here bytes ≡ false
 unfolding version_here number_here
 version_bad bytes h = first_false (is_numeral (digit_run bytes)) (nat_le (digits_value 0 (digit_run bytes)) greatest_number) (other_version (past_digits bytes)) h
@@ -35,7 +32,7 @@ version_bad bytes h = first_false (is_numeral (digit_run bytes)) (nat_le (digits
 pub version_large : (bytes : List ℕ) → greatest_number < value_from 0 bytes → version_here bytes ≡ false
 unfolding version_here value_from
 version_large bytes h = second_false (is_numeral (digit_run bytes)) (nat_le (digits_value 0 (digit_run bytes)) greatest_number) (other_version (past_digits bytes))
-    (beyond (digits_value 0 (digit_run bytes)) greatest_number h)
+    (lt-leb (digits_value 0 (digit_run bytes)) greatest_number h)
 
 version_is : (bytes rest : List ℕ) → number_here bytes ≡ true → value_from 0 bytes ≤ greatest_number → rest ≡ after_digits bytes →
     version_here bytes ≡ other_version rest

@@ -1,12 +1,12 @@
 -- The words of an image that are read.
-use Rattle.std.proofs.Common.{◌≡◌, refl, ap, sym, subst, ◌∙◌, ℕ, suc, ◌+◌, ◌-◌, ◌*◌, ◌^◌, ◌<◌, ◌≤◌, ◌⊎◌, inl, inr, Bool, true, false, ◌&&◌, if◌then◌else◌, List, [], ◌∷◌, length, take, drop, map, min, codes, nat_le, string_bytes, string_eq, Option, Some, None, Result, Ok, Err, arith}
+use Rattle.std.proofs.Common.{◌≡◌, refl, ap, sym, subst, ◌∙◌, ℕ, suc, ◌+◌, ◌-◌, ◌*◌, ◌^◌, ◌<◌, ◌≤◌, ◌⊎◌, inl, inr, Bool, true, false, ◌&&◌, if◌then◌else◌, List, [], ◌∷◌, length, take, drop, map, min, codes, string_bytes, string_eq, Option, Some, None, Result, Ok, Err, arith}
 use Rattle.std.specs.List.{concat}
 use Rattle.std.specs.Str.{bytes_eq}
 use Rattle.std.specs.Cmp.Lexicographic.{pointwise}
 use Rattle.std.specs.Cmp.Derive.Mapped.{pointwise-map}
 use Rattle.std.specs.declared.alloc.Global.{Global}
 use Rattle.std.specs.declared.string.String.{String}
-use Rattle.std.proofs.lemmas.Bool.{cases_lt, le-leb}
+use Rattle.std.proofs.lemmas.Bool.{cases_lt, le-leb, lt-leb}
 use Rattle.std.proofs.lemmas.Grind.{common_steps}
 use Rattle.std.proofs.lemmas.List.{length-map, take-map, take_min}
 use Rattle.rc_model.specs.declared.fault.InputError.{InputError}
@@ -72,12 +72,9 @@ fails_counted n f.TooLarge read h = h
 fails_counted n f.NoMemory read h = tt
 
 -- in one word
-beyond : (n most : ℕ) → most < n → nat_le n most ≡ false
-beyond n most h = grind (arith, common_steps)
-
 pub one_long : (word : List ℕ) → 100000 < length word → in_one word ≡ Err m.BadLength
 unfolding in_one
-one_long word h = ap (λ (t : Bool). if t then counted 1 (read_tree word) else Err m.BadLength) (beyond (length word) longest_word h)
+one_long word h = ap (λ (t : Bool). if t then counted 1 (read_tree word) else Err m.BadLength) (lt-leb (length word) longest_word h)
 
 one_read : (word : List ℕ) → length word ≤ 100000 → in_one word ≡ counted 1 (read_tree word)
 unfolding in_one

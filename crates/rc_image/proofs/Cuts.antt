@@ -1,12 +1,12 @@
 -- The pieces of a spelling, and its words.
-use Rattle.std.proofs.Common.{◌≡◌, refl, ap, sym, subst, ◌∙◌, ℕ, zero, suc, ◌<◌, ◌≤◌, ◌⊎◌, inl, inr, Bool, true, false, if◌then◌else◌, List, [], ◌∷◌, ◌++◌, length, take, drop, map, codes, nat_le, Option, Some, None, arith, append_assoc, string_bytes}
+use Rattle.std.proofs.Common.{◌≡◌, refl, ap, sym, subst, ◌∙◌, ℕ, zero, suc, ◌<◌, ◌≤◌, ◌⊎◌, inl, inr, Bool, true, false, if◌then◌else◌, List, [], ◌∷◌, ◌++◌, length, take, drop, map, codes, Option, Some, None, arith, append_assoc, string_bytes}
 use Rattle.std.specs.Prelude.{option_map}
 use Rattle.std.specs.Str.{IsCharBoundary}
 use Rattle.std.specs.Fmt.{decimal}
 use Rattle.std.specs.declared.alloc.Global.{Global}
 use Rattle.std.specs.declared.string.String.{String}
 use Rattle.std.proofs.lemmas.List.{append-nil, length-map}
-use Rattle.std.proofs.lemmas.Bool.{le-leb, cases_lt, false≢true}
+use Rattle.std.proofs.lemmas.Bool.{le-leb, cases_lt, false≢true, lt-leb}
 use Rattle.std.proofs.lemmas.Grind.{common_steps}
 use Rattle.rc_model.specs.Syntax.Tree.{Node, cmd}
 use Rattle.rc_model.specs.Handed.Pieces.{longest_word, most_pieces, one_word, several_words, can_cut, last_cut, pieces, words_of}
@@ -101,13 +101,10 @@ unfolding written
 written_one text h = ap (λ (t : Bool). if t then Some (one_word text) else option_map several_words (pieces most_pieces longest_word text))
     (le-leb (length (codes "rc1;" ++ text)) longest_word (omega arith))
 
-beyond : (n m : ℕ) → m < n → nat_le n m ≡ false
-beyond n m h = grind (arith, common_steps)
-
 written_cut : (text : List ℕ) → 99996 < length text → written text ≡ option_map several_words (pieces most_pieces longest_word text)
 unfolding written
 written_cut text h = ap (λ (t : Bool). if t then Some (one_word text) else option_map several_words (pieces most_pieces longest_word text))
-    (beyond (length (codes "rc1;" ++ text)) longest_word (omega arith))
+    (lt-leb (length (codes "rc1;" ++ text)) longest_word (omega arith))
 
 pub written_several : (text : List ℕ) (all : List (List ℕ)) → 99996 < length text → pieces most_pieces longest_word text ≡ Some all → written text ≡ Some (several_words all)
 written_several text all h e = written_cut text h ∙ ap (option_map several_words) e

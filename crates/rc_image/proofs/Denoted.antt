@@ -11,7 +11,7 @@ use Rattle.std.specs.declared.alloc.Global.{Global}
 use Rattle.std.specs.declared.string.String.{String}
 use Rattle.std.proofs.Math.ListN.{drop_of_length-le}
 use Rattle.std.specs.BTreeMap.{insert_entry}
-use Rattle.std.proofs.lemmas.Bool.{false≢true, and_parts, false_from_ne_true}
+use Rattle.std.proofs.lemmas.Bool.{false≢true, and_parts, false_from_ne_true, or_right}
 use Rattle.std.proofs.lemmas.Slice.Eq.{bytes_eq-Decides}
 use Rattle.rc_model.specs.Syntax.Text.{text_cmp, begins_with}
 use Rattle.rc_model.specs.Syntax.Tree.{Node, cmd}
@@ -30,10 +30,6 @@ use Rattle.rc_image.proofs.Escapes.{begun_split}
 use Rattle.rc_image.proofs.Puts.{found, swap}
 
 -- ** functions
-
-or_true : (t s : Bool) → s ≡ true → (t || s) ≡ true
-or_true true s h = refl
-or_true false s h = h
 
 -- the functions that are read, among those that are there
 abbrev over : Functions → List (List ℕ) → Bindings → Result Functions m.ImageFault
@@ -74,7 +70,7 @@ base_put base n c seen (b ∷ bs) h = by_tests (λ s i. base_put base n c s bs i
     by_tests ih false d p q = ih seen h
     by_tests ih true true p q = ih seen h
     by_tests ih true false p q =
-        ap (e.with_function b.0 (read_tree b.1)) (ih (b.0 ∷ seen) (or_true (bytes_eq (codes "fn#" ++ n) b.0) (list_any (bytes_eq (codes "fn#" ++ n)) seen) h))
+        ap (e.with_function b.0 (read_tree b.1)) (ih (b.0 ∷ seen) (or_right (bytes_eq (codes "fn#" ++ n) b.0) (list_any (bytes_eq (codes "fn#" ++ n)) seen) h))
         ∙ moved b.0 n c (read_tree b.1) (over base (b.0 ∷ seen) bs)
         (false_from_ne_true (bytes_eq n (drop 3 b.0)) (λ t. new_name b.0 n seen h p q ((bytes_eq-Decides n (drop 3 b.0)).0 t)))
         (false_from_ne_true (bytes_eq (drop 3 b.0) n) (λ t. new_name b.0 n seen h p q (sym ((bytes_eq-Decides (drop 3 b.0) n).0 t))))

@@ -12,6 +12,7 @@ use Rattle.rc_model.specs.Syntax.Text.{begins_with}
 use Rattle.rc_model.specs.Run.State.{is_function_name}
 use Rattle.rc_model.specs.Handed.Environment.{cut_entry, with_first, unescaped, members_of}
 use Rattle.rc_image.specs.Entries.{pair_of, function_in}
+use Rattle.law_image.proofs.Members.{past_other}
 
 -- a text without a byte
 abbrev pub Lacks : ℕ → List ℕ → Type 0
@@ -44,17 +45,10 @@ cut_is bs (Some x) h = sym (ap cut_entry h.0 ∙ cut_some x.0.now x.1.now h.1)
 
 -- ** members
 
-plain_step : (b : ℕ) (bs : List ℕ) → (b == 2) ≡ false → unescaped (b ∷ bs) ≡ b ∷ unescaped bs
-plain_step b [] h = refl
-plain_step b (c ∷ bs) h =
-    ap (λ t. if t
-    then (if c == 65 then 1 ∷ unescaped bs else (if c == 66 then 2 ∷ unescaped bs else 2 ∷ unescaped (c ∷ bs)))
-    else b ∷ unescaped (c ∷ bs)) h
-
 plain_front : (xs ys : List ℕ) → Lacks 2 xs → unescaped (xs ++ ys) ≡ xs ++ unescaped ys
 plain_front [] ys h = refl
 plain_front (x ∷ xs) ys h =
-    plain_step x (xs ++ ys) (other_first 2 x xs h) ∙ ap (λ t. x ∷ t) (plain_front xs ys (other_rest 2 x xs h))
+    past_other x (xs ++ ys) (other_first 2 x xs h) ∙ ap (λ t. x ∷ t) (plain_front xs ys (other_rest 2 x xs h))
 
 pub plain_all : (xs : List ℕ) → Lacks 2 xs → unescaped xs ≡ xs
 plain_all xs h = ap unescaped (sym (append-nil xs)) ∙ plain_front xs [] h ∙ append-nil xs

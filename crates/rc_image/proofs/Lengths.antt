@@ -1,6 +1,6 @@
 -- How long an argument or an entry may be.
-use Rattle.std.proofs.Common.{◌≡◌, ap, ℕ, ◌<◌, ◌≤◌, Bool, false, if◌then◌else◌, List, length, nat_le, Some, None, arith}
-use Rattle.std.proofs.lemmas.Bool.{le-leb}
+use Rattle.std.proofs.Common.{◌≡◌, ap, ℕ, ◌<◌, ◌≤◌, Bool, if◌then◌else◌, List, length, Some, None}
+use Rattle.std.proofs.lemmas.Bool.{le-leb, lt-leb}
 use Rattle.std.proofs.lemmas.Grind.{common_steps}
 use Rattle.rc_model.specs.Handed.Pieces.{longest_word}
 use Rattle.rc_image.specs.Images.{where_short}
@@ -9,11 +9,8 @@ pub short_some : (text : List ℕ) → length text ≤ 100000 → where_short te
 unfolding where_short
 short_some text h = ap (λ (c : Bool). if c then Some text else None) (le-leb (length text) longest_word h)
 
-beyond : (n m : ℕ) → m < n → nat_le n m ≡ false
-beyond n m h = grind (arith, common_steps)
-
 pub short_none : (text : List ℕ) → 100000 < length text → where_short text ≡ None
 unfolding where_short
-short_none text h = ap (λ (c : Bool). if c then Some text else None) (beyond (length text) longest_word h)
+short_none text h = ap (λ (c : Bool). if c then Some text else None) (lt-leb (length text) longest_word h)
 
 pub ruleset lengths = (short_some, short_none, common_steps)

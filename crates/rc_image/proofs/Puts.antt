@@ -12,11 +12,9 @@ use Rattle.std.proofs.lemmas.Slice.Eq.{bytes_eq-Decides}
 use Rattle.std.proofs.lemmas.Map.Text.{is_eq-slice_cmp}
 use Rattle.std.proofs.lemmas.Cmp.{nat_list_cmp_total}
 use Rattle.rc_model.specs.Syntax.Text.{text_cmp}
+use Rattle.law_image.proofs.Entries.{equal_texts}
 
 -- ** the order of texts
-
-equal_texts : (a b : List ℕ) → text_cmp a b ≡ Equal → a ≡ b
-equal_texts a b e = (bytes_eq-Decides a b).0 (sym (is_eq-slice_cmp a b) ∙ ap is_eq e)
 
 turned : (a b : List ℕ) (o : Ordering) → text_cmp a b ≡ o → text_cmp b a ≡ ordering_reverse o
 turned a b o e = nat_list_cmp_total.antisymm b a ∙ ap ordering_reverse e

@@ -1,5 +1,5 @@
 -- The variables and the status that entries denote.
-use Rattle.std.specs.Prelude.{Option, Some, Result, Ok, Err, OnOk, if◌then◌else◌, not, ◌||◌, unwrap_or, codes}
+use Rattle.std.specs.Prelude.{Option, Some, if◌then◌else◌, not, ◌||◌, unwrap_or, codes}
 use Rattle.std.proofs.Common.{◌≡◌, ℕ, List, [], ◌∷◌, ◌&&◌, Bool, true, false, cond, refl, sym, ap, ◌∙◌}
 use Rattle.std.specs.Str.{bytes_eq}
 use Rattle.std.specs.Map.{lookup}
@@ -120,10 +120,6 @@ next_by own false name text bs i h =
 pub set_next : (own : Bool) (name text : List ℕ) (bs : Bindings) → is_ignored own name ≡ false →
     (if is_name name then set_value (values_state own bs) name (members_of text) else values_state own bs) ≡ values_state own ((name, text) ∷ bs)
 set_next own name text bs h = next_by own (is_name name) name text bs refl h
-
-pub on_ok : {A E P Q : Type 0} (r : Result A E) → (P → Q) → OnOk r P → OnOk r Q
-on_ok (Ok x) f h = f h
-on_ok (Err x) f h = h
 
 pub entry_set : (own : Bool) (name text entry : List ℕ) (bs : Bindings) (s t : State) (v : List (List ℕ)) → Some (name, text) ≡ cut_entry entry → is_ignored own name ≡ false → v ≡ members_of text →
     s ≡ values_state own bs → t ≡ (if is_name name then set_value s name v else s) → t ≡ values_state own (with_cut (cut_entry entry) bs)
