@@ -10,7 +10,7 @@ ghost use Rattle.rc_depth.specs.Levels.{within, within_all};
 use rc_model::Logic;
 use rc_tree_types::{Arg, Branch, Cmd, Item, Redir, Stage};
 
-/// Whether the tree has at most so many levels. It allocates nothing.
+/// Whether the tree has at most `levels` levels. It allocates nothing.
 #[tactic(auto, unfolding(crate::specs::Levels::within))]
 pub fn is_within(cmd: &Cmd, levels: usize) -> bool
     ensures { result ≡ nat_le (depth (cmd_tree cmd.now)) levels }
