@@ -1,6 +1,6 @@
 -- Numbers at the front of a text.
 use Rattle.std.proofs.Common.{◌≡◌, refl, ap, sym, ◌∙◌, ℕ, ◌+◌, ◌-◌, ◌*◌, ◌<◌, ◌≤◌, Bool, true, false, not, ◌==◌, ◌&&◌, ◌||◌, if◌then◌else◌, List, [], ◌∷◌, length, nat_le, Ok, Err, arith}
-use Rattle.std.proofs.lemmas.Bool.{le-leb}
+use Rattle.std.proofs.lemmas.Bool.{le-leb, and_from, and_right, lt-leb}
 use Rattle.std.proofs.lemmas.Grind.{common_steps}
 use Rattle.rc_model.specs.Run.Numbers.{is_digit, digits_value, greatest_number}
 use Rattle.rc_model.specs.Handed.TreeSpelling.{is_numeral}
@@ -100,30 +100,18 @@ unfolding number_by number_here
 count_bad mark bytes h = ap (λ (c : Bool). if c && nat_le (digits_value 0 (digit_run bytes)) greatest_number
     then marked mark (digits_value 0 (digit_run bytes)) (past_digits bytes) else Err BadLength) h
 
-both_true : (c e : Bool) → c ≡ true → e ≡ true → (c && e) ≡ true
-both_true true true h k = refl
-both_true true false h k = k
-both_true false e h k = h
-
-second_false : (c e : Bool) → e ≡ false → (c && e) ≡ false
-second_false true e k = k
-second_false false e k = refl
-
-above : (n : ℕ) → greatest_number < n → nat_le n greatest_number ≡ false
-above n h = grind (arith, common_steps)
-
 pub count_large : (mark : ℕ) (bytes : List ℕ) → greatest_number < value_from 0 bytes → number_by mark bytes ≡ Err BadLength
 unfolding number_by value_from
 count_large mark bytes h = ap (λ (c : Bool). if c
     then marked mark (digits_value 0 (digit_run bytes)) (past_digits bytes) else Err BadLength)
-    (second_false (is_numeral (digit_run bytes)) (nat_le (digits_value 0 (digit_run bytes)) greatest_number) (above (digits_value 0 (digit_run bytes)) h))
+    (and_right (is_numeral (digit_run bytes)) (nat_le (digits_value 0 (digit_run bytes)) greatest_number) (lt-leb (digits_value 0 (digit_run bytes)) greatest_number h))
 
 pub count_is : (mark : ℕ) (bytes rest : List ℕ) → number_here bytes ≡ true → value_from 0 bytes ≤ greatest_number → after_digits bytes ≡ rest →
     number_by mark bytes ≡ marked mark (value_from 0 bytes) rest
 unfolding number_by number_here value_from after_digits
 count_is mark bytes rest h k e = ap (λ (c : Bool). if c
     then marked mark (digits_value 0 (digit_run bytes)) (past_digits bytes) else Err BadLength)
-    (both_true (is_numeral (digit_run bytes)) (nat_le (digits_value 0 (digit_run bytes)) greatest_number) h (le-leb (digits_value 0 (digit_run bytes)) greatest_number k))
+    (and_from (is_numeral (digit_run bytes)) (nat_le (digits_value 0 (digit_run bytes)) greatest_number) h (le-leb (digits_value 0 (digit_run bytes)) greatest_number k))
     ∙ ap (marked mark (digits_value 0 (digit_run bytes))) e
 
 pub marked_none : (mark n : ℕ) (rest : List ℕ) → length rest ≡ 0 → marked mark n rest ≡ Err BadLength

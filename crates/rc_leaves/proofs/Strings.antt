@@ -2,7 +2,7 @@
 use Rattle.std.proofs.Common.{◌≡◌, refl, ap, sym, ◌∙◌, ℕ, ◌<◌, ◌≤◌, Bool, true, false, not, ◌==◌, ◌&&◌, if◌then◌else◌, List, [], ◌∷◌, length, take, drop, nat_le, Result, Ok, Err, arith, IsUtf8}
 use Rattle.std.specs.List.{list_any}
 use Rattle.std.specs.Str.{is_utf8}
-use Rattle.std.proofs.lemmas.Bool.{le-leb}
+use Rattle.std.proofs.lemmas.Bool.{le-leb, lt-leb}
 use Rattle.std.proofs.lemmas.Str.{is_utf8-from_IsUtf8, IsUtf8-from_is_utf8}
 use Rattle.std.proofs.lemmas.Grind.{common_steps}
 use Rattle.rc_model.specs.Syntax.Text.{without_zero}
@@ -11,13 +11,10 @@ use Rattle.rc_model.specs.Handed.TreeReading.{ImageFault, BadLength}
 use Rattle.rc_soundness.proofs.Fitting.{zero_sought}
 use Rattle.rc_leaves.specs.Steps.{string_by}
 
-beyond : (n m : ℕ) → m < n → nat_le n m ≡ false
-beyond n m h = grind (arith, common_steps)
-
 pub string_short : (n : ℕ) (bytes : List ℕ) → length bytes < n → string_by n bytes ≡ Err BadLength
 unfolding string_by
 string_short n bytes h = ap (λ (c : Bool). if c && (is_utf8 (take n bytes) && without_zero (take n bytes)) then Ok (take n bytes, drop n bytes) else Err BadLength)
-    (beyond n (length bytes) h)
+    (lt-leb n (length bytes) h)
 
 last_false : (c d e : Bool) → e ≡ false → (c && (d && e)) ≡ false
 last_false true true e k = k

@@ -19,6 +19,7 @@ use Rattle.rc_lexer.specs.declared.state.State.TheVariants as state
 use Rattle.rc_lexer.specs.Views.{token_of, tokens_of, lexeme_of}
 use Rattle.rc_lexer.specs.Machine.{lexeme_tokens, place_of, previous_of, pending_of, pending_in, tokens_in, dollars_in, bodies_in, Does, Keeps, PushedDollars}
 use Rattle.std.specs.Char.{encode_utf8}
+use Rattle.law_lexing.proofs.Operators.{same_due}
 
 end_operator_along : (script : List ℕ) (end : ℕ) (prev : model.Before) (dollars : List model.Token) (q : model.Place) (o o' : Option model.Lexeme)
     (pending : List model.Due) (p : model.Place) (c : ℕ) (k : model.Class) (old new : Lexer) (r : Result State LexError) →
@@ -122,10 +123,6 @@ tokens_apart : (prev : model.Before) (l : model.Lexeme) (p q : model.Place) → 
 tokens_apart (model.HereBefore b e) l p q h = absurd cc
 tokens_apart prev l p q h = refl
 
-pending_apart : (prev : model.Before) (l : model.Lexeme) (pending : List model.Due) → model.awaits_mark prev ≡ false → model.due_after prev l pending ≡ pending
-pending_apart (model.HereBefore b e) l pending h = absurd cc
-pending_apart prev l pending h = refl
-
 pub plain_does : (script : List ℕ) (end : ℕ) (previous after : Previous) (q place : Place) (kind meaning : TokenKind) (o : Option model.Lexeme) (c : ℕ)
     (k : model.Class) (old mid new : Lexer) (r : Result State LexError) →
     ((s slice : List ℕ) → o ≡ Some (lexeme_of s kind slice)) → kind ≢ tk.BareHere → kind ≢ tk.Dollar → kind ≢ tk.DollarCount → kind ≢ tk.DollarFlat →
@@ -146,7 +143,7 @@ plain_does script end previous after q place kind meaning o c k old mid new r e 
     (ends_does script end previous after l q place c k old mid new r
     (record {
       tokens = ts script ∙ ap (λ z. tokens_in script old ++ z) (sym (tokens_apart (previous_of previous) l (place_of q) (place_of place) h));
-      pending = ap (map pending_of) kept.pending ∙ sym (pending_apart (previous_of previous) l (pending_in old) h);
+      pending = ap (map pending_of) kept.pending ∙ sym (same_due (previous_of previous) l (pending_in old) h);
       after_token = n script slice;
       dollars = kept.dollars;
       bodies = kept.bodies;

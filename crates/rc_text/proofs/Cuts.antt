@@ -4,7 +4,7 @@ use Rattle.std.proofs.lemmas.Bool.{cases_lt, ne_eqb}
 use Rattle.std.proofs.Math.Seq.{take-append_seam}
 use Rattle.std.proofs.lemmas.List.{length-append, length-take-le, take-append-drop}
 use Rattle.std.proofs.lemmas.List.Elements.{All-head, All-more, All-tail, All-weaker}
-use Rattle.std.proofs.lemmas.Str.{encode_ascii, encodes-append, encodes-chars, IsCharBoundary-at_seam, IsCharBoundary-before_ascii, IsCharBoundary-end, IsUtf8-take}
+use Rattle.std.proofs.lemmas.Str.{encode_ascii, encodes-chars, IsCharBoundary-at_seam, IsCharBoundary-before_ascii, IsCharBoundary-end, IsUtf8-take, NoCharPasses-append}
 use Rattle.std.specs.Prelude.{◌||◌, slice_range}
 use Rattle.std.specs.Char.{encode_utf8}
 use Rattle.std.specs.List.{All}
@@ -53,14 +53,6 @@ skip_none greatest n separators text u small are at h =
     (chars (take n text), e, none_passes greatest separators (chars (take n text)) small are (subst (All (λ b. greatest < b)) (sym e) h))
 
 -- the first separator after what was skipped is the first of the text
-NonePass-append : (p : ℕ → Bool) (cs ds : List ℕ) → NonePass p cs → NonePass p ds → NonePass p (cs ++ ds)
-NonePass-append p [] ds h k = k
-NonePass-append p (c ∷ cs) ds h k = (h.0, NonePass-append p cs ds h.1 k)
-
-pub NoCharPasses-append : (p : ℕ → Bool) (xs ys : List ℕ) → NoCharPasses p xs → NoCharPasses p ys → NoCharPasses p (xs ++ ys)
-NoCharPasses-append p xs ys h k =
-    (h.0 ++ k.0, encodes-append h.0 k.0 ∙ ap (λ t. t ++ encode_utf8_all k.0) h.1 ∙ ap (λ t. xs ++ t) k.1, NonePass-append p h.0 k.0 h.2 k.2)
-
 pub none_after : (p : ℕ → Bool) (n : ℕ) (text rest : List ℕ) → NoCharPasses p (take n text) → rest ≡ drop n text → NoCharPasses p rest → NoCharPasses p text
 none_after p n text rest skipped e h =
     subst (NoCharPasses p) (take-append-drop n text) (NoCharPasses-append p (take n text) (drop n text) skipped (subst (NoCharPasses p) e h))

@@ -4,6 +4,7 @@ use Rattle.std.specs.Prelude.{◌⊎◌}
 use Rattle.std.specs.Result.{is_ok}
 use Rattle.std.proofs.lemmas.List.{append-nil, map-append}
 use Rattle.std.proofs.lemmas.Str.{chars-append, chars-encodes, encodes-chars}
+use Rattle.std.proofs.lemmas.Bool.{or_parts}
 use Rattle.std.specs.Char.{encode_utf8}
 use Rattle.std.specs.List.{list_any, flat_map}
 use Rattle.std.specs.Str.{chars, encode_utf8_all, IsUtf8}
@@ -56,13 +57,9 @@ pub written-append : (left right : List ℕ) (quoted : Bool) → IsUtf8 left →
 written-append left right quoted u =
     ap (map (λ c. (c, not quoted))) (chars-append left right u) ∙ map-append (λ c. (c, not quoted)) (chars left) (chars right)
 
-either_false : (a b : Bool) → a || b ≡ false → (a ≡ false) × (b ≡ false)
-either_false true b h = absurd (let n : ⊥ = cc in n)
-either_false false b h = (refl, h)
-
 pub patterns-append : (left right : Word) → has_pattern left ≡ false → has_pattern right ≡ false → has_pattern (left ++ right) ≡ false
 patterns-append [] right h k = k
-patterns-append (m ∷ left) right h k = let b = either_false (is_pattern m) (has_pattern left) h in ap (λ z. z || has_pattern (left ++ right)) b.0 ∙ patterns-append left right b.1 k
+patterns-append (m ∷ left) right h k = let b = or_parts (is_pattern m) (has_pattern left) h in ap (λ z. z || has_pattern (left ++ right)) b.0 ∙ patterns-append left right b.1 k
 
 -- letters with no marks of their own have no pattern characters
 pub no_patterns : (letters : Letters) → AreMarked letters → ((mixed : _) → letters ≡ Mixed mixed → ⊥) →
