@@ -18,12 +18,6 @@ pub record Few {A : Type 0} (width : A → ℕ) (o : Read A) : Type 0 where
   pub few : FewIn width o
 
 -- the widths of what is read
-abbrev pub wide : {s : Sort} → Node s → ℕ
-wide n = most_stages n
-
-abbrev pub wide_in : {s : Sort} → Many s → ℕ
-wide_in ns = most_stages_in ns
-
 abbrev both_wide : Many t.arg × Many t.redir → ℕ
 both_wide x = max (most_stages_in x.0) (most_stages_in x.1)
 
@@ -72,17 +66,17 @@ few_here quoted text = omega arith
 
 -- what is read one level deeper
 pub record Small (r : Readers) : Type 0 where
-  pub name : (ts : List Lexeme) → Few wide (r d.a_name ts)
-  pub part : (inside : Bool) (ts : List Lexeme) → Few wide (r (d.a_part inside) ts)
-  pub operand : (ts : List Lexeme) → Few wide (r d.an_operand ts)
+  pub name : (ts : List Lexeme) → Few most_stages (r d.a_name ts)
+  pub part : (inside : Bool) (ts : List Lexeme) → Few most_stages (r (d.a_part inside) ts)
+  pub operand : (ts : List Lexeme) → Few most_stages (r d.an_operand ts)
   pub piped : (ts : List Lexeme) → Few piped_wide (r d.a_piped ts)
-  pub command : (f : Bool) (ts : List Lexeme) → Few wide (r (d.a_command f) ts)
-  pub list : (s : Bool) (ts : List Lexeme) → Few wide_in (r (d.a_list s) ts)
+  pub command : (f : Bool) (ts : List Lexeme) → Few most_stages (r (d.a_command f) ts)
+  pub list : (s : Bool) (ts : List Lexeme) → Few most_stages_in (r (d.a_list s) ts)
 
 abbrev SmallPart : Reader (Node t.arg) → Type 0
-SmallPart p = (ts : List Lexeme) → Few wide (p ts)
+SmallPart p = (ts : List Lexeme) → Few most_stages (p ts)
 
-pub name_few : (r : Readers) → Small r → (ts : List Lexeme) → Few wide (d.name_by r ts)
+pub name_few : (r : Readers) → Small r → (ts : List Lexeme) → Few most_stages (d.name_by r ts)
 unfolding d.name_by
 name_few r s (Name text ∷ ts) = record { few = omega arith }
 name_few r s (Quoted text ∷ ts) = record { few = omega arith }
@@ -91,67 +85,67 @@ name_few r s ts = record { few = tt }
 
 -- arguments
 parts_turn_few : (p : Reader (Node t.arg)) → SmallPart p → (inside : Bool) (go_on : Many t.arg → Reader (Many t.arg)) →
-    ((front : Many t.arg) (ts : List Lexeme) → most_stages_in front ≤ 64 → Few wide_in (go_on front ts)) →
-    (front : Many t.arg) (ts : List Lexeme) (o : Option (List Lexeme)) → most_stages_in front ≤ 64 → Few wide_in (d.parts_turn p inside go_on front ts o)
+    ((front : Many t.arg) (ts : List Lexeme) → most_stages_in front ≤ 64 → Few most_stages_in (go_on front ts)) →
+    (front : Many t.arg) (ts : List Lexeme) (o : Option (List Lexeme)) → most_stages_in front ≤ 64 → Few most_stages_in (d.parts_turn p inside go_on front ts o)
 parts_turn_few p s inside go_on goes front ts None h = record { few = h }
 parts_turn_few p s inside go_on goes front ts (Some next) h =
     bind (p (past_blanks inside next)) _ (s (past_blanks inside next)) (λ a k. goes (snoc front a.0) a.1 (few_snoc front a.0 h k))
 
 parts_from_few : (p : Reader (Node t.arg)) → SmallPart p → (inside : Bool) (k : ℕ) (front : Many t.arg) (ts : List Lexeme) → most_stages_in front ≤ 64 →
-    Few wide_in (d.parts_from p inside k front ts)
+    Few most_stages_in (d.parts_from p inside k front ts)
 unfolding d.parts_from
 parts_from_few p s inside zero front ts h = record { few = h }
 parts_from_few p s inside (suc k) front ts h =
     parts_turn_few p s inside (λ as' u. d.parts_from p inside k as' u) (parts_from_few p s inside k) front ts (after_caret (past_blanks inside ts)) h
 
-pub arg_few : (p : Reader (Node t.arg)) → SmallPart p → (inside : Bool) (ts : List Lexeme) → Few wide (d.arg_by p inside ts)
+pub arg_few : (p : Reader (Node t.arg)) → SmallPart p → (inside : Bool) (ts : List Lexeme) → Few most_stages (d.arg_by p inside ts)
 unfolding d.arg_by d.parts_by
 arg_few p s inside ts =
     bind (p ts) _ (s ts) (λ a h. bind (d.parts_by p inside a.1) _ (parts_from_few p s inside (length a.1) none a.1 (omega arith))
     (λ as' k. record { few = few_concat a.0 as'.0 h k }))
 
 members_turn_few : (p : Reader (Node t.arg)) → SmallPart p → (go_on : Many t.arg → Reader (Many t.arg)) →
-    ((front : Many t.arg) (ts : List Lexeme) → most_stages_in front ≤ 64 → Few wide_in (go_on front ts)) →
-    (front : Many t.arg) (ts : List Lexeme) → most_stages_in front ≤ 64 → Few wide_in (d.members_turn p go_on front ts)
+    ((front : Many t.arg) (ts : List Lexeme) → most_stages_in front ≤ 64 → Few most_stages_in (go_on front ts)) →
+    (front : Many t.arg) (ts : List Lexeme) → most_stages_in front ≤ 64 → Few most_stages_in (d.members_turn p go_on front ts)
 members_turn_few p s go_on goes front (RightParen ∷ ts) h = record { few = h }
 members_turn_few p s go_on goes front (Newline ∷ ts) h = goes front ts h
 members_turn_few p s go_on goes front ts h = bind (d.arg_by p true ts) _ (arg_few p s true ts) (λ a k. goes (snoc front a.0) a.1 (few_snoc front a.0 h k))
 
-members_from_few : (p : Reader (Node t.arg)) → SmallPart p → (k : ℕ) (front : Many t.arg) (ts : List Lexeme) → most_stages_in front ≤ 64 → Few wide_in (d.members_from p k front ts)
+members_from_few : (p : Reader (Node t.arg)) → SmallPart p → (k : ℕ) (front : Many t.arg) (ts : List Lexeme) → most_stages_in front ≤ 64 → Few most_stages_in (d.members_from p k front ts)
 unfolding d.members_from
 members_from_few p s zero front ts h = record { few = tt }
 members_from_few p s (suc k) front ts h = members_turn_few p s (λ as' u. d.members_from p k as' u) (members_from_few p s k) front ts h
 
-pub members_few : (p : Reader (Node t.arg)) → SmallPart p → (ts : List Lexeme) → Few wide_in (d.members_by p ts)
+pub members_few : (p : Reader (Node t.arg)) → SmallPart p → (ts : List Lexeme) → Few most_stages_in (d.members_by p ts)
 unfolding d.members_by
 members_few p s ts = members_from_few p s (length ts) none ts (omega arith)
 
-words_from_few : (p : Reader (Node t.arg)) → SmallPart p → (k : ℕ) (front : Many t.arg) (ts : List Lexeme) → most_stages_in front ≤ 64 → Few wide_in (d.words_from p k front ts)
+words_from_few : (p : Reader (Node t.arg)) → SmallPart p → (k : ℕ) (front : Many t.arg) (ts : List Lexeme) → most_stages_in front ≤ 64 → Few most_stages_in (d.words_from p k front ts)
 unfolding d.words_from
 words_from_few p s zero front ts h = record { few = h }
 words_from_few p s (suc k) front ts h =
     either (begins_arg ts) _ _ (λ e. bind (d.arg_by p false ts) _ (arg_few p s false ts) (λ a b. words_from_few p s k (snoc front a.0) a.1 (few_snoc front a.0 h b)))
     (record { few = h })
 
-pub words_few : (p : Reader (Node t.arg)) → SmallPart p → (ts : List Lexeme) → Few wide_in (d.words_by p ts)
+pub words_few : (p : Reader (Node t.arg)) → SmallPart p → (ts : List Lexeme) → Few most_stages_in (d.words_by p ts)
 unfolding d.words_by
 words_few p s ts = words_from_few p s (length ts) none ts (omega arith)
 
-pub redir_few : (p : Reader (Node t.arg)) → SmallPart p → (ts : List Lexeme) → Few wide (d.redir_by p ts)
+pub redir_few : (p : Reader (Node t.arg)) → SmallPart p → (ts : List Lexeme) → Few most_stages (d.redir_by p ts)
 unfolding d.redir_by
 redir_few p s (Redirection mode slot ∷ ts) = bind (d.arg_by p false ts) _ (arg_few p s false ts) (λ a h. record { few = h })
 redir_few p s (CopyTo to from ∷ ts) = record { few = omega arith }
 redir_few p s (HereDoc quoted text ∷ ts) = record { few = few_here quoted text }
 redir_few p s ts = record { few = tt }
 
-redirs_from_few : (p : Reader (Node t.arg)) → SmallPart p → (k : ℕ) (front : Many t.redir) (ts : List Lexeme) → most_stages_in front ≤ 64 → Few wide_in (d.redirs_from p k front ts)
+redirs_from_few : (p : Reader (Node t.arg)) → SmallPart p → (k : ℕ) (front : Many t.redir) (ts : List Lexeme) → most_stages_in front ≤ 64 → Few most_stages_in (d.redirs_from p k front ts)
 unfolding d.redirs_from
 redirs_from_few p s zero front ts h = record { few = h }
 redirs_from_few p s (suc k) front ts h =
     either (begins_redir ts) _ _ (λ e. bind (d.redir_by p ts) _ (redir_few p s ts) (λ r b. redirs_from_few p s k (snoc front r.0) r.1 (few_snoc front r.0 h b)))
     (record { few = h })
 
-pub redirs_few : (p : Reader (Node t.arg)) → SmallPart p → (ts : List Lexeme) → Few wide_in (d.redirs_by p ts)
+pub redirs_few : (p : Reader (Node t.arg)) → SmallPart p → (ts : List Lexeme) → Few most_stages_in (d.redirs_by p ts)
 unfolding d.redirs_by
 redirs_few p s ts = redirs_from_few p s (length ts) none ts (omega arith)
 
@@ -169,36 +163,36 @@ unfolding d.simple_by
 simple_few p s ts = simple_from_few p s (length ts) none none ts (omega arith) (omega arith)
 
 -- lists in braces and parentheses
-braced_few : (o : Read (Many t.item)) → Few wide_in o → Few wide (d.closed_by_brace o)
+braced_few : (o : Read (Many t.item)) → Few most_stages_in o → Few most_stages (d.closed_by_brace o)
 braced_few (Ok (is, RightBrace ∷ ts)) m = record { few = m.few }
 braced_few (Ok y) m = record { few = tt }
 braced_few (Err e) m = record { few = tt }
 
-parenthesised_few : (o : Read (Many t.item)) → Few wide_in o → Few wide (d.closed_by_paren o)
+parenthesised_few : (o : Read (Many t.item)) → Few most_stages_in o → Few most_stages (d.closed_by_paren o)
 parenthesised_few (Ok (is, RightParen ∷ ts)) m = record { few = m.few }
 parenthesised_few (Ok y) m = record { few = tt }
 parenthesised_few (Err e) m = record { few = tt }
 
-pub brace_few : (r : Readers) → Small r → (ts : List Lexeme) → Few wide (d.brace_by r ts)
+pub brace_few : (r : Readers) → Small r → (ts : List Lexeme) → Few most_stages (d.brace_by r ts)
 unfolding d.brace_by
 brace_few r s (LeftBrace ∷ ts) = braced_few (r (d.a_list false) ts) (s.list false ts)
 brace_few r s ts = record { few = tt }
 
-pub paren_few : (r : Readers) → Small r → (ts : List Lexeme) → Few wide (d.paren_by r ts)
+pub paren_few : (r : Readers) → Small r → (ts : List Lexeme) → Few most_stages (d.paren_by r ts)
 unfolding d.paren_by
 paren_few r s (LeftParen ∷ ts) = parenthesised_few (r (d.a_list false) ts) (s.list false ts)
 paren_few r s ts = record { few = tt }
 
 -- a part of an argument
-value_few : (r : Readers) → Small r → (n : Node t.arg) (ts : List Lexeme) → most_stages n ≤ 64 → Few wide (d.value_by r n ts)
+value_few : (r : Readers) → Small r → (n : Node t.arg) (ts : List Lexeme) → most_stages n ≤ 64 → Few most_stages (d.value_by r n ts)
 value_few r s n (Subscript ∷ ts) h = bind (d.members_by (r (d.a_part true)) ts) _ (members_few (r (d.a_part true)) (s.part true) ts) (λ as' k. record { few = omega arith })
 value_few r s n ts h = record { few = h }
 
-dollar_few : (r : Readers) → Small r → (ts : List Lexeme) → Few wide (d.dollar_by r ts)
+dollar_few : (r : Readers) → Small r → (ts : List Lexeme) → Few most_stages (d.dollar_by r ts)
 unfolding d.dollar_by
 dollar_few r s ts = bind (r d.a_name ts) _ (s.name ts) (λ n h. value_few r s n.0 n.1 h)
 
-pub part_few : (r : Readers) → Small r → (inside : Bool) (ts : List Lexeme) → Few wide (d.part_by r inside ts)
+pub part_few : (r : Readers) → Small r → (inside : Bool) (ts : List Lexeme) → Few most_stages (d.part_by r inside ts)
 unfolding d.part_by
 part_few r s inside (Word text ∷ ts) = record { few = omega arith }
 part_few r s inside (Quoted text ∷ ts) = record { few = omega arith }
