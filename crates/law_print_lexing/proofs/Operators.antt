@@ -1,10 +1,13 @@
 -- The fixed pieces of a printed text: bars, `&&`, `||`, redirections and `&`.
-use Rattle.std.proofs.Common.{◌≡◌, refl, ℕ, false, List, [], ◌∷◌, ◌++◌, codes}
-use lib.Utf8.{encode}
+use Rattle.std.proofs.Common.{◌≡◌, ◌≢◌, refl, ap, sym, subst, ◌∙◌, ℕ, true, false, List, [], ◌∷◌, ◌++◌, append_assoc, Some, codes}
+use Rattle.std.proofs.lemmas.Str.{encodes-append}
+use lib.Utf8.{encode, encodes, scalars}
 use Rattle.rc_model.specs.declared.call.Mode.TheVariants.{Read, Write, Append}
-use Rattle.rc_model.specs.Syntax.Tokens.{Apart, goes_on}
+use Rattle.rc_model.specs.Syntax.Text.{without_zero}
+use Rattle.rc_model.specs.Syntax.Tokens.{Lexeme, Apart, operator, goes_on, meant, as_before}
 use Rattle.rc_model.specs.Syntax.Tokens as k
-use Rattle.law_print_lexing.proofs.Pieces.{Piece, IsApart, apart, IsCalm, calm_apart, Anything, Ends, at_end, at_space, at_semicolon, at_caret, at_equals, at_paren, at_brace}
+use Rattle.law_print_lexing.proofs.Gives.{Gives}
+use Rattle.law_print_lexing.proofs.Pieces.{Piece, IsApart, apart, IsCalm, calm_apart, Anything, Ends, at_end, at_space, at_semicolon, at_caret, at_equals, at_paren, at_brace, scalars-append, clean-append}
 use Rattle.law_print_lexing.proofs.Steps.{at_start, blank_step, operator_step, copy_two_alone, copy_one_alone}
 
 pub bar_one : Piece IsCalm IsApart Anything (codes " | ") ((k.Bar 1) ∷ [])
@@ -67,65 +70,40 @@ pub or_or_ends : (rest : List ℕ) → Ends (or_or.chars ++ rest)
 unfolding or_or
 or_or_ends rest = at_space
 
+-- an operator, and a space after it
+opening : (cs : List ℕ) (l : Lexeme) → operator cs ≡ Some l → l ≢ k.BareHere → ((rest : List ℕ) → goes_on cs (codes " " ++ rest) ≡ false) →
+    ((rest : List ℕ) → meant Apart rest l ≡ l) → as_before Apart l ≡ Apart → encodes cs ≡ cs → scalars cs ≡ true → without_zero cs ≡ true →
+    Piece IsApart IsApart Anything (cs ++ codes " ") (l ∷ [])
+unfolding encode
+opening cs l found no_mark stops same next spelled scalar clean = record {
+  chars = cs ++ codes " ";
+  spelled = encodes-append cs (codes " ") ∙ ap (λ t. t ++ codes " ") spelled;
+  scalar = scalars-append cs (codes " ") scalar refl;
+  clean = clean-append cs (codes " ") clean refl;
+  cuts = λ {prev} b rest ls f g.
+      subst (λ t. Gives prev t (l ∷ ls)) (sym (append_assoc cs (codes " ") rest))
+      (at_start b (operator_step cs (codes " " ++ rest) l found no_mark (stops rest) (same (codes " " ++ rest)) next (blank_step calm_apart (g Apart apart))));
+}
+
 pub read_open : Piece IsApart IsApart Anything (codes "< ") ((k.Redirection Read 0) ∷ [])
 unfolding encode
-read_open = record {
-  chars = codes "< ";
-  spelled = refl;
-  scalar = refl;
-  clean = refl;
-  cuts = λ {prev} b rest ls f g.
-      at_start b (operator_step (codes "<") (codes " " ++ rest) (k.Redirection Read 0) refl (λ e. cc) refl refl refl
-      (blank_step calm_apart (g Apart apart)));
-}
+read_open = opening (codes "<") (k.Redirection Read 0) refl (λ e. cc) (λ rest. refl) (λ rest. refl) refl refl refl refl
 
 pub write_open : Piece IsApart IsApart Anything (codes "> ") ((k.Redirection Write 1) ∷ [])
 unfolding encode
-write_open = record {
-  chars = codes "> ";
-  spelled = refl;
-  scalar = refl;
-  clean = refl;
-  cuts = λ {prev} b rest ls f g.
-      at_start b (operator_step (codes ">") (codes " " ++ rest) (k.Redirection Write 1) refl (λ e. cc) refl refl refl
-      (blank_step calm_apart (g Apart apart)));
-}
+write_open = opening (codes ">") (k.Redirection Write 1) refl (λ e. cc) (λ rest. refl) (λ rest. refl) refl refl refl refl
 
 pub write_open_two : Piece IsApart IsApart Anything (codes ">[2] ") ((k.Redirection Write 2) ∷ [])
 unfolding encode
-write_open_two = record {
-  chars = codes ">[2] ";
-  spelled = refl;
-  scalar = refl;
-  clean = refl;
-  cuts = λ {prev} b rest ls f g.
-      at_start b (operator_step (codes ">[2]") (codes " " ++ rest) (k.Redirection Write 2) refl (λ e. cc) refl refl refl
-      (blank_step calm_apart (g Apart apart)));
-}
+write_open_two = opening (codes ">[2]") (k.Redirection Write 2) refl (λ e. cc) (λ rest. refl) (λ rest. refl) refl refl refl refl
 
 pub append_open : Piece IsApart IsApart Anything (codes ">> ") ((k.Redirection Append 1) ∷ [])
 unfolding encode
-append_open = record {
-  chars = codes ">> ";
-  spelled = refl;
-  scalar = refl;
-  clean = refl;
-  cuts = λ {prev} b rest ls f g.
-      at_start b (operator_step (codes ">>") (codes " " ++ rest) (k.Redirection Append 1) refl (λ e. cc) refl refl refl
-      (blank_step calm_apart (g Apart apart)));
-}
+append_open = opening (codes ">>") (k.Redirection Append 1) refl (λ e. cc) (λ rest. refl) (λ rest. refl) refl refl refl refl
 
 pub append_open_two : Piece IsApart IsApart Anything (codes ">>[2] ") ((k.Redirection Append 2) ∷ [])
 unfolding encode
-append_open_two = record {
-  chars = codes ">>[2] ";
-  spelled = refl;
-  scalar = refl;
-  clean = refl;
-  cuts = λ {prev} b rest ls f g.
-      at_start b (operator_step (codes ">>[2]") (codes " " ++ rest) (k.Redirection Append 2) refl (λ e. cc) refl refl refl
-      (blank_step calm_apart (g Apart apart)));
-}
+append_open_two = opening (codes ">>[2]") (k.Redirection Append 2) refl (λ e. cc) (λ rest. refl) (λ rest. refl) refl refl refl refl
 
 pub copy_to_two : Piece IsApart IsApart Anything (codes ">[2=1]") ((k.CopyTo 2 1) ∷ [])
 unfolding encode
