@@ -7,7 +7,8 @@ use Rattle.law_plans.proofs.Runs.{ran_next, ran_none}
 use Rattle.rc_world.proofs.Joins.{left_as, ran_as}
 use Rattle.rc_world.proofs.Shells.{left_under}
 use Rattle.rc_scope.specs.States.{state_of}
-use Rattle.rc_commands.proofs.Left.{no_texts, words_left}
+use Rattle.rc_scope.proofs.Spaces.{no_texts}
+use Rattle.rc_commands.proofs.Left.{words_left}
 use Rattle.rc_commands.proofs.commands.run_words.Goals as goal
 
 pub returns-in_err-fault : goal.returns-in_err-fault
