@@ -39,13 +39,10 @@ tracked:
 	@untracked=$$(git ls-files --others --exclude-standard -- ':(glob)crates/*/src/**') && test -z "$$untracked" \
 	    || { echo "git add first: $$untracked"; exit 1; }
 
-# test_scripts reads each example that lies in its data/.
 test:
 	@if [ -e $(RELEASE) ]; then release/fits; else echo there is no release; fi
 	@tests/places
-	rm -f crates/test_scripts/data/*.rc
-	cp examples/*.rc crates/test_scripts/data
-	$(RT) ci
+	tests/gate
 	tests/check $(BUILT)
 	tests/memory $(BUILT)
 	tests/descriptors $(BUILT)
