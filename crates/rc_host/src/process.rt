@@ -1,5 +1,5 @@
 //! What a program takes from its process.
-ghost use Rattle.std.specs.Prelude.{◌≡◌, ◌++◌, None, IfOk, OnErr, codes, string_bytes};
+ghost use Rattle.std.specs.Prelude.{◌≡◌, ◌++◌, None, IfOk, OnErr, codes, drop, string_bytes};
 ghost use Rattle.std.specs.Fmt.{decimal};
 ghost use Rattle.std.specs.IoError.{error_kind, raw_os_error};
 ghost use Rattle.std.specs.Path.{path_buf_bytes};
@@ -31,11 +31,21 @@ pub enum ArgumentsFault {
 pub fn arguments<R: Env + AllocGlobal>(rt: &R) -> Result<Vec<String>, ArgumentsFault> {
     match env::args(rt) {
         Ok(all) => all
-            .skip(1)
             .collect(rt.alloc())
+            .map(after_name)
             .map_err(|_| ArgumentsFault::NoMemory),
         Err(error) => Err(arguments_fault(&error)),
     }
+}
+
+/// The arguments after the first, which is the name of the program.
+fn after_name(mut all: Vec<String>) -> Vec<String>
+    ensures { result.items ≡ drop 1 all.items }
+{
+    if !all.is_empty() {
+        all.remove(0);
+    }
+    all
 }
 
 fn arguments_fault(error: &io::Error) -> ArgumentsFault
