@@ -32,11 +32,11 @@ fn is_option(word: &str) -> bool
 }
 
 /// What `[-c text | file] [arg ...]` asks for, or `-S` and the words of an image.
-fn request_of_script(strict: bool, words: &[String]) -> Option<Request<'_>>
-    ensures { option_map asked result ≡ request_of_script strict (map string_bytes words.now) }
+fn request_of_script(strict: bool, arguments: &[String]) -> Option<Request<'_>>
+    ensures { option_map asked result ≡ request_of_script strict (map string_bytes arguments.now) }
 {
-    let (source, arguments) = match words {
-        [] => (Source::Input, words),
+    let (source, arguments) = match arguments {
+        [] => (Source::Input, arguments),
         [first, others @ ..] if first.as_str() == "-c" => {
             let (text, arguments) = others.split_first()?;
             (Source::Text(text), arguments)
@@ -53,11 +53,11 @@ fn request_of_script(strict: bool, words: &[String]) -> Option<Request<'_>>
 }
 
 /// What the arguments of the program ask for: `None` for a wrong use.
-pub fn request_of(words: &[String]) -> Option<Request<'_>>
-    ensures { option_map asked result ≡ request_of (map string_bytes words.now) }
+pub fn request_of(arguments: &[String]) -> Option<Request<'_>>
+    ensures { option_map asked result ≡ request_of (map string_bytes arguments.now) }
 {
-    match words {
+    match arguments {
         [first, others @ ..] if first.as_str() == "-e" => request_of_script(true, others),
-        _ => request_of_script(false, words),
+        _ => request_of_script(false, arguments),
     }
 }

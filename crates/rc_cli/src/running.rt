@@ -21,17 +21,17 @@ use std::mem::forget;
 pub fn run_rc<'a, W: World, R: Read + Drop>(
     alloc: Global,
     world: &mut W,
-    words: &'a [String],
+    arguments: &'a [String],
     entries: &[String],
     input: Option<R>,
 ) -> Result<u8, RunFault<'a>>
-    ensures usage { (result ≡ Err RunFault.Usage) ↔ (request_of (map string_bytes words.now) ≡ None) }
+    ensures usage { (result ≡ Err RunFault.Usage) ↔ (request_of (map string_bytes arguments.now) ≡ None) }
     ensures unchanged { result ≡ Err RunFault.Usage → W.events world.new ≡ W.events world.old }
-    ensures meant { IfSome (request_of (map string_bytes words.now))
+    ensures meant { IfSome (request_of (map string_bytes arguments.now))
         (RunsRequest (option_map (λ r. R.remaining r) input) (map string_bytes entries.now)
         (W.events world.old) (W.events world.new) result) }
 {
-    let Some(request) = request_of(words) else {
+    let Some(request) = request_of(arguments) else {
         return Err(RunFault::Usage);
     };
     match request.source {

@@ -7,8 +7,8 @@ use std::fs;
 use std::process::ExitCode;
 
 /// No file of a script gets the number 0, 1 or 2: these are open before anything else is.
-fn run<'a>(rt: HostRuntime, words: &'a [String]) -> Result<u8, RunFault<'a>> {
-    let Some(request) = request_of(words) else {
+fn run<'a>(rt: HostRuntime, arguments: &'a [String]) -> Result<u8, RunFault<'a>> {
+    let Some(request) = request_of(arguments) else {
         return Err(RunFault::Usage);
     };
     open_standard(&rt).map_err(|_| RunFault::CannotRead("standard input"))?;
@@ -18,17 +18,23 @@ fn run<'a>(rt: HostRuntime, words: &'a [String]) -> Result<u8, RunFault<'a>> {
     match request.source {
         Source::File(name) => {
             let file = fs::open(&rt, name).ok();
-            run_rc(rt.alloc(), &mut world, words, &entries, file)
+            run_rc(rt.alloc(), &mut world, arguments, &entries, file)
         }
         Source::Input | Source::Text(_) | Source::Image => {
-            run_rc(rt.alloc(), &mut world, words, &entries, Some(rt.reader()))
+            run_rc(
+                rt.alloc(),
+                &mut world,
+                arguments,
+                &entries,
+                Some(rt.reader()),
+            )
         }
     }
 }
 
 fn main(rt: HostRuntime) -> ExitCode {
     match arguments(&rt) {
-        Ok(words) => report(&rt, run(rt, &words)),
+        Ok(arguments) => report(&rt, run(rt, &arguments)),
         Err(ArgumentsFault::NotText) => report(&rt, Err(RunFault::Usage)),
         Err(ArgumentsFault::NoMemory) => report(&rt, Err(RunFault::NoMemory)),
     }

@@ -13,8 +13,8 @@ use runs::show_all;
 use std::fs;
 use std::process::ExitCode;
 
-fn shell<'a>(rt: HostRuntime, words: &'a [String]) -> Result<u8, RunFault<'a>> {
-    let Some(request) = request_of(words) else {
+fn shell<'a>(rt: HostRuntime, arguments: &'a [String]) -> Result<u8, RunFault<'a>> {
+    let Some(request) = request_of(arguments) else {
         return Err(RunFault::Usage);
     };
     open_standard(&rt).map_err(|_| RunFault::CannotRead("standard input"))?;
@@ -24,21 +24,27 @@ fn shell<'a>(rt: HostRuntime, words: &'a [String]) -> Result<u8, RunFault<'a>> {
     match request.source {
         Source::File(name) => {
             let file = fs::open(&rt, name).ok();
-            run_rc(rt.alloc(), &mut world, words, &entries, file)
+            run_rc(rt.alloc(), &mut world, arguments, &entries, file)
         }
         Source::Input | Source::Text(_) | Source::Image => {
-            run_rc(rt.alloc(), &mut world, words, &entries, Some(rt.reader()))
+            run_rc(
+                rt.alloc(),
+                &mut world,
+                arguments,
+                &entries,
+                Some(rt.reader()),
+            )
         }
     }
 }
 
 fn main(rt: HostRuntime) -> Result<ExitCode> {
-    let words = match arguments(&rt) {
-        Ok(words) => words,
+    let arguments = match arguments(&rt) {
+        Ok(arguments) => arguments,
         Err(ArgumentsFault::NotText) => return Ok(report(&rt, Err(RunFault::Usage))),
         Err(ArgumentsFault::NoMemory) => return Ok(report(&rt, Err(RunFault::NoMemory))),
     };
-    match words.as_slice() {
+    match arguments.as_slice() {
         [] => {
             show_all(&rt, &own_path(&rt)?)?;
             Ok(ExitCode::SUCCESS)
