@@ -1,8 +1,9 @@
 -- Runs that made no call, and what comes of the reading of a script.
-use Rattle.std.proofs.Common.{◌≡◌, ◌≢◌, ◌⊎◌, inl, inr, ℕ, List, [], take, Option, Some, None, Result, Ok, Err, IfSome, option_map, refl, Bor}
+use Rattle.std.proofs.Common.{◌≡◌, ◌≢◌, ◌⊎◌, inl, inr, ℕ, suc, List, [], take, Option, Some, None, Result, Ok, Err, IfSome, option_map, refl, Bor}
 use Rattle.std.specs.Prelude.{IfOk, IfErr, Vec}
 use Rattle.std.specs.declared.alloc.Global.{Global}
 use Rattle.rc_model.specs.Run.Calls.{Event}
+use Rattle.rc_model.specs.Syntax.Accepted.{longest_script}
 use Rattle.rc_shell.proofs.Runs.{told_nothing}
 use Rattle.rc_cli.specs.Requests.{Request, name_of}
 use Rattle.rc_cli.specs.Runs.{IsScriptOf, IsUnread, Program, RunsAsMeant, RunsInput, RunsRead, most_instructions, text_from}
@@ -13,7 +14,7 @@ use Rattle.rc_cli.specs.declared.fault.RunFault.TheVariants.{Usage, CannotRead, 
 -- an input has a script
 script_of : (known : Option (List ℕ)) → (script : List ℕ) × IsScriptOf known script
 script_of None = ([], tt)
-script_of (Some bytes) = (take 1048577 bytes, refl)
+script_of (Some bytes) = (take (suc longest_script) bytes, refl)
 
 -- a run that was left out of memory before its first call
 pub left_untold : (recorded : Option (List Event)) (p : Program) → RunsAsMeant recorded recorded p (Err NoMemory)

@@ -1,10 +1,10 @@
 -- What a run of the program does, by what its arguments ask for, its environment and the script that it reads.
-use Rattle.std.specs.Prelude.{◌≡◌, ◌⊎◌, ℕ, ◌^◌, List, Vec, take, Option, Some, None, IfSome, Result, Ok, Err}
+use Rattle.std.specs.Prelude.{◌≡◌, ◌⊎◌, ℕ, suc, ◌^◌, List, Vec, take, Option, Some, None, IfSome, Result, Ok, Err}
 use Rattle.std.specs.declared.alloc.Global.{Global}
 use Rattle.rc_model.specs.Handed.Arguments.{read_image}
 use Rattle.rc_model.specs.Handed.TreeReading.{ImageFault}
 use Rattle.rc_model.specs.Run.Calls.{Event}
-use Rattle.rc_model.specs.Syntax.Accepted.{IsAccepted, IsRefused}
+use Rattle.rc_model.specs.Syntax.Accepted.{IsAccepted, IsRefused, longest_script}
 use Rattle.rc_model.specs.Run.Script.{Recorded, StopsAtLimit}
 use Rattle.rc_model.specs.Run.State.{State}
 use Rattle.rc_model.specs.Syntax.Tree.{Node, cmd}
@@ -75,7 +75,7 @@ RunsAsMeant before after p (Err NoMemory) =
 
 -- the script of an input whose bytes are known: at most one byte more than a script may have
 abbrev pub IsScriptOf : Option (List ℕ) → List ℕ → Type 0
-IsScriptOf known script = IfSome known (λ bytes. script ≡ take 1048577 bytes)
+IsScriptOf known script = IfSome known (λ bytes. script ≡ take (suc longest_script) bytes)
 
 -- a run of the script that a request has
 abbrev pub RunsScript : Option (List Event) → Option (List Event) → Request → (entries : List (List ℕ)) →
