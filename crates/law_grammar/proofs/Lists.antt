@@ -1,5 +1,5 @@
 -- Lists of nodes, and what is read in steps.
-use Rattle.std.proofs.Common.{◌≡◌, suc, ◌+◌, Bool, true, false, List, Result, Ok, Err, ◌⊎◌, inl, inr, if◌then◌else◌, refl, sym, ap, subst, ◌∙◌, arith}
+use Rattle.std.proofs.Common.{◌≡◌, suc, Bool, true, false, List, Result, Ok, Err, ◌⊎◌, inl, inr, if◌then◌else◌, refl, sym, ap, subst, ◌∙◌}
 use Rattle.rc_model.specs.Syntax.Tokens.{Lexeme}
 use Rattle.rc_model.specs.Syntax.Tree.{Sort, Node, Many, none, more, count, snoc}
 use Rattle.rc_model.specs.Mirrors.Descent.{Fault, ◌>>=◌}
@@ -20,10 +20,6 @@ append_none (more x xs) = ap (more x) (append_none xs)
 pub count_snoc : {s : Sort} (xs : Many s) (n : Node s) → count (snoc xs n) ≡ suc (count xs)
 count_snoc none n = refl
 count_snoc (more x xs) n = ap suc (count_snoc xs n)
-
-pub count_append : {s : Sort} (xs ys : Many s) → count (append xs ys) ≡ count xs + count ys
-count_append none ys = omega arith
-count_append (more x xs) ys = let h = count_append xs ys in omega arith
 
 abbrev pub or_else : {A : Type 0} → Result A Fault → A → A
 or_else (Ok x) d = x

@@ -7,10 +7,6 @@ use Rattle.rc_model.specs.Syntax.Tokens.{Lexeme, Token, Place, Before, Due, Outc
 use Rattle.rc_model.specs.declared.fault.SyntaxFault.{SyntaxFault}
 use Rattle.rc_model.specs.Mirrors.Reading.{State, Step, emit, step, closed, follow, run}
 
--- what follows each step
-abbrev pub then_run : Place → List ℕ → State → List Due → Outcome
-then_run p cs s due = run s due p cs
-
 -- the run from a character of this class on
 abbrev pub run_at : State → List Due → Place → ℕ → List ℕ → Class → Outcome
 run_at s due p c cs k = follow (step s due p c k) (λ s' due'. run s' due' (t.after_char p c) cs)
@@ -106,12 +102,3 @@ backslash_is c h = eqb-true c 92 (pick_backslash (t.begins_operator (c ∷ [])) 
 
 pub operates_is : (c : ℕ) → t.class_of c ≡ t.Operates → t.begins_operator (c ∷ []) ≡ true
 operates_is c h = pick_operates (t.begins_operator (c ∷ [])) ((c == 32) || (c == 9)) (c == 10) (c == 35) (c == 39) (c == 92) h
-
--- a class is no line end, or no quote
-pub not_line_end : Class → Bool
-not_line_end t.LineEnd = false
-not_line_end _ = true
-
-pub is_quote : Class → Bool
-is_quote t.Quote = true
-is_quote _ = false

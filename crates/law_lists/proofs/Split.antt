@@ -2,7 +2,6 @@
 use Rattle.std.proofs.Common.{◌≡◌, ◌≢◌, ℕ, suc, Bool, true, false, cond, List, [], ◌∷◌, ◌++◌, map, length, refl, sym, ap, subst, ◌∙◌, ◌&&◌, ◌||◌, not, arith}
 use Rattle.std.proofs.lemmas.Bool.{ne_eqb, and_parts, or_parts}
 use Rattle.std.specs.Prelude.{◌↔◌, ◌==◌, filter}
-use Rattle.std.proofs.lemmas.List.{append-nil}
 use Rattle.std.specs.List.{list_all, list_any, slice_split, onto_first}
 use Rattle.std.specs.Str.{chars, encode_utf8_all}
 use Rattle.rc_model.specs.Run.Lists.{split}
@@ -111,12 +110,3 @@ split-is text separators texts = (
   (λ h. record { members = runs (is_among separators) (chars text); cut = runs-Splits (is_among separators) (chars text); spelled = h }),
   (λ m. m.spelled ∙ ap (map encode_utf8_all) (Splits-runs (is_among separators) m.cut)),
 )
-
-none_among : (cs : List ℕ) → list_any (is_among []) cs ≡ false
-unfolding chars
-none_among [] = refl
-none_among (c ∷ cs) = none_among cs
-
--- with no separators, a text that isn't empty is one member
-pub split_whole : (c : ℕ) (cs : List ℕ) → Splits (is_among []) (c ∷ cs) ((c ∷ cs) ∷ [])
-split_whole c cs = next (c ∷ cs) [] (c ∷ cs) [] [] refl (not_nil c cs) (none_among (c ∷ cs)) refl (sym (append-nil (c ∷ cs))) (gap [] refl)

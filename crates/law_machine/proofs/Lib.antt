@@ -8,4 +8,3 @@ pub mod Follow
 pub mod Turns
 pub mod Ends
 pub mod Recorded
-pub mod Reached

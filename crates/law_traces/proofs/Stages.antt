@@ -7,11 +7,11 @@ use Rattle.rc_model.specs.declared.call.Slot.TheVariants.{Own, To}
 use Rattle.rc_model.specs.declared.call.Slots.{Slots}
 use Rattle.rc_model.specs.Syntax.Tree.{Node, Many, cmd, stage, none, more, Stage}
 use Rattle.rc_model.specs.Run.State.{State, with_status}
-use Rattle.rc_model.specs.Run.Shell.{Shell, ◌>>◌, under, leaves, pure, say, change}
+use Rattle.rc_model.specs.Run.Shell.{Shell, ◌>>◌, under, leaves, pure, change}
 use Rattle.rc_model.specs.Handed.Image.{is_fit, shell_launch}
 use Rattle.rc_model.specs.Run.Acts.{set_status, ending_status, close_end, wait_each, Started, Child, NoChild, child_of, begun, start_shell, StartedStages, Running, Refused, stages_status, no_stages, next_stage, stage_with, stages_from, end_stages}
 use Rattle.rc_model.specs.Handed.Handed.{IsHanded, HandsOver}
-use Rattle.rc_model.specs.Family.Accounts.{Thing, read_end, write_end, Due, made, used, passed, Account, one, called, add_pair, add_child, past, NewPair, NewChild, InSlots, InTurn}
+use Rattle.rc_model.specs.Family.Accounts.{read_end, write_end, Due, made, used, passed, Account, one, called, add_pair, add_child, past, NewPair, NewChild, InSlots, InTurn}
 use Rattle.law_traces.proofs.Keep.{Keeps, one_self, Held, held, of_line, Kid, kid_of, held_counts, child_counts, InLine, KnownOf, AllKnown, AllBelow, KidsBelow, AllOlder, below_place, kids_below_place, older_place, NotSlot, Neat, Rest, calm_turn}
 use Rattle.law_traces.proofs.Steps.{rest_on, may_call, may_close, rest_close, neat_pair, neat_used, neat_kid, may_close_due, rest_unused, neat_passed, rest_passed, rest_join, rest_wait, may_wait_line, rest_apart, older_from}
 use Rattle.law_traces.proofs.Does.{Ends, keeps_bind, CoversSlot, Covers, covers_more, covers_all, holds_slots, neat_state, rekid, child_counts-append, known_append, known_front, known_back}
@@ -29,9 +29,6 @@ kids (k ∷ ks) = kid_of k.0 (of_line k.1 k.2) ∷ kids ks
 abbrev pub AllFrom : ℕ → List (ℕ × ℕ × ℕ) → Type 0
 AllFrom g [] = Unit {0}
 AllFrom g (k ∷ ks) = (g ≤ k.2) × AllFrom g ks
-
-pub keeps_close : {F : List Held} (G : List Held) {O : List Kid} (O' : List Kid) {a : Account} {s : State} (h : ℕ) (t : Thing) (l : ℕ) → Rest (held h t l ∷ F) O a s → Keeps a (say (close h) s) (Ends G O' (λ x. Rest F O))
-keeps_close G O' h t l n = (may_close n, λ x f. rest_close n)
 
 pub keeps_wait_each : (g : ℕ) (F : List Held) (O : List Kid) (ks : List (ℕ × ℕ × ℕ)) (a : Account) (s : State) → AllOlder g F → AllFrom g ks → Rest F (kids ks ++ O) a s → Keeps a (wait_each (numbers ks) s) (Ends F O (λ ts. Rest F O))
 keeps_wait_each g F O [] a s old from n = n
