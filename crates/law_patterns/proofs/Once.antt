@@ -170,9 +170,9 @@ fitting_clean c a m x =
     not-true (is_no_name m) (and_parts (not (is_no_name m)) (matches c (chars m) true) f.1).0
 
 -- the directory is no path below one of its names
-folder_by : (q : List ℕ) (b : Bool) → length (cond b (codes ".") q) ≤ length q + 1
-folder_by q true = omega arith
-folder_by q false = omega arith
+directory_by : (q : List ℕ) (b : Bool) → length (cond b (codes ".") q) ≤ length q + 1
+directory_by q true = omega arith
+directory_by q false = omega arith
 
 longer : (n : List ℕ) (b : Bool) → (length n == 0) ≡ b → b ≡ false → 0 < length n
 longer n true h k = no_way (sym k)
@@ -182,7 +182,7 @@ longer (c ∷ n) false h k = omega arith
 apart_directory : (q : List ℕ) (ns : List (List ℕ)) → Clean ns → (d : Call) → Among q ns d → d ≡ list_names (directory q) → ⊥
 apart_directory q ns k d x e =
     let f : ((q ++ x.0) ++ codes "/") ++ x.2.rest ≡ directory q = sym x.2.path ∙ ap path_of e in
-    let a = folder_by q (length q == 0) in
+    let a = directory_by q (length q == 0) in
     let b = longer x.0 (length x.0 == 0) refl (clean_name x.0 (k x.0 x.1)).0 in
     let l1 = length-append ((q ++ x.0) ++ codes "/") x.2.rest in
     let l2 = length-append (q ++ x.0) (codes "/") in
