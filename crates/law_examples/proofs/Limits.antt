@@ -41,7 +41,7 @@ too_many_stages : tree (stages 64) ≡ None
 unfolding tree stages
 too_many_stages = refl
 
--- so many letters a
+-- the letter a, this many times
 letters : ℕ → List ℕ
 letters zero = []
 letters (suc n) = 97 ∷ letters n
@@ -66,7 +66,7 @@ too_large_an_argument :
 unfolding meant ran letters
 too_large_an_argument = (refl, refl)
 
--- a command of one word with so many letters
+-- a command of one word with this many letters
 word : ℕ → Node cmd
 word n = Simple (more (Lit (letters n) false) none)
 
@@ -85,7 +85,7 @@ two_pieces : image_words (word 99991) ≡ Some (codes "rc2;2" ∷ (codes "c1,w99
 unfolding word letters node_image many_image digits pieces last_cut
 two_pieces = refl
 
--- so many accented letters, of two bytes each
+-- this many accented letters, of two bytes each
 accents : ℕ → List ℕ
 accents zero = []
 accents (suc n) = 195 ∷ 169 ∷ accents n

@@ -222,16 +222,16 @@ abbrev pub Awaits : (text : List ℕ) → State → List Event → Type 0
 Awaits text s trace =
     (meant_wait text s (answers trace) ≡ Some (calls trace)) × (ran_wait text s (answers trace) ≡ Some (calls trace))
 
--- the calls of so many instructions, where they were cut
+-- the calls of `limit` instructions, where they were cut
 unfoldable pub cut_at : ℕ → List ℕ → State → List Answer → Option (List Call)
 unfolding tree
 cut_at limit text s given = then cut_so (option_map (λ c. run limit c s given) (tree text))
 
--- So many instructions make these calls, and don't come to the end.
+-- `limit` instructions make these calls, and don't come to the end.
 abbrev pub StopsAt : (limit : ℕ) → (text : List ℕ) → State → List Event → Type 0
 StopsAt limit text s trace = cut_at limit text s (answers trace) ≡ Some (calls trace)
 
--- the calls of at most so many instructions, where they came to the end
+-- the calls of at most `limit` instructions, where they came to the end
 unfoldable pub ends_by : ℕ → List ℕ → State → List Answer → Option (List Call)
 unfolding tree
 ends_by limit text s given = option_map (λ y. y.0) (then ended_so (option_map (λ c. run limit c s given) (tree text)))

@@ -163,7 +163,7 @@ depth_cmd (t.Define ns c) = omega arith
 depth_cmd (t.Undefine ns) = omega arith
 depth_cmd (t.Brace c) = omega arith
 
--- each phrase is read with so many levels left
+-- each phrase is read with this many levels left
 pub read_good : (left : ℕ) → Good left (d.read left)
 unfolding d.read d.read_by
 read_good zero = record {

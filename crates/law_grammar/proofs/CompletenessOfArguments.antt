@@ -12,7 +12,7 @@ use Rattle.law_grammar.proofs.Shorter.{Phrase-shorter, past_blanks-shorter, afte
 use Rattle.law_grammar.proofs.Lists.{append, append_snoc, append_none}
 use Rattle.law_grammar.proofs.SoundnessOfArguments.{arg_begins}
 
--- what is read with so many levels left, where the phrase has a tree of so many levels with so many stages at most in a pipeline
+-- what is read with `left` levels left, where the phrase has a tree of `tall` levels with at most `wide` stages in a pipeline
 abbrev pub Met : {A : Type 0} → (left tall wide : ℕ) → Read A → (A × List Lexeme) → Type 0
 Met left tall wide (Ok y) x = y ≡ x
 Met left tall wide (Err d.Unexpected) x = ⊥

@@ -138,7 +138,7 @@ items_few : (r : Readers) → Small r → (in_switch : Bool) (ts : List Lexeme) 
 unfolding d.items_by
 items_few r s in_switch ts = items_from_few r s in_switch (length ts) false none ts (omega arith)
 
--- reading with so many levels left
+-- reading with one level more than these readers have left
 read_by_few : (r : Readers) → Small r → Small (λ n ts. d.read_by r n ts)
 unfolding d.read_by
 read_by_few r s = record {

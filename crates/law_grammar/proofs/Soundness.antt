@@ -1,4 +1,4 @@
--- What the descent reads is a phrase: commands, lists of them, and all that is read with so many levels left.
+-- What the descent reads is a phrase: commands, lists of them, and all that is read, however many levels are left.
 use Rattle.std.proofs.Common.{◌≡◌, ℕ, zero, suc, ◌≤◌, Bool, true, false, not, ◌&&◌, List, [], ◌∷◌, length, Ok, Err, ◌⊎◌, inl, inr, refl, sym, ap, subst, arith}
 use Rattle.rc_model.specs.Syntax.Tokens.{Lexeme, Word, Semicolon, Ampersand, Newline, AndAnd, OrOr, RightParen, RightBrace}
 use Rattle.rc_model.specs.Syntax.Tree.{Node, Many, none, snoc}
@@ -124,7 +124,7 @@ items_sound : (r : Readers) → Sound r → (s : Bool) (ts : List Lexeme) (x : M
 unfolding d.items_by
 items_sound r sd s ts x h = all_added (λ is rest. Phrase (g.items s false) ts is rest) x (items_from_sound r sd s (length ts) false none ts x (omega arith) h)
 
--- what is read with so many levels left is a phrase
+-- what is read with this many levels left is a phrase
 pub read_sound : (left : ℕ) → Sound (d.read left)
 unfolding d.read d.read_by
 read_sound zero = record {

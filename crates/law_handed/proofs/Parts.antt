@@ -7,7 +7,7 @@ use Rattle.rc_model.specs.Handed.TreeSpelling.{has_characters}
 use Rattle.rc_model.specs.Handed.Proper.{IsProperTree}
 use Rattle.law_handed.proofs.Bodies.{all_have}
 
--- sizes and texts are right, and so many levels are not too many
+-- sizes and texts are right, and this many levels are not too many
 pub record Right (a b : Bool) (m : ℕ) : Type 0 where
   pub sound : a ≡ true
   pub characters : b ≡ true

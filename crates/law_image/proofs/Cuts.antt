@@ -146,7 +146,7 @@ pub joined_pieces : (limit : ℕ) (text : List ℕ) (words : List (List ℕ)) �
 joined_pieces limit text words no_more = refl
 joined_pieces limit text words (next text' piece rest ps ne cut longest more) = cut ∙ ap (λ z. piece ++ z) (joined_pieces limit rest ps more)
 
--- so many pieces at most have so many bytes
+-- how many bytes have room in this many pieces of `limit` bytes
 abbrev pub room : ℕ → ℕ → ℕ
 room zero limit = 0
 room (suc most) limit = limit + room most limit

@@ -1,4 +1,4 @@
--- Which nodes a reader takes that has so many levels left.
+-- Which nodes a reader takes, by the levels that it has left.
 use Rattle.std.specs.Prelude.{ℕ, zero, suc, Bool, true, false, ◌&&◌, List}
 use Rattle.rc_model.specs.Syntax.Tree.{Sort, Node, Many, none, more, count}
 use Rattle.rc_model.specs.Syntax.Tree as t

@@ -11,7 +11,7 @@ use Rattle.rc_world.specs.Comes.{Left}
 use Rattle.rc_world.specs.declared.types.Stop.{Stop}
 use Rattle.rc_world.proofs.Joins.{left_asked, left_join, ran_answered}
 
--- what is still to be done after these bytes, with so many reads left
+-- what is still to be done after these bytes, with `left` reads left
 abbrev onwards_by : Bool → (left most file : ℕ) → (text : List ℕ) → Shell Got
 onwards_by b left most file text = cond b (reading left most file text) (pure (got_all text (Some (codes "too large"))))
 

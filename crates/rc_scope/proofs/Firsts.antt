@@ -4,13 +4,13 @@ use Rattle.rc_model.specs.Run.State.{without_child}
 use Rattle.rc_model.specs.declared.call.ChildNo.{ChildNo}
 use Rattle.rc_scope.specs.States.{numbers}
 
--- none of the first so many is this child
+-- none of the first i is this child
 abbrev pub NoneBefore : ℕ → List ChildNo → ℕ → Type 0
 NoneBefore n cs zero = Unit {0}
 NoneBefore n [] (suc i) = Unit {0}
 NoneBefore n (c ∷ cs) (suc i) = ((c.0 == n) ≡ false) × NoneBefore n cs i
 
--- so many were looked at
+-- the first i were looked at
 abbrev pub LookedAt : ℕ → List ChildNo → ℕ → ℕ → Type 0
 LookedAt n cs place i = (place ≡ i) × NoneBefore n cs i
 
