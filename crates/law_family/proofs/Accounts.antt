@@ -11,6 +11,7 @@ use Rattle.rc_model.specs.Family.Accounts.{Settled, NothingLost, Due, free, made
 use Rattle.rc_model.specs.Family.Family.{Process, holding, IsPending, GoesAsMeant}
 use Rattle.law_traces.proofs.Keep.{put_self, put_other}
 use Rattle.law_traces.proofs.Cmds.{keeps_whole}
+use Rattle.law_traces.proofs.Fresh.{halt_fresh}
 use Rattle.law_traces.proofs.Traces.{one_next, one_start_account, kept_begun, begun_loses_nothing}
 
 -- Accounts of one event more.
@@ -126,19 +127,6 @@ no_halt (e ∷ es) c = ap (λ l. if is_halt e.answer then [] else e.answer ∷ l
 calls_on : (es : List Event) (c : Call) → calls (es ++ event c (refused Halt) ∷ []) ≡ calls es ++ c ∷ []
 calls_on [] c = refl
 calls_on (e ∷ es) c = ap (λ l. e.call ∷ l) (calls_on es c)
-
-halt_fresh : (a : Account) (c : Call) → Fresh a c (refused Halt)
-halt_fresh a (open_file p m) = tt
-halt_fresh a (here t) = tt
-halt_fresh a make_pipe = tt
-halt_fresh a (start l) = tt
-halt_fresh a (close h) = tt
-halt_fresh a (read h) = tt
-halt_fresh a (write to t) = tt
-halt_fresh a (wait n) = tt
-halt_fresh a (list_names p) = tt
-halt_fresh a (probe p) = tt
-halt_fresh a (change_dir p) = tt
 
 fresh_halt : (es : List Event) (a : Account) (c : Call) → FreshFrom a es → FreshFrom a (es ++ event c (refused Halt) ∷ [])
 fresh_halt [] a c f = (halt_fresh a c, tt)

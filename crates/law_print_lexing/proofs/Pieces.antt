@@ -1,10 +1,11 @@
 -- Pieces of a text with their lexemes, and how they are put together.
-use Rattle.std.proofs.Common.{◌≡◌, refl, ap, sym, ◌∙◌, subst, ℕ, true, not, ◌==◌, List, [], ◌∷◌, ◌++◌, append_assoc}
+use Rattle.std.proofs.Common.{◌≡◌, refl, ap, sym, ◌∙◌, subst, ℕ, true, List, [], ◌∷◌, ◌++◌, append_assoc}
 use Rattle.std.proofs.lemmas.Bool.{and_parts}
 use Rattle.std.proofs.lemmas.Str.{encodes-append}
 use lib.Utf8.{scalar, scalars, encodes}
 use Rattle.rc_model.specs.Syntax.Text.{without_zero}
 use Rattle.rc_model.specs.Syntax.Tokens.{Lexeme, Before, Apart, WordBefore, QuotedBefore, NameBefore}
+pub use Rattle.law_grammar.proofs.Zeros.{clean_append as clean-append}
 use Rattle.law_print_lexing.proofs.Gives.{Gives}
 
 -- nothing that matters stands before; no `$` and no `<<` does
@@ -42,10 +43,6 @@ pub record Piece (before after : Before → Type 0) (follows : List ℕ → Type
 pub scalars-append : (xs ys : List ℕ) → scalars xs ≡ true → scalars ys ≡ true → scalars (xs ++ ys) ≡ true
 scalars-append [] ys e f = f
 scalars-append (x ∷ xs) ys e f = let p = and_parts (scalar x) (scalars xs) e in rw p.0 (scalars-append xs ys p.1 f)
-
-pub clean-append : (xs ys : List ℕ) → without_zero xs ≡ true → without_zero ys ≡ true → without_zero (xs ++ ys) ≡ true
-clean-append [] ys e f = f
-clean-append (x ∷ xs) ys e f = let p = and_parts (not (x == 0)) (without_zero xs) e in rw p.0 (clean-append xs ys p.1 f)
 
 -- one piece after another
 unfoldable pub followed : {A B C : Before → Type 0} {F G : List ℕ → Type 0} {x y : List ℕ} {ls ms : List Lexeme} (p : Piece A B F x ls) (q : Piece B C G y ms) →

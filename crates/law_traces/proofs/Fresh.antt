@@ -15,7 +15,7 @@ halt_is (refused Halt) e = refl
 halt_is (refused _) e = absurd cc
 halt_is _ e = absurd cc
 
-halt_fresh : (a : Account) (c : Call) → Fresh a c (refused Halt)
+pub halt_fresh : (a : Account) (c : Call) → Fresh a c (refused Halt)
 halt_fresh a (open_file p m) = tt
 halt_fresh a (here t) = tt
 halt_fresh a make_pipe = tt
