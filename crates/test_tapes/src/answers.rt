@@ -1,6 +1,6 @@
 //! How the answers of calls are written.
 
-use anyhow::{Result, anyhow};
+use crate::fault::RowFault;
 use rc_world::{Answer, ChildNo, Ending, Fault, Handle, Kind};
 use std::alloc::{AllocError, Global};
 
@@ -16,19 +16,26 @@ pub struct Calls {
 
 impl Calls {
     /// The calls that are written so. The last may have no answer.
-    pub fn read(alloc: Global, written: &str) -> Result<Calls> {
+    pub fn read(alloc: Global, written: &str) -> Result<Calls, RowFault> {
         let mut calls = Calls {
             lines: String::new(alloc),
             answers: Vec::new(alloc),
         };
         for line in written.lines() {
-            let (call, answered) = line.split_once(ARROW).unwrap_or((line, ""));
-            write!(calls.lines, "{call}\n")?;
-            if !answered.is_empty() {
-                calls.answers.push(answer(alloc, answered)?)?;
-            }
+            calls.add(alloc, line)?;
         }
         Ok(calls)
+    }
+
+    /// Adds the call of a line.
+    fn add(&mut self, alloc: Global, line: &str) -> Result<(), RowFault> {
+        let (call, answered) = line.split_once(ARROW).unwrap_or((line, ""));
+        self.lines.push_str(call)?;
+        self.lines.push('\n')?;
+        if !answered.is_empty() {
+            self.answers.push(answer(alloc, answered)?)?;
+        }
+        Ok(())
     }
 
     /// The answers once more.
@@ -42,8 +49,17 @@ impl Calls {
 }
 
 /// The answer that is written so.
-fn answer(alloc: Global, written: &str) -> Result<Answer> {
+fn answer(alloc: Global, written: &str) -> Result<Answer, RowFault> {
     let (kind, rest) = written.split_once(' ').unwrap_or((written, ""));
+    match kind {
+        "code" | "child" | "file" | "pipe" => numbered(kind, rest),
+        "names" | "bytes" | "zeros" | "text" => listed(alloc, kind, rest),
+        _ => plain(kind),
+    }
+}
+
+/// The answer of this kind, which has nothing with it.
+fn plain(kind: &str) -> Result<Answer, RowFault> {
     Ok(match kind {
         "done" => Answer::Done,
         "refused" => Answer::Refused(Fault::Denied),
@@ -51,24 +67,31 @@ fn answer(alloc: Global, written: &str) -> Result<Answer> {
         "directory" => Answer::Found(Kind::Directory),
         "other" => Answer::Found(Kind::Other),
         "signal" => Answer::Ended(Ending::Signal),
-        "code" => Answer::Ended(Ending::Code(rest.parse::<u8>()?)),
-        "child" => Answer::Child(ChildNo(rest.parse::<u32>()?)),
-        "file" => Answer::File(Handle(rest.parse::<u32>()?)),
-        "pipe" => pipe(rest)?,
-        "names" => Answer::Names(names(alloc, rest)?),
-        "bytes" => Answer::Bytes(bytes(alloc, rest)?),
-        "zeros" => Answer::Bytes(vec![in alloc; 0; rest.parse::<usize>()?]?),
-        "text" => Answer::Bytes(Vec::from_slice(alloc, rest.as_bytes())?),
-        _ => return Err(anyhow!("another answer")),
+        _ => return Err(RowFault::BadRow),
     })
 }
 
-/// The read end and the write end of a pipe.
-fn pipe(ends: &str) -> Result<Answer> {
-    let Some((read, write)) = ends.split_once(' ') else {
-        return Err(anyhow!("a pipe without two ends"));
-    };
-    Ok(Answer::Pair(Handle(read.parse::<u32>()?), Handle(write.parse::<u32>()?)))
+/// The answer of this kind with its numbers.
+fn numbered(kind: &str, rest: &str) -> Result<Answer, RowFault> {
+    Ok(match kind {
+        "code" => Answer::Ended(Ending::Code(rest.parse::<u8>()?)),
+        "child" => Answer::Child(ChildNo(rest.parse::<u32>()?)),
+        "file" => Answer::File(Handle(rest.parse::<u32>()?)),
+        _ => {
+            let (read, write) = rest.split_once(' ').unwrap_or((rest, ""));
+            Answer::Pair(Handle(read.parse::<u32>()?), Handle(write.parse::<u32>()?))
+        }
+    })
+}
+
+/// The answer of this kind with its names or its bytes.
+fn listed(alloc: Global, kind: &str, rest: &str) -> Result<Answer, RowFault> {
+    Ok(match kind {
+        "names" => Answer::Names(names(alloc, rest)?),
+        "bytes" => Answer::Bytes(bytes(alloc, rest)?),
+        "zeros" => Answer::Bytes(zeros(alloc, rest)?),
+        _ => Answer::Bytes(Vec::from_slice(alloc, rest.as_bytes())?),
+    })
 }
 
 /// The names that stand in a text.
@@ -81,10 +104,16 @@ fn names(alloc: Global, text: &str) -> Result<Vec<String>, AllocError> {
 }
 
 /// The bytes whose numbers stand in a text.
-fn bytes(alloc: Global, numbers: &str) -> Result<Vec<u8>> {
+fn bytes(alloc: Global, numbers: &str) -> Result<Vec<u8>, RowFault> {
     let mut bytes = Vec::new(alloc);
     for number in numbers.split_whitespace() {
         bytes.push(number.parse::<u8>()?)?;
     }
     Ok(bytes)
+}
+
+/// As many bytes 0 as a text says.
+fn zeros(alloc: Global, count: &str) -> Result<Vec<u8>, RowFault> {
+    let count = count.parse::<usize>()?;
+    Ok(vec![in alloc; 0; count]?)
 }

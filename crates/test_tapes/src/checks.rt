@@ -2,10 +2,10 @@
 //! the first of these calls, and the same in steps of one instruction.
 
 use crate::answers::Calls;
+use crate::fault::RowFault;
 use crate::rows::Row;
 use crate::runs::{Stepped, run};
 use crate::story::Story;
-use anyhow::Result;
 use std::alloc::{AllocError, Global};
 
 /// The most limits that are tried of a row: of a longer run only the first ones are, and nobody is told.
@@ -22,31 +22,56 @@ fn said(
     calls: &str,
     end: &str,
 ) -> Result<String, AllocError> {
-    let Story {
-        calls: made,
-        end: ended,
-    } = came;
+    let made = came.calls.as_str();
+    let ended = came.end.as_str();
     format!(in alloc; "{how}:\n{made}{ended}\nin place of\n{calls}{end}")
 }
 
+/// What is said of a run unless it made the calls of a row and ended as it says.
+fn said_unless_wanted(
+    alloc: Global,
+    how: &str,
+    came: &Story,
+    calls: &Calls,
+    row: &Row<'_>,
+) -> Result<Option<String>, AllocError> {
+    if is_wanted(came, calls, row) {
+        return Ok(None);
+    }
+    Ok(Some(said(alloc, how, came, calls.lines.as_str(), row.end)?))
+}
+
 /// What differs in a row.
-pub fn difference(alloc: Global, row: &Row<'_>) -> Result<Option<String>> {
+pub fn difference(alloc: Global, row: &Row<'_>) -> Result<Option<String>, RowFault> {
     let calls = Calls::read(alloc, row.calls.as_str())?;
-    let came = run(alloc, row, &calls, row.limit)?;
-    if !is_wanted(&came, &calls, row) {
-        let wanted = calls.lines.as_str();
-        return Ok(Some(said(alloc, "run", &came, wanted, row.end)?));
+    let difference = difference_of_run(alloc, row, &calls)?;
+    if difference.is_some() || row.is_of_the_program() {
+        return Ok(difference);
     }
-    if row.is_of_the_program() {
-        return Ok(None);
+    difference_of_parts(alloc, row, &calls)
+}
+
+/// What differs where the row is run as it is.
+fn difference_of_run(
+    alloc: Global,
+    row: &Row<'_>,
+    calls: &Calls,
+) -> Result<Option<String>, RowFault> {
+    let came = run(alloc, row, calls, row.limit)?;
+    Ok(said_unless_wanted(alloc, "run", &came, calls, row)?)
+}
+
+/// What differs in steps and at lower limits.
+fn difference_of_parts(
+    alloc: Global,
+    row: &Row<'_>,
+    calls: &Calls,
+) -> Result<Option<String>, RowFault> {
+    let difference = difference_in_steps(alloc, row, calls)?;
+    if difference.is_some() || SHORT < row.script.len().max(row.calls.len()) {
+        return Ok(difference);
     }
-    if let Some(difference) = difference_in_steps(alloc, row, &calls)? {
-        return Ok(Some(difference));
-    }
-    if SHORT < row.script.len().max(row.calls.len()) {
-        return Ok(None);
-    }
-    difference_at_limits(alloc, row, &calls)
+    difference_at_limits(alloc, row, calls)
 }
 
 /// Whether a run made the calls of a row and ended as it says.
@@ -55,40 +80,70 @@ fn is_wanted(came: &Story, calls: &Calls, row: &Row<'_>) -> bool {
 }
 
 /// What differs where fewer instructions are run than there are: the calls are to be the first ones of the row.
-fn difference_at_limits(alloc: Global, row: &Row<'_>, calls: &Calls) -> Result<Option<String>> {
+fn difference_at_limits(
+    alloc: Global,
+    row: &Row<'_>,
+    calls: &Calls,
+) -> Result<Option<String>, RowFault> {
     for limit in 0..row.limit.min(MOST_LIMITS) {
         let came = run(alloc, row, calls, limit)?;
         if is_wanted(&came, calls, row) {
             break;
         }
-        let is_cut = came.end.as_str() == "limit";
-        if !is_cut || !calls.lines.starts_with(came.calls.as_str()) {
-            let how = format!(in alloc; "with the limit {limit}")?;
-            let wanted = calls.lines.as_str();
-            return Ok(Some(said(alloc, how.as_str(), &came, wanted, "limit")?));
+        if !is_cut(&came, calls) {
+            return Ok(Some(said_at(alloc, limit, &came, calls)?));
         }
     }
     Ok(None)
 }
 
+/// Whether a run came to its limit after the first of these calls.
+fn is_cut(came: &Story, calls: &Calls) -> bool {
+    came.end.as_str() == "limit" && calls.lines.starts_with(came.calls.as_str())
+}
+
+/// What is said of a run that does not come so to its limit.
+fn said_at(alloc: Global, limit: u64, came: &Story, calls: &Calls) -> Result<String, AllocError> {
+    let how = format!(in alloc; "with the limit {limit}")?;
+    said(alloc, how.as_str(), came, calls.lines.as_str(), "limit")
+}
+
 /// What differs where the machine runs one instruction at a time, and where it is run further then.
-fn difference_in_steps(alloc: Global, row: &Row<'_>, calls: &Calls) -> Result<Option<String>> {
-    let Some(mut stepped) = Stepped::new(alloc, row, calls)? else {
-        return Ok(None);
-    };
-    stepped.step(alloc, row.limit)?;
+fn difference_in_steps(
+    alloc: Global,
+    row: &Row<'_>,
+    calls: &Calls,
+) -> Result<Option<String>, RowFault> {
+    match Stepped::new(alloc, row, calls) {
+        Ok(mut stepped) => difference_of_steps(alloc, row, calls, &mut stepped),
+        Err(RowFault::Refused) => Ok(None),
+        Err(fault) => Err(fault),
+    }
+}
+
+fn difference_of_steps(
+    alloc: Global,
+    row: &Row<'_>,
+    calls: &Calls,
+    stepped: &mut Stepped,
+) -> Result<Option<String>, RowFault> {
+    let difference = stepped_on(alloc, "in steps", row.limit, row, calls, stepped)?;
+    if difference.is_some() || row.end == "limit" {
+        return Ok(difference);
+    }
+    Ok(stepped_on(alloc, "after its end", 2, row, calls, stepped)?)
+}
+
+/// What differs after at most this many further steps.
+fn stepped_on(
+    alloc: Global,
+    how: &str,
+    limit: u64,
+    row: &Row<'_>,
+    calls: &Calls,
+    stepped: &mut Stepped,
+) -> Result<Option<String>, AllocError> {
+    stepped.step(alloc, limit)?;
     let came = stepped.story(alloc)?;
-    let wanted = calls.lines.as_str();
-    if !is_wanted(&came, calls, row) {
-        return Ok(Some(said(alloc, "in steps", &came, wanted, row.end)?));
-    }
-    if row.end == "limit" {
-        return Ok(None);
-    }
-    stepped.step(alloc, 2)?;
-    let came = stepped.story(alloc)?;
-    if !is_wanted(&came, calls, row) {
-        return Ok(Some(said(alloc, "after its end", &came, wanted, row.end)?));
-    }
-    Ok(None)
+    said_unless_wanted(alloc, how, &came, calls, row)
 }

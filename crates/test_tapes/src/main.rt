@@ -3,19 +3,20 @@
 
 mod answers;
 mod checks;
+mod fault;
 mod input;
 mod options;
 mod rows;
 mod runs;
 mod story;
 
-use anyhow::{Context, Result};
+use anyhow::Result;
 use checks::difference;
+use fault::RowFault;
 use rows::Row;
-use std::alloc::Global;
+use std::alloc::{AllocError, Global};
 use std::fs;
 use std::process::ExitCode;
-use std::rt::Runtime;
 
 /// The names of the files with rows, in byte order.
 fn files(rt: &HostRuntime) -> Result<Vec<String>> {
@@ -30,36 +31,55 @@ fn files(rt: &HostRuntime) -> Result<Vec<String>> {
     Ok(names)
 }
 
-/// Prints the name of each row of a file, with what differs, and says whether none does.
-fn check_file<R: Runtime>(rt: &R, alloc: Global, text: &str) -> Result<bool> {
-    let mut is_well = true;
-    let begun = format!(in alloc; "\n{text}")?;
-    for part in begun.split("\n## ").skip(1) {
-        let (name, written) = part.split_once('\n').unwrap_or((part, ""));
-        match difference_of(alloc, written).context(format_args!("{name}"))? {
-            None => rt.println(format_args!("{name}"))?,
-            Some(difference) => {
-                is_well = false;
-                rt.println(format_args!("{name} differs, {difference}"))?;
-            }
-        }
-    }
-    Ok(is_well)
-}
-
-/// What differs in the row that is written so.
-fn difference_of(alloc: Global, written: &str) -> Result<Option<String>> {
+/// What differs in the row that is written so, if it is one.
+fn difference_of(alloc: Global, written: &str) -> Result<Option<String>, RowFault> {
     let row = Row::read(alloc, written)?;
     difference(alloc, &row)
 }
 
-fn main(rt: HostRuntime) -> Result<ExitCode> {
-    let mut is_well = true;
-    for name in files(&rt)? {
-        let text = fs::read_to_string(&rt, name.as_str())?;
-        is_well &= check_file(&rt, rt.alloc(), text.as_str())?;
+/// Adds the name of a row, with what differs, and says whether nothing does.
+fn is_well(alloc: Global, out: &mut String, row: &str) -> Result<bool, AllocError> {
+    let (name, written) = row.split_once('\n').unwrap_or((row, ""));
+    match difference_of(alloc, written) {
+        Ok(None) => write!(out, "{name}\n")?,
+        Ok(Some(difference)) => {
+            write!(out, "{name} differs, {difference}\n")?;
+            return Ok(false);
+        }
+        Err(RowFault::NoMemory) => return Err(AllocError),
+        Err(_) => {
+            write!(out, "{name} is no row\n")?;
+            return Ok(false);
+        }
     }
-    Ok(if is_well {
+    Ok(true)
+}
+
+/// Adds the name of each row of a file, with what differs, and says whether none does.
+fn are_well(alloc: Global, out: &mut String, text: &str) -> Result<bool, AllocError> {
+    let begun = format!(in alloc; "\n{text}")?;
+    let mut are_well = true;
+    for row in begun.split("\n## ").skip(1) {
+        are_well &= is_well(alloc, out, row)?;
+    }
+    Ok(are_well)
+}
+
+/// Checks the rows of a file.
+fn check_file(rt: &HostRuntime, name: &str) -> Result<bool> {
+    let text = fs::read_to_string(rt, name)?;
+    let mut out = String::new(rt.alloc());
+    let are_well = are_well(rt.alloc(), &mut out, text.as_str())?;
+    print!(rt; "{out}")?;
+    Ok(are_well)
+}
+
+fn main(rt: HostRuntime) -> Result<ExitCode> {
+    let mut are_well = true;
+    for name in files(&rt)? {
+        are_well &= check_file(&rt, name.as_str())?;
+    }
+    Ok(if are_well {
         ExitCode::SUCCESS
     } else {
         ExitCode::FAILURE

@@ -14,7 +14,7 @@
 //!
 //! Before the options `path` is `/bin`.
 
-use anyhow::{Result, anyhow};
+use crate::fault::RowFault;
 use rc_scope::State;
 use std::alloc::{AllocError, Global};
 
@@ -22,24 +22,43 @@ use std::alloc::{AllocError, Global};
 const LIMIT: u64 = 100_000;
 
 /// The state that the options give.
-pub fn set_up(alloc: Global, options: &str) -> Result<State> {
+pub fn set_up(alloc: Global, options: &str) -> Result<State, RowFault> {
     let mut state = State::new(alloc);
-    state.set("path", members(alloc, "/bin")?)?;
-    for option in options.lines() {
-        let (kind, rest) = option.split_once(' ').unwrap_or((option, ""));
-        match kind {
-            "strict" => state.set_strict(true),
-            "args" => state.set("*", members(alloc, rest)?)?,
-            "ifs" => state.set("ifs", members(alloc, rest)?)?,
-            "set" => {
-                let (name, list) = rest.split_once(' ').unwrap_or((rest, ""));
-                state.set(name, members(alloc, list)?)?;
-            }
-            "limit" | "repeat" | "image" | "entry" => {}
-            _ => return Err(anyhow!("another option")),
-        }
-    }
+    set_all(alloc, &mut state, options)?;
     Ok(state)
+}
+
+fn set_all(alloc: Global, state: &mut State, options: &str) -> Result<(), RowFault> {
+    set(alloc, state, "path", "/bin")?;
+    for option in options.lines() {
+        change(alloc, state, option)?;
+    }
+    Ok(())
+}
+
+/// Does to a state what an option says.
+fn change(alloc: Global, state: &mut State, option: &str) -> Result<(), RowFault> {
+    let (kind, rest) = option.split_once(' ').unwrap_or((option, ""));
+    match kind {
+        "args" => set(alloc, state, "*", rest),
+        "ifs" => set(alloc, state, "ifs", rest),
+        "set" => {
+            let (name, list) = rest.split_once(' ').unwrap_or((rest, ""));
+            set(alloc, state, name, list)
+        }
+        "strict" => {
+            state.set_strict(true);
+            Ok(())
+        }
+        "limit" | "repeat" | "image" | "entry" => Ok(()),
+        _ => Err(RowFault::BadRow),
+    }
+}
+
+/// Sets a variable to the members that are written so.
+fn set(alloc: Global, state: &mut State, name: &str, written: &str) -> Result<(), RowFault> {
+    let members = members(alloc, written)?;
+    Ok(state.set(name, members)?)
 }
 
 /// Whether there is an option of one word.
@@ -53,20 +72,25 @@ pub fn has(options: &str, wanted: &str) -> bool {
 }
 
 /// What the options of this kind give, each a text.
-pub fn texts(alloc: Global, options: &str, wanted: &str) -> Result<Vec<String>> {
+pub fn texts(alloc: Global, options: &str, wanted: &str) -> Result<Vec<String>, RowFault> {
     let mut texts = Vec::new(alloc);
     for option in options.lines() {
         let (kind, rest) = option.split_once(' ').unwrap_or((option, ""));
         if kind == wanted {
-            let text = unescaped(alloc, rest)?;
-            texts.push(repeated(alloc, options, text.as_str())?)?;
+            texts.push(text(alloc, options, rest)?)?;
         }
     }
     Ok(texts)
 }
 
+/// The text that is written so.
+fn text(alloc: Global, options: &str, written: &str) -> Result<String, RowFault> {
+    let text = unescaped(alloc, written)?;
+    repeated(alloc, options, text.as_str())
+}
+
 /// How many instructions a run may have.
-pub fn limit(options: &str) -> Result<u64> {
+pub fn limit(options: &str) -> Result<u64, RowFault> {
     for option in options.lines() {
         if let Some(limit) = option.strip_prefix("limit ") {
             return Ok(limit.parse::<u64>()?);
@@ -76,17 +100,23 @@ pub fn limit(options: &str) -> Result<u64> {
 }
 
 /// A text with what its marks stand for.
-pub fn repeated(alloc: Global, options: &str, text: &str) -> Result<String> {
+pub fn repeated(alloc: Global, options: &str, text: &str) -> Result<String, RowFault> {
     let mut repeated = String::from_str(alloc, text)?;
     for option in options.lines() {
         if let Some(repeat) = option.strip_prefix("repeat ") {
-            let (mark, repeat) = repeat.split_once(' ').unwrap_or((repeat, ""));
-            let (times, once) = repeat.split_once(' ').unwrap_or((repeat, ""));
-            let many = many_times(alloc, times.parse::<usize>()?, once)?;
-            repeated = repeated.replace(alloc, mark, many.as_str())?;
+            repeated = replaced(alloc, repeated.as_str(), repeat)?;
         }
     }
     Ok(repeated)
+}
+
+/// A text with what the mark of this repetition stands for.
+fn replaced(alloc: Global, text: &str, repeat: &str) -> Result<String, RowFault> {
+    let (mark, repeat) = repeat.split_once(' ').unwrap_or((repeat, ""));
+    let (times, once) = repeat.split_once(' ').unwrap_or((repeat, ""));
+    let times = times.parse::<usize>()?;
+    let many = many_times(alloc, times, once)?;
+    Ok(text.replace(alloc, mark, many.as_str())?)
 }
 
 /// A text this many times.

@@ -12,11 +12,11 @@
 //!
 //! Lines that begin with `#` may stand before a row, and empty lines after it.
 
+use crate::fault::RowFault;
 use crate::input::Input;
 use crate::options::{has, limit, repeated, set_up, texts};
-use anyhow::{Result, anyhow};
 use rc_scope::State;
-use std::alloc::Global;
+use std::alloc::{AllocError, Global};
 
 /// A script, and what is wanted of its run.
 #[derive(Drop)]
@@ -47,37 +47,38 @@ pub struct Given {
 
 impl<'a> Row<'a> {
     /// The row that is written so, from the line after its name on.
-    pub fn read(alloc: Global, written: &'a str) -> Result<Row<'a>> {
+    pub fn read(alloc: Global, written: &'a str) -> Result<Row<'a>, RowFault> {
         let Some((options, script, calls, end)) = parts(written) else {
-            return Err(anyhow!("not a row"));
+            return Err(RowFault::BadRow);
         };
+        let limit = limit(options)?;
+        let script = repeated(alloc, options, script)?;
+        let calls = repeated(alloc, options, calls)?;
         Ok(Row {
             options,
-            script: repeated(alloc, options, script)?,
-            calls: repeated(alloc, options, calls)?,
+            script,
+            calls,
             end: if end == "ended," { "ended, " } else { end },
-            limit: limit(options)?,
+            limit,
         })
     }
 
     /// The state before the run.
-    pub fn state(&self, alloc: Global) -> Result<State> {
+    pub fn state(&self, alloc: Global) -> Result<State, RowFault> {
         set_up(alloc, self.options)
     }
 
     /// What a shell is handed, where this is no script.
-    pub fn handed(&self, alloc: Global) -> Result<Option<Handed>> {
+    pub fn handed(&self, alloc: Global) -> Result<Option<Handed>, RowFault> {
         if !has(self.options, "image") {
             return Ok(None);
         }
-        let mut words = Vec::new(alloc);
-        for word in self.script.lines() {
-            words.push(String::from_str(alloc, word)?)?;
-        }
+        let words = lines(alloc, self.script.as_str())?;
+        let entries = texts(alloc, self.options, "entry")?;
         Ok(Some(Handed {
             is_strict: has(self.options, "strict"),
             words,
-            entries: texts(alloc, self.options, "entry")?,
+            entries,
         }))
     }
 
@@ -87,11 +88,10 @@ impl<'a> Row<'a> {
     }
 
     /// What the program is given.
-    pub fn given(&self, alloc: Global) -> Result<Given> {
-        Ok(Given {
-            words: texts(alloc, self.options, "word")?,
-            entries: texts(alloc, self.options, "entry")?,
-        })
+    pub fn given(&self, alloc: Global) -> Result<Given, RowFault> {
+        let words = texts(alloc, self.options, "word")?;
+        let entries = texts(alloc, self.options, "entry")?;
+        Ok(Given { words, entries })
     }
 
     /// What the program reads, unless it could not be opened.
@@ -104,6 +104,15 @@ impl<'a> Row<'a> {
             is_broken: has(self.options, "broken"),
         })
     }
+}
+
+/// The lines of a text.
+fn lines(alloc: Global, text: &str) -> Result<Vec<String>, AllocError> {
+    let mut lines = Vec::new(alloc);
+    for line in text.lines() {
+        lines.push(String::from_str(alloc, line)?)?;
+    }
+    Ok(lines)
 }
 
 /// The options, the script, the calls and the end of a row.

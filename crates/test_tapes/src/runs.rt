@@ -1,36 +1,57 @@
 //! The runs of a row.
 
 use crate::answers::Calls;
-use crate::rows::Row;
+use crate::fault::RowFault;
+use crate::rows::{Handed, Row};
 use crate::story::{End, Story};
-use anyhow::{Result, anyhow};
 use rc_cli::run_rc;
 use rc_code::{Code, compile};
 use rc_image::{ImageFault, read_image};
 use rc_machine::{Machine, Progress};
-use rc_parser::{InputError, parse};
+use rc_parser::{ParseError, parse};
 use rc_scope::State;
 use rc_shell::{Ran, ShellFault, execute, execute_image};
+use rc_tree_types::Cmd;
 use rc_world::Tape;
-use std::alloc::Global;
+use std::alloc::{AllocError, Global};
 
 /// What comes of a row with at most this many instructions.
-pub fn run(alloc: Global, row: &Row<'_>, calls: &Calls, limit: u64) -> Result<Story> {
-    if row.is_of_the_program() {
-        return run_program(alloc, row, calls);
-    }
+pub fn run(alloc: Global, row: &Row<'_>, calls: &Calls, limit: u64) -> Result<Story, RowFault> {
     let mut tape = Tape::new(calls.answers(alloc)?);
-    let ran = match row.handed(alloc)? {
-        None => {
-            let script = row.script.as_bytes();
-            execute(alloc, &mut tape, script, row.state(alloc)?, limit)
-        }
-        Some(handed) => {
-            let (words, entries) = (&handed.words, &handed.entries);
-            execute_image(alloc, &mut tape, handed.is_strict, words, entries, limit)
-        }
-    };
-    let end = match &ran {
+    if row.is_of_the_program() {
+        run_program(alloc, row, &mut tape)
+    } else if let Some(handed) = row.handed(alloc)? {
+        Ok(run_image(alloc, &handed, &mut tape, limit)?)
+    } else {
+        run_script(alloc, row, &mut tape, limit)
+    }
+}
+
+fn run_script(
+    alloc: Global,
+    row: &Row<'_>,
+    tape: &mut Tape,
+    limit: u64,
+) -> Result<Story, RowFault> {
+    let state = row.state(alloc)?;
+    let ran = execute(alloc, tape, row.script.as_bytes(), state, limit);
+    Ok(story(alloc, tape, &ran)?)
+}
+
+fn run_image(
+    alloc: Global,
+    handed: &Handed,
+    tape: &mut Tape,
+    limit: u64,
+) -> Result<Story, AllocError> {
+    let (words, entries) = (&handed.words, &handed.entries);
+    let ran = execute_image(alloc, tape, handed.is_strict, words, entries, limit);
+    story(alloc, tape, &ran)
+}
+
+/// What came of a run that ended so.
+fn story(alloc: Global, tape: &Tape, ran: &Result<Ran, ShellFault>) -> Result<Story, AllocError> {
+    let end = match ran {
         Ok(Ran::Ended { state }) => End::Ended(state),
         Ok(Ran::Limit) => End::Limit,
         Ok(Ran::Halted) => End::Halted,
@@ -38,60 +59,81 @@ pub fn run(alloc: Global, row: &Row<'_>, calls: &Calls, limit: u64) -> Result<St
         Err(ShellFault::Image(fault)) => End::NoImage(*fault),
         Err(ShellFault::NoMemory) => End::NoMemory,
     };
-    Ok(Story::of(alloc, tape.calls(), end)?)
+    Story::of(alloc, tape.calls(), end)
 }
 
 /// What comes of a run of the program.
-fn run_program(alloc: Global, row: &Row<'_>, calls: &Calls) -> Result<Story> {
-    let mut tape = Tape::new(calls.answers(alloc)?);
+fn run_program(alloc: Global, row: &Row<'_>, tape: &mut Tape) -> Result<Story, RowFault> {
     let given = row.given(alloc)?;
-    let ran = run_rc(alloc, &mut tape, &given.words, &given.entries, row.input());
-    let end = match ran {
+    let end = match run_rc(alloc, tape, &given.words, &given.entries, row.input()) {
         Ok(number) => End::Number(number),
         Err(fault) => End::Fault(fault),
     };
     Ok(Story::of(alloc, tape.calls(), end)?)
 }
 
-/// The code of a row and the state before it, unless the script or the image is refused.
-fn begun(alloc: Global, row: &Row<'_>) -> Result<Option<(Code, State)>> {
-    let Some(handed) = row.handed(alloc)? else {
-        return match parse(alloc, row.script.as_bytes()) {
-            Ok(tree) => Ok(Some((compile(alloc, &tree)?, row.state(alloc)?))),
-            Err(InputError::Fault(_)) => Ok(None),
-            Err(InputError::NoMemory) => Err(anyhow!("no memory")),
-        };
-    };
-    match read_image(alloc, handed.is_strict, &handed.words, &handed.entries) {
-        Ok((tree, state)) => Ok(Some((compile(alloc, &tree)?, state))),
-        Err(ImageFault::NoMemory) => Err(anyhow!("no memory")),
-        Err(_) => Ok(None),
-    }
+/// The tree of a script, in a box: each place that may drop a tree takes long to prove.
+fn tree_of(alloc: Global, script: &[u8]) -> Result<Box<Cmd>, ParseError> {
+    Ok(Box::new(alloc, parse(alloc, script)?)?)
+}
+
+/// The code of a script.
+fn code_of(alloc: Global, script: &[u8]) -> Result<Code, RowFault> {
+    let tree = tree_of(alloc, script)?;
+    Ok(compile(alloc, &tree)?)
+}
+
+/// The machine of a row before its first instruction.
+fn machine_of_script(alloc: Global, row: &Row<'_>) -> Result<Box<Machine>, RowFault> {
+    let code = code_of(alloc, row.script.as_bytes())?;
+    let state = row.state(alloc)?;
+    Ok(Box::new(alloc, Machine::new(alloc, code, state))?)
+}
+
+/// The tree and the state of an image, in a box.
+fn image_of(alloc: Global, handed: &Handed) -> Result<Box<(Cmd, State)>, ImageFault> {
+    let (words, entries) = (&handed.words, &handed.entries);
+    Ok(Box::new(alloc, read_image(alloc, handed.is_strict, words, entries)?)?)
+}
+
+/// A machine that begins with the state of an image.
+fn started(alloc: Global, code: Code, image: Box<(Cmd, State)>) -> Machine {
+    let (_, state) = Box::into_inner(image);
+    Machine::new(alloc, code, state)
+}
+
+/// The machine of an image before its first instruction.
+fn machine_of_image(alloc: Global, handed: &Handed) -> Result<Box<Machine>, RowFault> {
+    let image = image_of(alloc, handed)?;
+    let code = compile(alloc, &image.0)?;
+    Ok(Box::new(alloc, started(alloc, code, image))?)
 }
 
 /// A machine over a tape.
 #[derive(Drop)]
 pub struct Stepped {
-    machine: Machine,
+    machine: Box<Machine>,
     tape: Tape,
     progress: Progress,
 }
 
 impl Stepped {
     /// The machine of a row before its first instruction, unless its script or image is refused.
-    pub fn new(alloc: Global, row: &Row<'_>, calls: &Calls) -> Result<Option<Stepped>> {
-        let Some((code, state)) = begun(alloc, row)? else {
-            return Ok(None);
+    pub fn new(alloc: Global, row: &Row<'_>, calls: &Calls) -> Result<Stepped, RowFault> {
+        let answers = calls.answers(alloc)?;
+        let machine = match row.handed(alloc)? {
+            None => machine_of_script(alloc, row)?,
+            Some(handed) => machine_of_image(alloc, &handed)?,
         };
-        Ok(Some(Stepped {
-            machine: Machine::new(alloc, code, state),
-            tape: Tape::new(calls.answers(alloc)?),
+        Ok(Stepped {
+            machine,
+            tape: Tape::new(answers),
             progress: Progress::Limit,
-        }))
+        })
     }
 
     /// Runs at most this many instructions, one at a time.
-    pub fn step(&mut self, alloc: Global, limit: u64) -> Result<()> {
+    pub fn step(&mut self, alloc: Global, limit: u64) -> Result<(), AllocError> {
         for _ in 0..limit {
             self.progress = self.machine.run(alloc, &mut self.tape, 1)?;
             if !matches!(self.progress, Progress::Limit) {
@@ -102,12 +144,12 @@ impl Stepped {
     }
 
     /// What the machine has done so far.
-    pub fn story(&self, alloc: Global) -> Result<Story> {
+    pub fn story(&self, alloc: Global) -> Result<Story, AllocError> {
         let end = match self.progress {
             Progress::Ended => End::Ended(self.machine.state()),
             Progress::Limit => End::Limit,
             Progress::Halted => End::Halted,
         };
-        Ok(Story::of(alloc, self.tape.calls(), end)?)
+        Story::of(alloc, self.tape.calls(), end)
     }
 }

@@ -38,22 +38,17 @@ impl Story {
         };
         for call in calls {
             write_call(&mut story.calls, call)?;
+            story.calls.push('\n')?;
         }
         write_end(&mut story.end, end)?;
         Ok(story)
     }
 }
 
-/// Writes an end, with the variables that a script of a row may set.
+/// Writes an end.
 fn write_end(out: &mut String, end: End<'_>) -> Result<(), AllocError> {
     match end {
-        End::Ended(state) => {
-            write!(out, "ended, {}", state.status())?;
-            for name in ["x", "apid"] {
-                write_variable(out, state, name)?;
-            }
-            Ok(())
-        }
+        End::Ended(state) => write_state(out, state),
         End::Limit => out.push_str("limit"),
         End::Halted => out.push_str("halted"),
         End::NoImage(fault) => write!(out, "{fault}"),
@@ -62,6 +57,14 @@ fn write_end(out: &mut String, end: End<'_>) -> Result<(), AllocError> {
         End::Number(number) => write!(out, "{number}"),
         End::Fault(fault) => write!(out, "{fault}"),
     }
+}
+
+/// Writes the status of a state, and the variables that a script of a row may set.
+fn write_state(out: &mut String, state: &State) -> Result<(), AllocError> {
+    out.push_str("ended, ")?;
+    out.push_str(state.status())?;
+    write_variable(out, state, "x")?;
+    write_variable(out, state, "apid")
 }
 
 /// Writes a variable where it has a member.
@@ -74,19 +77,18 @@ fn write_variable(out: &mut String, state: &State, name: &str) -> Result<(), All
 
 fn write_call(out: &mut String, call: &Call) -> Result<(), AllocError> {
     match call {
-        Call::Open(path, mode) => write!(out, "open {path} to {}", mode_name(*mode))?,
-        Call::Here(text) => write!(out, "here {text:?}")?,
-        Call::Close(file) => write!(out, "close {}", file.0)?,
-        Call::Probe(path) => write!(out, "probe {path}")?,
-        Call::Start(launch) => write_launch(out, launch)?,
-        Call::Wait(child) => write!(out, "wait {}", child.0)?,
-        Call::Write(slot, text) => write_report(out, *slot, text.as_slice())?,
-        Call::Pipe => out.push_str("pipe")?,
-        Call::Read(file) => write!(out, "read {}", file.0)?,
-        Call::List(path) => write!(out, "list {path}")?,
-        Call::Chdir(path) => write!(out, "chdir {path}")?,
+        Call::Open(path, mode) => write!(out, "open {path} to {}", mode_name(*mode)),
+        Call::Here(text) => write!(out, "here {text:?}"),
+        Call::Close(file) => write!(out, "close {}", file.0),
+        Call::Probe(path) => write!(out, "probe {path}"),
+        Call::Start(launch) => write_launch(out, launch),
+        Call::Wait(child) => write!(out, "wait {}", child.0),
+        Call::Write(slot, text) => write_report(out, *slot, text.as_slice()),
+        Call::Pipe => out.push_str("pipe"),
+        Call::Read(file) => write!(out, "read {}", file.0),
+        Call::List(path) => write!(out, "list {path}"),
+        Call::Chdir(path) => write!(out, "chdir {path}"),
     }
-    out.push('\n')
 }
 
 fn mode_name(mode: Mode) -> &'static str {
@@ -105,12 +107,11 @@ fn write_launch(out: &mut String, launch: &Launch) -> Result<(), AllocError> {
     let args = &launch.args;
     let env = &launch.env;
     write!(out, "start {program} {args:?} {env:?}")?;
-    let Slots {
-        input,
-        output,
-        errors,
-    } = launch.slots;
-    for slot in [input, output, errors] {
+    write_slots(out, launch.slots)
+}
+
+fn write_slots(out: &mut String, slots: Slots) -> Result<(), AllocError> {
+    for slot in [slots.input, slots.output, slots.errors] {
         out.push(' ')?;
         write_slot(out, slot)?;
     }
