@@ -1,9 +1,9 @@
 //! What comes of a script: its tokens, its tree, the text of that, or its fault.
 
 use crate::dump::dump;
-use anyhow::{Result, anyhow};
+use crate::trees::{refused, told, tree_of};
 use rc_lexer::{Token, lex};
-use rc_parser::{InputError, parse};
+use rc_parser::InputError;
 use rc_tree::{Cmd, PrintFault, clone_tree, print};
 use std::alloc::{AllocError, Global};
 use std::str;
@@ -19,7 +19,7 @@ pub enum Layer {
 
 impl Layer {
     /// What comes of the script.
-    pub fn show(self, alloc: Global, script: &[u8]) -> Result<String> {
+    pub fn show(self, alloc: Global, script: &[u8]) -> Result<String, AllocError> {
         match self {
             Layer::Tokens => tokens(alloc, script),
             Layer::Trees => tree_both_ways(alloc, script),
@@ -29,15 +29,14 @@ impl Layer {
     }
 }
 
-/// The tokens with their places, or the lexer's fault. A line other than the first stands after a slash.
-fn tokens(alloc: Global, script: &[u8]) -> Result<String> {
+/// The tokens with their places, or the lexer's fault.
+fn tokens(alloc: Global, script: &[u8]) -> Result<String, AllocError> {
     let Ok(text) = str::from_utf8(script) else {
-        return Err(anyhow!("a script of tokens is not UTF-8"));
+        return String::from_str(alloc, "this is not UTF-8");
     };
     match lex(alloc, text) {
-        Ok(tokens) => Ok(tokens_shown(alloc, &tokens)?),
-        Err(InputError::Fault(fault)) => Ok(format!(in alloc; "{fault}")?),
-        Err(InputError::NoMemory) => Err(anyhow!("no memory")),
+        Ok(tokens) => tokens_shown(alloc, &tokens),
+        Err(fault) => told(alloc, fault),
     }
 }
 
@@ -47,59 +46,75 @@ fn tokens_shown(alloc: Global, tokens: &[Token]) -> Result<String, AllocError> {
         if !out.is_empty() {
             out.push(' ')?;
         }
-        write!(
-            out,
-            "{:?}@{}..{}",
-            token.kind, token.span.start, token.span.stop
-        )?;
-        if token.line != 1 {
-            write!(out, "/{}", token.line)?;
-        }
+        add_token(&mut out, token)?;
     }
     Ok(out)
 }
 
-/// The fault of a script with its line.
-fn fault(alloc: Global, script: &[u8]) -> Result<String> {
-    match parse(alloc, script) {
-        Ok(_) => Ok(String::from_str(alloc, "accepted")?),
-        Err(InputError::Fault(fault)) => Ok(format!(in alloc; "{fault}")?),
-        Err(InputError::NoMemory) => Err(anyhow!("no memory")),
+/// Adds a token with its place. A line other than the first stands after a slash.
+fn add_token(out: &mut String, token: &Token) -> Result<(), AllocError> {
+    let span = token.span;
+    write!(out, "{:?}@{}..{}", token.kind, span.start, span.stop)?;
+    if token.line != 1 {
+        write!(out, "/{}", token.line)?;
     }
+    Ok(())
 }
 
-/// The tree of a script, in a box, if it is accepted.
-fn tree(alloc: Global, script: &[u8]) -> Result<Option<Box<Cmd>>> {
-    match parse(alloc, script) {
-        Ok(tree) => Ok(Some(Box::new(alloc, tree)?)),
-        Err(InputError::Fault(_)) => Ok(None),
-        Err(InputError::NoMemory) => Err(anyhow!("no memory")),
+/// The fault of a script with its line.
+fn fault(alloc: Global, script: &[u8]) -> Result<String, AllocError> {
+    match tree_of(alloc, script) {
+        Ok(_) => String::from_str(alloc, "accepted"),
+        Err(fault) => told(alloc, fault),
     }
 }
 
 /// The text of a copy of the tree.
-fn text(alloc: Global, script: &[u8]) -> Result<String> {
-    let Some(tree) = tree(alloc, script)? else {
-        return Ok(String::from_str(alloc, "refused")?);
-    };
-    match print(alloc, &clone_tree(alloc, &tree)?) {
+fn text(alloc: Global, script: &[u8]) -> Result<String, AllocError> {
+    match tree_of(alloc, script) {
+        Ok(tree) => text_of_copy(alloc, &tree),
+        Err(fault) => refused(alloc, fault),
+    }
+}
+
+/// A copy of a tree, in a box.
+fn copied(alloc: Global, tree: &Cmd) -> Result<Box<Cmd>, AllocError> {
+    Ok(Box::new(alloc, clone_tree(alloc, tree)?)?)
+}
+
+fn text_of_copy(alloc: Global, tree: &Cmd) -> Result<String, AllocError> {
+    let copy = copied(alloc, tree)?;
+    match print(alloc, &copy) {
         Ok(text) => Ok(text),
-        Err(PrintFault::HereInside) => Ok(String::from_str(alloc, "a here document is inside")?),
-        Err(PrintFault::NoMemory) => Err(anyhow!("no memory")),
+        Err(PrintFault::HereInside) => String::from_str(alloc, "a here document is inside"),
+        Err(PrintFault::NoMemory) => Err(AllocError),
     }
 }
 
 /// The tree of a script, which is that of its text too, where it has one.
-fn tree_both_ways(alloc: Global, script: &[u8]) -> Result<String> {
-    let Some(parsed) = tree(alloc, script)? else {
-        return Ok(String::from_str(alloc, "refused")?);
-    };
-    let shown = dump(alloc, &parsed)?;
-    let Ok(text) = print(alloc, &parsed) else {
+fn tree_both_ways(alloc: Global, script: &[u8]) -> Result<String, AllocError> {
+    match tree_of(alloc, script) {
+        Ok(tree) => shown_both_ways(alloc, &tree),
+        Err(fault) => refused(alloc, fault),
+    }
+}
+
+fn shown_both_ways(alloc: Global, tree: &Cmd) -> Result<String, AllocError> {
+    let mut shown = dump(alloc, tree)?;
+    let Ok(text) = print(alloc, tree) else {
         return Ok(shown);
     };
-    match tree(alloc, text.as_bytes())? {
-        Some(again) if dump(alloc, &again)?.as_str() == shown.as_str() => Ok(shown),
-        _ => Ok(format!(in alloc; "{shown}, and not from its text")?),
+    if !is_shown_as(alloc, text.as_bytes(), shown.as_str())? {
+        shown.push_str(", and not from its text")?;
+    }
+    Ok(shown)
+}
+
+/// Whether the tree of a script is shown as this text.
+fn is_shown_as(alloc: Global, script: &[u8], wanted: &str) -> Result<bool, AllocError> {
+    match tree_of(alloc, script) {
+        Ok(tree) => Ok(dump(alloc, &tree)?.as_str() == wanted),
+        Err(InputError::Fault(_)) => Ok(false),
+        Err(InputError::NoMemory) => Err(AllocError),
     }
 }

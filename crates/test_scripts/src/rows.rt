@@ -2,7 +2,6 @@
 //! stand `n` for a newline, `t` for a tab, `0` for a byte 0, `f` and `e` for the bytes 0xff and 0xe2, and `\` for
 //! itself; and `(20 a\)` after one is 20 times `a`.
 
-use anyhow::{Result, anyhow};
 use std::alloc::{AllocError, Global};
 
 /// What stands between a script and what is wanted.
@@ -39,32 +38,45 @@ fn add(text: &mut Vec<u8>, written: &str) -> Result<(), AllocError> {
     Ok(())
 }
 
-/// Adds a repetition, from its number on, and what follows it.
-fn add_repeated(text: &mut Vec<u8>, written: &str) -> Result<()> {
-    let (Some((times, rest)), Some((repetition, after))) = (
-        written.split_once(' '),
-        written.split_once("\\)"),
-    ) else {
-        return Err(anyhow!("a repetition without an end"));
-    };
-    let times: usize = times.parse()?;
-    let repeated = repetition.get(written.len().saturating_sub(rest.len())..);
-    for _ in 0..times {
-        add(text, repeated.unwrap_or(""))?;
+/// How often a text is repeated, from this number on, the text, and what follows it.
+fn repetition(written: &str) -> Option<(usize, &str, &str)> {
+    let (repetition, after) = written.split_once("\\)")?;
+    let (times, once) = repetition.split_once(' ')?;
+    match times.parse::<usize>() {
+        Ok(times) => Some((times, once, after)),
+        Err(_) => None,
     }
-    add(text, after)?;
-    Ok(())
 }
 
-/// What is written so.
-pub fn unescaped(alloc: Global, written: &str) -> Result<Vec<u8>> {
-    let mut text = Vec::new(alloc);
+/// Adds what is written, from the number of a repetition on, and says whether it is one.
+fn add_repeated(text: &mut Vec<u8>, written: &str) -> Result<bool, AllocError> {
+    let Some((times, once, after)) = repetition(written) else {
+        return Ok(false);
+    };
+    for _ in 0..times {
+        add(text, once)?;
+    }
+    add(text, after)?;
+    Ok(true)
+}
+
+/// Adds what is written, and says whether each repetition is one.
+fn add_all(text: &mut Vec<u8>, written: &str) -> Result<bool, AllocError> {
     let mut parts = written.split("\\(");
     if let Some(first) = parts.next() {
-        add(&mut text, first)?;
+        add(text, first)?;
     }
     for part in parts {
-        add_repeated(&mut text, part)?;
+        if !add_repeated(text, part)? {
+            return Ok(false);
+        }
     }
-    Ok(text)
+    Ok(true)
+}
+
+/// What is written so, unless a repetition is none.
+pub fn unescaped(alloc: Global, written: &str) -> Result<Option<Vec<u8>>, AllocError> {
+    let mut text = Vec::new(alloc);
+    let is_well = add_all(&mut text, written)?;
+    Ok(if is_well { Some(text) } else { None })
 }
