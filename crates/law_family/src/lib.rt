@@ -3,10 +3,11 @@
 
 ghost use Rattle.rc_model.specs.Family.Family.{FamiliesRead, Family, HasEnded, IsFamily, IsPending, OneAtATime};
 ghost use Rattle.rc_model.specs.Family.Family.{OnePerStart, Process, Sane, Step, ArePossible, family, first};
-ghost use Rattle.rc_model.specs.Run.Calls.{Call, Launch};
+ghost use Rattle.rc_model.specs.Family.StepFaults.{AtLimit, IsMade, IsStepRefused, StepFault};
+ghost use Rattle.rc_model.specs.Run.Calls.{Answer, Call, Launch};
 ghost use Rattle.rc_model.specs.Run.State.{State};
 ghost use Rattle.rc_model.specs.Syntax.Tree.{Node, cmd};
-ghost use Rattle.std.specs.Prelude.{List, ◌<◌, ◌≡◌};
+ghost use Rattle.std.specs.Prelude.{Bool, List, true, ℕ, ◌<◌, ◌≡◌};
 
 /// An event is added to one trace, and adds at most one process.
 pub fn one_at_a_time()
@@ -35,4 +36,18 @@ pub fn families_read()
 /// A shell waits for one call at most, and for none where it has ended.
 pub fn one_outcome()
     ensures { (p : Process) (c : Call) → IsPending p c → (HasEnded p → ⊥) × ((d : Call) → IsPending p d → c ≡ d) }
+{}
+
+/// A step is refused for one reason at most.
+pub fn one_fault()
+    ensures { (reads : Launch → Node cmd × State) (hits : Process → Bool) (f : Family) (k : ℕ) (x : Answer) →
+        let IsRefused = IsStepRefused reads (λ p. hits p ≡ true) f k x in
+        (a b : StepFault) → IsRefused a → IsRefused b → a ≡ b }
+{}
+
+/// A step that can be made is refused at a limit only.
+pub fn made_or_at_limit()
+    ensures { (reads : Launch → Node cmd × State) (hits : Process → Bool) (f next : Family) (k : ℕ) (x : Answer) →
+        (c : Call) (a : StepFault) → IsMade reads (λ p. hits p ≡ true) f k x c next →
+        IsStepRefused reads (λ p. hits p ≡ true) f k x a → a ≡ AtLimit }
 {}
