@@ -1,5 +1,5 @@
 -- Names after a `$`.
-use Rattle.std.proofs.Common.{◌≡◌, ◌≢◌, refl, ap, sym, ◌∙◌, subst, ℕ, ◌<◌, true, false, not, ◌==◌, List, [], ◌∷◌, ◌++◌, IsUtf8, arith, codes}
+use Rattle.std.proofs.Common.{◌≡◌, ◌≢◌, refl, ap, sym, ◌∙◌, subst, ℕ, ◌<◌, true, false, ◌==◌, List, [], ◌∷◌, ◌++◌, IsUtf8, arith, codes}
 use Rattle.std.proofs.Common.{append_assoc}
 use Rattle.std.proofs.lemmas.Bool.{and_parts}
 use Rattle.std.proofs.lemmas.Bool.Decides.{nat_tests}
@@ -17,7 +17,7 @@ use Rattle.law_print_lexing.proofs.Pieces.{Piece, IsApart, apart, IsCalm, calm_n
 use Rattle.law_print_lexing.proofs.Pieces.{at_space, at_semicolon, at_caret, at_equals, at_paren, at_brace}
 use Rattle.law_print_lexing.proofs.Quotes.{quoted_chars, quoted_spelled, quoted_scalar, quoted_clean, quoted_spells}
 use Rattle.law_print_lexing.proofs.Steps.{left_paren_alone}
-use Rattle.law_grammar.proofs.Zeros.{name_char_clean}
+use Rattle.law_grammar.proofs.Zeros.{clean_name}
 
 -- after a name stands the end of a word, or a subscript
 pub data NameEnds : List ℕ → Type 0 where
@@ -68,12 +68,6 @@ name_scalars (c ∷ cs) e =
     let small : c < 128 = name_char_low c p.0 in
     rw (low_scalar c (omega arith)) (name_scalars cs p.1)
 
-name_clean : (text : List ℕ) → list_all is_name_char text ≡ true → without_zero text ≡ true
-name_clean [] e = refl
-name_clean (c ∷ cs) e =
-    let p = and_parts (is_name_char c) (list_all is_name_char cs) e in
-    rw (name_char_clean c p.0) (name_clean cs p.1)
-
 name_run : (cs rest : List ℕ) → list_all is_name_char cs ≡ true → name_goes_on rest ≡ false → Run name_goes_on cs rest
 name_run [] rest e s = k.stop rest s
 name_run (c ∷ cs) rest e s = let p = and_parts (is_name_char c) (list_all is_name_char cs) e in k.next c cs rest p.0 (name_run cs rest p.1 s)
@@ -85,7 +79,7 @@ bare_name (c ∷ cs) ne e = record {
   chars = c ∷ cs;
   spelled = name_encodes (c ∷ cs) e;
   scalar = name_scalars (c ∷ cs) e;
-  clean = name_clean (c ∷ cs) e;
+  clean = clean_name (c ∷ cs) e;
   stands = λ rest. rw first refl;
   alone = λ rest. rw (name_char_sharp c first, name_char_double c first) refl;
   cuts = λ rest more s g.
