@@ -4,8 +4,8 @@ use anyhow::Result;
 use std::alloc::{AllocError, AllocGlobal, Global};
 use std::fs;
 use std::fs::File;
-use std::io::Write;
-use std::process::{Command, Output, Processes, Stdio};
+use std::io::{self, Write};
+use std::process::{Child, Command, Output, Processes, Stdio};
 use std::rt::Files;
 
 /// Each run: what it shows, the text that its script repeats, and how often.
@@ -212,16 +212,26 @@ pub fn show_all<R: Print + Files<File = File> + Processes + AllocGlobal>(
     rt: &R,
     own_path: &str,
 ) -> Result<()> {
-    for (what, text, times) in RUNS {
-        show(rt, what, &with_text(rt, shell(rt.alloc())?, text, times)?)?;
+    for (what, text, times) in &RUNS {
+        show_run(rt, what, shell(rt.alloc())?, text, *times)?;
     }
     show_each(rt, &ARGUMENTS)?;
     show_each(rt, &CHILDREN)?;
-    for (what, text, input) in THROUGH_SH {
-        let started = through_sh(rt.alloc(), text, own_path)?;
-        show(rt, what, &with_text(rt, started, input, 1)?)?;
+    for (what, text, input) in &THROUGH_SH {
+        show_run(rt, what, through_sh(rt.alloc(), text, own_path)?, input, 1)?;
     }
-    show(rt, "an input that can't be read", &with_directory(rt)?)
+    show_directory(rt)
+}
+
+/// Shows what comes of a shell that reads this text, repeated.
+fn show_run<R: Print + Processes + AllocGlobal>(
+    rt: &R,
+    what: &str,
+    mut shell: Command,
+    text: &[u8],
+    times: usize,
+) -> Result<()> {
+    show(rt, what, &with_text(rt, &mut shell, text, times)?)
 }
 
 fn show_each<R: Print + Processes + AllocGlobal>(
@@ -229,8 +239,7 @@ fn show_each<R: Print + Processes + AllocGlobal>(
     runs: &[(&str, &[&str], &[u8])],
 ) -> Result<()> {
     for (what, arguments, input) in runs {
-        let shell = with_arguments(rt.alloc(), arguments)?;
-        show(rt, what, &with_text(rt, shell, input, 1)?)?;
+        show_run(rt, what, with_arguments(rt.alloc(), arguments)?, input, 1)?;
     }
     Ok(())
 }
@@ -265,28 +274,54 @@ fn through_sh(alloc: Global, text: &str, own_path: &str) -> Result<Command, Allo
 /// A run of the shell over this text, repeated.
 fn with_text<R: Processes + AllocGlobal>(
     rt: &R,
-    mut shell: Command,
+    shell: &mut Command,
     text: &[u8],
     times: usize,
 ) -> Result<Output> {
-    let mut script = Vec::new(rt.alloc());
+    let script = repeated(rt.alloc(), text, times)?;
+    let mut child = started(rt, shell)?;
+    let given = give(child.stdin.take(), script.as_slice());
+    let output = child.wait_with_output(rt.alloc());
+    given?;
+    Ok(output?)
+}
+
+fn repeated(alloc: Global, text: &[u8], times: usize) -> Result<Vec<u8>, AllocError> {
+    let mut whole = Vec::new(alloc);
     for _ in 0..times {
-        script.extend_from_slice(text)?;
+        whole.extend_from_slice(text)?;
     }
-    let mut child = shell
+    Ok(whole)
+}
+
+/// The shell as it runs, with a pipe as each of its descriptors.
+fn started<R: Processes + AllocGlobal>(
+    rt: &R,
+    shell: &mut Command,
+) -> io::Result<Child<R::Started>> {
+    shell
         .stdin(Stdio::piped())
         .stdout(Stdio::piped())
         .stderr(Stdio::piped())
-        .spawn(rt)?;
-    if let Some(mut input) = child.stdin.take() {
-        input.write_all(script.as_slice())?;
+        .spawn(rt)
+}
+
+/// Writes this as a child's input, which then ends.
+fn give<W: Write + Drop>(input: Option<W>, script: &[u8]) -> io::Result<()> {
+    if let Some(mut input) = input {
+        input.write_all(script)?;
     }
-    Ok(child.wait_with_output(rt.alloc())?)
+    Ok(())
+}
+
+fn show_directory<R: Print + Files<File = File> + Processes + AllocGlobal>(rt: &R) -> Result<()> {
+    show(rt, "an input that can't be read", &with_directory(rt)?)
 }
 
 fn with_directory<R: Files<File = File> + Processes + AllocGlobal>(rt: &R) -> Result<Output> {
-    let directory = fs::open(rt, "/")?;
-    Ok(shell(rt.alloc())?.stdin(directory).output(rt)?)
+    let mut shell = shell(rt.alloc())?;
+    shell.stdin(fs::open(rt, "/")?);
+    Ok(shell.output(rt)?)
 }
 
 fn show<R: Print>(rt: &R, what: &str, output: &Output) -> Result<()> {

@@ -5,6 +5,7 @@ use rc_scope::State;
 use rc_shell::{Ran, ShellFault, execute, execute_image};
 use rc_world::{Answer, Call, ChildNo, Ending, Handle, Program, Tape};
 use std::alloc::{AllocError, Global};
+use std::process::Abort;
 use std::test::Fail;
 
 /// The answers to a backquote that reads as much as it may, and then this.
@@ -25,7 +26,7 @@ fn longest_output(alloc: Global, last: &[u8]) -> Result<Vec<Answer>, AllocError>
 
 /// The greatest output has the child's status; with one byte more, there is no further read.
 #[test]
-fn output_has_so_many_bytes(rt: HostRuntime) -> Result<(), Fail> {
+fn output_has_the_most_bytes(rt: HostRuntime) -> Result<(), Fail> {
     let alloc = rt.alloc();
     for (last, status) in [(b"".as_slice(), "5"), (b"a".as_slice(), "too large")] {
         let mut tape = Tape::new(longest_output(alloc, last)?);
@@ -52,6 +53,26 @@ fn is_of_echo_hello(place: usize, call: &Call) -> bool {
     }
 }
 
+/// What a run comes to where memory may be refused: an `Err` says that it was, and else the script has ended with this
+/// status after this many calls.
+fn ended(
+    rt: &impl Abort,
+    ran: Result<Ran, ShellFault>,
+    tape: &Tape,
+    status: &str,
+    calls: usize,
+) -> Result<(), Fail> {
+    match ran {
+        Err(ShellFault::NoMemory) => Err(Fail::from(AllocError)),
+        Ok(Ran::Ended { state }) => {
+            assert_eq!(rt; state.status(), status);
+            assert_eq!(rt; tape.calls().len(), calls);
+            Ok(())
+        }
+        _ => Err(Fail::from("another end")),
+    }
+}
+
 /// To be run with each allocation refused in turn. An `Err` says that one was.
 #[test]
 fn out_of_memory_is_reported(rt: HostRuntime) -> Result<(), Fail> {
@@ -64,15 +85,7 @@ fn out_of_memory_is_reported(rt: HostRuntime) -> Result<(), Fail> {
     for (place, call) in tape.calls().iter().enumerate() {
         assert!(rt; is_of_echo_hello(place, call), "another call {place}");
     }
-    match ran {
-        Err(ShellFault::NoMemory) => Err(Fail::from(AllocError)),
-        Ok(Ran::Ended { state }) => {
-            assert_eq!(rt; state.status(), "");
-            assert_eq!(rt; tape.calls().len(), 3);
-            Ok(())
-        }
-        _ => Err(Fail::from("another end")),
-    }
+    ended(&rt, ran, &tape, "", 3)
 }
 
 /// Copies of these texts.
@@ -95,15 +108,7 @@ fn out_of_memory_in_an_image_is_reported(rt: HostRuntime) -> Result<(), Fail> {
     for (place, call) in tape.calls().iter().enumerate() {
         assert!(rt; is_of_echo_hello(place, call), "another call {place}");
     }
-    match ran {
-        Err(ShellFault::NoMemory) => Err(Fail::from(AllocError)),
-        Ok(Ran::Ended { state }) => {
-            assert_eq!(rt; state.status(), "");
-            assert_eq!(rt; tape.calls().len(), 3);
-            Ok(())
-        }
-        _ => Err(Fail::from("another end")),
-    }
+    ended(&rt, ran, &tape, "", 3)
 }
 
 /// To be run with each allocation refused in turn. An `Err` says that one was.
@@ -119,15 +124,8 @@ fn out_of_memory_among_redirections_is_reported(rt: HostRuntime) -> Result<(), F
         Answer::Done,
     ]?);
     let script = b"x=a; /c >f >[2=1] <<E\n$x\nE\n";
-    match execute(alloc, &mut tape, script.as_slice(), State::new(alloc), 200) {
-        Err(ShellFault::NoMemory) => Err(Fail::from(AllocError)),
-        Ok(Ran::Ended { state }) => {
-            assert_eq!(rt; state.status(), "");
-            assert_eq!(rt; tape.calls().len(), 6);
-            Ok(())
-        }
-        _ => Err(Fail::from("another end")),
-    }
+    let ran = execute(alloc, &mut tape, script.as_slice(), State::new(alloc), 200);
+    ended(&rt, ran, &tape, "", 6)
 }
 
 /// To be run with each allocation refused in turn. An `Err` says that one was.
@@ -137,18 +135,14 @@ fn out_of_memory_among_lists_is_reported(rt: HostRuntime) -> Result<(), Fail> {
     let mut tape = Tape::new(Vec::new(alloc));
     let script =
         b"y=(a b c d e f g h i)^(1 2 3 4 5 6 7 8 9); status=($y(2 3-4) $#y); exit $y(1)^$\"y";
-    match execute(alloc, &mut tape, script.as_slice(), State::new(alloc), 200) {
-        Err(ShellFault::NoMemory) => Err(Fail::from(AllocError)),
-        Ok(Ran::Ended { state }) => {
-            assert_eq!(rt; state.status(), "a1a1 b2 c3 d4 e5 f6 g7 h8 i9");
-            Ok(())
-        }
-        _ => Err(Fail::from("another end")),
-    }
+    let ran = execute(alloc, &mut tape, script.as_slice(), State::new(alloc), 200);
+    ended(&rt, ran, &tape, "a1a1 b2 c3 d4 e5 f6 g7 h8 i9", 0)
 }
 
 /// The answers to a pipeline, a job and the wait for it, a backquote, and a file with a subshell.
 fn answers_to_children(alloc: Global) -> Result<Vec<Answer>, AllocError> {
+    let output = Vec::from_slice(alloc, b"a b")?;
+    let script = Vec::from_slice(alloc, b"@ e $*")?;
     let answers = vec![in alloc;
         Answer::Pair(Handle(3), Handle(4)),
         Answer::Child(ChildNo(1)),
@@ -164,12 +158,12 @@ fn answers_to_children(alloc: Global) -> Result<Vec<Answer>, AllocError> {
         Answer::Pair(Handle(3), Handle(4)),
         Answer::Child(ChildNo(1)),
         Answer::Done,
-        Answer::Bytes(Vec::from_slice(alloc, b"a b")?),
+        Answer::Bytes(output),
         Answer::Bytes(Vec::new(alloc)),
         Answer::Done,
         Answer::Ended(Ending::Code(0)),
         Answer::File(Handle(3)),
-        Answer::Bytes(Vec::from_slice(alloc, b"@ e $*")?),
+        Answer::Bytes(script),
         Answer::Bytes(Vec::new(alloc)),
         Answer::Done,
         Answer::Child(ChildNo(1)),
@@ -184,15 +178,8 @@ fn out_of_memory_among_children_is_reported(rt: HostRuntime) -> Result<(), Fail>
     let alloc = rt.alloc();
     let mut tape = Tape::new(answers_to_children(alloc)?);
     let script = b"fn f {. /s $x}; a | /b; c & wait; x=`{d}; f";
-    match execute(alloc, &mut tape, script.as_slice(), State::new(alloc), 200) {
-        Err(ShellFault::NoMemory) => Err(Fail::from(AllocError)),
-        Ok(Ran::Ended { state }) => {
-            assert_eq!(rt; state.status(), "5");
-            assert_eq!(rt; tape.calls().len(), 24);
-            Ok(())
-        }
-        _ => Err(Fail::from("another end")),
-    }
+    let ran = execute(alloc, &mut tape, script.as_slice(), State::new(alloc), 200);
+    ended(&rt, ran, &tape, "5", 24)
 }
 
 /// To be run with each allocation refused in turn. An `Err` says that one was.
@@ -202,14 +189,8 @@ fn out_of_memory_among_choices_is_reported(rt: HostRuntime) -> Result<(), Fail> 
     let mut tape = Tape::new(Vec::new(alloc));
     let script = b"while(! ~ $#y 2) {if(~ $#y 1) m=b\nif not m=a\ny=($y $m)}; \
         switch $y {case x; exit no; case a*b; ~ a b && exit no || eval 'exit $y done'}";
-    match execute(alloc, &mut tape, script.as_slice(), State::new(alloc), 400) {
-        Err(ShellFault::NoMemory) => Err(Fail::from(AllocError)),
-        Ok(Ran::Ended { state }) => {
-            assert_eq!(rt; state.status(), "a b done");
-            Ok(())
-        }
-        _ => Err(Fail::from("another end")),
-    }
+    let ran = execute(alloc, &mut tape, script.as_slice(), State::new(alloc), 400);
+    ended(&rt, ran, &tape, "a b done", 0)
 }
 
 /// The answers to a list of a directory, a job and the wait for it, and a program.
@@ -240,14 +221,8 @@ fn out_of_memory_among_built_in_commands_is_reported(rt: HostRuntime) -> Result<
     let alloc = rt.alloc();
     let mut tape = Tape::new(answers_to_built_in_commands(alloc)?);
     let script = b"eval 'x=d*'; c & wait $apid; builtin exec /e $x";
-    match execute(alloc, &mut tape, script.as_slice(), State::new(alloc), 200) {
-        Err(ShellFault::NoMemory) => Err(Fail::from(AllocError)),
-        Ok(Ran::Ended { state }) => {
-            assert_eq!(rt; state.status(), "4");
-            assert_eq!(rt; tape.calls().len(), 7);
-            assert!(rt; starts_e_with(tape.calls().get(5), "d1", "d2"));
-            Ok(())
-        }
-        _ => Err(Fail::from("another end")),
-    }
+    let ran = execute(alloc, &mut tape, script.as_slice(), State::new(alloc), 200);
+    ended(&rt, ran, &tape, "4", 7)?;
+    assert!(rt; starts_e_with(tape.calls().get(5), "d1", "d2"));
+    Ok(())
 }
