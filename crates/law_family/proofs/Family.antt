@@ -106,8 +106,8 @@ module _ (reads : Launch → Node cmd × State) where
   InRange f [] = Unit {0}
   InRange f (e ∷ es) = (e.at < f.count) × InRange (stepped reads f e) es
 
-  sound_told : (p : Process) (c : Call) (x : Answer) → Sound (recorded p c x) → Sound p × Allowed (holding p) c
-  sound_told p c x s =
+  sound_before : (p : Process) (c : Call) (x : Answer) → Sound (recorded p c x) → Sound p × Allowed (holding p) c
+  sound_before p c x s =
       let f = fresh_on (at_start p.state) p.trace (event c x) s.0 in
       let a = allowed_on (at_start p.state) p.trace (event c x) s.1 in
       ((f.0, a.0), a.1)
@@ -125,7 +125,7 @@ module _ (reads : Launch → Node cmd × State) where
       at_trace j l = subst Sound (stays f e j l) (s j (let m = more f e in omega arith))
 
       own : Sound (f.at e.at) × Allowed (holding (f.at e.at)) e.call
-      own = sound_told (f.at e.at) e.call e.answer (subst Sound (put_self f.at e.at (recorded (f.at e.at) e.call e.answer)) (at_trace e.at r))
+      own = sound_before (f.at e.at) e.call e.answer (subst Sound (put_self f.at e.at (recorded (f.at e.at) e.call e.answer)) (at_trace e.at r))
 
   sound_all_back : (es : List Step) (f : Family) → InRange f es → EachOf Sound (family reads f es) → EachOf Sound f
   sound_all_back [] f r s = s

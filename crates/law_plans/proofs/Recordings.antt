@@ -11,9 +11,9 @@ pub extend_nil : (recorded : Option (List Event)) → recorded ≡ extend record
 extend_nil None = refl
 extend_nil (Some before) = ap Some (sym (append-nil before))
 
-pub told_append : (a b c : Option (List Event)) (es fs : List Event) → b ≡ extend a es → c ≡ extend b fs → c ≡ extend a (es ++ fs)
-told_append a b c es fs h k = k ∙ (ap (λ o. extend o fs) h ∙ extend_append a es fs)
+pub recorded_append : (a b c : Option (List Event)) (es fs : List Event) → b ≡ extend a es → c ≡ extend b fs → c ≡ extend a (es ++ fs)
+recorded_append a b c es fs h k = k ∙ (ap (λ o. extend o fs) h ∙ extend_append a es fs)
 
-pub told_further : (a b c : Option (List Event)) (es fs : List Event) (e : Event) →
+pub recorded_further : (a b c : Option (List Event)) (es fs : List Event) (e : Event) →
     b ≡ extend a es → c ≡ extend b (fs ++ e ∷ []) → c ≡ extend a ((es ++ fs) ++ e ∷ [])
-told_further a b c es fs e h k = told_append a b c es (fs ++ e ∷ []) h k ∙ ap (extend a) (sym (append_assoc es fs (e ∷ [])))
+recorded_further a b c es fs e h k = recorded_append a b c es (fs ++ e ∷ []) h k ∙ ap (extend a) (sym (append_assoc es fs (e ∷ [])))

@@ -7,7 +7,7 @@ use Rattle.rc_model.specs.Run.Plans.{Plan, done_with, ask, and_then, IsAnswered,
 use Rattle.rc_model.specs.Run.State.{State}
 use Rattle.rc_model.specs.Run.Shell.{Result, Next, Exit, under}
 use Rattle.law_plans.proofs.Goes.{goes_append, goes_then, goes_under}
-use Rattle.law_plans.proofs.Recordings.{extend_nil, told_append, told_further}
+use Rattle.law_plans.proofs.Recordings.{extend_nil, recorded_append, recorded_further}
 
 -- nothing was called
 pub ran_none : {X : Type 0} (a : Option (List Event)) (p : Plan X) → Ran a a p p
@@ -34,7 +34,7 @@ pub ran_join : {X : Type 0} (a b c : Option (List Event)) (p q r : Plan X) → R
 ran_join a b c p q r f g =
     record {
       trace = f.trace ++ g.trace;
-      recorded = told_append a b c f.trace g.trace f.recorded g.recorded;
+      recorded = recorded_append a b c f.trace g.trace f.recorded g.recorded;
       goes = goes_append p f.trace q g.trace r f.goes g.goes;
     }
 
@@ -44,7 +44,7 @@ halted_join a b c p q f g =
       trace = f.trace ++ g.trace;
       call = g.call;
       go = g.go;
-      recorded = told_further a b c f.trace g.trace (event g.call (refused Halt)) f.recorded g.recorded;
+      recorded = recorded_further a b c f.trace g.trace (event g.call (refused Halt)) f.recorded g.recorded;
       goes = goes_append p f.trace q g.trace (ask g.call g.go) f.goes g.goes;
     }
 

@@ -4,7 +4,7 @@ use Rattle.std.specs.Prelude.{IfOk, IfErr, Vec}
 use Rattle.std.specs.declared.alloc.Global.{Global}
 use Rattle.rc_model.specs.Run.Calls.{Event}
 use Rattle.rc_model.specs.Syntax.Accepted.{longest_script}
-use Rattle.rc_shell.proofs.Runs.{told_nothing}
+use Rattle.rc_shell.proofs.Runs.{recorded_nothing}
 use Rattle.rc_cli.specs.Requests.{Request, name_of}
 use Rattle.rc_cli.specs.Runs.{IsScriptOf, IsUnread, Program, RunsAsMeant, RunsInput, RunsRead, most_instructions, text_from}
 use Rattle.rc_cli.specs.Start.{first_state}
@@ -17,8 +17,8 @@ script_of None = ([], tt)
 script_of (Some bytes) = (take (suc longest_script) bytes, refl)
 
 -- a run that was left out of memory before its first call
-pub left_untold : (recorded : Option (List Event)) (p : Program) → RunsAsMeant recorded recorded p (Err NoMemory)
-left_untold recorded p = (λ t s is. told_nothing most_instructions t s recorded recorded, λ fault reason. refl)
+pub left_unrecorded : (recorded : Option (List Event)) (p : Program) → RunsAsMeant recorded recorded p (Err NoMemory)
+left_unrecorded recorded p = (λ t s is. recorded_nothing most_instructions t s recorded recorded, λ fault reason. refl)
 
 -- why a script was not read
 abbrev IsReadingFault : Bor (List ℕ) → RunFault → Type 0
@@ -48,4 +48,4 @@ module _ (before after : Option (List Event)) (r : Request) (entries : List (Lis
   input_run left (Some x) (Err fault) unopened of (inl e) h = inl (unread fault e h)
   input_run left (Some x) (Err fault) unopened of (inr e) h =
       let known = script_of (left x) in
-      inr (known.0, known.1, rw (h.0, e, h.1) (left_untold before (text_from known.0 (first_state r entries))))
+      inr (known.0, known.1, rw (h.0, e, h.1) (left_unrecorded before (text_from known.0 (first_state r entries))))

@@ -37,7 +37,7 @@ after_digits bytes = past_digits bytes
 unfoldable pub number_by : (mark : ℕ) → Reader ℕ
 number_by mark bytes = count_at mark bytes
 
--- so many bytes, which are a text
+-- a given number of bytes, which are a text
 unfoldable pub string_by : ℕ → Reader (List ℕ)
 string_by n bytes = bytes_at n bytes
 
@@ -53,7 +53,7 @@ count_from least bytes = number_by 44 bytes >>= λ n. if nat_le least n.0 then O
 unfoldable pub stage_count : Reader ℕ
 stage_count bytes = count_from 1 bytes >>= λ n. if nat_lt n.0 64 then Ok n else Err BadLength
 
--- so many nodes, after those that were read
+-- a given number of nodes, after those that were read
 unfoldable pub nodes_from : {s : t.Sort} → Reader (Node s) → ℕ → Many s → Reader (Many s)
 nodes_from r zero front bytes = Ok (front, bytes)
 nodes_from r (suc n) front bytes = r bytes >>= λ x. nodes_from r n (snoc front x.0) x.1

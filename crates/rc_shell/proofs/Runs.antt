@@ -22,33 +22,33 @@ begins_run limit t s trace (ask call go) g = record { rest = call ∷ []; is = a
 begins_run limit t s trace cut g = record { rest = []; is = ap calls_made (cut_over (exec limit (begin t s)) trace g) ∙ sym (append-nil (calls trace)) }
 
 module _ (limit : ℕ) (t : Node cmd) (s : State) (a b : Option (List Event)) where
-  pub told_ended : (end : State) → Ran a b (exec limit (begin t s)) (done_with end) → Recorded a b (λ trace. EndsWithin limit t s trace end)
-  told_ended end f =
+  pub recorded_ended : (end : State) → Ran a b (exec limit (begin t s)) (done_with end) → Recorded a b (λ trace. EndsWithin limit t s trace end)
+  recorded_ended end f =
       (f.trace, f.recorded, record { ran = ends_over (exec limit (begin t s)) f.trace end f.goes; meant = recorded.ended_as_meant limit t s end f.trace f.goes })
 
-  pub told_limit : (now : Config) → Reached a b limit (begin t s) now → Recorded a b (λ trace. StopsAtLimit limit t s trace)
-  told_limit now here =
+  pub recorded_limit : (now : Config) → Reached a b limit (begin t s) now → Recorded a b (λ trace. StopsAtLimit limit t s trace)
+  recorded_limit now here =
       let e : limit + 0 ≡ limit = omega arith in
       let f : Ran a b (exec limit (begin t s)) cut = subst (λ n. Ran a b (exec n (begin t s)) cut) e (here 0) in
       (f.trace, f.recorded, recorded.stopped_at_limit limit t s f.trace f.goes)
 
-  pub told_halted : Halted a b (exec limit (begin t s)) → Recorded a b (λ trace. HaltsWithin limit t s trace)
-  told_halted f = (
+  pub recorded_halted : Halted a b (exec limit (begin t s)) → Recorded a b (λ trace. HaltsWithin limit t s trace)
+  recorded_halted f = (
     f.trace ++ event f.call (refused halt) ∷ [],
     f.recorded,
     record { ran = halts_over (exec limit (begin t s)) f.trace f.call f.go f.goes; meant = recorded.halted_as_meant limit t s f.trace f.call f.go f.goes },
   )
 
-  pub told_begun : Begun a b (exec limit (begin t s)) → Recorded a b (λ trace. IsBegunWithin limit t s trace)
-  told_begun f = (
+  pub recorded_begun : Begun a b (exec limit (begin t s)) → Recorded a b (λ trace. IsBegunWithin limit t s trace)
+  recorded_begun f = (
     f.1.trace,
     f.1.recorded,
     record { ran = begins_run limit t s f.1.trace f.0 f.1.goes; meant = recorded.begun_as_meant limit t s f.1.trace f.0 f.1.goes },
   )
 
   -- nothing was called
-  pub told_nothing : Recorded a a (λ trace. IsBegunWithin limit t s trace)
-  told_nothing = (
+  pub recorded_nothing : Recorded a a (λ trace. IsBegunWithin limit t s trace)
+  recorded_nothing = (
     [],
     extend_nil a,
     record { ran = record { rest = calls_made (run limit t s []); is = refl }; meant = (0, record { rest = calls_made (script 0 t s []); is = refl }) },

@@ -14,11 +14,11 @@ use Rattle.rc_world.specs.declared.types.Flow.{Flow}
 use Rattle.rc_world.specs.declared.types.Flow.TheVariants.{Next, Exit}
 
 -- the events of a world so far: None where it does not record them
-abbrev pub Telling : Type 0 → Type 0
-Telling W = W → Option (List Event)
+abbrev pub Recording : Type 0 → Type 0
+Recording W = W → Option (List Event)
 
 -- a world records one call more, with its answer, and none that was not made
-abbrev pub Records : {W : Type 0} → Telling W → W → W → Call → Answer → Type 0
+abbrev pub Records : {W : Type 0} → Recording W → W → W → Call → Answer → Type 0
 Records events before after call answer = events after ≡ extend (events before) (recorded_by call answer)
 
 -- between two records of a world, a plan was left: out of memory somewhere, or at a halt with its last call unanswered
@@ -35,18 +35,18 @@ Comes before after plan view result =
 -- ** what code does, where it is not stopped
 
 -- one call, whose answer is taken so
-abbrev pub Asks : {W V T : Type 0} → Telling W → W → W → Call → (Answer → V) →
+abbrev pub Asks : {W V T : Type 0} → Recording W → W → W → Call → (Answer → V) →
     (T → V) → Result T Stop → Type 0
 Asks events before after call taken view result = Comes (events before) (events after) (asks call taken) view result
 
 -- an act of the shell that begins in this state and leaves it as it is
-abbrev pub Reads : {W A T : Type 0} → Telling W → W → W → State → Shell A →
+abbrev pub Reads : {W A T : Type 0} → Recording W → W → W → State → Shell A →
     (T → A) → Result T Stop → Type 0
 Reads events before after s act view result =
     Comes (events before) (events after) (act s) (λ v. shell.Next (view v) s) result
 
 -- an act of the shell, from one state to the next
-abbrev pub Does : {W S A T : Type 0} → Telling W → W → W → (S → State) → S → S → Shell A →
+abbrev pub Does : {W S A T : Type 0} → Recording W → W → W → (S → State) → S → S → Shell A →
     (T → A) → Result T Stop → Type 0
 Does events before after state_of s t act view result =
     Comes (events before) (events after) (act (state_of s)) (λ v. shell.Next (view v) (state_of t)) result
@@ -57,7 +57,7 @@ flow_of view s (Next v) = shell.Next (view v) s
 flow_of view s Exit = shell.Exit s []
 
 -- an act of the shell, from one state to the next or to the last
-abbrev pub Flows : {W S A T : Type 0} → Telling W → W → W → (S → State) → S → S → Shell A →
+abbrev pub Flows : {W S A T : Type 0} → Recording W → W → W → (S → State) → S → S → Shell A →
     (T → A) → Result (Flow T) Stop → Type 0
 Flows events before after state_of s t act view result =
     Comes (events before) (events after) (act (state_of s)) (flow_of view (state_of t)) result

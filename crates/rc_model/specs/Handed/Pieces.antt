@@ -4,11 +4,11 @@ use Rattle.std.specs.Prelude.{◌≡◌, Bool, true, ◌&&◌, ◌||◌, if◌th
 use Rattle.std.specs.Str.{IsCharBoundary}
 use Rattle.std.specs.Fmt.{decimal}
 
--- a word of a launch has at most so many bytes
+-- the most bytes that a word of a launch has
 abbrev pub longest_word : ℕ
 longest_word = 100000
 
--- an image has at most so many pieces
+-- the most pieces that an image has
 abbrev pub most_pieces : ℕ
 most_pieces = 16
 
@@ -58,7 +58,7 @@ unfoldable pub last_cut : ℕ → List ℕ → ℕ
 last_cut zero text = 0
 last_cut (suc n) text = if can_cut (suc n) text then suc n else last_cut n text
 
--- at most so many pieces, where they are enough
+-- at most a given number of pieces, where they are enough
 unfoldable pub pieces : (most limit : ℕ) → List ℕ → Option (List (List ℕ))
 pieces most limit [] = Some []
 pieces zero limit (b ∷ bs) = None

@@ -79,7 +79,7 @@ count_at mark bytes =
     if is_count (digit_run bytes) then marked mark (digits_value 0 (digit_run bytes)) (past_digits bytes)
     else Err BadLength
 
--- so many bytes, which are a text
+-- a given number of bytes, which are a text
 abbrev pub bytes_at : ℕ → Reader (List ℕ)
 bytes_at n bytes =
     if nat_le n (length bytes) && is_text (take n bytes) then Ok (take n bytes, drop n bytes) else Err BadLength
@@ -88,12 +88,12 @@ bytes_at n bytes =
 abbrev pub text_at : Reader (List ℕ)
 text_at bytes = count_at 58 bytes >>= λ n. bytes_at n.0 n.1
 
--- so many nodes
+-- a given number of nodes
 abbrev pub nodes_at : {s : Sort} → Reader (Node s) → ℕ → Reader (Many s)
 nodes_at r zero bytes = Ok (none, bytes)
 nodes_at r (suc n) bytes = r bytes >>= λ x. nodes_at r n x.1 >>= λ y. Ok (more x.0 y.0, y.1)
 
--- a number that passes a test, and so many nodes
+-- a number that passes a test, and a given number of nodes
 abbrev pub listed : {s : Sort} → (ℕ → Bool) → Reader (Node s) → Reader (Many s)
 listed test r bytes = tested test (count_at 44) bytes >>= λ n. nodes_at r n.0 n.1
 
@@ -222,7 +222,7 @@ arg_rows k c a =
     ∷ (96, made t.Back c)
     ∷ []
 
--- a node with at most so many commands and arguments on one way from it
+-- a node with at most a given number of commands and arguments on one way from it
 unfoldable mutual
   -- a command of at most this depth
   pub cmd_at : Bool → ℕ → Reader (Node cmd)

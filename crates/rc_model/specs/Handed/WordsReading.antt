@@ -16,7 +16,7 @@ use Rattle.rc_model.specs.Handed.TreeReading.{beginning_fault}
 abbrev pub Taken : Type 0
 Taken = Result (Node cmd × ℕ) ImageFault
 
--- a tree that was read from so many words
+-- a tree that was read from a given number of words
 abbrev pub counted : ℕ → Result (Node cmd) ImageFault → Taken
 counted n tree = tree >>= λ c. Ok (c, n)
 

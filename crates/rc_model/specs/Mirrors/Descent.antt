@@ -1,4 +1,4 @@
--- The descent: a script is read token by token, with one token in sight and so many levels of the tree at most.
+-- The descent: a script is read token by token, with one token in sight and at most a given number of levels.
 use Rattle.std.specs.Prelude.{ℕ, zero, suc, nat_le, nat_lt, Bool, true, false, not, ◌&&◌, if◌then◌else◌, List, [], ◌∷◌}
 use Rattle.std.specs.Prelude.{length, Result, Ok, Err}
 use Rattle.rc_model.specs.Syntax.Tokens.{Lexeme, Word, Semicolon, Ampersand, Newline, AndAnd, OrOr, Bar, Equals}
@@ -163,7 +163,7 @@ pipe_turn deeper go_on stages last (Bar slot ∷ ts) =
     else Err TooManyStages
 pipe_turn deeper go_on stages last ts = Ok (pipeline_of stages last, ts)
 
--- the stages of a pipeline after those so far, in at most so many turns
+-- the stages of a pipeline after those so far, in at most a given number of turns
 unfoldable pub pipe_from : Readers → ℕ → Many t.stage → Node t.cmd → Reader (Node t.cmd)
 pipe_from deeper zero stages last ts = Ok (pipeline_of stages last, ts)
 pipe_from deeper (suc turns) stages last ts = pipe_turn deeper (λ ss c u. pipe_from deeper turns ss c u) stages last ts
@@ -178,7 +178,7 @@ value_turn deeper go_on pairs (Named a) ts =
     arg_by (deeper (a_part false)) false ts >>= λ v. go_on (snoc pairs (t.Pair a v.0)) v.1
 value_turn deeper go_on pairs (Staged c) ts = pipe_by deeper c ts >>= λ p. Ok (t.Assign pairs p.0, p.1)
 
--- what follows the assignments so far, in at most so many turns
+-- what follows the assignments so far, in at most a given number of turns
 unfoldable pub values_from : Readers → ℕ → Many t.pair → Reader (Node t.cmd)
 values_from deeper zero pairs ts = Ok (t.Assign pairs t.Empty, ts)
 values_from deeper (suc turns) pairs ts =
@@ -230,7 +230,7 @@ links_turn deeper go_on front (OrOr ∷ ts) =
     operand_by deeper false (past_newlines ts) >>= λ c. go_on (snoc front (t.Link t.Or c.0)) c.1
 links_turn deeper go_on front ts = Ok (front, ts)
 
--- the operands after those so far, in at most so many turns
+-- the operands after those so far, in at most a given number of turns
 unfoldable pub links_from : Readers → ℕ → Many t.link → Reader (Many t.link)
 links_from deeper zero front ts = Ok (front, ts)
 links_from deeper (suc turns) front ts = links_turn deeper (λ ls u. links_from deeper turns ls u) front ts
@@ -262,7 +262,7 @@ item_turn deeper go_on after_if front ts = do
   b ← item_end c.1
   go_on (not b.0 && is_if c.0) (snoc front (t.Item c.0 b.0)) b.1
 
--- the items after those so far, in at most so many turns
+-- the items after those so far, in at most a given number of turns
 unfoldable pub items_from : Readers → (in_switch : Bool) → ℕ → (after_if : Bool) → Many t.item → Reader (Many t.item)
 items_from deeper in_switch zero after_if front ts = Ok (front, ts)
 items_from deeper in_switch (suc turns) after_if front ts =
@@ -282,7 +282,7 @@ read_by deeper a_piped ts = piped_by deeper ts
 read_by deeper (a_command after_if) ts = command_by deeper after_if ts
 read_by deeper (a_list in_switch) ts = items_by deeper in_switch ts
 
--- reading with so many levels left
+-- reading with a given number of levels left
 unfoldable pub read : ℕ → Readers
 read zero n ts = Err TooDeep
 read (suc left) n ts = read_by (λ m u. read left m u) n ts
@@ -293,6 +293,6 @@ whole (Ok (is, [])) = if nat_le (depth (t.Seq is)) 200 then Ok (t.Seq is) else E
 whole (Ok _) = Err Unexpected
 whole (Err e) = Err e
 
--- the tree of a script, or why it has none; reading goes so many levels deep at most
+-- the tree of a script, or why it has none; reading goes at most a given number of levels deep
 unfoldable pub script_tree : ℕ → List Lexeme → Result (Node t.cmd) Fault
 script_tree levels ts = whole (read levels (a_list false) ts)

@@ -72,7 +72,7 @@ abbrev pub parts_turn : Reader (Node t.arg) → (inside : Bool) → (Many t.arg 
 parts_turn part inside go_on front ts None = Ok (front, ts)
 parts_turn part inside go_on front ts (Some next) = part (past_blanks inside next) >>= λ a. go_on (snoc front a.0) a.1
 
--- the parts after those so far, in at most so many turns
+-- the parts after those so far, in at most a given number of turns
 unfoldable pub parts_from : Reader (Node t.arg) → (inside : Bool) → ℕ → Many t.arg → Reader (Many t.arg)
 parts_from part inside zero front ts = Ok (front, ts)
 parts_from part inside (suc turns) front ts =
@@ -95,7 +95,7 @@ members_turn part go_on front (RightParen ∷ ts) = Ok (front, ts)
 members_turn part go_on front (Newline ∷ ts) = go_on front ts
 members_turn part go_on front ts = arg_by part true ts >>= λ a. go_on (snoc front a.0) a.1
 
--- the arguments after those so far up to a `)`, in at most so many turns
+-- the arguments after those so far up to a `)`, in at most a given number of turns
 unfoldable pub members_from : Reader (Node t.arg) → ℕ → Many t.arg → Reader (Many t.arg)
 members_from part zero front ts = Err Unexpected
 members_from part (suc turns) front ts = members_turn part (λ as' u. members_from part turns as' u) front ts
@@ -104,7 +104,7 @@ members_from part (suc turns) front ts = members_turn part (λ as' u. members_fr
 unfoldable pub members_by : Reader (Node t.arg) → Reader (Many t.arg)
 members_by part ts = members_from part (length ts) none ts
 
--- the arguments after those so far, in at most so many turns
+-- the arguments after those so far, in at most a given number of turns
 unfoldable pub words_from : Reader (Node t.arg) → ℕ → Many t.arg → Reader (Many t.arg)
 words_from part zero front ts = Ok (front, ts)
 words_from part (suc turns) front ts =
@@ -121,7 +121,7 @@ redir_by part (CopyTo to from ∷ ts) = Ok (t.Copy to from, ts)
 redir_by part (HereDoc quoted text ∷ ts) = Ok (t.Here (pieces_of quoted text), ts)
 redir_by part _ = Err Unexpected
 
--- the redirections after those so far, in at most so many turns
+-- the redirections after those so far, in at most a given number of turns
 unfoldable pub redirs_from : Reader (Node t.arg) → ℕ → Many t.redir → Reader (Many t.redir)
 redirs_from part zero front ts = Ok (front, ts)
 redirs_from part (suc turns) front ts =
@@ -131,7 +131,7 @@ redirs_from part (suc turns) front ts =
 unfoldable pub redirs_by : Reader (Node t.arg) → Reader (Many t.redir)
 redirs_by part ts = redirs_from part (length ts) none ts
 
--- the words and redirections after those so far, in at most so many turns
+-- the words and redirections after those so far, in at most a given number of turns
 unfoldable pub simple_from : Reader (Node t.arg) → ℕ → Many t.arg → Many t.redir → Reader (Many t.arg × Many t.redir)
 simple_from part zero words redirs ts = Ok ((words, redirs), ts)
 simple_from part (suc turns) words redirs ts =
@@ -201,7 +201,7 @@ branches_turn deeper go_on front (Word text ∷ ts) =
     if is_case text then (branch_by deeper (past_caret ts) >>= λ b. go_on (snoc front b.0) b.1) else Err Unexpected
 branches_turn deeper go_on front _ = Err Unexpected
 
--- the branches after those so far, in at most so many turns
+-- the branches after those so far, in at most a given number of turns
 unfoldable pub branches_from : Readers → ℕ → Many t.branch → Reader (Many t.branch)
 branches_from deeper zero front ts = Err Unexpected
 branches_from deeper (suc turns) front ts = branches_turn deeper (λ bs u. branches_from deeper turns bs u) front ts

@@ -69,7 +69,7 @@ pub record HaltsAsMeant (c : Node cmd) (s : State) (trace : List Event) : Type 0
 abbrev pub IsBegunAsMeant : Node cmd → State → List Event → Type 0
 IsBegunAsMeant c s trace = (n : ℕ) × IsPrefix (calls trace) (calls_made (script n c s (answers trace)))
 
--- exactly so many instructions of the code were run, which was not its end
+-- as many instructions of the code as the limit says were run, and that was not its end
 pub record StopsAtLimit (limit : ℕ) (c : Node cmd) (s : State) (trace : List Event) : Type 0 where
   pub ran : run limit c s (answers trace) ≡ Cut (calls trace)
   pub begun : IsBegunAsMeant c s trace

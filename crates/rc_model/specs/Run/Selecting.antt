@@ -2,7 +2,7 @@
 use Rattle.std.specs.Prelude.{◌≡◌, ℕ, suc, nat_le, ◌&&◌, if◌then◌else◌, List, [], ◌∷◌, ◌++◌, length, Some}
 use Rattle.rc_model.specs.Run.Numbers.{number_of}
 
--- The places from the first to the last that a subscript names in a list with so many members. They are counted from 1.
+-- The places from the first to the last that a subscript names in a list of a given length, counted from 1.
 pub data Names (count : ℕ) (text : List ℕ) : ℕ → ℕ → Type 0 where
   -- `m`
   one : (m : ℕ) → number_of text ≡ Some m → Names count text m m

@@ -11,7 +11,7 @@ use Rattle.rc_model.specs.Syntax.WellFormed.{depth, most_stages}
 use Rattle.rc_model.specs.Syntax.Grammar.{HaveTree}
 use Rattle.rc_model.specs.Syntax.Grammar as g
 
--- a script is at most so many bytes long
+-- the most bytes that a script has
 abbrev pub longest_script : ℕ
 longest_script = 1048576
 

@@ -5,7 +5,7 @@ use Rattle.rc_scope.specs.States.{state_of}
 use Rattle.rc_shell.specs.Executed.{denoted}
 use Rattle.rc_shell.proofs.Images.{meant_by}
 use Rattle.rc_shell.proofs.Kept.{ended_proper, leaves_nothing, loses_nothing, reads_back}
-use Rattle.rc_shell.proofs.Runs.{told_nothing}
+use Rattle.rc_shell.proofs.Runs.{recorded_nothing}
 use Rattle.rc_shell.proofs.image.execute_image.Goals as goal
 
 pub returns-in-Ok-clause-meant : goal.returns-in-Ok-clause-meant
@@ -35,4 +35,4 @@ returns-in-Ok-clause-proper g c =
     ended_proper (g.W.World.events c.args.world.now) (g.W.World.events c.run_tree.new.world) c.args.limit t s c.run_tree.result x.0 x.1 c.run_tree.ensures
 
 pub returns-in-Err-NoMemory-clause-meant : goal.returns-in-Err-NoMemory-clause-meant
-returns-in-Err-NoMemory-clause-meant g c = let before = g.W.World.events c.args.world.now in λ t s e. told_nothing c.args.limit t s before before
+returns-in-Err-NoMemory-clause-meant g c = let before = g.W.World.events c.args.world.now in λ t s e. recorded_nothing c.args.limit t s before before

@@ -4,7 +4,7 @@ use Rattle.rc_tree_types.specs.View.{cmd_tree}
 use Rattle.rc_scope.specs.States.{state_of}
 use Rattle.rc_shell.specs.declared.run.ShellFault.TheVariants.{NoMemory}
 use Rattle.rc_shell.proofs.Kept.{ends_proper, hands_over, leaves_nothing, loses_nothing}
-use Rattle.rc_shell.proofs.Runs.{told_nothing}
+use Rattle.rc_shell.proofs.Runs.{recorded_nothing}
 use Rattle.rc_shell.proofs.Scripts.{meant_by, not_refused}
 use Rattle.rc_shell.proofs.script.execute.Goals as goal
 
@@ -35,7 +35,7 @@ returns-in-Ok-clause-proper g c =
     ends_proper (g.W.World.events c.args.world.now) (g.W.World.events c.run_tree.new.world) c.args.limit t (state_of c.args.state) c.run_tree.result (accepted_are_scripts c.args.script.now t a) (returns-in-Ok-clause-meant g c t a)
 
 pub returns-clause-meant : goal.returns-clause-meant
-returns-clause-meant g c = let before = g.W.World.events c.args.world.now in λ t accepted. told_nothing c.args.limit t (state_of c.args.state) before before
+returns-clause-meant g c = let before = g.W.World.events c.args.world.now in λ t accepted. recorded_nothing c.args.limit t (state_of c.args.state) before before
 
 pub returns-clause-lost : goal.returns-clause-lost
 returns-clause-lost g c = let before = g.W.World.events c.args.world.now in λ t a. loses_nothing before before c.args.limit t (state_of c.args.state) (Err NoMemory) (returns-clause-meant g c t a)
