@@ -104,19 +104,14 @@ def functions_of(texts):
     return found
 
 
-def said_of(functions, text):
-    """What a file of the proof of a cycle says of these functions, and what it says of none."""
-    names = "|".join(it.path[-1] for it in functions)
-    of_these = rf"(?:decreases-|invariant-)?(?:\w+::)*(?:{names})(?:-|$)"
-    goals = [(re.search(r": goal\.(\S+)", it), it) for it in text.split("\n\n")]
-    return "\n\n".join(it for goal, it in goals if not goal or re.match(of_these, goal[1]))
-
-
 def said_alone(function, text):
-    """The same of one function, as a proof of its own says it: without its name, and without what decreases."""
-    said = [it for it in said_of([function], text).split("\n\n") if "goal.decreases-" not in it]
+    """What a file of the proof of a cycle says of this function, as a proof of its own says it: without its name, and
+    without what decreases."""
+    of_it = rf"(?:invariant-)?(?:\w+::)*{function.path[-1]}-"
+    goals = [(re.search(r": goal\.(\S+)", it), it) for it in text.split("\n\n")]
+    text = "\n\n".join(it for goal, it in goals if not goal or re.match(of_it, goal[1]))
     place = rf"\1.proofs.{'.'.join(function.path)}.\2 as goal"
-    text = re.sub(r"(use Rattle\.\w+)\.proofs\.\S+\.(Given|Goals) as goal", place, "\n\n".join(said))
+    text = re.sub(r"(use Rattle\.\w+)\.proofs\.\S+\.(Given|Goals) as goal", place, text)
     named = rf"(^(?:abbrev )?(?:pub )?|goal\.)(invariant-)?(?:\w+::)*{function.path[-1]}-"
     text = re.sub(named, r"\1\2", text, flags=re.M)
     return re.sub(r"^([^\s:]+(?: g)?) t c\b", r"\1 c", text, flags=re.M)
