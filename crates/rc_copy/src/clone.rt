@@ -1,6 +1,7 @@
 //! Copies of trees.
 
 ghost use Rattle.std.specs.Prelude.{◌≡◌, IfOk};
+ghost use Rattle.rc_model.specs.Syntax.Tree as t;
 ghost use Rattle.rc_tree_types.specs.View.{cmd_tree, arg_tree, redir_tree, pieces_tree, args_tree, items_tree};
 ghost use Rattle.rc_tree_types.specs.View.{pairs_tree};
 ghost use Rattle.rc_tree_types.specs.View.{redirs_tree};
@@ -18,28 +19,24 @@ pub fn clone_tree(alloc: Global, cmd: &Cmd) -> Result<Cmd, AllocError>
 {
     match cmd {
         Cmd::Empty => Ok(Cmd::Empty),
-        Cmd::Seq(xs) => Ok(Cmd::Seq(clone_items(alloc, xs)?)),
-        Cmd::Simple(xs) => Ok(Cmd::Simple(clone_args(alloc, xs)?)),
-        Cmd::Assign(xs, c) => Ok(Cmd::Assign(clone_pairs(alloc, xs)?, clone_box(alloc, c)?)),
-        Cmd::Redirect(xs, c) => Ok(Cmd::Redirect(clone_redirs(alloc, xs)?, clone_box(alloc, c)?)),
-        Cmd::Pipeline(xs, c) => Ok(Cmd::Pipeline(clone_stages(alloc, xs)?, clone_box(alloc, c)?)),
-        Cmd::AndOr(c, xs) => Ok(Cmd::AndOr(clone_box(alloc, c)?, clone_links(alloc, xs)?)),
-        Cmd::Not(c) => Ok(Cmd::Not(clone_box(alloc, c)?)),
-        Cmd::Subshell(c) => Ok(Cmd::Subshell(clone_box(alloc, c)?)),
-        Cmd::If(a, b) => Ok(Cmd::If(clone_box(alloc, a)?, clone_box(alloc, b)?)),
-        Cmd::IfNot(c) => Ok(Cmd::IfNot(clone_box(alloc, c)?)),
-        Cmd::While(a, b) => Ok(Cmd::While(clone_box(alloc, a)?, clone_box(alloc, b)?)),
-        Cmd::ForAll(n, c) => Ok(Cmd::ForAll(clone_arg(alloc, n)?, clone_box(alloc, c)?)),
-        Cmd::For(n, xs, c) => Ok(Cmd::For(
-            clone_arg(alloc, n)?,
-            clone_args(alloc, xs)?,
-            clone_box(alloc, c)?,
-        )),
-        Cmd::Switch(n, xs) => Ok(Cmd::Switch(clone_arg(alloc, n)?, clone_branches(alloc, xs)?)),
-        Cmd::Match(n, xs) => Ok(Cmd::Match(clone_arg(alloc, n)?, clone_args(alloc, xs)?)),
-        Cmd::Define(xs, c) => Ok(Cmd::Define(clone_args(alloc, xs)?, clone_box(alloc, c)?)),
-        Cmd::Undefine(xs) => Ok(Cmd::Undefine(clone_args(alloc, xs)?)),
-        Cmd::Brace(c) => Ok(Cmd::Brace(clone_box(alloc, c)?)),
+        Cmd::Seq(items) => Ok(Cmd::Seq(clone_items(alloc, items)?)),
+        Cmd::Simple(words) => Ok(Cmd::Simple(clone_args(alloc, words)?)),
+        Cmd::Assign(pairs, body) => clone_assign(alloc, pairs, body),
+        Cmd::Redirect(redirs, body) => clone_redirect(alloc, redirs, body),
+        Cmd::Pipeline(stages, last) => clone_pipeline(alloc, stages, last),
+        Cmd::AndOr(first, links) => clone_and_or(alloc, links, first),
+        Cmd::Not(body) => Ok(Cmd::Not(clone_box(alloc, body)?)),
+        Cmd::Subshell(body) => Ok(Cmd::Subshell(clone_box(alloc, body)?)),
+        Cmd::If(condition, body) => clone_if(alloc, condition, body),
+        Cmd::IfNot(body) => Ok(Cmd::IfNot(clone_box(alloc, body)?)),
+        Cmd::While(condition, body) => clone_while(alloc, condition, body),
+        Cmd::ForAll(name, body) => clone_for_all(alloc, name, body),
+        Cmd::For(name, words, body) => clone_for(alloc, words, name, body),
+        Cmd::Switch(subject, branches) => clone_switch(alloc, branches, subject),
+        Cmd::Match(subject, patterns) => clone_match(alloc, patterns, subject),
+        Cmd::Define(names, body) => clone_define(alloc, names, body),
+        Cmd::Undefine(names) => Ok(Cmd::Undefine(clone_args(alloc, names)?)),
+        Cmd::Brace(body) => Ok(Cmd::Brace(clone_box(alloc, body)?)),
     }
 }
 
@@ -48,6 +45,98 @@ fn clone_box(alloc: Global, cmd: &Box<Cmd>) -> Result<Box<Cmd>, AllocError>
     ensures { IfOk result (λ x. cmd_tree x.value ≡ cmd_tree cmd.now.value) }
 {
     Ok(Box::new(alloc, clone_tree(alloc, cmd)?)?)
+}
+
+#[cycle(clone)]
+#[tactic(auto, using(rc_tree_types::specs::View::tree_Assign))]
+fn clone_assign(alloc: Global, pairs: &[(Arg, Arg)], body: &Box<Cmd>) -> Result<Cmd, AllocError>
+    ensures { IfOk result (λ x. cmd_tree x ≡ t.Assign (pairs_tree pairs.now) (cmd_tree body.now.value)) }
+{
+    Ok(Cmd::Assign(clone_pairs(alloc, pairs)?, clone_box(alloc, body)?))
+}
+
+#[cycle(clone)]
+#[tactic(auto, using(rc_tree_types::specs::View::tree_Redirect))]
+fn clone_redirect(alloc: Global, redirs: &[Redir], body: &Box<Cmd>) -> Result<Cmd, AllocError>
+    ensures { IfOk result (λ x. cmd_tree x ≡ t.Redirect (redirs_tree redirs.now) (cmd_tree body.now.value)) }
+{
+    Ok(Cmd::Redirect(clone_redirs(alloc, redirs)?, clone_box(alloc, body)?))
+}
+
+#[cycle(clone)]
+#[tactic(auto, using(rc_tree_types::specs::View::tree_Pipeline))]
+fn clone_pipeline(alloc: Global, stages: &[Stage], last: &Box<Cmd>) -> Result<Cmd, AllocError>
+    ensures { IfOk result (λ x. cmd_tree x ≡ t.Pipeline (stages_tree stages.now) (cmd_tree last.now.value)) }
+{
+    Ok(Cmd::Pipeline(clone_stages(alloc, stages)?, clone_box(alloc, last)?))
+}
+
+#[cycle(clone)]
+#[tactic(auto, using(rc_tree_types::specs::View::tree_AndOr))]
+fn clone_and_or(alloc: Global, links: &[(Logic, Cmd)], first: &Box<Cmd>) -> Result<Cmd, AllocError>
+    ensures { IfOk result (λ x. cmd_tree x ≡ t.AndOr (cmd_tree first.now.value) (links_tree links.now)) }
+{
+    Ok(Cmd::AndOr(clone_box(alloc, first)?, clone_links(alloc, links)?))
+}
+
+#[cycle(clone)]
+#[tactic(auto, using(rc_tree_types::specs::View::tree_If))]
+fn clone_if(alloc: Global, condition: &Box<Cmd>, body: &Box<Cmd>) -> Result<Cmd, AllocError>
+    ensures { IfOk result (λ x. cmd_tree x ≡ t.If (cmd_tree condition.now.value) (cmd_tree body.now.value)) }
+{
+    Ok(Cmd::If(clone_box(alloc, condition)?, clone_box(alloc, body)?))
+}
+
+#[cycle(clone)]
+#[tactic(auto, using(rc_tree_types::specs::View::tree_While))]
+fn clone_while(alloc: Global, condition: &Box<Cmd>, body: &Box<Cmd>) -> Result<Cmd, AllocError>
+    ensures { IfOk result (λ x. cmd_tree x ≡ t.While (cmd_tree condition.now.value) (cmd_tree body.now.value)) }
+{
+    Ok(Cmd::While(clone_box(alloc, condition)?, clone_box(alloc, body)?))
+}
+
+#[cycle(clone)]
+#[tactic(auto, using(rc_tree_types::specs::View::tree_ForAll))]
+fn clone_for_all(alloc: Global, name: &Arg, body: &Box<Cmd>) -> Result<Cmd, AllocError>
+    ensures { IfOk result (λ x. cmd_tree x ≡ t.ForAll (arg_tree name.now) (cmd_tree body.now.value)) }
+{
+    Ok(Cmd::ForAll(clone_arg(alloc, name)?, clone_box(alloc, body)?))
+}
+
+#[cycle(clone)]
+#[tactic(auto, using(rc_tree_types::specs::View::tree_For))]
+fn clone_for(alloc: Global, words: &[Arg], name: &Arg, body: &Box<Cmd>) -> Result<Cmd, AllocError>
+    ensures { IfOk result (λ x. cmd_tree x ≡ t.For (arg_tree name.now) (args_tree words.now) (cmd_tree body.now.value)) }
+{
+    Ok(Cmd::For(
+        clone_arg(alloc, name)?,
+        clone_args(alloc, words)?,
+        clone_box(alloc, body)?,
+    ))
+}
+
+#[cycle(clone)]
+#[tactic(auto, using(rc_tree_types::specs::View::tree_Switch))]
+fn clone_switch(alloc: Global, branches: &[Branch], subject: &Arg) -> Result<Cmd, AllocError>
+    ensures { IfOk result (λ x. cmd_tree x ≡ t.Switch (arg_tree subject.now) (branches_tree branches.now)) }
+{
+    Ok(Cmd::Switch(clone_arg(alloc, subject)?, clone_branches(alloc, branches)?))
+}
+
+#[cycle(clone)]
+#[tactic(auto, using(rc_tree_types::specs::View::tree_Match))]
+fn clone_match(alloc: Global, patterns: &[Arg], subject: &Arg) -> Result<Cmd, AllocError>
+    ensures { IfOk result (λ x. cmd_tree x ≡ t.Match (arg_tree subject.now) (args_tree patterns.now)) }
+{
+    Ok(Cmd::Match(clone_arg(alloc, subject)?, clone_args(alloc, patterns)?))
+}
+
+#[cycle(clone)]
+#[tactic(auto, using(rc_tree_types::specs::View::tree_Define))]
+fn clone_define(alloc: Global, names: &[Arg], body: &Box<Cmd>) -> Result<Cmd, AllocError>
+    ensures { IfOk result (λ x. cmd_tree x ≡ t.Define (args_tree names.now) (cmd_tree body.now.value)) }
+{
+    Ok(Cmd::Define(clone_args(alloc, names)?, clone_box(alloc, body)?))
 }
 
 #[cycle(clone)]
