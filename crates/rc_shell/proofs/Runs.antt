@@ -1,5 +1,6 @@
 -- Runs of a script's code from the beginning, in words of its meaning.
-use Rattle.std.proofs.Common.{◌≡◌, ℕ, ◌+◌, List, [], ◌∷◌, ◌++◌, Option, refl, ap, ◌∙◌, sym, subst, arith, append-nil}
+use Rattle.std.proofs.Common.{◌≡◌, ℕ, ◌+◌, List, [], ◌∷◌, ◌++◌, Option, Result, Ok, Err, refl, ap, ◌∙◌, sym, subst, arith, append-nil}
+use Rattle.std.specs.declared.alloc.AllocError.{AllocError}
 use Rattle.rc_model.specs.Run.Calls.{Event, refused, event, calls, answers, plain}
 use Rattle.rc_model.specs.declared.call.Fault.TheVariants.{Halt as halt}
 use Rattle.rc_model.specs.Code.Machine.{Config, exec, begin}
@@ -10,8 +11,13 @@ use Rattle.rc_model.specs.Run.State.{State}
 use Rattle.rc_model.specs.Syntax.Tree.{Node, cmd}
 use Rattle.law_machine.proofs.Recorded as recorded
 use Rattle.law_plans.proofs.Plays.{ends_over, waits_over, cut_over, halts_over}
-use Rattle.rc_machine.specs.Outcomes.{Begun, Reached}
-use Rattle.rc_shell.specs.Executed.{EndsWithin, HaltsWithin, IsBegunWithin}
+use Rattle.rc_machine.specs.Outcomes.{Begun, Reached, RunsTo}
+use Rattle.rc_machine.specs.declared.machine.Progress.{Progress}
+use Rattle.rc_machine.specs.declared.machine.Progress.TheVariants as progress
+use Rattle.rc_shell.specs.Executed.{EndsWithin, HaltsWithin, IsOutcome, IsBegunWithin, RunsAsMeant}
+use Rattle.rc_shell.specs.declared.run.Ran.{Ran as Finished}
+use Rattle.rc_shell.specs.declared.run.Ran.TheVariants.{Ended, Limit, Halted as Halting}
+use Rattle.rc_shell.specs.declared.run.ShellFault.{ShellFault}
 use Rattle.law_plans.proofs.Recordings.{extend_nil}
 
 -- the calls of a run that was left somewhere are the first ones of the whole run
@@ -53,6 +59,17 @@ module _ (limit : ℕ) (t : Node cmd) (s : State) (a b : Option (List Event)) wh
     extend_nil a,
     record { ran = record { rest = calls_made (run limit t s []); is = refl }; meant = (0, record { rest = calls_made (script 0 t s []); is = refl }) },
   )
+
+  -- a script whose machine came so far has run as it is meant
+  pub recorded_run : (now : Config) (came : Result Progress AllocError) (result : Result Finished ShellFault)
+      → RunsTo a b limit (begin t s) now came → IsOutcome came now.state result → Recorded a b (λ trace. RunsAsMeant limit t s trace result)
+  recorded_run now (Ok progress.Ended) (Ok (Ended end)) to is = rw is (recorded_ended now.state to)
+  recorded_run now (Ok progress.Ended) (Ok Limit) to is = absurd is
+  recorded_run now (Ok progress.Ended) (Ok Halting) to is = absurd is
+  recorded_run now (Ok progress.Ended) (Err e) to is = absurd is
+  recorded_run now (Ok progress.Limit) result to is = rw is (recorded_limit now to)
+  recorded_run now (Ok progress.Halted) result to is = rw is (recorded_halted to)
+  recorded_run now (Err e) result to is = rw is (recorded_begun to)
 
 -- the machine of a script's code begins the script
 pub begins : (t : Node cmd) (s : State) (c : Code) (m : Config)

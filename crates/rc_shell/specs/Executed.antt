@@ -1,5 +1,6 @@
 -- How the run of a script ends, by the instructions that it may take and by what the script means.
 use Rattle.std.specs.Prelude.{◌≡◌, ℕ, List, [], Bool, Option, Result, Ok, Err, String, map, string_bytes}
+use Rattle.std.specs.declared.alloc.AllocError.{AllocError}
 use Rattle.std.specs.declared.alloc.Global.{Global}
 use Rattle.rc_model.specs.Run.Calls.{Event, calls, answers}
 use Rattle.rc_model.specs.Run.Plans.{Ends, Waits, calls_made}
@@ -14,6 +15,8 @@ use Rattle.rc_image.specs.declared.fault.ImageFault.{ImageFault}
 use Rattle.rc_model.specs.Handed.HandedLaws.{AllReadBack}
 use Rattle.rc_model.specs.Family.Accounts.{IsFresh, NothingLost, NothingLeft}
 use Rattle.rc_model.specs.declared.fault.SyntaxFault.{SyntaxFault}
+use Rattle.rc_machine.specs.declared.machine.Progress.{Progress}
+use Rattle.rc_machine.specs.declared.machine.Progress.TheVariants as progress
 use Rattle.rc_scope.specs.States.{state_of}
 use Rattle.rc_shell.specs.declared.run.Ran.{Ran}
 use Rattle.rc_shell.specs.declared.run.Ran.TheVariants.{Ended, Limit, Halted}
@@ -44,6 +47,14 @@ RunsAsMeant limit t s trace (Ok Halted) = HaltsWithin limit t s trace
 RunsAsMeant limit t s trace (Err NoMemory) = IsBegunWithin limit t s trace
 RunsAsMeant limit t s trace (Err (Syntax fault)) = ⊥
 RunsAsMeant limit t s trace (Err (Image fault)) = ⊥
+
+-- the outcome of a script whose machine came so far, with this state
+abbrev pub IsOutcome : Result Progress AllocError → model.State → Result Ran ShellFault → Type 0
+IsOutcome (Ok progress.Ended) s (Ok (Ended end)) = state_of end ≡ s
+IsOutcome (Ok progress.Limit) s result = result ≡ Ok Limit
+IsOutcome (Ok progress.Halted) s result = result ≡ Ok Halted
+IsOutcome (Err e) s result = result ≡ Err NoMemory
+IsOutcome _ s _ = ⊥
 
 -- over fresh answers nothing is lost
 abbrev pub LosesNothing : model.State → List Event → Type 0

@@ -55,7 +55,7 @@ pub fn execute_image<W: World>(
         (given : List Answer) → Agrees t s given }
 {
     match read_image(alloc, strict, words, entries) {
-        Ok((cmd, state)) => run_tree(alloc, world, &cmd, state, limit),
+        Ok((cmd, state)) => run_tree(alloc, world, cmd, state, limit),
         Err(ImageFault::NoMemory) => Err(ShellFault::NoMemory),
         Err(fault) => Err(ShellFault::Image(fault)),
     }

@@ -1,8 +1,9 @@
 //! Runs a tree from a state.
 
+ghost use Rattle.rc_machine.specs.Configs.{config_of};
 ghost use Rattle.rc_model.specs.Run.Script.{Recorded};
 ghost use Rattle.rc_scope.specs.States.{state_of};
-ghost use Rattle.rc_shell.specs.Executed.{RunsAsMeant};
+ghost use Rattle.rc_shell.specs.Executed.{IsOutcome, RunsAsMeant};
 ghost use Rattle.rc_tree_types.specs.View.{cmd_tree};
 
 use rc_code::compile;
@@ -43,18 +44,28 @@ pub enum ShellFault {
 pub fn run_tree<W: World>(
     alloc: Global,
     world: &mut W,
-    cmd: &Cmd,
+    cmd: Cmd,
     state: State,
     limit: u64,
 ) -> Result<Ran, ShellFault>
     ensures { Recorded (W.events world.old) (W.events world.new)
-        (λ trace. RunsAsMeant limit (cmd_tree cmd.now) (state_of state) trace result) }
+        (λ trace. RunsAsMeant limit (cmd_tree cmd) (state_of state) trace result) }
 {
-    let Ok(code) = compile(alloc, cmd) else {
+    let compiled = compile(alloc, &cmd);
+    drop(cmd);
+    let Ok(code) = compiled else {
         return Err(ShellFault::NoMemory);
     };
     let mut machine = Machine::new(alloc, code, state);
-    match machine.run(alloc, world, limit) {
+    let progress = machine.run(alloc, world, limit);
+    outcome(machine, progress)
+}
+
+/// The outcome of a script whose machine came so far.
+fn outcome(machine: Machine, progress: Result<Progress, AllocError>) -> Result<Ran, ShellFault>
+    ensures { IsOutcome progress (config_of machine).state result }
+{
+    match progress {
         Ok(Progress::Ended) => Ok(Ran::Ended {
             state: machine.into_state(),
         }),

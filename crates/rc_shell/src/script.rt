@@ -51,7 +51,7 @@ pub fn execute<W: World>(
         (given : List Answer) → Agrees t (state_of state) given }
 {
     match parse(alloc, script) {
-        Ok(cmd) => run_tree(alloc, world, &cmd, state, limit),
+        Ok(cmd) => run_tree(alloc, world, cmd, state, limit),
         Err(InputError::Fault(fault)) => Err(ShellFault::Syntax(fault)),
         Err(InputError::NoMemory) => Err(ShellFault::NoMemory),
     }
