@@ -8,3 +8,4 @@ pub mod Follow
 pub mod Turns
 pub mod Ends
 pub mod Recorded
+pub mod Fitting

@@ -1,29 +1,34 @@
 -- From some number of instructions on, a run ends or waits.
-use Rattle.std.proofs.Common.{◌≡◌, ℕ, ◌≤◌, List, [], ◌∷◌, ◌++◌, Bool, true, false, refl, sym, ap, ◌∙◌, subst}
-use Rattle.rc_model.specs.Run.Calls.{Answer, Call, Event, answers, calls, fitting, is_halt}
+use Rattle.std.proofs.Common.{◌≡◌, List, [], ◌∷◌, false, sym, ap, ◌∙◌, subst}
+use Rattle.rc_model.specs.Run.Calls.{Answer, Call, Event, answers, calls, fitting, is_halt, want}
 use Rattle.rc_model.specs.Run.Plans.{Plan, done_with, ask, cut, Played, Ends, Waits, Cut, after_call, play}
-use Rattle.rc_model.specs.Run.Script.{Within, run, script, StopsAtLimit}
-use Rattle.rc_model.specs.Run.State.{State}
+use Rattle.rc_model.specs.Run.Script.{Within, run, script}
 use Rattle.rc_model.specs.Code.Machine.{exec, begin}
-use Rattle.rc_model.specs.Syntax.Tree.{Node, cmd}
-use Rattle.law_machine.specs.Limits.{IsOver, LimitsEnd}
-use Rattle.law_machine.proofs.Ends.{agrees, answered}
+use Rattle.law_machine.specs.Limits.{IsOver, IsRecorded, LimitsEnd}
+use Rattle.law_machine.proofs.Fitting.{is_taken}
+use Rattle.law_machine.proofs.Ends.{agrees}
 
--- a plan that was cut is cut over more answers too
-cut_after : {X : Type 0} (c : Call) (halted : Bool) (p r : Played X) (made : List Call)
-    → ((rest : List Call) → p ≡ Cut rest → r ≡ Cut rest) → answered c halted p ≡ Cut made → answered c halted r ≡ Cut made
-cut_after c true p r made go h = absurd cc
-cut_after c false (Ends rest x left) r made go h = absurd cc
-cut_after c false (Waits rest) r made go h = absurd cc
-cut_after c false (Cut rest) r made go h = ap (after_call c) (go rest refl) ∙ h
+-- the first call of a plan that was cut, and the others
+first_call : {X : Type 0} (c d : Call) (p : Played X) (others : List Call) → after_call c p ≡ Cut (d ∷ others) → (c ≡ d) × (p ≡ Cut others)
+first_call c d (Ends rest x left) others h = absurd cc
+first_call c d (Waits rest) others h = absurd cc
+first_call c d (Cut rest) others h = (cc, cc)
 
-cut_on : {X : Type 0} (p : Plan X) (front rest : List Answer) (made : List Call) → play p front ≡ Cut made → play p (front ++ rest) ≡ Cut made
-cut_on (done_with x) front rest made h = absurd cc
-cut_on (ask c go) [] rest made h = absurd cc
-cut_on (ask c go) (a ∷ front) rest made h =
-    cut_after c (is_halt a) (play (go (fitting c a)) front) (play (go (fitting c a)) (front ++ rest)) made
-    (λ others e. cut_on (go (fitting c a)) front rest others e) h
-cut_on cut front rest made h = h
+-- a plan that was cut over the answers of a trace is cut over those that were given
+cut_given : {X : Type 0} (p : Plan X) (given : List Answer) (trace : List Event)
+    → IsRecorded given trace → play p (answers trace) ≡ Cut (calls trace) → play p given ≡ Cut (calls trace)
+cut_given (done_with x) given trace from h = absurd cc
+cut_given cut given trace from h = h
+cut_given (ask c go) given [] from h = absurd cc
+cut_given (ask c go) [] (e ∷ trace) from h = absurd from
+cut_given (ask c go) (a ∷ given) (e ∷ trace) from h =
+    let taken = is_taken (want e.call) a in
+    let made : is_halt e.answer ≡ false = ap is_halt from.1 ∙ taken.halts ∙ from.0 in
+    let played : after_call c (play (go (fitting c e.answer)) (answers trace)) ≡ Cut (calls (e ∷ trace)) = simp made at h in
+    let parts = first_call c e.call (play (go (fitting c e.answer)) (answers trace)) (calls trace) played in
+    let same : fitting c e.answer ≡ fitting c a = subst (λ d. fitting d e.answer ≡ fitting d a) (sym parts.0) (ap (fitting e.call) from.1 ∙ taken.again) in
+    let cut_there : play (go (fitting c a)) (answers trace) ≡ Cut (calls trace) = subst (λ x. play (go x) (answers trace) ≡ Cut (calls trace)) same parts.1 in
+    rw from.0 (ap (after_call c) (cut_given (go (fitting c a)) given trace from.2 cut_there) ∙ ap (λ d. Cut (d ∷ calls trace)) parts.0)
 
 never_cut : {X : Type 0} (p q r : Played X) (made : List Call) → IsOver p → Within p q → Within q r → r ≡ Cut made → ⊥
 never_cut (Ends calls x left) q r made over h k e = let same : r ≡ Ends calls x left = subst (λ z. Within z r) h k in cc
@@ -35,8 +40,7 @@ limits_end c s given n over =
     let a = agrees c s given in
     let found = a.meaning_runs n in (
       found.0,
-      λ limit trace rest le first stop.
-          let ran : run limit c s given ≡ Cut (calls trace) =
-          subst (λ z. run limit c s z ≡ Cut (calls trace)) (sym first) (cut_on (exec limit (begin c s)) (answers trace) rest (calls trace) stop.ran) in
+      λ limit trace le from stop.
+          let ran : run limit c s given ≡ Cut (calls trace) = cut_given (exec limit (begin c s)) given trace from stop.ran in
           never_cut (script n c s given) (run found.0 c s given) (run limit c s given) (calls trace) over found.1 (a.code_goes_on found.0 limit le) ran,
     )

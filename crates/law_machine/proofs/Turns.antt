@@ -8,7 +8,7 @@ use Rattle.rc_model.specs.declared.call.Slots.{Slots}
 use Rattle.rc_model.specs.Syntax.Tree.{is_empty, has_no_items, guards, Node, Many, cmd, arg, item, pair, redir, link, branch, none, more, Empty, Seq, Simple, Assign, Redirect, Pipeline, AndOr, Not, Subshell, If, IfNot, While, ForAll, For, Switch, Match, Define, Undefine, Brace, Lit, Concat, Paren, Var, Count, Flat, Sub, Back, Item, Pair, Open, Copy, Here, Link, Branch}
 use Rattle.rc_model.specs.declared.syntax.Logic.{Logic}
 use Rattle.rc_model.specs.declared.syntax.Logic.TheVariants.{And, Or}
-use Rattle.rc_model.specs.Run.Plans.{Plan, done_with, ask, cut, Played, Ends, Waits, Cut}
+use Rattle.rc_model.specs.Run.Plans.{Plan, done_with, ask, cut}
 use Rattle.rc_model.specs.Run.State.{State, set_value, push_local, with_flag, is_true}
 use Rattle.rc_model.specs.Run.Shell.{Result, Next, Exit, Shell, under, leaves, skip, change, stops}
 use Rattle.rc_model.specs.Run.FileNames.{expanded}
