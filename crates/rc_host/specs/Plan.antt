@@ -28,7 +28,7 @@ is_file (To file) = true
 abbrev pub is_in_place : ℕ → Slot → Bool
 is_in_place n slot = is_own n slot || is_file slot
 
--- how copies come about: what /bin/sh is told to do, and what it is given as descriptors 1 and 2
+-- how copies come about: what /bin/sh runs, and what it is given as descriptors 1 and 2
 pub record Copying : Type 0 where
   pub text : List ℕ
   pub output : Slot

@@ -10,7 +10,7 @@ use crate::planned::Plan;
 use rc_world::{Fault, Launch, Program, Slot, Slots};
 use std::alloc::{AllocError, Global};
 
-/// What `/bin/sh` is told, so that descriptor 2 becomes a copy of descriptor 1.
+/// What `/bin/sh` runs, so that descriptor 2 becomes a copy of descriptor 1.
 const ERRORS_TO_OUTPUT: &str = "exec \"$@\" 2>&1";
 
 /// The other way round.

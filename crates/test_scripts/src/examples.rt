@@ -1,6 +1,6 @@
 //! Names each example that is not accepted, or whose text, read again, has another text.
 
-use crate::trees::{told, tree_of};
+use crate::trees::{fault_line, tree_of};
 use anyhow::Result;
 use rc_tree::{Cmd, PrintFault, print};
 use std::alloc::{AllocError, Global};
@@ -10,7 +10,7 @@ use std::fs;
 fn complaint(alloc: Global, script: &[u8]) -> Result<Option<String>, AllocError> {
     match tree_of(alloc, script) {
         Ok(tree) => complaint_of_text(alloc, &tree),
-        Err(fault) => Ok(Some(told(alloc, fault)?)),
+        Err(fault) => Ok(Some(fault_line(alloc, fault)?)),
     }
 }
 

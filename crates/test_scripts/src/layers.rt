@@ -1,7 +1,7 @@
 //! What comes of a script: its tokens, its tree, the text of that, or its fault.
 
 use crate::dump::dump;
-use crate::trees::{refused, told, tree_of};
+use crate::trees::{fault_line, refused, tree_of};
 use rc_lexer::{Token, lex};
 use rc_parser::InputError;
 use rc_tree::{Cmd, PrintFault, clone_tree, print};
@@ -36,7 +36,7 @@ fn tokens(alloc: Global, script: &[u8]) -> Result<String, AllocError> {
     };
     match lex(alloc, text) {
         Ok(tokens) => tokens_shown(alloc, &tokens),
-        Err(fault) => told(alloc, fault),
+        Err(fault) => fault_line(alloc, fault),
     }
 }
 
@@ -65,7 +65,7 @@ fn add_token(out: &mut String, token: &Token) -> Result<(), AllocError> {
 fn fault(alloc: Global, script: &[u8]) -> Result<String, AllocError> {
     match tree_of(alloc, script) {
         Ok(_) => String::from_str(alloc, "accepted"),
-        Err(fault) => told(alloc, fault),
+        Err(fault) => fault_line(alloc, fault),
     }
 }
 

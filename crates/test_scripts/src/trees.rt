@@ -10,7 +10,7 @@ pub fn tree_of(alloc: Global, script: &[u8]) -> Result<Box<Cmd>, ParseError> {
 }
 
 /// The fault of a script with its line.
-pub fn told(alloc: Global, fault: ParseError) -> Result<String, AllocError> {
+pub fn fault_line(alloc: Global, fault: ParseError) -> Result<String, AllocError> {
     match fault {
         InputError::Fault(fault) => format!(in alloc; "{fault}"),
         InputError::NoMemory => Err(AllocError),

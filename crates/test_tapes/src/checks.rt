@@ -8,7 +8,7 @@ use crate::runs::{Stepped, run};
 use crate::story::Story;
 use std::alloc::{AllocError, Global};
 
-/// The most limits that are tried of a row: of a longer run only the first ones are, and nobody is told.
+/// The most limits that are tried of a row: of a longer run only the first ones.
 const MOST_LIMITS: u64 = 400;
 
 /// The bytes of a script and its calls, up to which a row is run at each limit.

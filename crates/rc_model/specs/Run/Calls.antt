@@ -77,12 +77,12 @@ pub record Event : Type 0 where
 abbrev pub event : Call → Answer → Event
 event call answer = record { call = call; answer = answer }
 
--- what an answer gives, where it is of this kind
+-- an answer seen as what its call wants, and as nothing where it is another: a file
 abbrev pub as_file : Answer → Option ℕ
 as_file (file h) = Some h
 as_file _ = None
 
--- an answer seen as what its call wants: nothing where it is another
+-- the two ends of a pipe
 abbrev pub as_pair : Answer → Option (ℕ × ℕ)
 as_pair (pair r w) = Some (r, w)
 as_pair _ = None

@@ -111,7 +111,7 @@ push_local s name value =
     then record s { locals = name ∷ s.locals; status = spaced value }
     else record s { locals = name ∷ s.locals; variables = put_values s.variables name (value ∷ values_of s name) }
 
--- what `if not` looks at
+-- the state with this flag, which `if not` looks at
 abbrev pub with_flag : State → Bool → State
 with_flag s flag = record s { flag = flag }
 

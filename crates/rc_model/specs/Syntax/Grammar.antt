@@ -193,7 +193,7 @@ pub data Phrase : (l : Level) → List Lexeme → Out l → List Lexeme → Type
       Phrase bars (Bar slot ∷ ts) (more (t.Stage c slot) none) rest
   bar_assigned : {slot : ℕ} {ts rest : List Lexeme} {c : Node t.cmd} → Phrase assigned (past_newlines ts) c rest →
       Phrase bars (Bar slot ∷ ts) (more (t.Stage c slot) none) rest
-  -- "!" oper | "@" oper | redir {redir} [oper]
+  -- "!" operand | "@" operand | redir {redir} [operand]
   not_leading : {after_if : Bool} {text : List ℕ} {ts rest : List Lexeme} {c : Node t.cmd} → keyword text ≡ BangWord →
       Phrase (operand false) (past_caret ts) c rest →
       Phrase (leading after_if) (Word text ∷ ts) (t.Not c) rest
@@ -203,19 +203,19 @@ pub data Phrase : (l : Level) → List Lexeme → Out l → List Lexeme → Type
   redir_leading : {after_if : Bool} {ts mid next rest : List Lexeme} {r : Node t.redir} {rs : Many t.redir}
       {c : Node t.cmd} → Phrase redir ts r mid → Phrase redirs mid rs next →
       Phrase optional next c rest → Phrase (leading after_if) ts (t.Redirect (more r rs) c) rest
-  -- "if" paren {NL} [cmd] | "while" paren {NL} [cmd]
+  -- "if" paren {NL} [command] | "while" paren {NL} [command]
   if_leading : {after_if : Bool} {text : List ℕ} {ts mid rest : List Lexeme} {c d : Node t.cmd} → keyword text
       ≡ IfWord → Phrase paren (past_caret ts) c mid → Phrase body mid d rest →
       Phrase (leading after_if) (Word text ∷ ts) (t.If c d) rest
   while_leading : {after_if : Bool} {text : List ℕ} {ts mid rest : List Lexeme} {c d : Node t.cmd} → keyword text
       ≡ WhileWord → Phrase paren (past_caret ts) c mid →
       Phrase body mid d rest → Phrase (leading after_if) (Word text ∷ ts) (t.While c d) rest
-  -- "if" "not" {NL} [cmd], an item of a list after an `if` or `if not` item that isn't in the background
+  -- "if" "not" {NL} [command], an item of a list after an `if` or `if not` item that isn't in the background
   if_not_leading : {text next_text : List ℕ} {ts next rest : List Lexeme} {d : Node t.cmd} → keyword text ≡ IfWord →
       past_caret ts ≡ Word next_text ∷ next →
       keyword next_text ≡ NotWord → Phrase body (past_caret next) d rest →
       Phrase (leading true) (Word text ∷ ts) (t.IfNot d) rest
-  -- "for" "(" arg [ "in" {arg} ] ")" {NL} [cmd], where newlines are blanks up to the `)`
+  -- "for" "(" arg [ "in" {arg} ] ")" {NL} [command], where newlines are blanks up to the `)`
   for_all_leading : {after_if : Bool} {text : List ℕ} {ts head mid next rest : List Lexeme} {a : Node t.arg}
       {d : Node t.cmd} → keyword text ≡ ForWord →
       past_caret ts ≡ LeftParen ∷ head → Phrase (arg true) (past_newlines head) a mid → past_newlines mid ≡ RightParen
@@ -227,7 +227,7 @@ pub data Phrase : (l : Level) → List Lexeme → Out l → List Lexeme → Type
       ≡ Word next_text ∷ list → keyword next_text ≡ InWord →
       Phrase members (past_caret list) as' next → Phrase body next d rest →
       Phrase (leading after_if) (Word text ∷ ts) (t.For a as' d) rest
-  -- first "=" arg {first "=" arg} [oper], where the operand doesn't begin with an assignment
+  -- first "=" arg {first "=" arg} [operand], where the operand doesn't begin with an assignment
   assignment : {ts next mid rest : List Lexeme} {a v : Node t.arg} {x : Many t.pair × Node t.cmd} → begins_first ts
       ≡ true → Phrase (arg false) ts a (Equals ∷ next) →
       Phrase (arg false) next v mid → Phrase values mid x rest →
@@ -239,17 +239,17 @@ pub data Phrase : (l : Level) → List Lexeme → Out l → List Lexeme → Type
   values_leading : {ts rest : List Lexeme} {c : Node t.cmd} → Phrase (leading false) ts c rest →
       Phrase values ts (none, c) rest
   values_pipe : {ts rest : List Lexeme} {c : Node t.cmd} → Phrase pipe ts c rest → Phrase values ts (none, c) rest
-  -- oper
+  -- operand
   leading_operand : {after_if : Bool} {ts rest : List Lexeme} {c : Node t.cmd} → Phrase (leading after_if) ts c rest →
       Phrase (operand after_if) ts c rest
   assigned_operand : {after_if : Bool} {ts rest : List Lexeme} {c : Node t.cmd} → Phrase assigned ts c rest →
       Phrase (operand after_if) ts c rest
   pipe_operand : {after_if : Bool} {ts rest : List Lexeme} {c : Node t.cmd} → Phrase pipe ts c rest →
       Phrase (operand after_if) ts c rest
-  -- [oper]
+  -- [operand]
   no_operand : {rest : List Lexeme} → begins_command rest ≡ false → Phrase optional rest t.Empty rest
   one_operand : {ts rest : List Lexeme} {c : Node t.cmd} → Phrase (operand false) ts c rest → Phrase optional ts c rest
-  -- cmd = oper { ("&&" | "||") {NL} oper }
+  -- command = operand { ("&&" | "||") {NL} operand }
   linked : {after_if : Bool} {ts mid rest : List Lexeme} {c : Node t.cmd} {ls : Many t.link} →
       Phrase (operand after_if) ts c mid → Phrase links mid ls rest →
       Phrase (command after_if) ts (and_or c ls) rest
@@ -260,12 +260,12 @@ pub data Phrase : (l : Level) → List Lexeme → Out l → List Lexeme → Type
   or_link : {ts mid rest : List Lexeme} {c : Node t.cmd} {ls : Many t.link} →
       Phrase (operand false) (past_newlines ts) c mid → Phrase links mid ls rest →
       Phrase links (OrOr ∷ ts) (more (t.Link t.Or c) ls) rest
-  -- {NL} [cmd], with no `&&` or `||` after it: a control form is always the last operand
+  -- {NL} [command], with no `&&` or `||` after it: a control form is always the last operand
   no_body : {ts : List Lexeme} → begins_command (past_newlines ts) ≡ false → begins_link (past_newlines ts) ≡ false →
       Phrase body ts t.Empty (past_newlines ts)
   one_body : {ts rest : List Lexeme} {c : Node t.cmd} → Phrase (command false) (past_newlines ts) c rest →
       Phrase body ts c rest
-  -- list = [cmd] { (";" | "&" | NL) [cmd] }, where "&" needs a command before it
+  -- list = [command] { (";" | "&" | NL) [command] }, where "&" needs a command before it
   no_item : {in_switch after_if : Bool} {rest : List Lexeme} → ends in_switch rest ≡ true →
       Phrase (items in_switch after_if) rest none rest
   semicolon_item : {in_switch after_if : Bool} {ts rest : List Lexeme} {is : Many t.item} →

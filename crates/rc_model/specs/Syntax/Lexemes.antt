@@ -62,7 +62,7 @@ pub record Place : Type 0 where
 abbrev pub first_place : Place
 first_place = record { byte = 0; line = 1 }
 
--- the place after a character, and after several
+-- the place after a character
 abbrev pub after_char : Place → ℕ → Place
 after_char p c = record { byte = p.byte + len_utf8 c; line = if c == 10 then suc p.line else p.line }
 
@@ -131,7 +131,7 @@ is_in_word Ordinary rest = true
 is_in_word Backslash rest = not (at_newline rest)
 is_in_word _ rest = false
 
--- the text goes on with a character of an unquoted word, with one of a name, with one of a line
+-- the text goes on with a character of an unquoted word
 abbrev pub word_goes_on : List ℕ → Bool
 word_goes_on [] = false
 word_goes_on (c ∷ cs) = is_in_word (class_of c) cs

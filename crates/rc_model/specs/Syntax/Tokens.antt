@@ -79,7 +79,7 @@ meant prev rest DollarCount = if names rest then DollarCount else BareDollar
 meant prev rest DollarFlat = if names rest then DollarFlat else BareDollar
 meant prev rest l = l
 
--- a `$`, a quoted word or a backquote; an unquoted word
+-- a `$`, a quoted word or a backquote
 abbrev pub begins_part : Lexeme → Bool
 begins_part (Quoted text) = true
 begins_part Backquote = true
