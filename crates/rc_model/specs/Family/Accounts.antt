@@ -56,7 +56,7 @@ next_due (made p w) (start l) = used p w l.slots.input
 next_due (used p w i) (close h) = passed p i
 next_due d c = free
 
--- a pipe comes to the pipeline of the one whose end this is
+-- a new pipe joins the pipeline of the pipe whose end this is
 abbrev pub joins : ℕ → Thing → (ℕ → ℕ) → ℕ → ℕ
 joins p a_file line = line
 joins p (read_end q) line = put line p (line q)

@@ -19,7 +19,7 @@ IsWord text = IsText text × ((text ≢ []) × Run word_goes_on (chars text) [])
 abbrev pub IsName : List ℕ → Type 0
 IsName text = (text ≢ []) × (list_all is_name_char text ≡ true)
 
--- words are words, names are names, and descriptors are those of the language
+-- words and names follow their rules, and descriptors are those of the language
 abbrev pub IsSpelled : Lexeme → Type 0
 IsSpelled (Word text) = IsWord text
 IsSpelled (Quoted text) = IsText text

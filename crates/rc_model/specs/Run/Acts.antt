@@ -268,7 +268,7 @@ read_on again most text (Some (b ∷ bs)) =
     if nat_le (length (text ++ b ∷ bs)) most then again (text ++ b ∷ bs)
     else pure (got_all (text ++ b ∷ bs) (Some (codes "too large")))
 
--- reads up to the empty answer; each but the last gives a byte, so that more than most reads are never made
+-- reads up to the empty answer; each but the last gives a byte, so at most `most` + 1 reads are made
 abbrev pub reading : ℕ → ℕ → ℕ → List ℕ → Shell Got
 reading zero most h text = pure (got_all text (Some (codes "too large")))
 reading (suc n) most h text = do

@@ -87,8 +87,8 @@ Out (items in_switch after_if) = Many t.item
 Out (after in_switch after_if) = Bool × Many t.item
 Out branches = Many t.branch
 
--- The productions: the tokens begin with a phrase that has this tree, and what follows it is the rest. Repeated parts
--- are as many as there are.
+-- The productions: the tokens begin with a phrase that has this tree, and what follows it is the rest. Each repetition
+-- is as long as possible.
 pub data Phrase : (l : Level) → List Lexeme → Out l → List Lexeme → Type 0 where
   -- name = NAME | quoted | "$" name
   bare_name : {text : List ℕ} {rest : List Lexeme} → Phrase name (Name text ∷ rest) (t.Lit text false) rest

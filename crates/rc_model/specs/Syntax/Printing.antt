@@ -66,9 +66,8 @@ abbrev mutual
   begin_with_case none = false
   begin_with_case (more word words) = begins_with_case word
 
--- Redirections stand after this command; before every other. A simple command that would make a case line of an item
--- that begins with it
--- has them before it.
+-- Whether redirections follow this command. They precede every other one, and a simple command that would read as a
+-- case line where an item begins with it.
 abbrev pub stands_first : Node t.cmd → (begins : Bool) → Bool
 stands_first (t.Simple words) begins = not (begins && begin_with_case words)
 stands_first (t.Brace body) begins = true
