@@ -106,7 +106,8 @@ fn clone_for_all(alloc: Global, name: &Arg, body: &Box<Cmd>) -> Result<Cmd, Allo
 #[cycle(clone)]
 #[tactic(auto, using(rc_tree_types::specs::View::tree_For))]
 fn clone_for(alloc: Global, words: &[Arg], name: &Arg, body: &Box<Cmd>) -> Result<Cmd, AllocError>
-    ensures { IfOk result (λ x. cmd_tree x ≡ t.For (arg_tree name.now) (args_tree words.now) (cmd_tree body.now.value)) }
+    ensures { IfOk result (λ x. cmd_tree x
+        ≡ t.For (arg_tree name.now) (args_tree words.now) (cmd_tree body.now.value)) }
 {
     Ok(Cmd::For(
         clone_arg(alloc, name)?,

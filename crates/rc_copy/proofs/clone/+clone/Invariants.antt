@@ -47,7 +47,8 @@ abbrev pub decreases-clone_for_all : goal.decreases-clone_for_all
 decreases-clone_for_all l = 3 * (max (goal.size-clone_for_all l) (command.the_size l.body.now.value)) + 2
 
 abbrev pub decreases-clone_for : goal.decreases-clone_for
-decreases-clone_for l = 3 * (max (max (goal.size-clone_for l) (argument.the_size l.name.now)) (command.the_size l.body.now.value)) + 2
+decreases-clone_for l =
+    3 * (max (max (goal.size-clone_for l) (argument.the_size l.name.now)) (command.the_size l.body.now.value)) + 2
 
 abbrev pub decreases-clone_switch : goal.decreases-clone_switch
 decreases-clone_switch l = 3 * (max (goal.size-clone_switch l) (argument.the_size l.subject.now)) + 2
