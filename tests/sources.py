@@ -36,7 +36,7 @@ def read(path):
 
 
 def write(path, text):
-    """Writes a file, with the folders that it lies in."""
+    """Writes a file, with the directories that it lies in."""
     os.makedirs(os.path.dirname(path), exist_ok=True)
     with open(path, "w", encoding="utf-8") as it:
         it.write(text)
