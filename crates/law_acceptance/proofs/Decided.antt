@@ -1,28 +1,29 @@
 -- Each script is accepted or refused, and never both.
-use Rattle.std.proofs.Common.{◌≡◌, ℕ, ◌<◌, ◌≤◌, Bool, true, false, ◌&&◌, List, length, Result, Ok, Err, ◌⊎◌, inl, inr, refl, sym, subst, ◌∙◌, arith, nat_le}
+use Rattle.std.proofs.Common.{◌≡◌, ℕ, ◌≤◌, Bool, true, false, ◌&&◌, List, length, Result, Ok, Err, ◌⊎◌, inl, inr, refl, sym, subst, ◌∙◌, arith, nat_le}
 use Rattle.std.proofs.lemmas.Bool.{leb-true, leb-false}
 use Rattle.std.proofs.lemmas.Bool.Decides.{nat_tests}
 use Rattle.std.proofs.lemmas.Str.{IsUtf8-from_is_utf8}
 use Rattle.std.specs.Str.{is_utf8}
 use Rattle.std.specs.Str.Lossy.{utf8_valid_len}
-use Rattle.rc_model.specs.Syntax.Tokens.{Token, Lexeme, Lexes}
+use Rattle.rc_model.specs.Syntax.Tokens.{Token, Lexes}
 use Rattle.rc_model.specs.Mirrors.Reading.{lexed}
 use Rattle.rc_model.specs.Mirrors.Spelling.{AreSpelled}
 use Rattle.rc_model.specs.Syntax.Tree.{Node, cmd}
-use Rattle.rc_model.specs.Syntax.WellFormed.{depth, most_stages, is_sound}
+use Rattle.rc_model.specs.Syntax.WellFormed.{depth, is_sound}
 use Rattle.rc_model.specs.declared.fault.SyntaxFault.{SyntaxFault}
 use Rattle.rc_model.specs.Syntax.Faults.{fault}
 use Rattle.rc_model.specs.Syntax.Accepted.{HasTokens, IsAccepted, IsRefused, IsLineOf, lexemes, line_of, longest_script}
 use Rattle.rc_model.specs.Syntax.Accepted as script
 use Rattle.rc_model.specs.Syntax.Grammar.{HaveTree}
-use Rattle.rc_model.specs.Mirrors.Descent.{Fault, script_tree}
-use Rattle.rc_model.specs.Mirrors.Descent as descent
+use Rattle.rc_model.specs.Mirrors.Descent.{script_tree}
 use Rattle.rc_model.specs.Mirrors.ParsingLaws.{AcceptedAreWellFormed, IsDecided, IsNeverBoth}
 use Rattle.law_grammar.proofs.Laws.{finds_only_trees, has_no_tree, has_too_many_stages, is_too_deep}
 use Rattle.law_grammar.proofs.Sound.{has_sound_trees}
 use Rattle.law_lexing.proofs.Lexing.{law, one_reading, one_cut}
 use Rattle.law_lexing.proofs.Spelled.{spelled_tokens}
 use Rattle.rc_model.specs.declared.fault.FaultKind.TheVariants.{IfNot, NotText, TooDeep, TooLong, TooManyStages, Unexpected}
+use Rattle.rc_model.specs.declared.fault.DescentFault.{DescentFault}
+use Rattle.rc_model.specs.declared.fault.DescentFault.TheVariants as descent
 
 -- the tokens of a script are spelled as the language has it
 pub are_spelled : {text : List ℕ} {tokens : List Token} → HasTokens text tokens → AreSpelled (lexemes tokens)
@@ -75,7 +76,7 @@ Decided text = ((tree : Node cmd) × IsAccepted text tree) ⊎ ((f : SyntaxFault
 abbrev last_line : List ℕ → ℕ
 last_line text = line_of text (length text)
 
-refused_by : (text : List ℕ) (tokens : List Token) (e : Fault) → HasTokens text tokens → script_tree 200 (lexemes tokens) ≡ Err e → (f : SyntaxFault) × IsRefused text f
+refused_by : (text : List ℕ) (tokens : List Token) (e : DescentFault) → HasTokens text tokens → script_tree 200 (lexemes tokens) ≡ Err e → (f : SyntaxFault) × IsRefused text f
 refused_by text tokens descent.Unexpected h e =
     (fault Unexpected (last_line text), script.unexpected tokens (last_line text) h (inr refl) (λ tree s. has_no_tree 200 (lexemes tokens) tree (inl e) s))
 refused_by text tokens descent.IfNot h e =
@@ -85,7 +86,7 @@ refused_by text tokens descent.TooDeep h e =
 refused_by text tokens descent.TooManyStages h e =
     (fault TooManyStages (last_line text), script.too_many_stages tokens (last_line text) h (inr refl) (λ tree s. has_too_many_stages 200 (lexemes tokens) tree e s))
 
-by_tree : (text : List ℕ) (tokens : List Token) (r : Result (Node cmd) Fault) → HasTokens text tokens → script_tree 200 (lexemes tokens) ≡ r → Decided text
+by_tree : (text : List ℕ) (tokens : List Token) (r : Result (Node cmd) DescentFault) → HasTokens text tokens → script_tree 200 (lexemes tokens) ≡ r → Decided text
 by_tree text tokens (Ok tree) h e = inl (tree, record { tokens = tokens; has = h; tree_is = finds_only_trees 200 (lexemes tokens) tree e })
 by_tree text tokens (Err f) h e = inr (refused_by text tokens f h e)
 

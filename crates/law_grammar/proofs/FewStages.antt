@@ -18,8 +18,8 @@ pipe_turn_few : (r : Readers) → Small r → (go_on : Many t.stage → Node t.c
     ((ss : Many t.stage) (c : Node t.cmd) (ts : List Lexeme) → count ss ≤ 63 → most_stages_in ss ≤ 64 → most_stages c ≤ 64 → Few most_stages (go_on ss c ts)) →
     (ss : Many t.stage) (c : Node t.cmd) (ts : List Lexeme) → count ss ≤ 63 → most_stages_in ss ≤ 64 → most_stages c ≤ 64 → Few most_stages (d.pipe_turn r go_on ss c ts)
 pipe_turn_few r s go_on goes ss c (Bar slot ∷ ts) n h k =
-    either (nat_lt (count ss) 63) _ _ (λ e.
-    let one = ltb-true (count ss) 63 e in
+    either (nat_lt (suc (count ss)) 64) _ _ (λ e.
+    let one = ltb-true (suc (count ss)) 64 e in
     let two = count_snoc ss (t.Stage c slot) in
     let three = few_snoc ss (t.Stage c slot) h k in
     bind (r d.a_piped (past_newlines ts)) _ (s.piped (past_newlines ts)) (λ p j.

@@ -10,14 +10,15 @@ use Rattle.rc_model.specs.Mirrors.Descent as d
 use Rattle.rc_model.specs.Mirrors.Descent.{Read, Reader, Readers}
 use Rattle.rc_model.specs.declared.syntax.Keyword.TheVariants.{At as AtWord, Bang as BangWord, Fn as FnWord, For as ForWord, If as IfWord, In as InWord, Match as MatchWord, Not as NotWord, Plain as NoKeyword, Switch as SwitchWord, While as WhileWord}
 use Rattle.law_grammar.proofs.FewStagesInArguments.{Few, opening_wide, bind, either, few_snoc, few_redirect, Small, arg_few, members_few, words_few, redir_few, redirs_few, simple_few, brace_few, paren_few}
+use Rattle.rc_model.specs.declared.fault.DescentFault.TheVariants as descent
 
 -- what follows `switch`, `~` and `fn`
 branch_few : (r : Readers) → Small r → (ts : List Lexeme) → Few most_stages (d.branch_by r ts)
 unfolding d.branch_by
 branch_few r s ts =
     bind (d.words_by (r (d.a_part false)) ts) _ (words_few (r (d.a_part false)) (s.part false) ts) (λ as' h.
-    bind (if ends_case as'.1 then r (d.a_list true) as'.1 else Err d.Unexpected) _
-    (either (ends_case as'.1) (r (d.a_list true) as'.1) (Err d.Unexpected) (λ e. s.list true as'.1) (record { few = tt })) (λ is k. record { few = omega arith }))
+    bind (if ends_case as'.1 then r (d.a_list true) as'.1 else Err descent.Unexpected) _
+    (either (ends_case as'.1) (r (d.a_list true) as'.1) (Err descent.Unexpected) (λ e. s.list true as'.1) (record { few = tt })) (λ is k. record { few = omega arith }))
 
 branches_turn_few : (r : Readers) → Small r → (go_on : Many t.branch → Reader (Many t.branch)) →
     ((front : Many t.branch) (ts : List Lexeme) → most_stages_in front ≤ 64 → Few most_stages_in (go_on front ts)) →
@@ -102,7 +103,7 @@ body_few : (r : Readers) → Small r → (ts : List Lexeme) → Few most_stages 
 unfolding d.body_by
 body_few r s ts =
     either (begins_command (past_newlines ts)) _ _ (λ e. s.command false (past_newlines ts))
-    (either (begins_link (past_newlines ts)) (Err d.Unexpected) _ (λ e. record { few = tt }) (record { few = omega arith }))
+    (either (begins_link (past_newlines ts)) (Err descent.Unexpected) _ (λ e. record { few = tt }) (record { few = omega arith }))
 
 optional_few : (r : Readers) → Small r → (ts : List Lexeme) → Few most_stages (d.optional_by r ts)
 unfolding d.optional_by

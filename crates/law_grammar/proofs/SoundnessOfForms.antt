@@ -11,6 +11,7 @@ use Rattle.rc_model.specs.Mirrors.Descent.{Read, Readers, Opening, Staged, Named
 use Rattle.law_grammar.proofs.Lists.{done, ok_same, bind_ok, if_ok, Adds, adds_none, adds_more, adds_same, all_added}
 use Rattle.rc_model.specs.declared.syntax.Keyword.TheVariants.{At as AtWord, Bang as BangWord, Fn as FnWord, For as ForWord, If as IfWord, In as InWord, Match as MatchWord, Not as NotWord, Plain as NoKeyword, Switch as SwitchWord, While as WhileWord}
 use Rattle.law_grammar.proofs.SoundnessOfArguments.{Sound, found, arg_sound, members_sound, words_sound, redir_sound, redirs_sound, simple_sound, brace_sound, paren_sound, arg_begins}
+use Rattle.rc_model.specs.declared.fault.DescentFault.TheVariants as descent
 
 -- the case lines of a switch
 record IsBranch (ts : List Lexeme) (b : Node t.branch) (rest : List Lexeme) : Type 0 where
@@ -26,7 +27,7 @@ branch_sound : (r : Readers) → Sound r → (ts : List Lexeme) (x : Node t.bran
 unfolding d.branch_by
 branch_sound r s ts x h =
     let w = bind_ok (d.words_by (r (d.a_part false)) ts) _ x h in
-    let v = bind_ok (if ends_case w.0.1 then r (d.a_list true) w.0.1 else Err d.Unexpected) _ x w.2 in
+    let v = bind_ok (if ends_case w.0.1 then r (d.a_list true) w.0.1 else Err descent.Unexpected) _ x w.2 in
     let e = ok_same (t.Branch w.0.0 (t.Seq v.0.0), v.0.1) x v.2 in
     elim (if_ok (ends_case w.0.1) _ _ v.0 v.1) [
       | inl b ↦ record {

@@ -65,7 +65,7 @@ piped_shorter ts c false rest (inr p) = let h = Phrase-shorter p in omega arith
 pipe_turn_sound : (r : Readers) → Sound r → (k : ℕ) (go_on : Many t.stage → Node t.cmd → Reader (Node t.cmd))
     (goes : (front : Many t.stage) (last : Node t.cmd) (ts : List Lexeme) (x : Node t.cmd × List Lexeme) → length ts ≤ k → go_on front last ts ≡ Ok x → AddsStages ts front last x)
     (front : Many t.stage) (last : Node t.cmd) (ts : List Lexeme) (x : Node t.cmd × List Lexeme) → length ts ≤ suc k → d.pipe_turn r go_on front last ts ≡ Ok x → AddsStages ts front last x
-pipe_turn_sound r s k go_on goes front last (Bar slot ∷ ts) x le h = elim (if_ok (nat_lt (count front) 63) _ _ x h) [
+pipe_turn_sound r s k go_on goes front last (Bar slot ∷ ts) x le h = elim (if_ok (nat_lt (suc (count front)) 64) _ _ x h) [
   | inl b ↦ (let w = bind_ok (r d.a_piped (past_newlines ts)) _ x b.1 in
       let p = s.piped (past_newlines ts) w.0 w.1 in
       let shorter = piped_shorter (past_newlines ts) w.0.0.0 w.0.0.1 w.0.1 p in

@@ -9,7 +9,7 @@ use Rattle.rc_model.specs.declared.call.Slots.{Slots}
 use Rattle.rc_model.specs.declared.call.Mode.{Mode}
 use Rattle.rc_model.specs.declared.call.Mode.TheVariants.{Read}
 use Rattle.rc_model.specs.Run.Calls.{to_file, with_slot, Launch, open_file, here, make_pipe, close, read, write, start, wait, list_names, probe, as_file, as_pair, as_bytes, as_kind, as_child, as_names}
-use Rattle.rc_model.specs.Run.Lists.{ListFault, EmptyConcat, CountMismatch, concatenated}
+use Rattle.rc_model.specs.Run.Lists.{concatenated, list_words}
 use Rattle.rc_model.specs.Run.State.{State, got, is_name, is_readable, is_function_name, define, add_child}
 use Rattle.rc_model.specs.Run.Shell.{Shell, ◌>>=◌, pure, call, say, change, exits}
 use Rattle.rc_model.specs.Run.FileNames.{components, directory, fitting_names, each_name, if_there, listed, step, walk, paths_of, or_itself, names_of, expanded_word, expanded}
@@ -20,6 +20,7 @@ use Rattle.rc_model.specs.Handed.HandedLaws.{ReadsBack, IsReadBack}
 use Rattle.law_image.proofs.Proper.{proper_set, proper_define, proper_same}
 use Rattle.law_image.proofs.Handed.{launch_reads_back}
 use Rattle.law_handed.proofs.Safe.{Gives, Keeps, bind_so, bind, next, gives_pure, keeps_pure, keeps_skip, gives_exits, keeps_call, keeps_say, keeps_change, keeps_status, gives_from, gives_at, gives_if}
+use Rattle.rc_model.specs.declared.fault.ListFault.{ListFault}
 
 -- reports and runtime errors
 pub keeps_report : (slots : Slots) (text : List ℕ) → Keeps (report slots text)
@@ -66,8 +67,7 @@ keeps_selected_words slots x ss = bind (value slots x) _ (keeps_value slots x) (
 
 keeps_joined : (slots : Slots) (r : Result (List Word) ListFault) → Keeps (joined_lists slots r)
 keeps_joined slots (Ok ws) = keeps_pure ws
-keeps_joined slots (Err EmptyConcat) = gives_fails slots (codes "empty list in concatenation")
-keeps_joined slots (Err CountMismatch) = gives_fails slots (codes "list lengths differ in concatenation")
+keeps_joined slots (Err fault) = gives_fails slots (list_words fault)
 
 pub keeps_concat : (slots : Slots) (a b : List Word) → Keeps (concat_words slots a b)
 keeps_concat slots a b = keeps_joined slots (concatenated a b)

@@ -8,9 +8,10 @@ use Rattle.std.proofs.lemmas.Bool.{and_parts, and_from, leb-true, le-leb, eqb-tr
 use Rattle.rc_model.specs.Run.Numbers.{is_digit, digits_value}
 use Rattle.rc_model.specs.Syntax.Tree.{Sort, Node, Many, none, more, count}
 use Rattle.rc_model.specs.Handed.TreeSpelling.{◌⨾◌, Is, Number, is_text, Texted, Listed, Spells, SpellsAll}
-use Rattle.rc_model.specs.Handed.TreeReading.{ImageFault, Reader, ◌>>=◌, made, both, tested, chosen, tagged, given, digit_run, past_digits, is_count, marked, count_at, bytes_at, text_at, nodes_at, listed}
+use Rattle.rc_model.specs.Handed.TreeReading.{Reader, ◌>>=◌, made, both, tested, chosen, tagged, given, digit_run, past_digits, is_count, marked, count_at, bytes_at, text_at, nodes_at, listed}
 use Rattle.law_image.proofs.Counts.{run_of, past_of, run_and_past, run_digits, count_of, number_at}
 use Rattle.law_image.proofs.Fits.{fits, all_fit}
+use Rattle.rc_model.specs.declared.fault.ImageFault.{ImageFault}
 
 -- where a reader read x, a spelling of x stands
 pub record Found {X : Type 0} (S : X → List ℕ → Type 0) (ok : X → Bool) (bytes : List ℕ) (x : X) (rest : List ℕ) : Type 0 where

@@ -9,10 +9,12 @@ use Rattle.rc_model.specs.Syntax.Tree as t
 use Rattle.rc_model.specs.Run.State.{State, new_state, push_local, set_value, define}
 use Rattle.rc_model.specs.Handed.Pieces.{pieces, last_cut, words_of}
 use Rattle.rc_model.specs.Handed.Image.{node_image, many_image, entries, shell_args}
-use Rattle.rc_model.specs.Handed.TreeReading.{ImageFault, BadTag, BadLength, Version, cmd_at, arg_at}
+use Rattle.rc_model.specs.Handed.TreeReading.{cmd_at, arg_at}
 use Rattle.rc_model.specs.Handed.WordsReading.{Taken, read_words, read_pieces}
 use Rattle.rc_model.specs.Handed.Environment.{fresh_state, read_state}
 use Rattle.rc_model.specs.Handed.Arguments.{reads}
+use Rattle.rc_model.specs.declared.fault.ImageFault.{ImageFault}
+use Rattle.rc_model.specs.declared.fault.ImageFault.TheVariants.{BadLength, BadTag, Version}
 
 -- a command of one word, and its spelling
 command : List ℕ → Node cmd

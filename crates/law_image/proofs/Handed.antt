@@ -12,7 +12,7 @@ use Rattle.rc_model.specs.Syntax.Tokens.{is_name_char}
 use Rattle.rc_model.specs.Run.State.{State, status_name, is_name, value_of}
 use Rattle.rc_model.specs.Handed.Pieces.{longest_word, most_pieces, one_word, several_words, pieces}
 use Rattle.rc_model.specs.Handed.Image.{node_image, image_words, handed_words, strict_option, shell_args, entries, value_text, handed_values, with_functions, is_fit, is_short, shell_launch}
-use Rattle.rc_model.specs.Handed.TreeReading.{ImageFault, ◌>>=◌}
+use Rattle.rc_model.specs.Handed.TreeReading.{◌>>=◌}
 use Rattle.rc_model.specs.Handed.Environment.{bindings, is_function, variables_in, status_in, functions_in, with_args, fresh_state, read_state}
 use Rattle.rc_model.specs.Handed.Arguments.{as_option, reads, reads_by, options, read_image, entry_state, flat}
 use Rattle.rc_model.specs.Handed.Proper.{IsProperTree, IsProper, is_own_name}
@@ -21,6 +21,7 @@ use Rattle.law_image.proofs.Words.{words_read_back}
 use Rattle.law_image.proofs.Members.{bindings_back, no_equals, members_back}
 use Rattle.law_image.proofs.Entries.{keys_hold, variables_skip, variables_back, status_put, star_back, plain_flat}
 use Rattle.law_image.proofs.Functions.{fns, fns_of, fns_none, functions_same, functions_back, unseen_none, variables_past, status_past, name_no_equals, name_no_function, names_handed, names_functions, fn_binding, AllWritable, handed_writable}
+use Rattle.rc_model.specs.declared.fault.ImageFault.{ImageFault}
 
 -- what is handed over beside the functions
 abbrev values : State → List (List ℕ × List ℕ)

@@ -11,9 +11,10 @@ use Rattle.rc_model.specs.declared.syntax.Logic.TheVariants.{And, Or}
 use Rattle.rc_model.specs.Syntax.Tree as t
 use Rattle.rc_model.specs.Syntax.WellFormed.{is_output, copies, has_text}
 use Rattle.rc_model.specs.Handed.TreeSpelling.{◌⨾◌, Is, Output, Crossing, Plainly, Spells}
-use Rattle.rc_model.specs.Handed.TreeReading.{TooDeep, Reader, made, tagged, given, output_at, crossing_at, any, some, several, few, need, output_rows, crossing_rows, item_rows, link_rows, piece_rows, redir_rows, item_at, pair_at, stage_at, link_at, branch_at, piece_at, redir_at, cmd_rows, arg_rows, cmd_at, arg_at}
+use Rattle.rc_model.specs.Handed.TreeReading.{Reader, made, tagged, given, output_at, crossing_at, any, some, several, few, need, output_rows, crossing_rows, item_rows, link_rows, piece_rows, redir_rows, item_at, pair_at, stage_at, link_at, branch_at, piece_at, redir_at, cmd_rows, arg_rows, cmd_at, arg_at}
 use Rattle.law_image.proofs.Fits.{fits}
 use Rattle.law_image.proofs.Exact.{Found, Exact, ok_inj, bind_back, bind_on, both_exact, tested_exact, text_exact, Good, listed_exact, RowOnly, ◌▹◌, tagged_only, row_only, row_accepts, given_only}
+use Rattle.rc_model.specs.declared.fault.ImageFault.TheVariants.{TooDeep}
 
 abbrev One : {s : Sort} → Node s → List ℕ → Type 0
 One x = Spells x

@@ -8,7 +8,7 @@ use Rattle.std.proofs.lemmas.Bool.{and_parts, and_from}
 use Rattle.rc_model.specs.Syntax.Text.{text_cmp, begins_with}
 use Rattle.rc_model.specs.Syntax.Tree.{Node, cmd}
 use Rattle.rc_model.specs.Run.State.{State, status_name, is_name, is_function_name}
-use Rattle.rc_model.specs.Handed.TreeReading.{ImageFault, ◌>>=◌, read_tree}
+use Rattle.rc_model.specs.Handed.TreeReading.{◌>>=◌, read_tree}
 use Rattle.rc_model.specs.Handed.WordsReading.{read_pieces}
 use Rattle.rc_model.specs.Handed.Environment.{Bindings, Variables, Functions, bindings, members_of, is_variable, variables_in, is_function, with_function, functions_in, with_args, own_functions, own_status, fresh_state, read_state}
 use Rattle.rc_model.specs.Handed.Proper.{Ordered, IsProperTree, AllProperTrees, is_own_name, IsProper}
@@ -19,6 +19,7 @@ use Rattle.law_image.proofs.Texts.{text_of}
 use Rattle.law_image.proofs.Words.{reads_words}
 use Rattle.law_image.proofs.Entries.{keys_hold}
 use Rattle.law_image.proofs.Proper.{ProperValues, ordered_insert, scripts_insert, proper_same}
+use Rattle.rc_model.specs.declared.fault.ImageFault.{ImageFault}
 
 pub read_script : (text : List ℕ) (c : Node cmd) → read_tree text ≡ Ok c → IsProperTree c
 read_script text c h = let s = (reads_spellings text c).0 h in record { sound = s.1; characters = (text_of c s.0.back s.0.second).characters }

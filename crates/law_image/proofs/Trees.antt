@@ -7,12 +7,13 @@ use Rattle.rc_model.specs.Syntax.Tree.{Node, cmd}
 use Rattle.rc_model.specs.Handed.Image.{image, node_image}
 use Rattle.rc_model.specs.Syntax.WellFormed.{well_formed, is_sound, depth}
 use Rattle.rc_model.specs.Handed.TreeSpelling.{Spells, SpellsImage}
-use Rattle.rc_model.specs.Handed.TreeReading.{ImageFault, read_spelling, read_tree, whole, cmd_at}
+use Rattle.rc_model.specs.Handed.TreeReading.{read_spelling, read_tree, whole, cmd_at}
 use Rattle.rc_model.specs.Handed.TreeLaws.{OneSpelling, HasSpelling, OneTree, ReadsSpellings, TreesReadBack}
 use Rattle.law_image.proofs.Exact.{ok_inj, if_ok}
 use Rattle.law_image.proofs.Levels.{cmd_exact}
 use Rattle.law_image.proofs.Sound.{fits_of, sound_of, Sound}
 use Rattle.law_image.proofs.OneSpelling.{joins, image_of, mark, spelled}
+use Rattle.rc_model.specs.declared.fault.ImageFault.{ImageFault}
 
 pub one_spelling : OneSpelling
 one_spelling c text j = joins j (codes "rc1;") (node_image c) j.first (image_of c j.back j.second)

@@ -5,8 +5,10 @@ use Rattle.rc_model.specs.Syntax.Tree.{Node, cmd, none, more}
 use Rattle.rc_model.specs.Syntax.Tree as t
 use Rattle.std.specs.Str.{is_utf8, chars}
 use lib.Utf8.{encode}
-use Rattle.rc_model.specs.Handed.TreeReading.{ImageFault, BadTag, BadLength, Trailing, TooDeep, Version, read_tree, cmd_at, arg_at}
+use Rattle.rc_model.specs.Handed.TreeReading.{read_tree, cmd_at, arg_at}
 use Rattle.rc_model.specs.Handed.Environment.{members_of}
+use Rattle.rc_model.specs.declared.fault.ImageFault.{ImageFault}
+use Rattle.rc_model.specs.declared.fault.ImageFault.TheVariants.{BadLength, BadTag, TooDeep, Trailing, Version}
 
 one_word : read_tree (codes "rc1;c1,w1:a") ≡ Ok (t.Simple (more (t.Lit (codes "a") false) none))
 unfolding cmd_at arg_at is_utf8 chars encode

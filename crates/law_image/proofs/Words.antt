@@ -17,7 +17,7 @@ use Rattle.rc_model.specs.Run.Numbers.{digits_value, greatest_number}
 use Rattle.rc_model.specs.Handed.Pieces.{longest_word, most_pieces, AreWords, in_one, in_pieces, one_word, several_words, pieces, words_of}
 use Rattle.rc_model.specs.Handed.Image.{node_image}
 use Rattle.rc_model.specs.Handed.TreeSpelling.{Spells}
-use Rattle.rc_model.specs.Handed.TreeReading.{ImageFault, read_spelling, read_tree, beginning_fault}
+use Rattle.rc_model.specs.Handed.TreeReading.{read_spelling, read_tree, beginning_fault}
 use Rattle.rc_model.specs.Handed.WordsReading.{counted, from_one, are_these, from_pieces, read_pieces}
 use Rattle.rc_model.specs.Handed.WordsLaws.{SpellsWords, OneListOfWords, HasWords, OneTreeOfWords, ReadsWords, WordsReadBack}
 use Rattle.law_image.proofs.Counts.{own}
@@ -27,6 +27,7 @@ use Rattle.law_image.proofs.Sizes.{within_of}
 use Rattle.law_image.proofs.Trees.{one_tree, reads_spellings, spelling_back, spelling_read}
 use Rattle.law_image.proofs.Texts.{text_of}
 use Rattle.law_image.proofs.Cuts.{mapped_back, joined_pieces, pieces_room, words_by_rule}
+use Rattle.rc_model.specs.declared.fault.ImageFault.{ImageFault}
 
 -- a tree is written in its words and no others
 pub one_list_of_words : OneListOfWords

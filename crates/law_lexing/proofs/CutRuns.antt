@@ -9,8 +9,7 @@ use Rattle.std.proofs.lemmas.Str.{encodes-append}
 use Rattle.std.specs.Char.{encode_utf8}
 use Rattle.std.specs.Str.{encode_utf8_all}
 use Rattle.rc_model.specs.Syntax.Tokens as t
-use Rattle.rc_model.specs.Syntax.Tokens.{Lexeme, Token, Place, Before, Due, Outcome, Class}
-use Rattle.rc_model.specs.declared.fault.SyntaxFault.{SyntaxFault}
+use Rattle.rc_model.specs.Syntax.Tokens.{Lexeme, Token, PendingHereDoc, Outcome}
 use Rattle.rc_model.specs.Mirrors.Reading.{Between, Comment, Backslash, Word, Name, Quoted, Closed, Operator, goes, bare_here, closed, follow, run}
 use Rattle.law_lexing.proofs.Steps.{run_at, join_nil, join_join, join_closed, after_append, line_end_is}
 use Rattle.law_lexing.proofs.Runs.{word_ends, word_runs, name_ends, name_runs, quoted_runs, closed_ends, run_stops, newline_class, word_begun_by}
@@ -18,15 +17,20 @@ use Rattle.law_lexing.proofs.Operators.{operated_run, operator_begins, operator_
 use Rattle.law_lexing.proofs.Dollars.{dollar_ends, count_ends, flat_ends}
 use Rattle.law_lexing.proofs.BodyRuns.{line_run, begin_line_runs, bodies_run, open_body_runs}
 use Rattle.rc_model.specs.declared.fault.FaultKind.TheVariants.{BadDescriptor}
+use Rattle.rc_model.specs.declared.syntax.Place.{Place}
+use Rattle.rc_model.specs.declared.syntax.Previous.{Previous}
+use Rattle.rc_model.specs.declared.syntax.Class.{Class}
+use Rattle.rc_model.specs.declared.syntax.Previous.TheVariants as previous
+use Rattle.rc_model.specs.declared.syntax.Class.TheVariants as class
 
-no_here : (prev : Before) → t.awaits_mark prev ≡ false → bare_here prev ≡ []
-no_here (t.HereBefore begin' end) h = absurd cc
+no_here : (prev : Previous) → t.awaits_mark prev ≡ false → bare_here prev ≡ []
+no_here (previous.Here begin' end) h = absurd cc
 no_here prev h = refl
 
 -- what is known of a lexeme that is spelled
-abbrev Reads : Before → List Due → Place → List ℕ → List ℕ → Lexeme → Type 0
+abbrev Reads : Previous → List PendingHereDoc → Place → List ℕ → List ℕ → Lexeme → Type 0
 Reads prev due p cs rest l = run (Between prev) due p (cs ++ rest)
-    ≡ t.join (t.tokens_of prev l p (t.after_chars p cs)) [] (run (Between (t.as_before prev l)) (t.due_after prev l due) (t.after_chars p cs) rest)
+    ≡ t.join (t.tokens_of prev l p (t.after_chars p cs)) [] (run (Between (t.after_token prev l)) (t.pending_after prev l due) (t.after_chars p cs) rest)
 
 goes_on_first : (c : ℕ) (cs rest : List ℕ) {more : List ℕ → Bool} → t.Run more (c ∷ cs) rest → more (c ∷ cs ++ rest) ≡ true
 goes_on_first c cs rest (t.next _ _ _ h r) = h
@@ -61,7 +65,7 @@ begins_none c h (o ∷ os) a = by o.0 (begins_none c h os) a
         more false e a'' = ap (λ v. (v && true) || list_any (λ p. begins_with (c ∷ []) p.0) os) (differs c x h e) ∙ g a''
 
 ordinary_by : (a b c d e f : Bool) → a ≡ false → b ≡ false → c ≡ false → d ≡ false → e ≡ false → f ≡ false →
-    cond a t.Operates (cond b t.Blank (cond c t.LineEnd (cond d t.Hash (cond e t.Quote (cond f t.Backslash t.Ordinary))))) ≡ t.Ordinary
+    cond a class.Operates (cond b class.Blank (cond c class.LineEnd (cond d class.Hash (cond e class.Quote (cond f class.Backslash class.Ordinary))))) ≡ class.Ordinary
 ordinary_by false false false false false false g h i j k l = refl
 ordinary_by true b c d e f g h i j k l = absurd cc
 ordinary_by false true c d e f g h i j k l = absurd cc
@@ -70,61 +74,61 @@ ordinary_by false false false true e f g h i j k l = absurd cc
 ordinary_by false false false false true f g h i j k l = absurd cc
 ordinary_by false false false false false true g h i j k l = absurd cc
 
-pub name_class : (c : ℕ) → t.is_name_char c ≡ true → t.class_of c ≡ t.Ordinary
+pub name_class : (c : ℕ) → t.is_name_char c ≡ true → t.class_of c ≡ class.Ordinary
 name_class c h =
     ordinary_by (t.begins_operator (c ∷ [])) ((c == 32) || (c == 9)) (c == 10) (c == 35) (c == 39) (c == 92)
     (begins_none c h t.operators refl) (or_from (c == 32) (c == 9) (differs c 32 h refl) (differs c 9 h refl)) (differs c 10 h refl) (differs c 35 h refl) (differs c 39 h refl) (differs c 92 h refl)
 
-name_begun : (due : List Due) (p : Place) (c : ℕ) (rest : List ℕ) → t.is_name_char c ≡ true →
-    run (Between t.DollarBefore) due p (c ∷ rest) ≡ run (Name p (encode_utf8 c)) due (t.after_char p c) rest
+name_begun : (due : List PendingHereDoc) (p : Place) (c : ℕ) (rest : List ℕ) → t.is_name_char c ≡ true →
+    run (Between previous.Dollar) due p (c ∷ rest) ≡ run (Name p (encode_utf8 c)) due (t.after_char p c) rest
 name_begun due p c rest h =
-    ap (run_at (Between t.DollarBefore) due p c rest) (name_class c h)
-    ∙ ap (λ b. follow (goes [] (cond b (Name p (encode_utf8 c)) (Word t.DollarBefore p (encode_utf8 c))) due) (λ s' due'. run s' due' (t.after_char p c) rest)) h
+    ap (run_at (Between previous.Dollar) due p c rest) (name_class c h)
+    ∙ ap (λ b. follow (goes [] (cond b (Name p (encode_utf8 c)) (Word previous.Dollar p (encode_utf8 c))) due) (λ s' due'. run s' due' (t.after_char p c) rest)) h
     ∙ join_nil (run (Name p (encode_utf8 c)) due (t.after_char p c) rest)
 
-comment_runs : {cs rest : List ℕ} → t.Run t.line_goes_on cs rest → (due : List Due) (p : Place) →
-    run Comment due p (cs ++ rest) ≡ run (Between t.Apart) due (t.after_chars p cs) rest
+comment_runs : {cs rest : List ℕ} → t.Run t.line_goes_on cs rest → (due : List PendingHereDoc) (p : Place) →
+    run Comment due p (cs ++ rest) ≡ run (Between previous.Apart) due (t.after_chars p cs) rest
 comment_runs (t.stop rest h) due p = at_end rest h
   where
-    at_end : (text : List ℕ) → t.line_goes_on text ≡ false → run Comment due p text ≡ run (Between t.Apart) due p text
+    at_end : (text : List ℕ) → t.line_goes_on text ≡ false → run Comment due p text ≡ run (Between previous.Apart) due p text
     at_end [] e = refl
-    at_end (c ∷ cs) e = let k = newline_class c (not-false (c == 10) e) in ap (run_at Comment due p c cs) k ∙ sym (ap (run_at (Between t.Apart) due p c cs) k)
+    at_end (c ∷ cs) e = let k = newline_class c (not-false (c == 10) e) in ap (run_at Comment due p c cs) k ∙ sym (ap (run_at (Between previous.Apart) due p c cs) k)
 comment_runs (t.next c cs rest h r) due p = by (t.class_of c) (λ e. eqb-false c 10 (not-true (c == 10) h) (line_end_is c e)) ∙ comment_runs r due (t.after_char p c)
   where
-    by : (k : Class) → k ≢ t.LineEnd → run_at Comment due p c (cs ++ rest) k ≡ run Comment due (t.after_char p c) (cs ++ rest)
-    by t.LineEnd e = absurd (e refl)
+    by : (k : Class) → k ≢ class.LineEnd → run_at Comment due p c (cs ++ rest) k ≡ run Comment due (t.after_char p c) (cs ++ rest)
+    by class.LineEnd e = absurd (e refl)
     by k e = join_nil (run Comment due (t.after_char p c) (cs ++ rest))
 
-no_operator : (prev : Before) (dollars : List Token) (q : Place) (due : List Due) (p : Place) (rest : List ℕ) → operated_run prev dollars q None due p rest ≡ Err (t.fault BadDescriptor q.line)
+no_operator : (prev : Previous) (dollars : List Token) (q : Place) (due : List PendingHereDoc) (p : Place) (rest : List ℕ) → operated_run prev dollars q None due p rest ≡ Err (t.fault BadDescriptor q.line)
 no_operator prev dollars q due p [] = refl
 no_operator prev dollars q due p (c ∷ cs) = refl
 
-here_run : (prev : Before) (q : Place) (due : List Due) (p : Place) (rest : List ℕ) → t.awaits_mark prev ≡ false →
-    operated_run prev [] q (Some t.BareHere) due p rest ≡ run (Between (t.HereBefore q p)) due p rest
-here_run (t.HereBefore begin' end) q due p rest a = absurd cc
+here_run : (prev : Previous) (q : Place) (due : List PendingHereDoc) (p : Place) (rest : List ℕ) → t.awaits_mark prev ≡ false →
+    operated_run prev [] q (Some t.BareHere) due p rest ≡ run (Between (previous.Here q p)) due p rest
+here_run (previous.Here begin' end) q due p rest a = absurd cc
 here_run prev q due p [] a = refl
 here_run prev q due p (c ∷ cs) a = refl
 
-no_mark_run : (begin' end : Place) (due : List Due) (p : Place) (c : ℕ) (cs : List ℕ) (k : Class) → t.is_mark k ≡ false →
-    run_at (Between (t.HereBefore begin' end)) due p c cs k ≡ t.join (t.token t.BareHere begin' end ∷ []) [] (run_at (Between t.Apart) due p c cs k)
-no_mark_run begin' end due p c cs t.Operates h = ap (t.join (t.token t.BareHere begin' end ∷ []) []) (sym (join_nil (run (Operator t.Apart [] p (c ∷ [])) due (t.after_char p c) cs)))
-no_mark_run begin' end due p c cs t.Hash h = ap (t.join (t.token t.BareHere begin' end ∷ []) []) (sym (join_nil (run Comment due (t.after_char p c) cs)))
-no_mark_run begin' end due p c cs t.LineEnd h =
+no_mark_run : (begin' end : Place) (due : List PendingHereDoc) (p : Place) (c : ℕ) (cs : List ℕ) (k : Class) → t.is_mark k ≡ false →
+    run_at (Between (previous.Here begin' end)) due p c cs k ≡ t.join (t.token t.BareHere begin' end ∷ []) [] (run_at (Between previous.Apart) due p c cs k)
+no_mark_run begin' end due p c cs class.Operates h = ap (t.join (t.token t.BareHere begin' end ∷ []) []) (sym (join_nil (run (Operator previous.Apart [] p (c ∷ [])) due (t.after_char p c) cs)))
+no_mark_run begin' end due p c cs class.Hash h = ap (t.join (t.token t.BareHere begin' end ∷ []) []) (sym (join_nil (run Comment due (t.after_char p c) cs)))
+no_mark_run begin' end due p c cs class.LineEnd h =
     begin_line_runs (t.token t.BareHere begin' end ∷ t.token t.Newline p (t.after_char p c) ∷ []) [] due (t.after_char p c) cs
     ∙ join_join (t.token t.BareHere begin' end ∷ []) (t.token t.Newline p (t.after_char p c) ∷ []) [] [] (line_run due (t.after_char p c) cs)
     ∙ ap (t.join (t.token t.BareHere begin' end ∷ []) []) (sym (begin_line_runs (t.token t.Newline p (t.after_char p c) ∷ []) [] due (t.after_char p c) cs))
-no_mark_run begin' end due p c cs t.Blank h = absurd cc
-no_mark_run begin' end due p c cs t.Quote h = absurd cc
-no_mark_run begin' end due p c cs t.Backslash h = absurd cc
-no_mark_run begin' end due p c cs t.Ordinary h = absurd cc
+no_mark_run begin' end due p c cs class.Blank h = absurd cc
+no_mark_run begin' end due p c cs class.Quote h = absurd cc
+no_mark_run begin' end due p c cs class.Backslash h = absurd cc
+no_mark_run begin' end due p c cs class.Ordinary h = absurd cc
 
-newline_run : (prev : Before) (due : List Due) (p : Place) (rest : List ℕ) → t.awaits_mark prev ≡ false →
+newline_run : (prev : Previous) (due : List PendingHereDoc) (p : Place) (rest : List ℕ) → t.awaits_mark prev ≡ false →
     run (Between prev) due p (10 ∷ rest) ≡ t.join (t.token t.Newline p (t.after_char p 10) ∷ []) [] (line_run due (t.after_char p 10) rest)
 newline_run prev due p rest a =
     begin_line_runs (bare_here prev ++ t.token t.Newline p (t.after_char p 10) ∷ []) [] due (t.after_char p 10) rest
     ∙ ap (λ ts. t.join (ts ++ t.token t.Newline p (t.after_char p 10) ∷ []) [] (line_run due (t.after_char p 10) rest)) (no_here prev a)
 
-operated_lexeme : (prev : Before) (l : Lexeme) (q : Place) (due : List Due) (p : Place) (rest : List ℕ) → t.awaits_mark prev ≡ false → l ≢ t.BareHere →
+operated_lexeme : (prev : Previous) (l : Lexeme) (q : Place) (due : List PendingHereDoc) (p : Place) (rest : List ℕ) → t.awaits_mark prev ≡ false → l ≢ t.BareHere →
     LexemeEnds prev (t.meant prev rest l) q due p rest (operated_run prev [] q (Some l) due p rest)
 operated_lexeme prev t.Dollar q due p rest a h = dollar_ends prev q due p rest a
 operated_lexeme prev t.DollarCount q due p rest a h = count_ends prev q due p rest a
@@ -132,7 +136,7 @@ operated_lexeme prev t.DollarFlat q due p rest a h = flat_ends prev q due p rest
 operated_lexeme prev t.BareHere q due p rest a h = absurd (h refl)
 operated_lexeme prev l q due p rest a h = plain_ends prev q l due p rest a refl
 
-spelled : {prev : Before} {cs rest : List ℕ} {l : Lexeme} → t.Spells prev cs rest l → (due : List Due) (p : Place) → Reads prev due p cs rest l
+spelled : {prev : Previous} {cs rest : List ℕ} {l : Lexeme} → t.Spells prev cs rest l → (due : List PendingHereDoc) (p : Place) → Reads prev due p cs rest l
 spelled (t.word prev c cs rest n r) due p =
     word_begun_by prev due p c (cs ++ rest) (t.class_of c) refl n (goes_on_first c cs rest r)
     ∙ word_runs (run_tail c cs rest r) prev p (encode_utf8 c) due (t.after_char p c)
@@ -158,7 +162,7 @@ spelled (t.operated prev (c ∷ cs) rest l a o h g) due p =
     ∙ ap (λ z. operated_run prev [] p z due (t.after_chars p (c ∷ cs)) rest) o
     ∙ operated_lexeme prev l p due (t.after_chars p (c ∷ cs)) rest a h
 
-pub Cuts-run : {prev : Before} {due : List Due} {p : Place} {text : List ℕ} {o : Outcome} → t.Cuts prev due p text o → run (Between prev) due p text ≡ o
+pub Cuts-run : {prev : Previous} {due : List PendingHereDoc} {p : Place} {text : List ℕ} {o : Outcome} → t.Cuts prev due p text o → run (Between prev) due p text ≡ o
 Cuts-run (t.finish prev p a) = ap (λ ts. closed ts [] []) (no_here prev a)
 Cuts-run (t.open_here prev d due p a) = refl
 Cuts-run (t.blank prev due p c cs o k r) =
@@ -190,7 +194,7 @@ Cuts-run (t.no_mark begin' end due p (d ∷ cs) o h c) =
 Cuts-run (t.newline prev due p cs rest bodies o a b c) =
     newline_run prev due p (cs ++ rest) a
     ∙ ap (t.join (t.token t.Newline p (t.after_char p 10) ∷ []) []) (bodies_run b (t.after_char p 10))
-    ∙ sym (join_join (t.token t.Newline p (t.after_char p 10) ∷ []) [] [] bodies (run (Between t.Apart) [] (t.after_chars p (10 ∷ cs)) rest))
+    ∙ sym (join_join (t.token t.Newline p (t.after_char p 10) ∷ []) [] [] bodies (run (Between previous.Apart) [] (t.after_chars p (10 ∷ cs)) rest))
     ∙ ap (t.join (t.token t.Newline p (t.after_char p 10) ∷ []) bodies) (Cuts-run c)
 Cuts-run (t.open_body prev due p rest line a o) =
     newline_run prev due p rest a ∙ ap (t.join (t.token t.Newline p (t.after_char p 10) ∷ []) []) (open_body_runs o (t.after_char p 10))

@@ -5,12 +5,14 @@ use Rattle.std.specs.Str.{chars}
 use Rattle.std.proofs.lemmas.Bool.{eqb-true}
 use Rattle.rc_model.specs.Syntax.Text.{without_zero}
 use Rattle.rc_model.specs.Syntax.Tokens as t
-use Rattle.rc_model.specs.Syntax.Tokens.{Token, Place, Outcome}
+use Rattle.rc_model.specs.Syntax.Tokens.{Token, Outcome}
 use Rattle.rc_model.specs.declared.fault.SyntaxFault.{SyntaxFault}
 use Rattle.rc_model.specs.Mirrors.Reading.{Between, run, zero_line, unless_zero, lexed, ReadingLaw}
 use Rattle.law_lexing.proofs.CutRuns.{Cuts-run}
 use Rattle.law_lexing.proofs.Total.{total}
 use Rattle.rc_model.specs.declared.fault.FaultKind.TheVariants.{ZeroByte}
+use Rattle.rc_model.specs.declared.syntax.Place.{Place}
+use Rattle.rc_model.specs.declared.syntax.Previous.TheVariants as previous
 
 -- the first zero of a text
 record ZeroAt (p : Place) (cs : List ℕ) (line : ℕ) : Type 0 where
@@ -58,9 +60,9 @@ zero_at p (c ∷ cs) line h = by (c == 0) refl h (zero_at (t.after_char p c) cs 
         let z = g h' in
         record { front = c ∷ z.front; rest = z.rest; is = ap (λ x. c ∷ x) z.is; none = ap (λ b. not b && without_zero z.front) e ∙ z.none; at = z.at }
 
-found_by : (text : List ℕ) (z : Option ℕ) → zero_line 1 (chars text) ≡ z → t.Lexes text (unless_zero z (run (Between t.Apart) [] t.first_place (chars text)))
+found_by : (text : List ℕ) (z : Option ℕ) → zero_line 1 (chars text) ≡ z → t.Lexes text (unless_zero z (run (Between previous.Apart) [] t.first_place (chars text)))
 found_by text None e =
-    let x = total (chars text) t.Apart [] t.first_place in
+    let x = total (chars text) previous.Apart [] t.first_place in
     subst (λ o. t.Lexes text (t.result_of o)) (sym (Cuts-run x.cut)) (t.cut x.outcome (no_zero_found t.first_place (chars text) e) x.cut)
 found_by text (Some line) e =
     let z = zero_at t.first_place (chars text) line e in
@@ -68,9 +70,9 @@ found_by text (Some line) e =
 
 only : {text : List ℕ} {other : Result (List Token) SyntaxFault} → t.Lexes text other → other ≡ lexed text
 only {text = text} (t.zero_byte cs rest e h) =
-    ap (λ z. unless_zero z (run (Between t.Apart) [] t.first_place (chars text))) (sym (ap (zero_line 1) e ∙ zero_found t.first_place cs rest h))
+    ap (λ z. unless_zero z (run (Between previous.Apart) [] t.first_place (chars text))) (sym (ap (zero_line 1) e ∙ zero_found t.first_place cs rest h))
 only {text = text} (t.cut o h c) =
-    ap t.result_of (sym (Cuts-run c)) ∙ ap (λ z. unless_zero z (run (Between t.Apart) [] t.first_place (chars text))) (sym (zero_free 1 (chars text) h))
+    ap t.result_of (sym (Cuts-run c)) ∙ ap (λ z. unless_zero z (run (Between previous.Apart) [] t.first_place (chars text))) (sym (zero_free 1 (chars text) h))
 
 pub law : ReadingLaw
 law text = record { found = found_by text (zero_line 1 (chars text)) refl; only = λ other l. only l }

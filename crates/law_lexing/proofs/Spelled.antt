@@ -9,25 +9,30 @@ use Rattle.std.proofs.lemmas.Str.{chars-encodes, scalars-chars}
 use lib.Utf8.{scalar, scalars, encodes}
 use Rattle.rc_model.specs.Syntax.Accepted.{lexemes}
 use Rattle.rc_model.specs.Syntax.Text.{without_zero}
-use Rattle.rc_model.specs.Syntax.Tokens.{Lexeme, Token, Place, Before, Spells, Cuts, Lexes, Outcome, Run, Class, InQuotes, Bodies, word_goes_on}
+use Rattle.rc_model.specs.Syntax.Tokens.{Lexeme, Token, Spells, Cuts, Lexes, Outcome, Run, InQuotes, Bodies, word_goes_on}
 use Rattle.rc_model.specs.Syntax.Tokens.{name_goes_on, is_in_word, class_of, is_name_char}
-use Rattle.rc_model.specs.Syntax.Tokens.{doubled_quotes, unquoted_text, meant, names, joins, tokens_of, token, join, filled}
+use Rattle.rc_model.specs.Syntax.Tokens.{doubled_quotes, unquoted_text, meant, names, wants_caret, tokens_of, token, join, filled}
 use Rattle.rc_model.specs.Syntax.Tokens.{with_body, result_of, operators}
 use Rattle.rc_model.specs.Syntax.Tokens as k
 use Rattle.rc_model.specs.Mirrors.Spelling.{IsSpelled, AreSpelled, IsText, SpellingLaw}
 use Rattle.law_lexing.proofs.Texts.{text_of, some_text, scalars_front, scalars_back, clean_front, clean_back, name_encodes}
 use Rattle.law_lexing.proofs.Quotes.{quoted_text_chars, unquoted}
 use Rattle.rc_model.specs.declared.fault.SyntaxFault.{SyntaxFault}
+use Rattle.rc_model.specs.declared.syntax.Place.{Place}
+use Rattle.rc_model.specs.declared.syntax.Previous.{Previous}
+use Rattle.rc_model.specs.declared.syntax.Class.{Class}
+use Rattle.rc_model.specs.declared.syntax.Previous.TheVariants as previous
+use Rattle.rc_model.specs.declared.syntax.Class.TheVariants as class
 
 in_word_off : (c : Class) (run rest : List ℕ) → is_in_word c (run ++ rest) ≡ true → is_in_word c (run ++ []) ≡ true
-in_word_off k.Ordinary run rest h = refl
-in_word_off k.Backslash [] rest h = refl
-in_word_off k.Backslash (d ∷ run) rest h = h
-in_word_off k.Operates run rest h = h
-in_word_off k.Blank run rest h = h
-in_word_off k.LineEnd run rest h = h
-in_word_off k.Hash run rest h = h
-in_word_off k.Quote run rest h = h
+in_word_off class.Ordinary run rest h = refl
+in_word_off class.Backslash [] rest h = refl
+in_word_off class.Backslash (d ∷ run) rest h = h
+in_word_off class.Operates run rest h = h
+in_word_off class.Blank run rest h = h
+in_word_off class.LineEnd run rest h = h
+in_word_off class.Hash run rest h = h
+in_word_off class.Quote run rest h = h
 
 run_off : (cs rest : List ℕ) → Run word_goes_on cs rest → Run word_goes_on cs []
 run_off [] rest r = k.stop [] refl
@@ -79,8 +84,8 @@ either_spelled : (q : Bool) (a b : Lexeme) → IsSpelled a → IsSpelled b → I
 either_spelled true a b v w = v
 either_spelled false a b v w = w
 
-meant_spelled : (prev : Before) (rest : List ℕ) (l : Lexeme) → IsSpelled l → IsSpelled (meant prev rest l)
-meant_spelled k.NameBefore rest k.LeftParen w = tt
+meant_spelled : (prev : Previous) (rest : List ℕ) (l : Lexeme) → IsSpelled l → IsSpelled (meant prev rest l)
+meant_spelled previous.Name rest k.LeftParen w = tt
 meant_spelled prev rest k.Dollar w = either_spelled (names rest) k.Dollar k.BareDollar tt tt
 meant_spelled prev rest k.DollarCount w = either_spelled (names rest) k.DollarCount k.BareDollar tt tt
 meant_spelled prev rest k.DollarFlat w = either_spelled (names rest) k.DollarFlat k.BareDollar tt tt
@@ -89,7 +94,7 @@ meant_spelled prev rest l w = w
 operators_spelled : AreSpelledOperators operators
 operators_spelled = search rules depth 40
 
-lexeme_spelled : (prev : Before) (cs rest : List ℕ) (l : Lexeme) → Spells prev cs rest l → scalars cs ≡ true → without_zero cs ≡ true → IsSpelled l
+lexeme_spelled : (prev : Previous) (cs rest : List ℕ) (l : Lexeme) → Spells prev cs rest l → scalars cs ≡ true → without_zero cs ≡ true → IsSpelled l
 lexeme_spelled _ _ _ _ (k.word prev c cs rest b r) s z =
     let w : Run word_goes_on (chars (encodes (c ∷ cs))) [] = subst (λ x. Run word_goes_on x []) (sym (chars-encodes (c ∷ cs) s)) (run_off (c ∷ cs) rest r) in
     (text_of (c ∷ cs) s z, (some_text c cs s, w))
@@ -116,13 +121,13 @@ caret_spelled : (q : Bool) (p : Place) → AreSpelled (lexemes (if q then token 
 caret_spelled true p = (tt, tt)
 caret_spelled false p = tt
 
-tokens_spelled : (prev : Before) (l : Lexeme) (p q : Place) → IsSpelled l → AreSpelled (lexemes (tokens_of prev l p q))
-tokens_spelled (k.HereBefore begin end) l p q w = (as_mark_spelled l, tt)
-tokens_spelled k.Apart l p q w = spelled_append (k.caret k.Apart l p) (token l p q ∷ []) (caret_spelled (joins k.Apart l) p) (w, tt)
-tokens_spelled k.WordBefore l p q w = spelled_append (k.caret k.WordBefore l p) (token l p q ∷ []) (caret_spelled (joins k.WordBefore l) p) (w, tt)
-tokens_spelled k.QuotedBefore l p q w = spelled_append (k.caret k.QuotedBefore l p) (token l p q ∷ []) (caret_spelled (joins k.QuotedBefore l) p) (w, tt)
-tokens_spelled k.NameBefore l p q w = spelled_append (k.caret k.NameBefore l p) (token l p q ∷ []) (caret_spelled (joins k.NameBefore l) p) (w, tt)
-tokens_spelled k.DollarBefore l p q w = spelled_append (k.caret k.DollarBefore l p) (token l p q ∷ []) (caret_spelled (joins k.DollarBefore l) p) (w, tt)
+tokens_spelled : (prev : Previous) (l : Lexeme) (p q : Place) → IsSpelled l → AreSpelled (lexemes (tokens_of prev l p q))
+tokens_spelled (previous.Here begin end) l p q w = (as_mark_spelled l, tt)
+tokens_spelled previous.Apart l p q w = spelled_append (k.caret previous.Apart l p) (token l p q ∷ []) (caret_spelled (wants_caret previous.Apart l) p) (w, tt)
+tokens_spelled previous.Word l p q w = spelled_append (k.caret previous.Word l p) (token l p q ∷ []) (caret_spelled (wants_caret previous.Word l) p) (w, tt)
+tokens_spelled previous.Quoted l p q w = spelled_append (k.caret previous.Quoted l p) (token l p q ∷ []) (caret_spelled (wants_caret previous.Quoted l) p) (w, tt)
+tokens_spelled previous.Name l p q w = spelled_append (k.caret previous.Name l p) (token l p q ∷ []) (caret_spelled (wants_caret previous.Name l) p) (w, tt)
+tokens_spelled previous.Dollar l p q w = spelled_append (k.caret previous.Dollar l p) (token l p q ∷ []) (caret_spelled (wants_caret previous.Dollar l) p) (w, tt)
 
 -- bodies are texts
 abbrev AreTexts : List (List ℕ) → Type 0
@@ -133,7 +138,7 @@ texts_append : (xs ys : List (List ℕ)) → AreTexts xs → AreTexts ys → Are
 texts_append [] ys w v = v
 texts_append (x ∷ xs) ys w v = (w.0, texts_append xs ys w.1 v)
 
-bodies_texts : {due : List k.Due} {cs rest : List ℕ} {bodies : List (List ℕ)} → Bodies due cs rest bodies → scalars cs ≡ true → without_zero cs ≡ true → AreTexts bodies
+bodies_texts : {due : List k.PendingHereDoc} {cs rest : List ℕ} {bodies : List (List ℕ)} → Bodies due cs rest bodies → scalars cs ≡ true → without_zero cs ≡ true → AreTexts bodies
 bodies_texts (k.all _) s z = tt
 bodies_texts (k.one d due body end cs rest bodies b r) s z =
     let text = text_of body (scalars_front body end (scalars_front (body ++ end) cs s)) (clean_front body end (clean_front (body ++ end) cs z)) in
@@ -147,7 +152,7 @@ join_spelled : (ts : List Token) (bodies : List (List ℕ)) (o : Outcome) → Ar
 join_spelled ts bodies (Ok read) w b v = (spelled_append ts read.0 w v.0, texts_append bodies read.1 b v.1)
 join_spelled ts bodies (Err f) w b v = tt
 
-cut_spelled : {prev : Before} {due : List k.Due} {p : Place} {cs : List ℕ} {o : Outcome} → Cuts prev due p cs o → scalars cs ≡ true →
+cut_spelled : {prev : Previous} {due : List k.PendingHereDoc} {p : Place} {cs : List ℕ} {o : Outcome} → Cuts prev due p cs o → scalars cs ≡ true →
     without_zero cs ≡ true → IsSpelledOutcome o
 cut_spelled (k.finish _ _ _) s z = (tt, tt)
 cut_spelled (k.open_here _ _ _ _ _) s z = tt

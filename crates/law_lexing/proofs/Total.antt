@@ -7,11 +7,15 @@ use Rattle.std.proofs.lemmas.Slice.Eq.{bytes_eq-Decides}
 use Rattle.std.specs.Str.{bytes_eq, encode_utf8_all}
 use Rattle.rc_model.specs.Syntax.Text.{begins_with}
 use Rattle.rc_model.specs.Syntax.Tokens as t
-use Rattle.rc_model.specs.Syntax.Tokens.{Lexeme, Token, Place, Before, Due, Outcome, Class}
-use Rattle.rc_model.specs.declared.fault.SyntaxFault.{SyntaxFault}
+use Rattle.rc_model.specs.Syntax.Tokens.{Lexeme, Token, PendingHereDoc, Outcome}
 use Rattle.law_lexing.proofs.Steps.{quote_is, line_end_is, hash_is, backslash_is, operates_is}
 use Rattle.law_lexing.proofs.Runs.{run_stops}
 use Rattle.rc_model.specs.declared.fault.FaultKind.TheVariants.{BadDescriptor, OpenHere, OpenQuote}
+use Rattle.rc_model.specs.declared.syntax.Place.{Place}
+use Rattle.rc_model.specs.declared.syntax.Previous.{Previous}
+use Rattle.rc_model.specs.declared.syntax.Class.{Class}
+use Rattle.rc_model.specs.declared.syntax.Previous.TheVariants as previous
+use Rattle.rc_model.specs.declared.syntax.Class.TheVariants as class
 
 -- how a text is split
 pub record Split (P : List ℕ → List ℕ → Type 0) (text : List ℕ) : Type 0 where
@@ -156,18 +160,18 @@ body_or_none (suc n) mark (c ∷ cs) h =
     body_split mark (c ∷ cs) (λ rest h'. body_or_none n mark rest (omega arith)) s.front s.rest s.is s.has
 
 -- all bodies that are due, or the first that is open
-pub record BodiesAt (due : List Due) (text : List ℕ) : Type 0 where
+pub record BodiesAt (due : List PendingHereDoc) (text : List ℕ) : Type 0 where
   pub front : List ℕ
   pub rest : List ℕ
   pub bodies : List (List ℕ)
   pub is : text ≡ front ++ rest
   pub has : t.Bodies due front rest bodies
 
-pub record OpenAt (due : List Due) (text : List ℕ) : Type 0 where
+pub record OpenAt (due : List PendingHereDoc) (text : List ℕ) : Type 0 where
   pub line : ℕ
   pub has : t.OpenBody due text line
 
-bodies_or_open : (due : List Due) (text : List ℕ) → BodiesAt due text ⊎ OpenAt due text
+bodies_or_open : (due : List PendingHereDoc) (text : List ℕ) → BodiesAt due text ⊎ OpenAt due text
 bodies_or_open [] text = inl (record { front = []; rest = text; bodies = []; is = refl; has = t.all text })
 bodies_or_open (d ∷ due) text = by (body_or_none (length text) d.mark text (omega arith)) (bodies_or_open due)
   where
@@ -186,54 +190,54 @@ bodies_or_open (d ∷ due) text = by (body_or_none (length text) d.mark text (om
     by (inr n) ih = inr (record { line = d.line; has = t.first d due text n })
 
 -- some cut of a text
-pub record CutAt (prev : Before) (due : List Due) (p : Place) (text : List ℕ) : Type 0 where
+pub record CutAt (prev : Previous) (due : List PendingHereDoc) (p : Place) (text : List ℕ) : Type 0 where
   pub outcome : Outcome
   pub cut : t.Cuts prev due p text outcome
 
 abbrev Shorter : ℕ → Type 0
-Shorter n = (text : List ℕ) → length text ≤ n → (prev : Before) (due : List Due) (p : Place) → CutAt prev due p text
+Shorter n = (text : List ℕ) → length text ≤ n → (prev : Previous) (due : List PendingHereDoc) (p : Place) → CutAt prev due p text
 
 shorter_rest : (n : ℕ) (cs front rest : List ℕ) → cs ≡ front ++ rest → length cs ≤ n → length rest ≤ n
 shorter_rest n cs front rest e h = omega (arith, ap length e, length-append front rest)
 
-lexeme_at : (n : ℕ) → Shorter n → (prev : Before) (due : List Due) (p : Place) (c : ℕ) (cs front rest : List ℕ) (l : Lexeme) → cs ≡ front ++ rest → length cs ≤ n →
+lexeme_at : (n : ℕ) → Shorter n → (prev : Previous) (due : List PendingHereDoc) (p : Place) (c : ℕ) (cs front rest : List ℕ) (l : Lexeme) → cs ≡ front ++ rest → length cs ≤ n →
     t.Spells prev (c ∷ front) rest l → CutAt prev due p (c ∷ cs)
 lexeme_at n ih prev due p c cs front rest l e h s =
-    let x = ih rest (shorter_rest n cs front rest e h) (t.as_before prev l) (t.due_after prev l due) (t.after_chars p (c ∷ front)) in
+    let x = ih rest (shorter_rest n cs front rest e h) (t.after_token prev l) (t.pending_after prev l due) (t.after_chars p (c ∷ front)) in
     subst (λ z. CutAt prev due p (c ∷ z)) (sym e) (record { outcome = t.join (t.tokens_of prev l p (t.after_chars p (c ∷ front))) [] x.outcome; cut = t.lexeme prev due p (c ∷ front) rest l x.outcome s x.cut })
 
-word_at : (n : ℕ) → Shorter n → (prev : Before) (due : List Due) (p : Place) (c : ℕ) (cs : List ℕ) → length cs ≤ n → t.begins_name prev c ≡ false → t.word_goes_on (c ∷ cs) ≡ true → CutAt prev due p (c ∷ cs)
+word_at : (n : ℕ) → Shorter n → (prev : Previous) (due : List PendingHereDoc) (p : Place) (c : ℕ) (cs : List ℕ) → length cs ≤ n → t.begins_name prev c ≡ false → t.word_goes_on (c ∷ cs) ≡ true → CutAt prev due p (c ∷ cs)
 word_at n ih prev due p c cs h b g =
     let s = run_from t.word_goes_on refl c cs g in
     lexeme_at n ih prev due p c cs s.front s.rest (t.Word (encode_utf8_all (c ∷ s.front))) s.is h (t.word prev c s.front s.rest b s.has)
 
-name_at : (n : ℕ) → Shorter n → (due : List Due) (p : Place) (c : ℕ) (cs : List ℕ) → length cs ≤ n → t.is_name_char c ≡ true → CutAt t.DollarBefore due p (c ∷ cs)
+name_at : (n : ℕ) → Shorter n → (due : List PendingHereDoc) (p : Place) (c : ℕ) (cs : List ℕ) → length cs ≤ n → t.is_name_char c ≡ true → CutAt previous.Dollar due p (c ∷ cs)
 name_at n ih due p c cs h g =
     let s = run_from t.name_goes_on refl c cs g in
-    lexeme_at n ih t.DollarBefore due p c cs s.front s.rest (t.Name (encode_utf8_all (c ∷ s.front))) s.is h (t.name c s.front s.rest s.has)
+    lexeme_at n ih previous.Dollar due p c cs s.front s.rest (t.Name (encode_utf8_all (c ∷ s.front))) s.is h (t.name c s.front s.rest s.has)
 
-ordinary_at : (n : ℕ) → Shorter n → (prev : Before) (due : List Due) (p : Place) (c : ℕ) (cs : List ℕ) → length cs ≤ n → t.word_goes_on (c ∷ cs) ≡ true → (b : Bool) → t.begins_name prev c ≡ b →
+ordinary_at : (n : ℕ) → Shorter n → (prev : Previous) (due : List PendingHereDoc) (p : Place) (c : ℕ) (cs : List ℕ) → length cs ≤ n → t.word_goes_on (c ∷ cs) ≡ true → (b : Bool) → t.begins_name prev c ≡ b →
     CutAt prev due p (c ∷ cs)
 ordinary_at n ih prev due p c cs h g false e = word_at n ih prev due p c cs h e g
-ordinary_at n ih t.DollarBefore due p c cs h g true e = name_at n ih due p c cs h e
-ordinary_at n ih t.Apart due p c cs h g true e = absurd cc
-ordinary_at n ih t.WordBefore due p c cs h g true e = absurd cc
-ordinary_at n ih t.QuotedBefore due p c cs h g true e = absurd cc
-ordinary_at n ih t.NameBefore due p c cs h g true e = absurd cc
-ordinary_at n ih (t.HereBefore begin' end) due p c cs h g true e = absurd cc
+ordinary_at n ih previous.Dollar due p c cs h g true e = name_at n ih due p c cs h e
+ordinary_at n ih previous.Apart due p c cs h g true e = absurd cc
+ordinary_at n ih previous.Word due p c cs h g true e = absurd cc
+ordinary_at n ih previous.Quoted due p c cs h g true e = absurd cc
+ordinary_at n ih previous.Name due p c cs h g true e = absurd cc
+ordinary_at n ih (previous.Here begin' end) due p c cs h g true e = absurd cc
 
-backslash_at : (n : ℕ) → Shorter n → (prev : Before) (due : List Due) (p : Place) (cs : List ℕ) → length cs ≤ n → (b : Bool) → t.at_newline cs ≡ b → CutAt prev due p (92 ∷ cs)
+backslash_at : (n : ℕ) → Shorter n → (prev : Previous) (due : List PendingHereDoc) (p : Place) (cs : List ℕ) → length cs ≤ n → (b : Bool) → t.at_newline cs ≡ b → CutAt prev due p (92 ∷ cs)
 backslash_at n ih prev due p cs h false e = word_at n ih prev due p 92 cs h (no_name prev) (ap not e)
   where
-    no_name : (prev' : Before) → t.begins_name prev' 92 ≡ false
-    no_name t.DollarBefore = refl
+    no_name : (prev' : Previous) → t.begins_name prev' 92 ≡ false
+    no_name previous.Dollar = refl
     no_name prev' = refl
 backslash_at n ih prev due p [] h true e = absurd cc
 backslash_at n ih prev due p (c ∷ cs) h true e =
     let x = ih cs (omega arith) (t.after_blank prev) due (t.after_chars p (92 ∷ 10 ∷ [])) in
     subst (λ z. CutAt prev due p (92 ∷ z ∷ cs)) (sym (eqb-true c 10 e)) (record { outcome = x.outcome; cut = t.continued prev due p cs x.outcome x.cut })
 
-quote_at : (n : ℕ) → Shorter n → (prev : Before) (due : List Due) (p : Place) (cs : List ℕ) → length cs ≤ n → CutAt prev due p (39 ∷ cs)
+quote_at : (n : ℕ) → Shorter n → (prev : Previous) (due : List PendingHereDoc) (p : Place) (cs : List ℕ) → length cs ≤ n → CutAt prev due p (39 ∷ cs)
 quote_at n ih prev due p cs h = by (quoted_or_open cs)
   where
     by : QuotedOrOpen cs → CutAt prev due p (39 ∷ cs)
@@ -243,70 +247,70 @@ quote_at n ih prev due p cs h = by (quoted_or_open cs)
         lexeme_at n ih prev due p 39 cs (s.front ++ 39 ∷ []) q.after (t.Quoted (t.unquoted_text (encode_utf8_all (39 ∷ s.front ++ 39 ∷ []))))
         (s.is ∙ ap (λ z. s.front ++ z) q.is ∙ sym (append_assoc s.front (39 ∷ []) q.after)) h (t.quoted prev s.front q.after q.inside q.ends)
 
-comment_at : (n : ℕ) → Shorter n → (prev : Before) (due : List Due) (p : Place) (cs : List ℕ) → length cs ≤ n → t.awaits_mark prev ≡ false → CutAt prev due p (35 ∷ cs)
+comment_at : (n : ℕ) → Shorter n → (prev : Previous) (due : List PendingHereDoc) (p : Place) (cs : List ℕ) → length cs ≤ n → t.awaits_mark prev ≡ false → CutAt prev due p (35 ∷ cs)
 comment_at n ih prev due p cs h a =
     let s = run_of t.line_goes_on refl cs in
-    let x = ih s.rest (shorter_rest n cs s.front s.rest s.is h) t.Apart due (t.after_chars p (35 ∷ s.front)) in
+    let x = ih s.rest (shorter_rest n cs s.front s.rest s.is h) previous.Apart due (t.after_chars p (35 ∷ s.front)) in
     subst (λ z. CutAt prev due p (35 ∷ z)) (sym s.is) (record { outcome = x.outcome; cut = t.comment prev due p s.front s.rest x.outcome a s.has x.cut })
 
-newline_at : (n : ℕ) → Shorter n → (prev : Before) (due : List Due) (p : Place) (cs : List ℕ) → length cs ≤ n → t.awaits_mark prev ≡ false → CutAt prev due p (10 ∷ cs)
+newline_at : (n : ℕ) → Shorter n → (prev : Previous) (due : List PendingHereDoc) (p : Place) (cs : List ℕ) → length cs ≤ n → t.awaits_mark prev ≡ false → CutAt prev due p (10 ∷ cs)
 newline_at n ih prev due p cs h a = by (bodies_or_open due cs)
   where
     by : BodiesAt due cs ⊎ OpenAt due cs → CutAt prev due p (10 ∷ cs)
     by (inr o) = record { outcome = Err (t.fault OpenHere o.line); cut = t.open_body prev due p cs o.line a o.has }
     by (inl s) =
-        let x = ih s.rest (shorter_rest n cs s.front s.rest s.is h) t.Apart [] (t.after_chars p (10 ∷ s.front)) in
+        let x = ih s.rest (shorter_rest n cs s.front s.rest s.is h) previous.Apart [] (t.after_chars p (10 ∷ s.front)) in
         subst (λ z. CutAt prev due p (10 ∷ z)) (sym s.is)
         (record { outcome = t.join (t.token t.Newline p (t.after_char p 10) ∷ []) s.bodies x.outcome; cut = t.newline prev due p s.front s.rest s.bodies x.outcome a s.has x.cut })
 
-operator_lexeme : (n : ℕ) → Shorter n → (prev : Before) (due : List Due) (p : Place) (c : ℕ) (cs front rest : List ℕ) → cs ≡ front ++ rest → length cs ≤ n → t.awaits_mark prev ≡ false →
+operator_lexeme : (n : ℕ) → Shorter n → (prev : Previous) (due : List PendingHereDoc) (p : Place) (c : ℕ) (cs front rest : List ℕ) → cs ≡ front ++ rest → length cs ≤ n → t.awaits_mark prev ≡ false →
     t.begins_operator (c ∷ front) ≡ true → t.goes_on (c ∷ front) rest ≡ false → (o : Option Lexeme) → t.operator (c ∷ front) ≡ o → CutAt prev due p (c ∷ cs)
 operator_lexeme n ih prev due p c cs front rest e h a b g None o =
     subst (λ z. CutAt prev due p (c ∷ z)) (sym e) (record { outcome = Err (t.fault BadDescriptor p.line); cut = t.bad_descriptor prev due p c front rest a b o g })
 operator_lexeme n ih prev due p c cs front rest e h a b g (Some t.BareHere) o =
     let q = t.after_chars p (c ∷ front) in
-    let x = ih rest (shorter_rest n cs front rest e h) (t.HereBefore p q) due q in
+    let x = ih rest (shorter_rest n cs front rest e h) (previous.Here p q) due q in
     subst (λ z. CutAt prev due p (c ∷ z)) (sym e) (record { outcome = x.outcome; cut = t.here prev due p (c ∷ front) rest x.outcome a o g x.cut })
 operator_lexeme n ih prev due p c cs front rest e h a b g (Some l) o =
     lexeme_at n ih prev due p c cs front rest (t.meant prev rest l) e h (t.operated prev (c ∷ front) rest l a o (λ z. absurd cc) g)
 
-operator_at : (n : ℕ) → Shorter n → (prev : Before) (due : List Due) (p : Place) (c : ℕ) (cs : List ℕ) → length cs ≤ n → t.awaits_mark prev ≡ false → t.begins_operator (c ∷ []) ≡ true → CutAt prev due p (c ∷ cs)
+operator_at : (n : ℕ) → Shorter n → (prev : Previous) (due : List PendingHereDoc) (p : Place) (c : ℕ) (cs : List ℕ) → length cs ≤ n → t.awaits_mark prev ≡ false → t.begins_operator (c ∷ []) ≡ true → CutAt prev due p (c ∷ cs)
 operator_at n ih prev due p c cs h a b =
     let s = operator_of (c ∷ []) cs b in
     operator_lexeme n ih prev due p c cs s.front s.rest s.is h a s.has.begins s.has.ends (t.operator (c ∷ s.front)) refl
 
 -- at a character, where a mark is looked for only if one may begin
-char_at : (n : ℕ) → Shorter n → (prev : Before) (due : List Due) (p : Place) (c : ℕ) (cs : List ℕ) → length cs ≤ n → (k : Class) → t.class_of c ≡ k → (t.awaits_mark prev ≡ false) ⊎ (t.is_mark k ≡ true) →
+char_at : (n : ℕ) → Shorter n → (prev : Previous) (due : List PendingHereDoc) (p : Place) (c : ℕ) (cs : List ℕ) → length cs ≤ n → (k : Class) → t.class_of c ≡ k → (t.awaits_mark prev ≡ false) ⊎ (t.is_mark k ≡ true) →
     CutAt prev due p (c ∷ cs)
-char_at n ih prev due p c cs h t.Blank e m = let x = ih cs h (t.after_blank prev) due (t.after_char p c) in record { outcome = x.outcome; cut = t.blank prev due p c cs x.outcome e x.cut }
-char_at n ih prev due p c cs h t.Ordinary e m = ordinary_at n ih prev due p c cs h (ap (λ k. t.is_in_word k cs) e) (t.begins_name prev c) refl
-char_at n ih prev due p c cs h t.Backslash e m = subst (λ z. CutAt prev due p (z ∷ cs)) (sym (backslash_is c e)) (backslash_at n ih prev due p cs h (t.at_newline cs) refl)
-char_at n ih prev due p c cs h t.Quote e m = subst (λ z. CutAt prev due p (z ∷ cs)) (sym (quote_is c e)) (quote_at n ih prev due p cs h)
-char_at n ih prev due p c cs h t.Hash e (inl a) = subst (λ z. CutAt prev due p (z ∷ cs)) (sym (hash_is c e)) (comment_at n ih prev due p cs h a)
-char_at n ih prev due p c cs h t.LineEnd e (inl a) = subst (λ z. CutAt prev due p (z ∷ cs)) (sym (line_end_is c e)) (newline_at n ih prev due p cs h a)
-char_at n ih prev due p c cs h t.Operates e (inl a) = operator_at n ih prev due p c cs h a (operates_is c e)
-char_at n ih prev due p c cs h t.Hash e (inr m) = absurd cc
-char_at n ih prev due p c cs h t.LineEnd e (inr m) = absurd cc
-char_at n ih prev due p c cs h t.Operates e (inr m) = absurd cc
+char_at n ih prev due p c cs h class.Blank e m = let x = ih cs h (t.after_blank prev) due (t.after_char p c) in record { outcome = x.outcome; cut = t.blank prev due p c cs x.outcome e x.cut }
+char_at n ih prev due p c cs h class.Ordinary e m = ordinary_at n ih prev due p c cs h (ap (λ k. t.is_in_word k cs) e) (t.begins_name prev c) refl
+char_at n ih prev due p c cs h class.Backslash e m = subst (λ z. CutAt prev due p (z ∷ cs)) (sym (backslash_is c e)) (backslash_at n ih prev due p cs h (t.at_newline cs) refl)
+char_at n ih prev due p c cs h class.Quote e m = subst (λ z. CutAt prev due p (z ∷ cs)) (sym (quote_is c e)) (quote_at n ih prev due p cs h)
+char_at n ih prev due p c cs h class.Hash e (inl a) = subst (λ z. CutAt prev due p (z ∷ cs)) (sym (hash_is c e)) (comment_at n ih prev due p cs h a)
+char_at n ih prev due p c cs h class.LineEnd e (inl a) = subst (λ z. CutAt prev due p (z ∷ cs)) (sym (line_end_is c e)) (newline_at n ih prev due p cs h a)
+char_at n ih prev due p c cs h class.Operates e (inl a) = operator_at n ih prev due p c cs h a (operates_is c e)
+char_at n ih prev due p c cs h class.Hash e (inr m) = absurd cc
+char_at n ih prev due p c cs h class.LineEnd e (inr m) = absurd cc
+char_at n ih prev due p c cs h class.Operates e (inr m) = absurd cc
 
-end_at : (prev : Before) (due : List Due) (p : Place) → t.awaits_mark prev ≡ false → CutAt prev due p []
+end_at : (prev : Previous) (due : List PendingHereDoc) (p : Place) → t.awaits_mark prev ≡ false → CutAt prev due p []
 end_at prev [] p a = record { outcome = Ok ([], []); cut = t.finish prev p a }
 end_at prev (d ∷ due) p a = record { outcome = Err (t.fault OpenHere d.line); cut = t.open_here prev d due p a }
 
-without_mark : (begin' end : Place) (due : List Due) (p : Place) (text : List ℕ) → t.mark_goes_on text ≡ false → CutAt t.Apart due p text → CutAt (t.HereBefore begin' end) due p text
+without_mark : (begin' end : Place) (due : List PendingHereDoc) (p : Place) (text : List ℕ) → t.mark_goes_on text ≡ false → CutAt previous.Apart due p text → CutAt (previous.Here begin' end) due p text
 without_mark begin' end due p text h x = record { outcome = t.join (t.token t.BareHere begin' end ∷ []) [] x.outcome; cut = t.no_mark begin' end due p text x.outcome h x.cut }
 
-cut_at : (n : ℕ) → Shorter n → (c : ℕ) (cs : List ℕ) → length cs ≤ n → (prev : Before) (due : List Due) (p : Place) → (b : Bool) → t.mark_goes_on (c ∷ cs) ≡ b → CutAt prev due p (c ∷ cs)
+cut_at : (n : ℕ) → Shorter n → (c : ℕ) (cs : List ℕ) → length cs ≤ n → (prev : Previous) (due : List PendingHereDoc) (p : Place) → (b : Bool) → t.mark_goes_on (c ∷ cs) ≡ b → CutAt prev due p (c ∷ cs)
 cut_at n ih c cs h prev due p true e = char_at n ih prev due p c cs h (t.class_of c) refl (inr e)
-cut_at n ih c cs h (t.HereBefore begin' end) due p false e = without_mark begin' end due p (c ∷ cs) e (char_at n ih t.Apart due p c cs h (t.class_of c) refl (inl refl))
+cut_at n ih c cs h (previous.Here begin' end) due p false e = without_mark begin' end due p (c ∷ cs) e (char_at n ih previous.Apart due p c cs h (t.class_of c) refl (inl refl))
 cut_at n ih c cs h prev due p false e = char_at n ih prev due p c cs h (t.class_of c) refl (inl refl)
 
 cut_of : (n : ℕ) → Shorter n
-cut_of n [] h (t.HereBefore begin' end) due p = without_mark begin' end due p [] refl (end_at t.Apart due p refl)
+cut_of n [] h (previous.Here begin' end) due p = without_mark begin' end due p [] refl (end_at previous.Apart due p refl)
 cut_of n [] h prev due p = end_at prev due p refl
 cut_of zero (c ∷ cs) h prev due p = absurd (omega arith)
 cut_of (suc n) (c ∷ cs) h prev due p = cut_at n (cut_of n) c cs (omega arith) prev due p (t.mark_goes_on (c ∷ cs)) refl
 
 -- each text is cut somehow
-pub total : (text : List ℕ) (prev : Before) (due : List Due) (p : Place) → CutAt prev due p text
+pub total : (text : List ℕ) (prev : Previous) (due : List PendingHereDoc) (p : Place) → CutAt prev due p text
 total text = cut_of (length text) text (omega arith)

@@ -3,8 +3,10 @@ use Rattle.std.proofs.Common.{◌≡◌, ◌≢◌, suc, Bool, true, false, cond
 use Rattle.std.specs.Prelude.{◌↔◌, Result, Ok, Err}
 use Rattle.std.proofs.lemmas.Bool.{eqb-true, ne_eqb}
 use Rattle.rc_model.specs.Syntax.Words.{Word}
-use Rattle.rc_model.specs.Run.Lists.{ListFault, EmptyConcat, CountMismatch, pairwise, distributed, concatenated}
+use Rattle.rc_model.specs.Run.Lists.{pairwise, distributed, concatenated}
 use Rattle.rc_model.specs.Run.Joining.{Pairs, none, pair, Joins, pairs, before, after, left_empty, right_empty, mismatch}
+use Rattle.rc_model.specs.declared.fault.ListFault.{ListFault}
+use Rattle.rc_model.specs.declared.fault.ListFault.TheVariants.{CountMismatch, EmptyConcat}
 
 Pairs-counts : {xs ys zs : List Word} → Pairs xs ys zs → length xs ≡ length ys
 Pairs-counts none = refl

@@ -3,10 +3,11 @@
 
 ghost use Rattle.std.specs.Prelude.{◌≡◌, ◌↔◌, ℕ, Bool, List, Result};
 ghost use Rattle.rc_model.specs.Syntax.Words.{Word};
-ghost use Rattle.rc_model.specs.Run.Lists.{ListFault, concatenated, selected_by, split};
+ghost use Rattle.rc_model.specs.Run.Lists.{concatenated, selected_by, split};
 ghost use Rattle.rc_model.specs.Run.Splitting.{Splits, AreMembers};
 ghost use Rattle.rc_model.specs.Run.Joining.{Joins};
 ghost use Rattle.rc_model.specs.Run.Selecting.{Selects};
+ghost use Rattle.rc_model.specs.declared.fault.ListFault.{ListFault};
 
 /// Splitting gives the members of a text.
 pub fn split_by_rule()

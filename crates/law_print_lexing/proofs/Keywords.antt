@@ -3,11 +3,11 @@ use Rattle.std.proofs.Common.{◌≡◌, refl, ap, sym, subst, ◌∙◌, ℕ, t
 use Rattle.std.proofs.lemmas.Str.{encodes-append}
 use lib.Utf8.{encode, encodes, scalars}
 use Rattle.rc_model.specs.Syntax.Text.{without_zero}
-use Rattle.rc_model.specs.Syntax.Tokens.{Apart}
 use Rattle.rc_model.specs.Syntax.Tokens as k
 use Rattle.law_print_lexing.proofs.Gives.{Gives}
 use Rattle.law_print_lexing.proofs.Pieces.{Piece, IsApart, apart, IsCalm, calm_word, Anything, Ends, at_space, scalars-append, clean-append}
 use Rattle.law_print_lexing.proofs.Steps.{is_plain, at_start, blank_step, word_step, paren_step}
+use Rattle.rc_model.specs.declared.syntax.Previous.TheVariants as previous
 
 -- a word, and a parenthesis directly after it
 word_paren : (word : List ℕ) → is_plain word ≡ true → encodes word ≡ word → scalars word ≡ true → without_zero word ≡ true →
@@ -20,7 +20,7 @@ word_paren word plain same scalar clean = record {
   clean = clean-append word (codes "(") clean refl;
   cuts = λ {prev} b rest ls f g.
       subst (λ cs. Gives prev cs (k.Word word ∷ k.LeftParen ∷ ls)) (sym (append_assoc word (codes "(") rest))
-      (at_start b (word_step word (codes "(" ++ rest) plain same refl (paren_step rest (g Apart apart))));
+      (at_start b (word_step word (codes "(" ++ rest) plain same refl (paren_step rest (g previous.Apart apart))));
 }
 
 -- a word, and a space after it
@@ -34,7 +34,7 @@ word_space word plain same scalar clean = record {
   clean = clean-append word (codes " ") clean refl;
   cuts = λ {prev} b rest ls f g.
       subst (λ cs. Gives prev cs (k.Word word ∷ ls)) (sym (append_assoc word (codes " ") rest))
-      (at_start b (word_step word (codes " " ++ rest) plain same refl (blank_step calm_word (g Apart apart))));
+      (at_start b (word_step word (codes " " ++ rest) plain same refl (blank_step calm_word (g previous.Apart apart))));
 }
 
 pub if_paren : Piece IsApart IsApart Anything (codes "if(") (k.Word (codes "if") ∷ k.LeftParen ∷ [])
@@ -50,7 +50,7 @@ if_not = record {
   clean = refl;
   cuts = λ {prev} b rest ls f g.
       at_start b (word_step (codes "if") (codes " not " ++ rest) refl refl refl (blank_step calm_word
-      (word_step (codes "not") (codes " " ++ rest) refl refl refl (blank_step calm_word (g Apart apart)))));
+      (word_step (codes "not") (codes " " ++ rest) refl refl refl (blank_step calm_word (g previous.Apart apart)))));
 }
 
 pub while_paren : Piece IsApart IsApart Anything (codes "while(") (k.Word (codes "while") ∷ k.LeftParen ∷ [])
@@ -69,7 +69,7 @@ in_word = record {
   scalar = refl;
   clean = refl;
   cuts = λ {prev} b rest ls f g.
-      blank_step b (word_step (codes "in") (codes " " ++ rest) refl refl refl (blank_step calm_word (g Apart apart)));
+      blank_step b (word_step (codes "in") (codes " " ++ rest) refl refl refl (blank_step calm_word (g previous.Apart apart)));
 }
 
 pub in_word_ends : (rest : List ℕ) → Ends (in_word.chars ++ rest)

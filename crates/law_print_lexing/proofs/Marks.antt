@@ -1,10 +1,10 @@
 -- The fixed pieces of a printed text: spaces, `;`, `^`, `=`, parentheses and braces.
 use Rattle.std.proofs.Common.{refl, ℕ, List, [], ◌∷◌, ◌++◌, codes}
 use lib.Utf8.{encode}
-use Rattle.rc_model.specs.Syntax.Tokens.{Apart}
 use Rattle.rc_model.specs.Syntax.Tokens as k
 use Rattle.law_print_lexing.proofs.Pieces.{Piece, IsApart, apart, IsCalm, calm_apart, Anything, Ends, at_space, at_semicolon, at_caret, at_equals, at_paren, at_brace}
 use Rattle.law_print_lexing.proofs.Steps.{at_start, blank_step, operator_step, left_brace_alone, left_paren_alone, semicolon_step, caret_step, equals_step, right_paren_step, right_brace_step}
+use Rattle.rc_model.specs.declared.syntax.Previous.TheVariants as previous
 
 pub space : Piece IsCalm IsApart Anything (codes " ") ([])
 unfolding encode
@@ -14,7 +14,7 @@ space = record {
   scalar = refl;
   clean = refl;
   cuts = λ {prev} b rest ls f g.
-      blank_step b (g Apart apart);
+      blank_step b (g previous.Apart apart);
 }
 
 pub space_ends : (rest : List ℕ) → Ends (space.chars ++ rest)
@@ -29,7 +29,7 @@ semicolon = record {
   scalar = refl;
   clean = refl;
   cuts = λ {prev} b rest ls f g.
-      semicolon_step b (codes " " ++ rest) (blank_step calm_apart (g Apart apart));
+      semicolon_step b (codes " " ++ rest) (blank_step calm_apart (g previous.Apart apart));
 }
 
 pub semicolon_ends : (rest : List ℕ) → Ends (semicolon.chars ++ rest)
@@ -44,7 +44,7 @@ caret = record {
   scalar = refl;
   clean = refl;
   cuts = λ {prev} b rest ls f g.
-      caret_step b rest (g Apart apart);
+      caret_step b rest (g previous.Apart apart);
 }
 
 pub caret_ends : (rest : List ℕ) → Ends (caret.chars ++ rest)
@@ -59,7 +59,7 @@ equals = record {
   scalar = refl;
   clean = refl;
   cuts = λ {prev} b rest ls f g.
-      equals_step b rest (g Apart apart);
+      equals_step b rest (g previous.Apart apart);
 }
 
 pub equals_ends : (rest : List ℕ) → Ends (equals.chars ++ rest)
@@ -74,7 +74,7 @@ close_paren = record {
   scalar = refl;
   clean = refl;
   cuts = λ {prev} b rest ls f g.
-      right_paren_step b rest (g Apart apart);
+      right_paren_step b rest (g previous.Apart apart);
 }
 
 pub close_paren_ends : (rest : List ℕ) → Ends (close_paren.chars ++ rest)
@@ -89,7 +89,7 @@ close_head = record {
   scalar = refl;
   clean = refl;
   cuts = λ {prev} b rest ls f g.
-      right_paren_step b (codes " " ++ rest) (blank_step calm_apart (g Apart apart));
+      right_paren_step b (codes " " ++ rest) (blank_step calm_apart (g previous.Apart apart));
 }
 
 pub close_head_ends : (rest : List ℕ) → Ends (close_head.chars ++ rest)
@@ -104,7 +104,7 @@ close_brace = record {
   scalar = refl;
   clean = refl;
   cuts = λ {prev} b rest ls f g.
-      right_brace_step b rest (g Apart apart);
+      right_brace_step b rest (g previous.Apart apart);
 }
 
 pub close_brace_ends : (rest : List ℕ) → Ends (close_brace.chars ++ rest)
@@ -119,7 +119,7 @@ open_brace = record {
   scalar = refl;
   clean = refl;
   cuts = λ {prev} b rest ls f g.
-      at_start b (operator_step (codes "{") rest k.LeftBrace refl (λ e. cc) (left_brace_alone rest) refl refl (g Apart apart));
+      at_start b (operator_step (codes "{") rest k.LeftBrace refl (λ e. cc) (left_brace_alone rest) refl refl (g previous.Apart apart));
 }
 
 pub open_paren : Piece IsApart IsApart Anything (codes "(") (k.LeftParen ∷ [])
@@ -130,7 +130,7 @@ open_paren = record {
   scalar = refl;
   clean = refl;
   cuts = λ {prev} b rest ls f g.
-      at_start b (operator_step (codes "(") rest k.LeftParen refl (λ e. cc) (left_paren_alone rest) refl refl (g Apart apart));
+      at_start b (operator_step (codes "(") rest k.LeftParen refl (λ e. cc) (left_paren_alone rest) refl refl (g previous.Apart apart));
 }
 
 pub brace_after : Piece IsCalm IsApart Anything (codes " {") (k.LeftBrace ∷ [])
@@ -141,7 +141,7 @@ brace_after = record {
   scalar = refl;
   clean = refl;
   cuts = λ {prev} b rest ls f g.
-      blank_step b (operator_step (codes "{") rest k.LeftBrace refl (λ e. cc) (left_brace_alone rest) refl refl (g Apart apart));
+      blank_step b (operator_step (codes "{") rest k.LeftBrace refl (λ e. cc) (left_brace_alone rest) refl refl (g previous.Apart apart));
 }
 
 pub brace_after_ends : (rest : List ℕ) → Ends (brace_after.chars ++ rest)
@@ -157,5 +157,5 @@ back_brace = record {
   clean = refl;
   cuts = λ {prev} b rest ls f g.
       at_start b (operator_step (codes "`") (codes "{" ++ rest) k.Backquote refl (λ e. cc) refl refl refl
-      (operator_step (codes "{") rest k.LeftBrace refl (λ e. cc) (left_brace_alone rest) refl refl (g Apart apart)));
+      (operator_step (codes "{") rest k.LeftBrace refl (λ e. cc) (left_brace_alone rest) refl refl (g previous.Apart apart)));
 }

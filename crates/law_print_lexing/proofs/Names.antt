@@ -8,8 +8,7 @@ use Rattle.std.specs.List.{list_all}
 use Rattle.std.specs.Str.{chars}
 use lib.Utf8.{encode, encodes, scalars, low_scalar}
 use Rattle.rc_model.specs.Syntax.Text.{begins_with, without_zero}
-use Rattle.rc_model.specs.Syntax.Tokens.{Lexeme, Run, name_goes_on, is_name_char, begins_operator, goes_on, names, Before, Apart}
-use Rattle.rc_model.specs.Syntax.Tokens.{DollarBefore, NameBefore}
+use Rattle.rc_model.specs.Syntax.Tokens.{Lexeme, Run, name_goes_on, is_name_char, begins_operator, goes_on, names}
 use Rattle.rc_model.specs.Syntax.Tokens as k
 use Rattle.law_lexing.proofs.Texts.{name_char_low, name_encodes}
 use Rattle.law_print_lexing.proofs.Gives.{Gives, lexeme}
@@ -18,6 +17,8 @@ use Rattle.law_print_lexing.proofs.Pieces.{at_space, at_semicolon, at_caret, at_
 use Rattle.law_print_lexing.proofs.Quotes.{quoted_chars, quoted_spelled, quoted_scalar, quoted_clean, quoted_spells}
 use Rattle.law_print_lexing.proofs.Steps.{left_paren_alone}
 use Rattle.law_grammar.proofs.Zeros.{clean_name}
+use Rattle.rc_model.specs.declared.syntax.Previous.{Previous}
+use Rattle.rc_model.specs.declared.syntax.Previous.TheVariants as previous
 
 -- after a name stands the end of a word, or a subscript
 pub data NameEnds : List ℕ → Type 0 where
@@ -52,7 +53,7 @@ pub record NamePiece (text : List ℕ) (ls : List Lexeme) : Type 0 where
   pub clean : without_zero chars ≡ true
   pub stands : (rest : List ℕ) → names (chars ++ rest) ≡ true
   pub alone : (rest : List ℕ) → goes_on (36 ∷ []) (chars ++ rest) ≡ false
-  pub cuts : (rest : List ℕ) (more : List Lexeme) → NameEnds rest → Gives NameBefore rest more → Gives DollarBefore (chars ++ rest) (ls ++ more)
+  pub cuts : (rest : List ℕ) (more : List Lexeme) → NameEnds rest → Gives previous.Name rest more → Gives previous.Dollar (chars ++ rest) (ls ++ more)
 
 -- name characters are neither `#` nor `"`
 name_char_sharp : (c : ℕ) → is_name_char c ≡ true → (c == 35) ≡ false
@@ -83,7 +84,7 @@ bare_name (c ∷ cs) ne e = record {
   stands = λ rest. rw first refl;
   alone = λ rest. rw (name_char_sharp c first, name_char_double c first) refl;
   cuts = λ rest more s g.
-      subst (λ t. Gives DollarBefore (c ∷ cs ++ rest) (k.Name t ∷ more)) (name_encodes (c ∷ cs) e)
+      subst (λ t. Gives previous.Dollar (c ∷ cs ++ rest) (k.Name t ∷ more)) (name_encodes (c ∷ cs) e)
       (lexeme {cs = c ∷ cs} {rest = rest} refl refl (k.name c cs rest (name_run (c ∷ cs) rest e (name_stops s))) g);
 }
   where
@@ -98,15 +99,15 @@ quoted_name text u z = record {
   clean = quoted_clean text z;
   stands = λ rest. refl;
   alone = λ rest. refl;
-  cuts = λ rest more s g. lexeme {cs = quoted_chars text} {rest = rest} refl refl (quoted_spells DollarBefore text rest u (quote_stops s)) g;
+  cuts = λ rest more s g. lexeme {cs = quoted_chars text} {rest = rest} refl refl (quoted_spells previous.Dollar text rest u (quote_stops s)) g;
 }
 
 -- a `$` where a name stands after it
-dollar : (rest : List ℕ) → names rest ≡ true → goes_on (36 ∷ []) rest ≡ false → k.Spells Apart (36 ∷ []) rest k.Dollar
-dollar rest n e = subst (λ l. k.Spells Apart (36 ∷ []) rest l) (rw n refl) (k.operated Apart (36 ∷ []) rest k.Dollar refl refl (λ e. cc) e)
+dollar : (rest : List ℕ) → names rest ≡ true → goes_on (36 ∷ []) rest ≡ false → k.Spells previous.Apart (36 ∷ []) rest k.Dollar
+dollar rest n e = subst (λ l. k.Spells previous.Apart (36 ∷ []) rest l) (rw n refl) (k.operated previous.Apart (36 ∷ []) rest k.Dollar refl refl (λ e. cc) e)
 
-second_dollar : (rest : List ℕ) → names rest ≡ true → goes_on (36 ∷ []) rest ≡ false → k.Spells DollarBefore (36 ∷ []) rest k.Dollar
-second_dollar rest n e = subst (λ l. k.Spells DollarBefore (36 ∷ []) rest l) (rw n refl) (k.operated DollarBefore (36 ∷ []) rest k.Dollar refl refl (λ e. cc) e)
+second_dollar : (rest : List ℕ) → names rest ≡ true → goes_on (36 ∷ []) rest ≡ false → k.Spells previous.Dollar (36 ∷ []) rest k.Dollar
+second_dollar rest n e = subst (λ l. k.Spells previous.Dollar (36 ∷ []) rest l) (rw n refl) (k.operated previous.Dollar (36 ∷ []) rest k.Dollar refl refl (λ e. cc) e)
 
 count_alone : (rest : List ℕ) → goes_on (36 ∷ 35 ∷ []) rest ≡ false
 count_alone [] = refl
@@ -116,13 +117,13 @@ flat_alone : (rest : List ℕ) → goes_on (36 ∷ 34 ∷ []) rest ≡ false
 flat_alone [] = refl
 flat_alone (c ∷ cs) = refl
 
-dollar_count : (rest : List ℕ) → names rest ≡ true → k.Spells Apart (36 ∷ 35 ∷ []) rest k.DollarCount
+dollar_count : (rest : List ℕ) → names rest ≡ true → k.Spells previous.Apart (36 ∷ 35 ∷ []) rest k.DollarCount
 dollar_count rest n =
-    subst (λ l. k.Spells Apart (36 ∷ 35 ∷ []) rest l) (rw n refl) (k.operated Apart (36 ∷ 35 ∷ []) rest k.DollarCount refl refl (λ e. cc) (count_alone rest))
+    subst (λ l. k.Spells previous.Apart (36 ∷ 35 ∷ []) rest l) (rw n refl) (k.operated previous.Apart (36 ∷ 35 ∷ []) rest k.DollarCount refl refl (λ e. cc) (count_alone rest))
 
-dollar_flat : (rest : List ℕ) → names rest ≡ true → k.Spells Apart (36 ∷ 34 ∷ []) rest k.DollarFlat
+dollar_flat : (rest : List ℕ) → names rest ≡ true → k.Spells previous.Apart (36 ∷ 34 ∷ []) rest k.DollarFlat
 dollar_flat rest n =
-    subst (λ l. k.Spells Apart (36 ∷ 34 ∷ []) rest l) (rw n refl) (k.operated Apart (36 ∷ 34 ∷ []) rest k.DollarFlat refl refl (λ e. cc) (flat_alone rest))
+    subst (λ l. k.Spells previous.Apart (36 ∷ 34 ∷ []) rest l) (rw n refl) (k.operated previous.Apart (36 ∷ 34 ∷ []) rest k.DollarFlat refl refl (λ e. cc) (flat_alone rest))
 
 pub named_name : {text : List ℕ} {ls : List Lexeme} → NamePiece text ls → NamePiece (codes "$" ++ text) (k.Dollar ∷ ls)
 unfolding encode
@@ -142,33 +143,33 @@ pub var_piece : {text : List ℕ} {ls : List Lexeme} → NamePiece text ls → P
 unfolding encode
 var_piece {text} {ls} n = record { chars = 36 ∷ n.chars; spelled = ap (λ l. 36 ∷ l) n.spelled; scalar = n.scalar; clean = n.clean; cuts = λ {prev} b. gives b }
   where
-    gives : {prev : Before} → IsApart prev → (rest : List ℕ) (more : List Lexeme) → Ends rest → ((next : Before) → IsCalm next → Gives next rest more) →
+    gives : {prev : Previous} → IsApart prev → (rest : List ℕ) (more : List Lexeme) → Ends rest → ((next : Previous) → IsCalm next → Gives next rest more) →
         Gives prev (36 ∷ n.chars ++ rest) (k.Dollar ∷ ls ++ more)
     gives apart rest more e g =
         lexeme {cs = 36 ∷ []} {rest = n.chars ++ rest} refl refl (dollar (n.chars ++ rest) (n.stands rest) (n.alone rest)) (n.cuts rest more
-        (ends e) (g NameBefore calm_name))
+        (ends e) (g previous.Name calm_name))
 
 pub count_piece : {text : List ℕ} {ls : List Lexeme} → NamePiece text ls → Piece IsApart IsCalm Ends (codes "$#" ++ text) (k.DollarCount ∷ ls)
 unfolding encode
 count_piece {text} {ls} n =
     record { chars = 36 ∷ 35 ∷ n.chars; spelled = ap (λ l. 36 ∷ 35 ∷ l) n.spelled; scalar = n.scalar; clean = n.clean; cuts = λ {prev} b. gives b }
   where
-    gives : {prev : Before} → IsApart prev → (rest : List ℕ) (more : List Lexeme) → Ends rest → ((next : Before) → IsCalm next → Gives next rest more) →
+    gives : {prev : Previous} → IsApart prev → (rest : List ℕ) (more : List Lexeme) → Ends rest → ((next : Previous) → IsCalm next → Gives next rest more) →
         Gives prev (36 ∷ 35 ∷ n.chars ++ rest) (k.DollarCount ∷ ls ++ more)
     gives apart rest more e g =
         lexeme {cs = 36 ∷ 35 ∷ []} {rest = n.chars ++ rest} refl refl (dollar_count (n.chars ++ rest) (n.stands rest)) (n.cuts rest more (ends e)
-        (g NameBefore calm_name))
+        (g previous.Name calm_name))
 
 pub flat_piece : {text : List ℕ} {ls : List Lexeme} → NamePiece text ls → Piece IsApart IsCalm Ends (codes "$\"" ++ text) (k.DollarFlat ∷ ls)
 unfolding encode
 flat_piece {text} {ls} n =
     record { chars = 36 ∷ 34 ∷ n.chars; spelled = ap (λ l. 36 ∷ 34 ∷ l) n.spelled; scalar = n.scalar; clean = n.clean; cuts = λ {prev} b. gives b }
   where
-    gives : {prev : Before} → IsApart prev → (rest : List ℕ) (more : List Lexeme) → Ends rest → ((next : Before) → IsCalm next → Gives next rest more) →
+    gives : {prev : Previous} → IsApart prev → (rest : List ℕ) (more : List Lexeme) → Ends rest → ((next : Previous) → IsCalm next → Gives next rest more) →
         Gives prev (36 ∷ 34 ∷ n.chars ++ rest) (k.DollarFlat ∷ ls ++ more)
     gives apart rest more e g =
         lexeme {cs = 36 ∷ 34 ∷ []} {rest = n.chars ++ rest} refl refl (dollar_flat (n.chars ++ rest) (n.stands rest)) (n.cuts rest more (ends e)
-        (g NameBefore calm_name))
+        (g previous.Name calm_name))
 
 -- a subscript begins directly after a name
 pub subscript_piece : {text : List ℕ} {ls : List Lexeme} → NamePiece text ls →
@@ -182,13 +183,13 @@ subscript_piece {text} {ls} n = record {
   cuts = λ {prev} b. gives b;
 }
   where
-    gives : {prev : Before} → IsApart prev → (rest : List ℕ) (more : List Lexeme) → Anything rest → ((next : Before) → IsApart next → Gives next rest more) →
+    gives : {prev : Previous} → IsApart prev → (rest : List ℕ) (more : List Lexeme) → Anything rest → ((next : Previous) → IsApart next → Gives next rest more) →
         Gives prev (36 ∷ (n.chars ++ 40 ∷ []) ++ rest) (k.Dollar ∷ (ls ++ k.Subscript ∷ []) ++ more)
     gives apart rest more e g =
-        let open' : Gives NameBefore (40 ∷ rest) (k.Subscript ∷ more) =
+        let open' : Gives previous.Name (40 ∷ rest) (k.Subscript ∷ more) =
         lexeme {cs =
-        40 ∷ []} {rest = rest} refl refl (k.operated NameBefore (40 ∷ []) rest k.LeftParen refl refl (λ e. cc) (left_paren_alone rest)) (g Apart apart) in
-        subst (λ cs. Gives Apart (36 ∷ cs) (k.Dollar ∷ (ls ++ k.Subscript ∷ []) ++ more)) (sym (append_assoc n.chars (40 ∷ []) rest))
-        (subst (λ l. Gives Apart (36 ∷ (n.chars ++ 40 ∷ rest)) (k.Dollar ∷ l)) (sym (append_assoc ls (k.Subscript ∷ []) more))
+        40 ∷ []} {rest = rest} refl refl (k.operated previous.Name (40 ∷ []) rest k.LeftParen refl refl (λ e. cc) (left_paren_alone rest)) (g previous.Apart apart) in
+        subst (λ cs. Gives previous.Apart (36 ∷ cs) (k.Dollar ∷ (ls ++ k.Subscript ∷ []) ++ more)) (sym (append_assoc n.chars (40 ∷ []) rest))
+        (subst (λ l. Gives previous.Apart (36 ∷ (n.chars ++ 40 ∷ rest)) (k.Dollar ∷ l)) (sym (append_assoc ls (k.Subscript ∷ []) more))
         (lexeme {cs = 36 ∷ []} {rest = n.chars ++ 40 ∷ rest} refl refl (dollar (n.chars ++ 40 ∷ rest) (n.stands (40 ∷ rest)) (n.alone (40 ∷ rest)))
         (n.cuts (40 ∷ rest) (k.Subscript ∷ more) subscript open')))

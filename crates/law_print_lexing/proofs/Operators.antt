@@ -4,11 +4,12 @@ use Rattle.std.proofs.lemmas.Str.{encodes-append}
 use lib.Utf8.{encode, encodes, scalars}
 use Rattle.rc_model.specs.declared.call.Mode.TheVariants.{Read, Write, Append}
 use Rattle.rc_model.specs.Syntax.Text.{without_zero}
-use Rattle.rc_model.specs.Syntax.Tokens.{Lexeme, Apart, operator, goes_on, meant, as_before}
+use Rattle.rc_model.specs.Syntax.Tokens.{Lexeme, operator, goes_on, meant, after_token}
 use Rattle.rc_model.specs.Syntax.Tokens as k
 use Rattle.law_print_lexing.proofs.Gives.{Gives}
 use Rattle.law_print_lexing.proofs.Pieces.{Piece, IsApart, apart, IsCalm, calm_apart, Anything, Ends, at_end, at_space, at_semicolon, at_caret, at_equals, at_paren, at_brace, scalars-append, clean-append}
 use Rattle.law_print_lexing.proofs.Steps.{at_start, blank_step, operator_step, copy_two_alone, copy_one_alone}
+use Rattle.rc_model.specs.declared.syntax.Previous.TheVariants as previous
 
 pub bar_one : Piece IsCalm IsApart Anything (codes " | ") ((k.Bar 1) ∷ [])
 unfolding encode
@@ -18,7 +19,7 @@ bar_one = record {
   scalar = refl;
   clean = refl;
   cuts = λ {prev} b rest ls f g.
-      blank_step b (operator_step (codes "|") (codes " " ++ rest) (k.Bar 1) refl (λ e. cc) refl refl refl (blank_step calm_apart (g Apart apart)));
+      blank_step b (operator_step (codes "|") (codes " " ++ rest) (k.Bar 1) refl (λ e. cc) refl refl refl (blank_step calm_apart (g previous.Apart apart)));
 }
 
 pub bar_one_ends : (rest : List ℕ) → Ends (bar_one.chars ++ rest)
@@ -33,7 +34,7 @@ bar_two = record {
   scalar = refl;
   clean = refl;
   cuts = λ {prev} b rest ls f g.
-      blank_step b (operator_step (codes "|[2]") (codes " " ++ rest) (k.Bar 2) refl (λ e. cc) refl refl refl (blank_step calm_apart (g Apart apart)));
+      blank_step b (operator_step (codes "|[2]") (codes " " ++ rest) (k.Bar 2) refl (λ e. cc) refl refl refl (blank_step calm_apart (g previous.Apart apart)));
 }
 
 pub bar_two_ends : (rest : List ℕ) → Ends (bar_two.chars ++ rest)
@@ -48,7 +49,7 @@ and_and = record {
   scalar = refl;
   clean = refl;
   cuts = λ {prev} b rest ls f g.
-      blank_step b (operator_step (codes "&&") (codes " " ++ rest) k.AndAnd refl (λ e. cc) refl refl refl (blank_step calm_apart (g Apart apart)));
+      blank_step b (operator_step (codes "&&") (codes " " ++ rest) k.AndAnd refl (λ e. cc) refl refl refl (blank_step calm_apart (g previous.Apart apart)));
 }
 
 pub and_and_ends : (rest : List ℕ) → Ends (and_and.chars ++ rest)
@@ -63,7 +64,7 @@ or_or = record {
   scalar = refl;
   clean = refl;
   cuts = λ {prev} b rest ls f g.
-      blank_step b (operator_step (codes "||") (codes " " ++ rest) k.OrOr refl (λ e. cc) refl refl refl (blank_step calm_apart (g Apart apart)));
+      blank_step b (operator_step (codes "||") (codes " " ++ rest) k.OrOr refl (λ e. cc) refl refl refl (blank_step calm_apart (g previous.Apart apart)));
 }
 
 pub or_or_ends : (rest : List ℕ) → Ends (or_or.chars ++ rest)
@@ -72,7 +73,7 @@ or_or_ends rest = at_space
 
 -- an operator, and a space after it
 opening : (cs : List ℕ) (l : Lexeme) → operator cs ≡ Some l → l ≢ k.BareHere → ((rest : List ℕ) → goes_on cs (codes " " ++ rest) ≡ false) →
-    ((rest : List ℕ) → meant Apart rest l ≡ l) → as_before Apart l ≡ Apart → encodes cs ≡ cs → scalars cs ≡ true → without_zero cs ≡ true →
+    ((rest : List ℕ) → meant previous.Apart rest l ≡ l) → after_token previous.Apart l ≡ previous.Apart → encodes cs ≡ cs → scalars cs ≡ true → without_zero cs ≡ true →
     Piece IsApart IsApart Anything (cs ++ codes " ") (l ∷ [])
 unfolding encode
 opening cs l found no_mark stops same next spelled scalar clean = record {
@@ -82,7 +83,7 @@ opening cs l found no_mark stops same next spelled scalar clean = record {
   clean = clean-append cs (codes " ") clean refl;
   cuts = λ {prev} b rest ls f g.
       subst (λ t. Gives prev t (l ∷ ls)) (sym (append_assoc cs (codes " ") rest))
-      (at_start b (operator_step cs (codes " " ++ rest) l found no_mark (stops rest) (same (codes " " ++ rest)) next (blank_step calm_apart (g Apart apart))));
+      (at_start b (operator_step cs (codes " " ++ rest) l found no_mark (stops rest) (same (codes " " ++ rest)) next (blank_step calm_apart (g previous.Apart apart))));
 }
 
 pub read_open : Piece IsApart IsApart Anything (codes "< ") ((k.Redirection Read 0) ∷ [])
@@ -113,7 +114,7 @@ copy_to_two = record {
   scalar = refl;
   clean = refl;
   cuts = λ {prev} b rest ls f g.
-      at_start b (operator_step (codes ">[2=1]") rest (k.CopyTo 2 1) refl (λ e. cc) (copy_two_alone rest) refl refl (g Apart apart));
+      at_start b (operator_step (codes ">[2=1]") rest (k.CopyTo 2 1) refl (λ e. cc) (copy_two_alone rest) refl refl (g previous.Apart apart));
 }
 
 pub copy_to_one : Piece IsApart IsApart Anything (codes ">[1=2]") ((k.CopyTo 1 2) ∷ [])
@@ -124,7 +125,7 @@ copy_to_one = record {
   scalar = refl;
   clean = refl;
   cuts = λ {prev} b rest ls f g.
-      at_start b (operator_step (codes ">[1=2]") rest (k.CopyTo 1 2) refl (λ e. cc) (copy_one_alone rest) refl refl (g Apart apart));
+      at_start b (operator_step (codes ">[1=2]") rest (k.CopyTo 1 2) refl (λ e. cc) (copy_one_alone rest) refl refl (g previous.Apart apart));
 }
 
 -- `&` after a command
@@ -145,7 +146,7 @@ ampersand = record {
   scalar = refl;
   clean = refl;
   cuts = λ {prev} b rest ls f g.
-      blank_step b (operator_step (codes "&") rest k.Ampersand refl (λ e. cc) (ampersand_alone f) refl refl (g Apart apart));
+      blank_step b (operator_step (codes "&") rest k.Ampersand refl (λ e. cc) (ampersand_alone f) refl refl (g previous.Apart apart));
 }
 
 pub ampersand_ends : (rest : List ℕ) → Ends (ampersand.chars ++ rest)

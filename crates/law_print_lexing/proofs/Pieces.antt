@@ -4,19 +4,21 @@ use Rattle.std.proofs.lemmas.Bool.{and_parts}
 use Rattle.std.proofs.lemmas.Str.{encodes-append}
 use lib.Utf8.{scalar, scalars, encodes}
 use Rattle.rc_model.specs.Syntax.Text.{without_zero}
-use Rattle.rc_model.specs.Syntax.Tokens.{Lexeme, Before, Apart, WordBefore, QuotedBefore, NameBefore}
+use Rattle.rc_model.specs.Syntax.Tokens.{Lexeme}
 pub use Rattle.law_grammar.proofs.Zeros.{clean_append as clean-append}
 use Rattle.law_print_lexing.proofs.Gives.{Gives}
+use Rattle.rc_model.specs.declared.syntax.Previous.{Previous}
+use Rattle.rc_model.specs.declared.syntax.Previous.TheVariants as previous
 
 -- nothing that matters stands before; no `$` and no `<<` does
-pub data IsApart : Before → Type 0 where
-  apart : IsApart Apart
+pub data IsApart : Previous → Type 0 where
+  apart : IsApart previous.Apart
 
-pub data IsCalm : Before → Type 0 where
-  calm_apart : IsCalm Apart
-  calm_word : IsCalm WordBefore
-  calm_quoted : IsCalm QuotedBefore
-  calm_name : IsCalm NameBefore
+pub data IsCalm : Previous → Type 0 where
+  calm_apart : IsCalm previous.Apart
+  calm_word : IsCalm previous.Word
+  calm_quoted : IsCalm previous.Quoted
+  calm_name : IsCalm previous.Name
 
 -- what may follow: anything; a character that ends each word, quoted word and name
 abbrev pub Anything : List ℕ → Type 0
@@ -32,12 +34,12 @@ pub data Ends : List ℕ → Type 0 where
   at_brace : {rest : List ℕ} → Ends (125 ∷ rest)
 
 -- a text with these lexemes between what may stand before it and what it leaves
-pub record Piece (before after : Before → Type 0) (follows : List ℕ → Type 0) (text : List ℕ) (ls : List Lexeme) : Type 0 where
+pub record Piece (before after : Previous → Type 0) (follows : List ℕ → Type 0) (text : List ℕ) (ls : List Lexeme) : Type 0 where
   pub chars : List ℕ
   pub spelled : encodes chars ≡ text
   pub scalar : scalars chars ≡ true
   pub clean : without_zero chars ≡ true
-  pub cuts : {prev : Before} → before prev → (rest : List ℕ) (more : List Lexeme) → follows rest → ((next : Before) → after next → Gives next rest more) →
+  pub cuts : {prev : Previous} → before prev → (rest : List ℕ) (more : List Lexeme) → follows rest → ((next : Previous) → after next → Gives next rest more) →
       Gives prev (chars ++ rest) (ls ++ more)
 
 pub scalars-append : (xs ys : List ℕ) → scalars xs ≡ true → scalars ys ≡ true → scalars (xs ++ ys) ≡ true
@@ -45,7 +47,7 @@ scalars-append [] ys e f = f
 scalars-append (x ∷ xs) ys e f = let p = and_parts (scalar x) (scalars xs) e in rw p.0 (scalars-append xs ys p.1 f)
 
 -- one piece after another
-unfoldable pub followed : {A B C : Before → Type 0} {F G : List ℕ → Type 0} {x y : List ℕ} {ls ms : List Lexeme} (p : Piece A B F x ls) (q : Piece B C G y ms) →
+unfoldable pub followed : {A B C : Previous → Type 0} {F G : List ℕ → Type 0} {x y : List ℕ} {ls ms : List Lexeme} (p : Piece A B F x ls) (q : Piece B C G y ms) →
     ((rest : List ℕ) → G rest → F (q.chars ++ rest)) → Piece A C G (x ++ y) (ls ++ ms)
 followed {x = x} {y = y} {ls = ls} {ms = ms} p q fits = record {
   chars = p.chars ++ q.chars;
@@ -59,7 +61,7 @@ followed {x = x} {y = y} {ls = ls} {ms = ms} p q fits = record {
 }
 
 -- a piece after which anything may follow, where less is wanted
-pub settled : {A : Before → Type 0} {x : List ℕ} {ls : List Lexeme} → Piece A IsApart Anything x ls → Piece A IsCalm Ends x ls
+pub settled : {A : Previous → Type 0} {x : List ℕ} {ls : List Lexeme} → Piece A IsApart Anything x ls → Piece A IsCalm Ends x ls
 settled p = record {
   chars = p.chars;
   spelled = p.spelled;
@@ -68,16 +70,16 @@ settled p = record {
   cuts = λ {prev} a rest more e g. p.cuts a rest more tt (λ next b. g next (calm b));
 }
   where
-    calm : {next : Before} → IsApart next → IsCalm next
+    calm : {next : Previous} → IsApart next → IsCalm next
     calm apart = calm_apart
 
 -- no text
 pub empty : Piece IsApart IsCalm Ends [] []
 empty = record { chars = []; spelled = refl; scalar = refl; clean = refl; cuts = λ {prev} b. gives b }
   where
-    gives : {prev : Before} → IsApart prev → (rest : List ℕ) (more : List Lexeme) → Ends rest → ((next : Before) → IsCalm next →
+    gives : {prev : Previous} → IsApart prev → (rest : List ℕ) (more : List Lexeme) → Ends rest → ((next : Previous) → IsCalm next →
         Gives next rest more) → Gives prev rest more
-    gives apart rest more e g = g Apart calm_apart
+    gives apart rest more e g = g previous.Apart calm_apart
 
 -- a piece that may follow each word
 pub record Tail (text : List ℕ) (ls : List Lexeme) : Type 0 where
@@ -107,22 +109,22 @@ both p q = record {
 }
 
 -- a piece with a tail
-pub tailed : {A : Before → Type 0} {x y : List ℕ} {ls ms : List Lexeme} → Piece A IsCalm Ends x ls → Tail y ms → Piece A IsCalm Ends (x ++ y) (ls ++ ms)
+pub tailed : {A : Previous → Type 0} {x y : List ℕ} {ls ms : List Lexeme} → Piece A IsCalm Ends x ls → Tail y ms → Piece A IsCalm Ends (x ++ y) (ls ++ ms)
 tailed p q = followed p q.piece q.fits
 
 -- a piece after one that anything may follow
-pub led : {A B C : Before → Type 0} {G : List ℕ → Type 0} {x y : List ℕ} {ls ms : List Lexeme} → Piece A B Anything x ls → Piece B C G y ms →
+pub led : {A B C : Previous → Type 0} {G : List ℕ → Type 0} {x y : List ℕ} {ls ms : List Lexeme} → Piece A B Anything x ls → Piece B C G y ms →
     Piece A C G (x ++ y) (ls ++ ms)
 led p q = followed p q (λ rest g. tt)
 
 -- a piece, a mark and what is after it
-pub between : {A B C : Before → Type 0} {F G : List ℕ → Type 0} {x y z : List ℕ} {ls ms ns : List Lexeme} → Piece A IsCalm Ends x ls →
+pub between : {A B C : Previous → Type 0} {F G : List ℕ → Type 0} {x y z : List ℕ} {ls ms ns : List Lexeme} → Piece A IsCalm Ends x ls →
     (p : Piece IsCalm B F y ms) → ((rest : List ℕ) → Ends (p.chars ++ rest)) → (q : Piece B C G z ns) → ((rest : List ℕ) → G rest → F (q.chars ++ rest)) →
     Piece A C G (x ++ (y ++ z)) (ls ++ (ms ++ ns))
 unfolding followed
 between o p starts q fits = followed o (followed p q fits) (λ rest g. subst Ends (sym (append_assoc p.chars q.chars rest)) (starts (q.chars ++ rest)))
 
-pub calmed : {A : Before → Type 0} {F : List ℕ → Type 0} {x : List ℕ} {ls : List Lexeme} → Piece A IsApart F x ls → Piece A IsCalm F x ls
+pub calmed : {A : Previous → Type 0} {F : List ℕ → Type 0} {x : List ℕ} {ls : List Lexeme} → Piece A IsApart F x ls → Piece A IsCalm F x ls
 calmed p = record {
   chars = p.chars;
   spelled = p.spelled;
@@ -131,7 +133,7 @@ calmed p = record {
   cuts = λ {prev} a rest more f g. p.cuts a rest more f (λ next b. g next (calm b));
 }
   where
-    calm : {next : Before} → IsApart next → IsCalm next
+    calm : {next : Previous} → IsApart next → IsCalm next
     calm apart = calm_apart
 
 -- no text, before anything

@@ -11,6 +11,8 @@ use Rattle.law_lexing.proofs.Quotes.{quoted_text_chars, unquoted}
 use Rattle.law_print_lexing.proofs.Gives.{Gives, lexeme}
 use Rattle.law_print_lexing.proofs.Pieces.{Piece, IsApart, apart, IsCalm, calm_quoted, Ends, at_end, at_space, at_semicolon, at_caret}
 use Rattle.law_print_lexing.proofs.Pieces.{at_equals, at_paren, at_brace, scalars-append, clean-append}
+use Rattle.rc_model.specs.declared.syntax.Previous.{Previous}
+use Rattle.rc_model.specs.declared.syntax.Previous.TheVariants as previous
 
 in_quotes : (cs : List ℕ) → InQuotes (doubled_quotes cs)
 in_quotes [] = k.nothing
@@ -59,7 +61,7 @@ pub quoted_clean : (text : List ℕ) → without_zero (chars text) ≡ true → 
 quoted_clean text z = clean-append (doubled_quotes (chars text)) (39 ∷ []) (clean_doubled (chars text) z) refl
 
 -- they say the text, wherever they stand
-pub quoted_spells : (prev : k.Before) (text rest : List ℕ) → IsUtf8 text → begins_with (39 ∷ []) rest
+pub quoted_spells : (prev : Previous) (text rest : List ℕ) → IsUtf8 text → begins_with (39 ∷ []) rest
     ≡ false → k.Spells prev (quoted_chars text) rest (k.Quoted text)
 quoted_spells prev text rest u e =
     subst (λ w. k.Spells prev (quoted_chars text) rest (k.Quoted w)) (ap unquoted_text (quoted_spelled text u) ∙ unquoted text)
@@ -74,7 +76,7 @@ quoted_piece text u z = record {
   cuts = λ {prev} b. gives b;
 }
   where
-    gives : {prev : k.Before} → IsApart prev → (rest : List ℕ) (more : List Lexeme) → Ends rest → ((next : k.Before) → IsCalm next → Gives next rest more) →
+    gives : {prev : Previous} → IsApart prev → (rest : List ℕ) (more : List Lexeme) → Ends rest → ((next : Previous) → IsCalm next → Gives next rest more) →
         Gives prev (quoted_chars text ++ rest) (k.Quoted text ∷ more)
     gives apart rest more e g =
-        lexeme {cs = quoted_chars text} {rest = rest} refl refl (quoted_spells k.Apart text rest u (quote_ends e)) (g k.QuotedBefore calm_quoted)
+        lexeme {cs = quoted_chars text} {rest = rest} refl refl (quoted_spells previous.Apart text rest u (quote_ends e)) (g previous.Quoted calm_quoted)

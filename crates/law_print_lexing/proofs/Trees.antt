@@ -28,11 +28,12 @@ use Rattle.law_print_lexing.proofs.Lines.{Lines, no_lines, line, lines_append, l
 use Rattle.law_print_lexing.proofs.Marks as marks
 use Rattle.law_print_lexing.proofs.Keywords as keywords
 use Rattle.law_print_lexing.proofs.Operators as operators
+use Rattle.rc_model.specs.declared.syntax.Previous.{Previous}
 
-retext : {A B : k.Before → Type 0} {F : List ℕ → Type 0} {a b : List ℕ} {ls : List Lexeme} → a ≡ b → Piece A B F a ls → Piece A B F b ls
+retext : {A B : Previous → Type 0} {F : List ℕ → Type 0} {a b : List ℕ} {ls : List Lexeme} → a ≡ b → Piece A B F a ls → Piece A B F b ls
 retext {A} {B} {F} {a} {b} {ls} e q = subst (λ w. Piece A B F w ls) e q
 
-relex : {A B : k.Before → Type 0} {F : List ℕ → Type 0} {a : List ℕ} {ls ms : List Lexeme} → ls ≡ ms → Piece A B F a ls → Piece A B F a ms
+relex : {A B : Previous → Type 0} {F : List ℕ → Type 0} {a : List ℕ} {ls ms : List Lexeme} → ls ≡ ms → Piece A B F a ls → Piece A B F a ms
 relex {A} {B} {F} {a} {ls} {ms} e q = subst (λ w. Piece A B F a w) e q
 
 sign_piece : (l : Logic) → Piece IsCalm IsApart Anything (p.sign l) (x.sign l ∷ [])

@@ -7,7 +7,6 @@ use Rattle.std.specs.Str.{chars, is_utf8}
 use Rattle.rc_model.specs.Run.Calls.{to_file, plain, Call, Answer, make_pipe, close, wait, read, probe, pair, child, done, found}
 use Rattle.rc_model.specs.declared.call.Kind.TheVariants.{Program}
 use Rattle.rc_model.specs.Syntax.Tree.{Node, cmd, none, more, Empty, Brace, Pipeline, Stage, Subshell, Assign, Pair, Back, Lit}
-use Rattle.rc_model.specs.Handed.Arguments.{reads}
 use Rattle.rc_model.specs.Handed.Image.{node_image, many_image}
 use Rattle.rc_model.specs.Handed.TreeReading.{cmd_at, arg_at}
 use Rattle.rc_model.specs.Family.Accounts.{one, put}

@@ -4,7 +4,7 @@ use Rattle.std.specs.Prelude.{if◌then◌else◌, codes, length, Result, Ok, Er
 use Rattle.std.specs.Fmt.{decimal}
 use Rattle.std.specs.List.{list_any}
 use Rattle.rc_model.specs.Syntax.Words.{Word, word_text, word_texts, plain_words, has_pattern}
-use Rattle.rc_model.specs.Run.Lists.{ListFault, EmptyConcat, CountMismatch, concatenated}
+use Rattle.rc_model.specs.Run.Lists.{concatenated, list_words}
 use Rattle.rc_model.specs.Run.Calls.{list_names, probe, change_dir, write, as_names}
 use Rattle.rc_model.specs.declared.call.Slots.{Slots}
 use Rattle.rc_model.specs.Run.Plans.{done_with}
@@ -17,6 +17,7 @@ use Rattle.rc_model.specs.Family.Accounts.{Account}
 use Rattle.law_traces.proofs.Keep.{Keeps, keeps_under, Held, Kid, Rest}
 use Rattle.law_traces.proofs.Steps.{rest_on, may_call}
 use Rattle.law_traces.proofs.Does.{Ends, Covers, holds_slot, Clean, clean_bind, clean_pure, clean_skip, clean_get, clean_probe, clean_fails, clean_change, neat_state}
+use Rattle.rc_model.specs.declared.fault.ListFault.{ListFault}
 
 pub clean_names : {slots : Slots} (path : List ℕ) → Clean slots (call (list_names path))
 clean_names path = record { by = λ F O a s c n. (may_call (list_names path) n tt tt tt, λ x f. rest_on (list_names path) n) }
@@ -78,8 +79,7 @@ clean_selected_words {slots = slots} x ss = clean_bind (value slots x) _ (clean_
 
 clean_joined : {slots : Slots} (r : Result (List Word) ListFault) → Clean slots (joined_lists slots r)
 clean_joined (Ok ws) = clean_pure ws
-clean_joined (Err EmptyConcat) = clean_fails (codes "empty list in concatenation")
-clean_joined (Err CountMismatch) = clean_fails (codes "list lengths differ in concatenation")
+clean_joined (Err fault) = clean_fails (list_words fault)
 
 pub clean_concat : {slots : Slots} (a b : List Word) → Clean slots (concat_words slots a b)
 clean_concat a b = clean_joined (concatenated a b)

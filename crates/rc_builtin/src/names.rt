@@ -15,7 +15,7 @@ ghost use Rattle.rc_scope.specs.States.{state_of};
 
 use crate::programs::find_program;
 use crate::shown::value_line;
-use rc_model::Builtin;
+use rc_model::{Builtin, InputError};
 use rc_print::{PrintFault, print};
 use rc_scope::State;
 use rc_tree_types::Cmd;
@@ -37,8 +37,8 @@ fn body_text(alloc: Global, body: &Cmd) -> Result<Option<String>, AllocError>
 {
     match print(alloc, body) {
         Ok(text) => Ok(Some(text)),
-        Err(PrintFault::HereInside) => Ok(None),
-        Err(PrintFault::NoMemory) => Err(AllocError),
+        Err(InputError::Fault(PrintFault::HereInside)) => Ok(None),
+        Err(InputError::NoMemory) => Err(AllocError),
     }
 }
 

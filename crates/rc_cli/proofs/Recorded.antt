@@ -1,16 +1,12 @@
 -- What was recorded of a run, from what the shell says of it.
 use Rattle.std.specs.Prelude.{OnOk, IfErr}
-use Rattle.std.proofs.Common.{◌≡◌, ◌≢◌, ℕ, List, Option, Result, Ok, Err, refl, sym, subst, ◌∙◌}
-use Rattle.rc_model.specs.Handed.TreeReading as reading
+use Rattle.std.proofs.Common.{◌≡◌, ℕ, List, Option, Result, Ok, Err, refl, sym, subst, ◌∙◌}
 use Rattle.rc_model.specs.Syntax.Accepted.{IsAccepted, IsRefused}
 use Rattle.rc_model.specs.Run.Calls.{Event}
 use Rattle.rc_model.specs.Run.Script.{Recorded}
 use Rattle.rc_model.specs.Run.State.{State}
 use Rattle.rc_model.specs.Syntax.Tree.{Node, cmd}
 use Rattle.rc_model.specs.declared.fault.SyntaxFault.{SyntaxFault}
-use Rattle.rc_image.specs.declared.fault.ImageFault.{ImageFault}
-use Rattle.rc_image.specs.declared.fault.ImageFault.TheVariants as f
-use Rattle.rc_image.specs.Images.{Fails}
 use Rattle.rc_scope.specs.States.{state_of}
 use Rattle.rc_shell.specs.Executed as executed
 use Rattle.rc_shell.specs.Executed.{IfDenoted, IfImage, IfSyntax}
@@ -19,9 +15,10 @@ use Rattle.rc_shell.specs.declared.run.Ran.TheVariants as ran
 use Rattle.rc_shell.specs.declared.run.ShellFault.{ShellFault}
 use Rattle.rc_shell.specs.declared.run.ShellFault.TheVariants as shell
 use Rattle.rc_cli.specs.Runs.{Answers, IsNotRun, IsRun, Program, RunsAsMeant, handed, most_instructions, text_from}
-use Rattle.rc_cli.specs.declared.fault.RunFault.{RunFault}
-use Rattle.rc_cli.specs.declared.fault.RunFault.TheVariants.{Usage, CannotRead, Syntax, BadImage}
-use Rattle.rc_cli.specs.declared.fault.RunFault.TheVariants.{NoMemory, Limit, Halted}
+use Rattle.rc_cli.specs.declared.fault.RunError.{RunError}
+use Rattle.rc_cli.specs.declared.fault.RunError.TheVariants.{Usage, CannotRead, Syntax, BadImage}
+use Rattle.rc_cli.specs.declared.fault.RunError.TheVariants.{NoMemory, Limit, Halted}
+use Rattle.rc_model.specs.declared.fault.ImageFault.{ImageFault}
 
 -- the shell's fault is a reason to run nothing
 abbrev pub IsReason : Program → ShellFault → Type 0
@@ -38,8 +35,8 @@ module _ (before after : Option (List Event)) (p : Program) where
   abbrev pub OfEach : Result Ran ShellFault → Type 0
   OfEach r = (t : Node cmd) (s : State) → IsRun p t s → Recorded before after (λ trace. executed.RunsAsMeant most_instructions t s trace r)
 
-  pub answered : (r : Result Ran ShellFault) (result : Result ℕ RunFault) → Answers r result → OnOk r HasTree → IfErr r (IsReason p) → OfEach r →
-      ((fault : RunFault) → IsNotRun p fault → after ≡ before) → RunsAsMeant before after p result
+  pub answered : (r : Result Ran ShellFault) (result : Result ℕ RunError) → Answers r result → OnOk r HasTree → IfErr r (IsReason p) → OfEach r →
+      ((fault : RunError) → IsNotRun p fault → after ≡ before) → RunsAsMeant before after p result
   answered (Ok (ran.Ended end)) result a h w each silent =
       let k = each h.0 h.1 h.2 in
       rw a.1 (h.0, h.1, h.2, (k.0, k.1, (state_of end, k.2, a.2)))
@@ -66,7 +63,7 @@ script_tree script start (Ok x) h = (h.0, start, (h.1, refl))
 script_tree script start (Err e) h = h
 
 script_silent : (before after : Option (List Event)) (script : List ℕ) (start : State) → ((fault : SyntaxFault) → IsRefused script fault → after ≡ before) →
-    (fault : RunFault) → IsNotRun (text_from script start) fault → after ≡ before
+    (fault : RunError) → IsNotRun (text_from script start) fault → after ≡ before
 script_silent before after script start h Usage k = absurd k
 script_silent before after script start h (CannotRead name) k = absurd k
 script_silent before after script start h (Syntax fault) k = h fault k
@@ -75,7 +72,7 @@ script_silent before after script start h NoMemory k = absurd k
 script_silent before after script start h Limit k = absurd k
 script_silent before after script start h Halted k = absurd k
 
-pub script_answered : (before after : Option (List Event)) (script : List ℕ) (s start : State) (r : Result Ran ShellFault) (result : Result ℕ RunFault) → s ≡ start → Answers r result →
+pub script_answered : (before after : Option (List Event)) (script : List ℕ) (s start : State) (r : Result Ran ShellFault) (result : Result ℕ RunError) → s ≡ start → Answers r result →
     OnOk r ((t : Node cmd) × IsAccepted script t) → IfErr r (λ e. IfSyntax e (λ fault. IsRefused script fault)) →
     ((t : Node cmd) → IsAccepted script t → Recorded before after (λ trace. executed.RunsAsMeant most_instructions t s trace r)) →
     ((fault : SyntaxFault) → IsRefused script fault → after ≡ before) → RunsAsMeant before after (text_from script start) result
@@ -87,28 +84,19 @@ script_answered before after script s start r result is a h w each silent =
 -- ** images
 
 abbrev Read : Type 0
-Read = Result (Node cmd × State) reading.ImageFault
+Read = Result (Node cmd × State) ImageFault
 
-fault_of : (read : Read) (fault : ImageFault) → Fails fault read → fault ≢ f.NoMemory → (e : reading.ImageFault) × (read ≡ Err e)
-fault_of read f.BadTag h n = (reading.BadTag, h)
-fault_of read f.BadLength h n = (reading.BadLength, h)
-fault_of read f.Trailing h n = (reading.Trailing, h)
-fault_of read f.TooDeep h n = (reading.TooDeep, h)
-fault_of read f.Version h n = (reading.Version, h)
-fault_of read f.TooLarge h n = absurd h
-fault_of read f.NoMemory h n = absurd (n refl)
-
-image_reason : (read : Read) (e : ShellFault) → IfImage e (λ fault. Fails fault read × (fault ≢ f.NoMemory)) → IsReason (handed read) e
+image_reason : (read : Read) (e : ShellFault) → IfImage e (λ fault. read ≡ Err fault) → IsReason (handed read) e
 image_reason read (shell.Syntax fault) h = absurd h
-image_reason read (shell.Image fault) h = fault_of read fault h.0 h.1
+image_reason read (shell.Image fault) h = (fault, h)
 image_reason read shell.NoMemory h = tt
 
-image_reasons : (read : Read) (r : Result Ran ShellFault) → IfErr r (λ e. IfImage e (λ fault. Fails fault read × (fault ≢ f.NoMemory))) → IfErr r (IsReason (handed read))
+image_reasons : (read : Read) (r : Result Ran ShellFault) → IfErr r (λ e. IfImage e (λ fault. read ≡ Err fault)) → IfErr r (IsReason (handed read))
 image_reasons read (Ok x) h = h
 image_reasons read (Err e) h = image_reason read e h
 
-image_silent : (before after : Option (List Event)) (read : Read) → ((fault : reading.ImageFault) → read ≡ Err fault → after ≡ before) →
-    (fault : RunFault) → IsNotRun (handed read) fault → after ≡ before
+image_silent : (before after : Option (List Event)) (read : Read) → ((fault : ImageFault) → read ≡ Err fault → after ≡ before) →
+    (fault : RunError) → IsNotRun (handed read) fault → after ≡ before
 image_silent before after read h Usage k = absurd k
 image_silent before after read h (CannotRead name) k = absurd k
 image_silent before after read h (Syntax fault) k = absurd k
@@ -117,9 +105,9 @@ image_silent before after read h NoMemory k = absurd k
 image_silent before after read h Limit k = absurd k
 image_silent before after read h Halted k = absurd k
 
-pub image_answered : (before after : Option (List Event)) (read : Read) (r : Result Ran ShellFault) (result : Result ℕ RunFault) → Answers r result →
-    OnOk r ((t : Node cmd) × (s : State) × (read ≡ Ok (t, s))) → IfErr r (λ e. IfImage e (λ fault. Fails fault read × (fault ≢ f.NoMemory))) →
+pub image_answered : (before after : Option (List Event)) (read : Read) (r : Result Ran ShellFault) (result : Result ℕ RunError) → Answers r result →
+    OnOk r ((t : Node cmd) × (s : State) × (read ≡ Ok (t, s))) → IfErr r (λ e. IfImage e (λ fault. read ≡ Err fault)) →
     IfDenoted read before after (λ t s trace. executed.RunsAsMeant most_instructions t s trace r) →
-    ((fault : reading.ImageFault) → read ≡ Err fault → after ≡ before) → RunsAsMeant before after (handed read) result
+    ((fault : ImageFault) → read ≡ Err fault → after ≡ before) → RunsAsMeant before after (handed read) result
 image_answered before after read r result a h w each silent =
     answered before after (handed read) r result a h (image_reasons read r w) each (image_silent before after read silent)

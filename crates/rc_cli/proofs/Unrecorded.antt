@@ -8,8 +8,8 @@ use Rattle.rc_shell.proofs.Runs.{recorded_nothing}
 use Rattle.rc_cli.specs.Requests.{Request, name_of}
 use Rattle.rc_cli.specs.Runs.{IsScriptOf, IsUnread, Program, RunsAsMeant, RunsInput, RunsRead, most_instructions, text_from}
 use Rattle.rc_cli.specs.Start.{first_state}
-use Rattle.rc_cli.specs.declared.fault.RunFault.{RunFault}
-use Rattle.rc_cli.specs.declared.fault.RunFault.TheVariants.{Usage, CannotRead, NoMemory}
+use Rattle.rc_cli.specs.declared.fault.RunError.{RunError}
+use Rattle.rc_cli.specs.declared.fault.RunError.TheVariants.{Usage, CannotRead, NoMemory}
 
 -- an input has a script
 script_of : (known : Option (List ℕ)) → (script : List ℕ) × IsScriptOf known script
@@ -21,22 +21,22 @@ pub left_unrecorded : (recorded : Option (List Event)) (p : Program) → RunsAsM
 left_unrecorded recorded p = (λ t s is. recorded_nothing most_instructions t s recorded recorded, λ fault reason. refl)
 
 -- why a script was not read
-abbrev IsReadingFault : Bor (List ℕ) → RunFault → Type 0
+abbrev IsReadingFault : Bor (List ℕ) → RunError → Type 0
 IsReadingFault name fault = (fault ≡ CannotRead name) ⊎ (fault ≡ NoMemory)
 
 -- a reading is no wrong use
-pub no_wrong_use : (name : Bor (List ℕ)) (read : Result (Vec ℕ Global) RunFault) → IfErr read (IsReadingFault name) → read ≢ Err Usage
+pub no_wrong_use : (name : Bor (List ℕ)) (read : Result (Vec ℕ Global) RunError) → IfErr read (IsReadingFault name) → read ≢ Err Usage
 no_wrong_use name (Ok script) h e = absurd cc
 no_wrong_use name (Err fault) (inl h) e = absurd (let n : ⊥ = cc in n)
 no_wrong_use name (Err fault) (inr h) e = absurd (let n : ⊥ = cc in n)
 
-module _ (before after : Option (List Event)) (r : Request) (entries : List (List ℕ)) (name : Bor (List ℕ)) (result : Result ℕ RunFault) (named : name_of r.source ≡ Some name.now) where
+module _ (before after : Option (List Event)) (r : Request) (entries : List (List ℕ)) (name : Bor (List ℕ)) (result : Result ℕ RunError) (named : name_of r.source ≡ Some name.now) where
   -- nothing was run, since the script could not be read
-  unread : (fault : RunFault) → fault ≡ CannotRead name → (result ≡ Err fault) × (after ≡ before) → IsUnread before after r result
+  unread : (fault : RunError) → fault ≡ CannotRead name → (result ≡ Err fault) × (after ≡ before) → IsUnread before after r result
   unread fault e h = rw (h.0, e) (named, h.1)
 
   -- the run of an input is what came of its reading
-  pub input_run : {R : Type 0} (left : R → Option (List ℕ)) (input : Option R) (read : Result (Vec ℕ Global) RunFault) → (input ≡ None → read ≡ Err (CannotRead name))
+  pub input_run : {R : Type 0} (left : R → Option (List ℕ)) (input : Option R) (read : Result (Vec ℕ Global) RunError) → (input ≡ None → read ≡ Err (CannotRead name))
       → IfOk read (λ script. IfSome input (λ x. IsScriptOf (left x) script.items)) → IfErr read (IsReadingFault name)
       → RunsRead before after r entries read result → RunsInput (option_map left input) before after r entries result
   input_run left None (Ok script) unopened of either h = absurd (let e = unopened refl in let n : ⊥ = cc in n)

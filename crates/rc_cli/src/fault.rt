@@ -12,7 +12,7 @@ use std::{fmt, io};
 /// Why a run of the program failed. It is shown as the line that the program prints, without a
 /// newline.
 #[derive(Clone, Copy, Debug, PartialEq)]
-pub enum RunFault<'a> {
+pub enum RunError<'a> {
     /// The arguments ask for nothing that the program does.
     Usage,
     /// What has this name couldn't be read: the script's file, or `standard input`.
@@ -27,45 +27,45 @@ pub enum RunFault<'a> {
     Halted,
 }
 
-impl<'a> From<AllocError> for RunFault<'a> {
-    ghost use Rattle.rc_cli.specs.declared.fault.RunFault.TheVariants.{NoMemory};
+impl<'a> From<AllocError> for RunError<'a> {
+    ghost use Rattle.rc_cli.specs.declared.fault.RunError.TheVariants.{NoMemory};
 
-    ghost from_gives = { λ _ fault. fault ≡ NoMemory };
+    ghost from_gives = { λ _ error. error ≡ NoMemory };
 
-    fn from(_: AllocError) -> RunFault<'a> {
-        RunFault::NoMemory
+    fn from(_: AllocError) -> RunError<'a> {
+        RunError::NoMemory
     }
 }
 
-impl<'a> RunFault<'a> {
-    /// The fault at an error of the system: out of memory is distinguished from any other.
-    pub(crate) fn at(error: &io::Error, other: RunFault<'a>) -> RunFault<'a>
-        ensures either { (result ≡ other.entry) ⊎ (result ≡ RunFault.NoMemory) }
+impl<'a> RunError<'a> {
+    /// What an error of the system is: out of memory, or else this other one.
+    pub(crate) fn at(error: &io::Error, other: RunError<'a>) -> RunError<'a>
+        ensures either { (result ≡ other.entry) ⊎ (result ≡ RunError.NoMemory) }
         ensures other { error_kind error.now ≢ ErrorKind.OutOfMemory → result ≡ other.entry }
         ensures memory { error_kind error.now ≡ ErrorKind.OutOfMemory → raw_os_error error.now ≡ None →
-            result ≡ RunFault.NoMemory }
+            result ≡ RunError.NoMemory }
     {
         match error.kind() {
-            ErrorKind::OutOfMemory if error.raw_os_error().is_none() => RunFault::NoMemory,
+            ErrorKind::OutOfMemory if error.raw_os_error().is_none() => RunError::NoMemory,
             _ => other,
         }
     }
 }
 
-impl fmt::Display for RunFault<'_> {
+impl fmt::Display for RunError<'_> {
     ghost output = { λ fault. Some (fault_line fault) };
 
     fn fmt<W: fmt::Write>(&self, f: &mut fmt::Formatter<W>) -> fmt::Result {
         match self {
-            RunFault::Usage => f.write_str("rc: usage: rc [-e] [-c text | file] [arg ...]"),
-            RunFault::CannotRead(name) => write!(f, "rc: cannot read {name}"),
-            RunFault::Syntax(fault) => write!(f, "rc: {fault}"),
-            RunFault::BadImage => f.write_str("rc: bad image"),
-            RunFault::NoMemory => f.write_str("rc: no memory"),
-            RunFault::Limit => f.write_str("rc: limit"),
-            RunFault::Halted => f.write_str("rc: halted"),
+            RunError::Usage => f.write_str("rc: usage: rc [-e] [-c text | file] [arg ...]"),
+            RunError::CannotRead(name) => write!(f, "rc: cannot read {name}"),
+            RunError::Syntax(fault) => write!(f, "rc: {fault}"),
+            RunError::BadImage => f.write_str("rc: bad image"),
+            RunError::NoMemory => f.write_str("rc: no memory"),
+            RunError::Limit => f.write_str("rc: limit"),
+            RunError::Halted => f.write_str("rc: halted"),
         }
     }
 }
 
-impl Error for RunFault<'_> {}
+impl Error for RunError<'_> {}

@@ -9,7 +9,7 @@ mod running;
 mod start;
 mod status;
 
-pub use fault::RunFault;
+pub use fault::RunError;
 pub use process::report;
 pub use request::{Request, Source, request_of};
 pub use running::run_rc;

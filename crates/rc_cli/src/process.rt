@@ -2,11 +2,11 @@
 ghost use Rattle.std.specs.Prelude.{◌≡◌, IfOk, OnErr};
 ghost use Rattle.std.specs.Process.{exit_status};
 
-use crate::fault::RunFault;
+use crate::fault::RunError;
 use std::process::ExitCode;
 
 /// Prints the line of a fault to descriptor 2, and gives what the process ends with.
-pub fn report<R: Eprint>(rt: &R, run: Result<u8, RunFault<'_>>) -> ExitCode
+pub fn report<R: Eprint>(rt: &R, run: Result<u8, RunError<'_>>) -> ExitCode
     ensures ended { IfOk run.entry (λ status. exit_status result ≡ status) }
     ensures failed { OnErr run.entry (exit_status result ≡ 1) }
 {

@@ -1,9 +1,9 @@
 //! The reading of a script.
 ghost use Rattle.std.specs.Prelude.{◌≡◌, ◌⊎◌, None, Err, IfOk, IfErr, IfSome};
 ghost use Rattle.rc_cli.specs.Runs.{IsScriptOf};
-ghost use Rattle.rc_cli.specs.declared.fault.RunFault.TheVariants.{CannotRead, NoMemory};
+ghost use Rattle.rc_cli.specs.declared.fault.RunError.TheVariants.{CannotRead, NoMemory};
 
-use crate::fault::RunFault;
+use crate::fault::RunError;
 use rc_model::limits::LONGEST_SCRIPT;
 use std::alloc::Global;
 use std::io::Read;
@@ -17,17 +17,17 @@ pub fn read_script<'a, R: Read + Drop>(
     alloc: Global,
     input: Option<R>,
     name: &'a str,
-) -> Result<Vec<u8>, RunFault<'a>>
+) -> Result<Vec<u8>, RunError<'a>>
     ensures script { IfOk result (λ script. IfSome input (λ r. IsScriptOf (R.remaining r) script.items)) }
     ensures unopened { input ≡ None → result ≡ Err (CannotRead name.entry) }
     ensures err { IfErr result (λ fault. (fault ≡ CannotRead name.entry) ⊎ (fault ≡ NoMemory)) }
 {
     let Some(input) = input else {
-        return Err(RunFault::CannotRead(name));
+        return Err(RunError::CannotRead(name));
     };
     let mut script = Vec::new(alloc);
     match input.take(MOST).read_to_end(&mut script) {
         Ok(_) => Ok(script),
-        Err(error) => Err(RunFault::at(&error, RunFault::CannotRead(name))),
+        Err(error) => Err(RunError::at(&error, RunError::CannotRead(name))),
     }
 }

@@ -4,7 +4,7 @@ ghost use Rattle.rc_cli.specs.Asked.{asked};
 ghost use Rattle.rc_cli.specs.Requests.{request_of, name_of};
 ghost use Rattle.rc_cli.specs.Runs.{Answers, RunsImage, RunsInput, RunsRead, RunsRequest, RunsScript};
 
-use crate::fault::RunFault;
+use crate::fault::RunError;
 use crate::reading::read_script;
 use crate::request::{Request, Source, request_of};
 use crate::start::first_state;
@@ -24,15 +24,15 @@ pub fn run_rc<'a, W: World, R: Read + Drop>(
     arguments: &'a [String],
     entries: &[String],
     input: Option<R>,
-) -> Result<u8, RunFault<'a>>
-    ensures usage { (result ≡ Err RunFault.Usage) ↔ (request_of (map string_bytes arguments.now) ≡ None) }
-    ensures unchanged { result ≡ Err RunFault.Usage → W.events world.new ≡ W.events world.old }
+) -> Result<u8, RunError<'a>>
+    ensures usage { (result ≡ Err RunError.Usage) ↔ (request_of (map string_bytes arguments.now) ≡ None) }
+    ensures unchanged { result ≡ Err RunError.Usage → W.events world.new ≡ W.events world.old }
     ensures meant { IfSome (request_of (map string_bytes arguments.now))
         (RunsRequest (option_map (λ r. R.remaining r) input) (map string_bytes entries.now)
         (W.events world.old) (W.events world.new) result) }
 {
     let Some(request) = request_of(arguments) else {
-        return Err(RunFault::Usage);
+        return Err(RunError::Usage);
     };
     match request.source {
         Source::Input => run_input(alloc, world, request, entries, input, "standard input"),
@@ -50,9 +50,9 @@ fn run_input<'a, W: World, R: Read + Drop>(
     entries: &[String],
     input: Option<R>,
     name: &'a str,
-) -> Result<u8, RunFault<'a>>
+) -> Result<u8, RunError<'a>>
     requires { name_of (asked request).source ≡ Some name.now }
-    ensures usage { result ≢ Err RunFault.Usage }
+    ensures usage { result ≢ Err RunError.Usage }
     ensures meant { RunsInput (option_map (λ r. R.remaining r) input) (W.events world.old) (W.events world.new)
         (asked request.entry) (map string_bytes entries.now) result }
 {
@@ -66,10 +66,10 @@ fn run_read<'a, W: World>(
     world: &mut W,
     request: Request<'a>,
     entries: &[String],
-    read: Result<Vec<u8>, RunFault<'a>>,
-) -> Result<u8, RunFault<'a>>
-    requires { read ≢ Err RunFault.Usage }
-    ensures usage { result ≢ Err RunFault.Usage }
+    read: Result<Vec<u8>, RunError<'a>>,
+) -> Result<u8, RunError<'a>>
+    requires { read ≢ Err RunError.Usage }
+    ensures usage { result ≢ Err RunError.Usage }
     ensures meant { RunsRead (W.events world.old) (W.events world.new)
         (asked request.entry) (map string_bytes entries.now) read.entry result }
 {
@@ -86,8 +86,8 @@ fn run_script<'a, W: World>(
     request: Request<'a>,
     entries: &[String],
     script: &[u8],
-) -> Result<u8, RunFault<'a>>
-    ensures usage { result ≢ Err RunFault.Usage }
+) -> Result<u8, RunError<'a>>
+    ensures usage { result ≢ Err RunError.Usage }
     ensures meant { RunsScript (W.events world.old) (W.events world.new)
         (asked request.entry) (map string_bytes entries.now) script.now result }
 {
@@ -101,8 +101,8 @@ fn run_image<'a, W: World>(
     world: &mut W,
     request: Request<'a>,
     entries: &[String],
-) -> Result<u8, RunFault<'a>>
-    ensures usage { result ≢ Err RunFault.Usage }
+) -> Result<u8, RunError<'a>>
+    ensures usage { result ≢ Err RunError.Usage }
     ensures meant { RunsImage (W.events world.old) (W.events world.new)
         (asked request.entry) (map string_bytes entries.now) result }
 {
@@ -119,8 +119,8 @@ fn run_image<'a, W: World>(
 
 /// The answer of the program, by that of the shell. The process ends then, so the memory of the
 /// state is left to the system, which takes it back at once.
-fn answer<'a>(ran: Result<Ran, ShellFault>) -> Result<u8, RunFault<'a>>
-    ensures usage { result ≢ Err RunFault.Usage }
+fn answer<'a>(ran: Result<Ran, ShellFault>) -> Result<u8, RunError<'a>>
+    ensures usage { result ≢ Err RunError.Usage }
     ensures answers { Answers ran result }
 {
     match ran {
@@ -129,10 +129,10 @@ fn answer<'a>(ran: Result<Ran, ShellFault>) -> Result<u8, RunFault<'a>>
             forget(state);
             Ok(status)
         }
-        Ok(Ran::Limit) => Err(RunFault::Limit),
-        Ok(Ran::Halted) => Err(RunFault::Halted),
-        Err(ShellFault::Syntax(fault)) => Err(RunFault::Syntax(fault)),
-        Err(ShellFault::Image(_)) => Err(RunFault::BadImage),
-        Err(ShellFault::NoMemory) => Err(RunFault::NoMemory),
+        Ok(Ran::Limit) => Err(RunError::Limit),
+        Ok(Ran::Halted) => Err(RunError::Halted),
+        Err(ShellFault::Syntax(fault)) => Err(RunError::Syntax(fault)),
+        Err(ShellFault::Image(_)) => Err(RunError::BadImage),
+        Err(ShellFault::NoMemory) => Err(RunError::NoMemory),
     }
 }

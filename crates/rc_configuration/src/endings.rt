@@ -3,8 +3,8 @@
 ghost use Rattle.std.specs.Prelude.{◌≡◌, ◌<◌, ◌∷◌, [], Some};
 ghost use Rattle.rc_model.specs.Code.Machine.{Over, end_waits, unwind};
 ghost use Rattle.rc_model.specs.Run.State as model;
-ghost use Rattle.rc_configuration.specs.Configs.{children_of, scopes_of};
-ghost use Rattle.rc_scope.specs.States.{state_of};
+ghost use Rattle.rc_configuration.specs.Configs.{scopes_of};
+ghost use Rattle.rc_scope.specs.States.{child_numbers, state_of};
 ghost use Rattle.rc_world.specs.Comes.{Comes};
 
 use crate::configuration::{Configuration, Move};
@@ -16,7 +16,7 @@ use std::alloc::Global;
 /// One wait for each child. How it ended doesn't matter.
 fn wait_owed<W: World>(world: &mut W, owed: &[ChildNo]) -> Result<(), Stop>
     ensures { (s : model.State) → Comes (W.events world.old) (W.events world.new)
-        (end_waits (children_of owed.now) s) (λ x. Over s) result }
+        (end_waits (child_numbers owed.now) s) (λ x. Over s) result }
 {
     for child in owed {
         calls::wait(world, *child)?;
@@ -38,8 +38,8 @@ impl Configuration {
     ) -> Result<(), Stop>
         ensures ended { let before = scopes_of (scope ∷ self.old.scopes) self.old.redirs in
             GoesOn (W.events world.old) (W.events world.new)
-            (unwind before (state_of self.old.state) (children_of owed.old.items))
-            (unwind (config_of self.new).scopes (state_of self.new.state) (children_of owed.new.items)) result }
+            (unwind before (state_of self.old.state) (child_numbers owed.old.items))
+            (unwind (config_of self.new).scopes (state_of self.new.state) (child_numbers owed.new.items)) result }
         ensures others { self.new.scopes ≡ self.old.scopes }
     {
         match scope {

@@ -1,11 +1,12 @@
 -- One step of the descent.
-use Rattle.std.proofs.Common.{◌≡◌, ℕ, suc, ◌-◌, ◌<◌, Bool, false, List, [], ◌∷◌, ◌++◌, length, Err, refl, ap, arith}
+use Rattle.std.proofs.Common.{◌≡◌, ℕ, suc, ◌-◌, ◌<◌, Bool, false, List, Err, ap, arith}
 use Rattle.std.proofs.lemmas.Grind.{common_steps}
 use Rattle.rc_model.specs.Syntax.Tokens.{Lexeme}
 use Rattle.rc_model.specs.Mirrors.Descent as d
 use Rattle.rc_model.specs.Mirrors.Descent.{Nested}
+use Rattle.rc_model.specs.declared.fault.DescentFault.TheVariants as descent
 
-pub read_none : (left : ℕ) (n : Nested) (ts : List Lexeme) → left ≡ 0 → d.read left n ts ≡ Err d.TooDeep
+pub read_none : (left : ℕ) (n : Nested) (ts : List Lexeme) → left ≡ 0 → d.read left n ts ≡ Err descent.TooDeep
 unfolding d.read
 read_none left n ts h = ap (λ k. d.read k n ts) h
 

@@ -12,6 +12,7 @@ use Rattle.rc_model.specs.Mirrors.Descent.{Reader, Readers, Read, ◌>>=◌}
 use Rattle.rc_tree_types.specs.View.{nodes_push}
 use Rattle.rc_lexemes.specs.declared.lexeme.Lexeme.{Lexeme}
 use Rattle.rc_lexemes.specs.Lexemes.{lexemes_of}
+use Rattle.rc_model.specs.declared.fault.DescentFault.TheVariants as descent
 
 one_less : (turns i : ℕ) → i < turns → turns - i ≡ suc (turns - (i + 1))
 one_less turns i h = omega arith
@@ -86,7 +87,7 @@ pub members_more : (p : Reader (Node t.arg)) (turns i : ℕ) (front : Many t.arg
 unfolding d.members_from
 members_more p turns i front ts h = ap (λ k. d.members_from p k front ts) (one_less turns i h)
 
-pub members_done : (p : Reader (Node t.arg)) (turns i : ℕ) (front : Many t.arg) (ts : List model.Lexeme) → turns ≤ i → d.members_from p (turns - i) front ts ≡ Err d.Unexpected
+pub members_done : (p : Reader (Node t.arg)) (turns i : ℕ) (front : Many t.arg) (ts : List model.Lexeme) → turns ≤ i → d.members_from p (turns - i) front ts ≡ Err descent.Unexpected
 unfolding d.members_from
 members_done p turns i front ts h = ap (λ k. d.members_from p k front ts) (none_left turns i h)
 
@@ -114,7 +115,7 @@ pub branches_more : (r : Readers) (turns i : ℕ) (front : Many t.branch) (ts : 
 unfolding d.branches_from
 branches_more r turns i front ts h = ap (λ k. d.branches_from r k front ts) (one_less turns i h)
 
-pub branches_done : (r : Readers) (turns i : ℕ) (front : Many t.branch) (ts : List model.Lexeme) → turns ≤ i → d.branches_from r (turns - i) front ts ≡ Err d.Unexpected
+pub branches_done : (r : Readers) (turns i : ℕ) (front : Many t.branch) (ts : List model.Lexeme) → turns ≤ i → d.branches_from r (turns - i) front ts ≡ Err descent.Unexpected
 unfolding d.branches_from
 branches_done r turns i front ts h = ap (λ k. d.branches_from r k front ts) (none_left turns i h)
 
@@ -128,14 +129,14 @@ count_nodes : {X : Type 0} (f : X → Node t.stage) (xs : List X) → count (nod
 count_nodes f [] = refl
 count_nodes f (x ∷ xs) = ap suc (count_nodes f xs)
 
-few : {X : Type 0} (f : X → Node t.stage) (xs : List X) → length xs < 63 → nat_lt (count (nodes f xs)) 63 ≡ true
-few f xs h = lt-ltb (count (nodes f xs)) 63 (let e = count_nodes f xs in omega arith)
+few : {X : Type 0} (f : X → Node t.stage) (xs : List X) → length xs < 63 → nat_lt (suc (count (nodes f xs))) 64 ≡ true
+few f xs h = lt-ltb (suc (count (nodes f xs))) 64 (let e = count_nodes f xs in omega arith)
 
-many : {X : Type 0} (f : X → Node t.stage) (xs : List X) → 63 ≤ length xs → nat_lt (count (nodes f xs)) 63 ≡ false
-many f xs h = le-ltb (count (nodes f xs)) 63 (let e = count_nodes f xs in omega arith)
+many : {X : Type 0} (f : X → Node t.stage) (xs : List X) → 63 ≤ length xs → nat_lt (suc (count (nodes f xs))) 64 ≡ false
+many f xs h = le-ltb (suc (count (nodes f xs))) 64 (let e = count_nodes f xs in omega arith)
 
 pub pipe_full : {X : Type 0} (r : Readers) (turns i : ℕ) (f : X → Node t.stage) (xs : List X) (last : Node t.cmd) (slot : ℕ) (ts : List model.Lexeme) → i < turns → 63 ≤ length xs →
-    d.pipe_from r (turns - i) (nodes f xs) last (model.Bar slot ∷ ts) ≡ Err d.TooManyStages
+    d.pipe_from r (turns - i) (nodes f xs) last (model.Bar slot ∷ ts) ≡ Err descent.TooManyStages
 unfolding d.pipe_from
 pipe_full r turns i f xs last slot ts h k = rw (one_less turns i h, many f xs k) refl
 

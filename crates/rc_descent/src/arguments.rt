@@ -9,9 +9,10 @@ ghost use Rattle.rc_lexemes.specs.Reading.{Gives};
 
 use crate::lists::parse_brace;
 use rc_lexemes::{
-    Fault, Lexeme, TokenError, after_caret, back, begins_arg, concat, count, fault_at, flat,
-    literal, paren, past_blanks, push_arg, subscripted, variable,
+    Lexeme, TokenError, after_caret, back, begins_arg, concat, count, fault_at, flat, literal,
+    paren, past_blanks, push_arg, subscripted, variable,
 };
+use rc_model::DescentFault;
 use rc_tree::Arg;
 use std::alloc::Global;
 
@@ -25,7 +26,7 @@ fn parse_name(
     ensures { Gives (λ x. (arg_tree x.0.value, lexemes_of x.1.now)) result (read left a_name (lexemes_of lexemes.now)) }
 {
     if left == 0 {
-        return Err(fault_at(Fault::TooDeep, lexemes));
+        return Err(fault_at(DescentFault::TooDeep, lexemes));
     }
     match lexemes {
         [Lexeme::Name(text), rest @ ..] => Ok((literal(alloc, text, false)?, rest)),
@@ -34,7 +35,7 @@ fn parse_name(
             let (inner, rest) = parse_name(alloc, left - 1, rest)?;
             Ok((variable(alloc, inner)?, rest))
         }
-        _ => Err(fault_at(Fault::Unexpected, lexemes)),
+        _ => Err(fault_at(DescentFault::Unexpected, lexemes)),
     }
 }
 
@@ -51,7 +52,7 @@ fn parse_part(
         (read left (a_part inside) (lexemes_of lexemes.now)) }
 {
     if left == 0 {
-        return Err(fault_at(Fault::TooDeep, lexemes));
+        return Err(fault_at(DescentFault::TooDeep, lexemes));
     }
     match lexemes {
         [Lexeme::Word(text), rest @ ..] => Ok((literal(alloc, text, false)?, rest)),
@@ -73,7 +74,7 @@ fn parse_part(
             let (inner, rest) = parse_name(alloc, left - 1, rest)?;
             Ok((flat(alloc, inner)?, rest))
         }
-        _ => Err(fault_at(Fault::Unexpected, lexemes)),
+        _ => Err(fault_at(DescentFault::Unexpected, lexemes)),
     }
 }
 
@@ -166,7 +167,7 @@ pub fn parse_members(
             }
         }
     }
-    Err(fault_at(Fault::Unexpected, rest))
+    Err(fault_at(DescentFault::Unexpected, rest))
 }
 
 /// The arguments that stand here.

@@ -10,11 +10,11 @@ use crate::controls::parse_control;
 use crate::prefixes::{parse_assigned, parse_redirected};
 use crate::stages::{Opening, parse_opening};
 use rc_lexemes::{
-    Fault, Lexeme, TokenError, and_or, begins_leading, fault_at, keyword_named, past_newlines,
-    pipeline, push_link, push_stage,
+    Lexeme, TokenError, and_or, begins_leading, fault_at, keyword_named, past_newlines, pipeline,
+    push_link, push_stage,
 };
-use rc_model::Logic;
 use rc_model::limits::MOST_STAGES;
+use rc_model::{DescentFault, Logic};
 use rc_tree::Cmd;
 use std::alloc::Global;
 
@@ -39,7 +39,7 @@ pub fn parse_pipeline(
             break;
         };
         if stages.len() >= MOST_STAGES - 1 {
-            return Err(fault_at(Fault::TooManyStages, rest));
+            return Err(fault_at(DescentFault::TooManyStages, rest));
         }
         push_stage(&mut stages, last, *slot)?;
         let ((next, is_stage), after) = parse_piped(alloc, below, past_newlines(after))?;
@@ -64,7 +64,7 @@ fn parse_piped(
         (read left a_piped (lexemes_of lexemes.now)) }
 {
     if left == 0 {
-        return Err(fault_at(Fault::TooDeep, lexemes));
+        return Err(fault_at(DescentFault::TooDeep, lexemes));
     }
     if begins_leading(lexemes) {
         let (cmd, rest) = parse_leading(alloc, left - 1, false, lexemes)?;
@@ -138,7 +138,7 @@ pub fn parse_inner_operand(
         (read left an_operand (lexemes_of lexemes.now)) }
 {
     if left == 0 {
-        return Err(fault_at(Fault::TooDeep, lexemes));
+        return Err(fault_at(DescentFault::TooDeep, lexemes));
     }
     parse_operand(alloc, left - 1, false, lexemes)
 }
@@ -183,7 +183,7 @@ pub fn parse_command(
         (read left (a_command after_if) (lexemes_of lexemes.now)) }
 {
     if left == 0 {
-        return Err(fault_at(Fault::TooDeep, lexemes));
+        return Err(fault_at(DescentFault::TooDeep, lexemes));
     }
     let (first, rest) = parse_operand(alloc, left - 1, after_if, lexemes)?;
     let (links, rest) = parse_links(alloc, left - 1, rest)?;

@@ -9,10 +9,10 @@ use crate::arguments::{parse_argument, parse_members};
 use crate::commands::{parse_command, parse_inner_operand};
 use crate::lists::parse_paren;
 use rc_lexemes::{
-    Fault, Lexeme, TokenError, begins_command, begins_link, conditional, empty, fault_at, for_all,
+    Lexeme, TokenError, begins_command, begins_link, conditional, empty, fault_at, for_all,
     for_each, if_not, keyword_named, not, past_caret, past_newlines, repeated, subshell,
 };
-use rc_model::Keyword;
+use rc_model::{DescentFault, Keyword};
 use rc_tree::{Arg, Cmd};
 use std::alloc::Global;
 
@@ -31,7 +31,7 @@ fn parse_body(
     if begins_command(rest) {
         parse_command(alloc, below, false, rest)
     } else if begins_link(rest) {
-        Err(fault_at(Fault::Unexpected, rest))
+        Err(fault_at(DescentFault::Unexpected, rest))
     } else {
         Ok((empty(alloc)?, rest))
     }
@@ -51,10 +51,10 @@ fn parse_if(
 {
     if let [Lexeme::Word(text), rest @ ..] = lexemes {
         let Keyword::Not = keyword_named(text) else {
-            return Err(fault_at(Fault::Unexpected, lexemes));
+            return Err(fault_at(DescentFault::Unexpected, lexemes));
         };
         if !after_if {
-            return Err(fault_at(Fault::IfNot, lexemes));
+            return Err(fault_at(DescentFault::IfNot, lexemes));
         }
         let (body, rest) = parse_body(alloc, below, past_caret(rest))?;
         return Ok((if_not(alloc, body)?, rest));
@@ -99,13 +99,13 @@ fn parse_over(
         }
         [Lexeme::Word(text), rest @ ..] => {
             let Keyword::In = keyword_named(text) else {
-                return Err(fault_at(Fault::Unexpected, lexemes));
+                return Err(fault_at(DescentFault::Unexpected, lexemes));
             };
             let (words, rest) = parse_members(alloc, below, past_caret(rest))?;
             let (body, rest) = parse_body(alloc, below, rest)?;
             Ok((for_each(alloc, name, words, body)?, rest))
         }
-        _ => Err(fault_at(Fault::Unexpected, lexemes)),
+        _ => Err(fault_at(DescentFault::Unexpected, lexemes)),
     }
 }
 
@@ -121,7 +121,7 @@ fn parse_for(
         (for_by (read below) (lexemes_of lexemes.now)) }
 {
     let [Lexeme::LeftParen, rest @ ..] = lexemes else {
-        return Err(fault_at(Fault::Unexpected, lexemes));
+        return Err(fault_at(DescentFault::Unexpected, lexemes));
     };
     let (name, rest) = parse_argument(alloc, below, true, past_newlines(rest))?;
     parse_over(alloc, below, name, past_newlines(rest))
@@ -153,6 +153,6 @@ pub fn parse_control(
         Keyword::If => parse_if(alloc, below, after_if, rest),
         Keyword::While => parse_while(alloc, below, rest),
         Keyword::For => parse_for(alloc, below, rest),
-        _ => Err(fault_at(Fault::Unexpected, lexemes)),
+        _ => Err(fault_at(DescentFault::Unexpected, lexemes)),
     }
 }

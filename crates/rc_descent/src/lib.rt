@@ -10,6 +10,7 @@ ghost use Rattle.rc_model.specs.Syntax.Tree.{Node, cmd};
 ghost use Rattle.rc_model.specs.Syntax.WellFormed.{depth, most_stages};
 ghost use Rattle.rc_model.specs.Syntax.Grammar.{HaveTree, HaveAcceptedTree};
 ghost use Rattle.rc_model.specs.Mirrors.Descent.{script_tree};
+ghost use Rattle.rc_model.specs.declared.limits.TheConstants.{MOST_STAGES};
 ghost use Rattle.rc_tree_types.specs.View.{cmd_tree};
 ghost use Rattle.rc_lexemes.specs.Lexemes.{lexemes_of};
 ghost use Rattle.rc_lexemes.specs.Reading.{Gives, HasFault};
@@ -24,8 +25,9 @@ mod stages;
 mod switches;
 
 use lists::parse_list;
-pub use rc_lexemes::{Fault, Lexeme, TokenError, TokenFault};
+pub use rc_lexemes::{Lexeme, TokenError, TokenFault};
 use rc_lexemes::{fault_at, seq};
+use rc_model::DescentFault;
 use rc_model::limits::MOST_LEVELS;
 use rc_tree::{Cmd, is_within};
 use std::alloc::Global;
@@ -38,14 +40,14 @@ pub fn script(alloc: Global, lexemes: &[Lexeme]) -> Result<Cmd, TokenError>
     ensures only { IfOk result (λ c. (other : Node cmd) →
         HaveTree (lexemes_of lexemes.now) other → other ≡ cmd_tree c) }
     // Where a token is unexpected or an `if not` misplaced, there is no tree of any size.
-    ensures none { HasFault result Fault.Unexpected ⊎ HasFault result Fault.IfNot →
+    ensures none { HasFault result DescentFault.Unexpected ⊎ HasFault result DescentFault.IfNot →
         (tree : Node cmd) → HaveTree (lexemes_of lexemes.now) tree → ⊥ }
     // Too many stages are found only where a pipeline has them.
-    ensures stages { HasFault result Fault.TooManyStages →
-        (tree : Node cmd) → HaveTree (lexemes_of lexemes.now) tree → 64 < most_stages tree }
+    ensures stages { HasFault result DescentFault.TooManyStages →
+        (tree : Node cmd) → HaveTree (lexemes_of lexemes.now) tree → MOST_STAGES < most_stages tree }
     // Too many levels are found only where the tree has them.
-    ensures levels { HasFault result Fault.TooDeep →
-        (tree : Node cmd) → HaveTree (lexemes_of lexemes.now) tree → 200 < depth tree }
+    ensures levels { HasFault result DescentFault.TooDeep →
+        (tree : Node cmd) → HaveTree (lexemes_of lexemes.now) tree → MOST_LEVELS < depth tree }
 {
     parse_script(alloc, lexemes)
 }
@@ -57,11 +59,11 @@ fn parse_script(alloc: Global, lexemes: &[Lexeme]) -> Result<Cmd, TokenError>
 {
     let (items, rest) = parse_list(alloc, MOST_LEVELS, false, lexemes)?;
     if rest.len() != 0 {
-        return Err(fault_at(Fault::Unexpected, rest));
+        return Err(fault_at(DescentFault::Unexpected, rest));
     }
     let tree = seq(alloc, items)?;
     if !is_within(&tree, MOST_LEVELS) {
-        return Err(fault_at(Fault::TooDeep, lexemes));
+        return Err(fault_at(DescentFault::TooDeep, lexemes));
     }
     Ok(Box::into_inner(tree))
 }

@@ -6,7 +6,8 @@ ghost use Rattle.rc_lexemes.specs.Lexemes.{lexemes_of};
 ghost use Rattle.rc_lexemes.specs.Reading.{Gives};
 
 use crate::commands::parse_command;
-use rc_lexemes::{Fault, Lexeme, TokenError, ends, fault_at, is_if, item_end, push_item, seq};
+use rc_lexemes::{Lexeme, TokenError, ends, fault_at, is_if, item_end, push_item, seq};
+use rc_model::DescentFault;
 use rc_tree::{Cmd, Item};
 use std::alloc::Global;
 
@@ -58,7 +59,7 @@ pub fn parse_list(
         (read left (a_list in_switch) (lexemes_of lexemes.now)) }
 {
     if left == 0 {
-        return Err(fault_at(Fault::TooDeep, lexemes));
+        return Err(fault_at(DescentFault::TooDeep, lexemes));
     }
     parse_items(alloc, left - 1, in_switch, lexemes)
 }
@@ -75,12 +76,12 @@ pub fn parse_brace(
         (brace_by (read below) (lexemes_of lexemes.now)) }
 {
     let [Lexeme::LeftBrace, rest @ ..] = lexemes else {
-        return Err(fault_at(Fault::Unexpected, lexemes));
+        return Err(fault_at(DescentFault::Unexpected, lexemes));
     };
     let (items, rest) = parse_list(alloc, below, false, rest)?;
     match rest {
         [Lexeme::RightBrace, rest @ ..] => Ok((seq(alloc, items)?, rest)),
-        _ => Err(fault_at(Fault::Unexpected, rest)),
+        _ => Err(fault_at(DescentFault::Unexpected, rest)),
     }
 }
 
@@ -96,11 +97,11 @@ pub fn parse_paren(
         (paren_by (read below) (lexemes_of lexemes.now)) }
 {
     let [Lexeme::LeftParen, rest @ ..] = lexemes else {
-        return Err(fault_at(Fault::Unexpected, lexemes));
+        return Err(fault_at(DescentFault::Unexpected, lexemes));
     };
     let (items, rest) = parse_list(alloc, below, false, rest)?;
     match rest {
         [Lexeme::RightParen, rest @ ..] => Ok((seq(alloc, items)?, rest)),
-        _ => Err(fault_at(Fault::Unexpected, rest)),
+        _ => Err(fault_at(DescentFault::Unexpected, rest)),
     }
 }

@@ -8,8 +8,9 @@ ghost use Rattle.rc_lexemes.specs.Reading.{Gives};
 
 use crate::arguments::parse_argument;
 use rc_lexemes::{
-    Fault, Lexeme, TokenError, begins_redir, copying, fault_at, here_doc, opening, push_redir,
+    Lexeme, TokenError, begins_redir, copying, fault_at, here_doc, opening, push_redir,
 };
+use rc_model::DescentFault;
 use rc_tree::Redir;
 use std::alloc::Global;
 
@@ -31,7 +32,7 @@ pub fn parse_redirection(
         }
         [Lexeme::CopyTo(to, from), rest @ ..] => Ok((copying(alloc, *to, *from)?, rest)),
         [Lexeme::HereDoc(quoted, body), rest @ ..] => Ok((here_doc(alloc, *quoted, body)?, rest)),
-        _ => Err(fault_at(Fault::Unexpected, lexemes)),
+        _ => Err(fault_at(DescentFault::Unexpected, lexemes)),
     }
 }
 

@@ -13,11 +13,11 @@ use crate::lists::parse_brace;
 use crate::redirections::{parse_redirection, parse_redirections};
 use crate::switches::parse_switch;
 use rc_lexemes::{
-    Fault, Lexeme, TokenError, begins_arg, begins_brace, begins_redir, block, defined, fault_at,
+    Lexeme, TokenError, begins_arg, begins_brace, begins_redir, block, defined, fault_at,
     insert_arg, keyword_named, matching, past_caret, push_arg, push_redir, redirect, simple,
     undefined,
 };
-use rc_model::Keyword;
+use rc_model::{DescentFault, Keyword};
 use rc_tree::{Arg, Cmd, Redir};
 use std::alloc::Global;
 
@@ -153,7 +153,7 @@ pub fn parse_opening(
             Keyword::Match => parse_match(alloc, below, past_caret(rest))?,
             Keyword::Fn => parse_define(alloc, below, past_caret(rest))?,
             Keyword::Plain => return parse_first(alloc, below, lexemes),
-            _ => return Err(fault_at(Fault::Unexpected, lexemes)),
+            _ => return Err(fault_at(DescentFault::Unexpected, lexemes)),
         },
         [Lexeme::LeftBrace, ..] => parse_block(alloc, below, lexemes)?,
         _ => return parse_first(alloc, below, lexemes),

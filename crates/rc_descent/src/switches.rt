@@ -9,9 +9,10 @@ use crate::arguments::{parse_argument, parse_words};
 use crate::lists::parse_list;
 use crate::redirections::parse_redirections;
 use rc_lexemes::{
-    Fault, Lexeme, TokenError, ends_case, fault_at, is_case, past_caret, past_newlines, redirect,
-    seq, switched,
+    Lexeme, TokenError, ends_case, fault_at, is_case, past_caret, past_newlines, redirect, seq,
+    switched,
 };
+use rc_model::DescentFault;
 use rc_tree::{Branch, Cmd};
 use std::alloc::Global;
 
@@ -28,7 +29,7 @@ fn parse_case(
 {
     let (patterns, rest) = parse_words(alloc, below, lexemes)?;
     if !ends_case(rest) {
-        return Err(fault_at(Fault::Unexpected, rest));
+        return Err(fault_at(DescentFault::Unexpected, rest));
     }
     let (items, rest) = parse_list(alloc, below, true, rest)?;
     let body = seq(alloc, items)?;
@@ -47,7 +48,7 @@ fn parse_cases(
         (branches_by (read below) (lexemes_of lexemes.now)) }
 {
     let [Lexeme::LeftBrace, inner @ ..] = lexemes else {
-        return Err(fault_at(Fault::Unexpected, lexemes));
+        return Err(fault_at(DescentFault::Unexpected, lexemes));
     };
     let mut branches = Vec::new(alloc);
     let mut rest = inner;
@@ -65,7 +66,7 @@ fn parse_cases(
             _ => break,
         }
     }
-    Err(fault_at(Fault::Unexpected, rest))
+    Err(fault_at(DescentFault::Unexpected, rest))
 }
 
 /// What follows `switch`.

@@ -4,9 +4,9 @@ ghost use Rattle.std.specs.Prelude.{◌≡◌, ◌<◌, ◌^◌, ◌∷◌, OnOk
 ghost use Rattle.rc_model.specs.Code.Machine.{InPipeline, act, next};
 ghost use Rattle.rc_model.specs.Code.Layout as op;
 ghost use Rattle.rc_model.specs.Run.Acts.{from_pipe};
-ghost use Rattle.rc_configuration.specs.Configs.{children_of};
 ghost use Rattle.rc_configuration.specs.Configs.{config_of};
 ghost use Rattle.rc_configuration.specs.Outcomes.{Steps};
+ghost use Rattle.rc_scope.specs.States.{child_numbers};
 
 use rc_configuration::{Configuration, Move, Scope, put_members};
 use rc_pipes::{backquote, end_refused, end_stages, start_stages};
@@ -86,7 +86,7 @@ fn begin_last(
     requires { machine.old.place < 2 ^ 63 }
     ensures { let before = config_of machine.old in
         let read = option_map (λ end. end.0) read_end in
-        let scope = InPipeline read (children_of children.items) before.slots in
+        let scope = InPipeline read (child_numbers children.items) before.slots in
         OnOk result (config_of machine.new ≡ record (next before before.words before.state) {
           scopes = scope ∷ before.scopes;
           slots = from_pipe read before.slots;

@@ -10,7 +10,8 @@ ghost use Rattle.rc_configuration.specs.Outcomes.{Leads, Steps};
 
 use rc_configuration::{Configuration, Move};
 use rc_glob::expand_all;
-use rc_text::{ConcatError, Word};
+use rc_model::InputError;
+use rc_text::Word;
 use rc_world::{Stop, World};
 use std::alloc::{AllocError, Global};
 
@@ -75,13 +76,8 @@ pub fn concat<W: World>(
             machine.place += 1;
             Ok(Move::On)
         }
-        Err(ConcatError::EmptyConcat) => {
-            machine.fail(alloc, world, "empty list in concatenation")
-        }
-        Err(ConcatError::CountMismatch) => {
-            machine.fail(alloc, world, "list lengths differ in concatenation")
-        }
-        Err(ConcatError::NoMemory) => Err(Stop::NoMemory),
+        Err(InputError::Fault(fault)) => machine.fail(alloc, world, fault.words()),
+        Err(InputError::NoMemory) => Err(Stop::NoMemory),
     }
 }
 

@@ -4,6 +4,7 @@ ghost use Rattle.std.specs.Prelude.{None, Err, IfOk, OnOk, OnErr, IsOk, IsSome, 
 ghost use Rattle.std.specs.Io.KnownBytes.{Appends};
 ghost use Rattle.std.specs.Process.{SameProgramAndArgs, SameEnv};
 ghost use Rattle.rc_model.specs.declared.call.Fault.TheVariants.{Other, Halt};
+ghost use Rattle.rc_model.specs.declared.limits.TheConstants.{LONGEST_READ};
 ghost use Rattle.rc_world.specs.Views.{launch_of};
 ghost use Rattle.rc_host.specs.Commands.{AsksForPlanOf};
 ghost use Rattle.rc_host.specs.Plan.{plan_of};
@@ -194,7 +195,7 @@ impl World for HostWorld {
     }
 
     fn read(&mut self, handle: Handle) -> Result<Vec<u8>, Fault>
-        ensures bound { IfOk result (λ bytes. vec_len bytes ≤ 4096) }
+        ensures bound { IfOk result (λ bytes. vec_len bytes ≤ LONGEST_READ) }
         ensures unknown { held_at (files_of self.old) handle.0 ≡ None → result ≡ Err Other }
         ensures same { self.new ≡ self.old }
         ensures answered { result ≢ Err Halt }

@@ -16,3 +16,4 @@ pub use host::HostWorld;
 pub use planned::Plan;
 pub use planning::plan;
 pub use process::{ArgumentsFault, arguments, entries, open_standard, own_path};
+pub use rc_model::InputError;

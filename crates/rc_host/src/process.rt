@@ -3,8 +3,9 @@ ghost use Rattle.std.specs.Prelude.{◌≡◌, ◌++◌, None, IfOk, OnErr, code
 ghost use Rattle.std.specs.Fmt.{decimal};
 ghost use Rattle.std.specs.IoError.{error_kind, raw_os_error};
 ghost use Rattle.std.specs.Path.{path_buf_bytes};
-ghost use Rattle.rc_host.specs.Process.{arguments_fault};
+ghost use Rattle.rc_host.specs.Process.{arguments_error};
 
+use rc_model::InputError;
 use std::alloc::{AllocError, AllocGlobal, Global};
 use std::env::FillError;
 use std::fs::File;
@@ -18,23 +19,21 @@ use thiserror::Error;
 /// Linux's number for a descriptor that is not open.
 const NOT_OPEN: i32 = 9;
 
-/// Why the arguments of a program could not be taken.
-#[derive(Debug, Drop, Error)]
+/// What is wrong with the arguments of a program.
+#[derive(Clone, Copy, Debug, Error)]
 pub enum ArgumentsFault {
     #[error("an argument is not UTF-8")]
     NotText,
-    #[error("out of memory")]
-    NoMemory,
 }
 
 /// The arguments of the program, without its own name.
-pub fn arguments<R: Env + AllocGlobal>(rt: &R) -> Result<Vec<String>, ArgumentsFault> {
+pub fn arguments<R: Env + AllocGlobal>(rt: &R) -> Result<Vec<String>, InputError<ArgumentsFault>> {
     match env::args(rt) {
         Ok(all) => all
             .collect(rt.alloc())
             .map(after_name)
-            .map_err(|_| ArgumentsFault::NoMemory),
-        Err(error) => Err(arguments_fault(&error)),
+            .map_err(|_| InputError::NoMemory),
+        Err(error) => Err(arguments_error(&error)),
     }
 }
 
@@ -48,12 +47,12 @@ fn after_name(mut all: Vec<String>) -> Vec<String>
     all
 }
 
-fn arguments_fault(error: &io::Error) -> ArgumentsFault
-    ensures { result ≡ arguments_fault (error_kind error.now) (raw_os_error error.now) }
+fn arguments_error(error: &io::Error) -> InputError<ArgumentsFault>
+    ensures { result ≡ arguments_error (error_kind error.now) (raw_os_error error.now) }
 {
     match error.kind() {
-        ErrorKind::OutOfMemory if error.raw_os_error().is_none() => ArgumentsFault::NoMemory,
-        _ => ArgumentsFault::NotText,
+        ErrorKind::OutOfMemory if error.raw_os_error().is_none() => InputError::NoMemory,
+        _ => InputError::Fault(ArgumentsFault::NotText),
     }
 }
 

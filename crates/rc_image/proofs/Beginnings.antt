@@ -3,13 +3,13 @@ use Rattle.std.proofs.Common.{◌≡◌, refl, ap, sym, ◌∙◌, ℕ, ◌<◌,
 use Rattle.std.proofs.lemmas.Bool.{le-leb, lt-leb}
 use Rattle.std.proofs.lemmas.Grind.{common_steps}
 use Rattle.std.proofs.lemmas.Bool.Decides.{nat_tests}
-use Rattle.rc_image.proofs.Faults.{fails_as, fails_from}
 use Rattle.rc_model.specs.Syntax.Text.{begins_with}
 use Rattle.rc_model.specs.Run.Numbers.{digits_value, greatest_number}
 use Rattle.rc_model.specs.Handed.TreeSpelling.{is_numeral}
-use Rattle.rc_model.specs.Handed.TreeReading.{BadTag, Version, digit_run, past_digits, is_count, other_version, beginning_fault, read_spelling, read_tree}
+use Rattle.rc_model.specs.Handed.TreeReading.{digit_run, past_digits, is_count, other_version, beginning_fault, read_spelling, read_tree}
 use Rattle.rc_leaves.specs.Steps.{number_here, value_from, after_digits}
 use Rattle.rc_image.specs.Images.{begun, version_here, fault_here}
+use Rattle.rc_model.specs.declared.fault.ImageFault.TheVariants.{BadTag, Version}
 
 first_false : (c e o : Bool) → c ≡ false → ((c && e) && o) ≡ false
 first_false true e o h = cc
@@ -119,4 +119,4 @@ pub image_is : (text rest : List ℕ) → begun (codes "rc1;") text ≡ true →
 unfolding begun
 image_is text rest h e = ap (λ (c : Bool). if c then read_spelling (drop 4 text) else Err (beginning_fault text)) h ∙ ap read_spelling (sym e)
 
-pub ruleset images = (image_other, image_is, fails_as, fails_from, common_steps)
+pub ruleset images = (image_other, image_is, common_steps)

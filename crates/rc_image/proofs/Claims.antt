@@ -9,21 +9,18 @@ use Rattle.std.specs.declared.string.String.{String}
 use Rattle.std.proofs.lemmas.Bool.{cases_lt, le-leb, lt-leb}
 use Rattle.std.proofs.lemmas.Grind.{common_steps}
 use Rattle.std.proofs.lemmas.List.{length-map, take-map, take_min}
-use Rattle.rc_model.specs.declared.fault.InputError.{InputError}
+use Rattle.rc_model.specs.declared.fault.InputError.TheVariants as error
 use Rattle.rc_model.specs.Run.Numbers.{digits_value}
 use Rattle.rc_model.specs.Syntax.Text.{begins_with}
 use Rattle.rc_model.specs.Syntax.Tree.{Node, cmd}
 use Rattle.rc_model.specs.Handed.Pieces.{longest_word, words_of}
-use Rattle.rc_model.specs.Handed.TreeReading as m
 use Rattle.rc_model.specs.Handed.TreeReading.{read_spelling, read_tree, beginning_fault}
 use Rattle.rc_model.specs.Handed.WordsReading.{Taken, counted, from_one, from_pieces, are_these, read_pieces}
-use Rattle.rc_leaves.specs.declared.fault.Fault.{Fault}
-use Rattle.rc_leaves.specs.Faults as l
-use Rattle.rc_image.specs.declared.fault.ImageFault.{ImageFault}
-use Rattle.rc_image.specs.declared.fault.ImageFault.TheVariants as f
-use Rattle.rc_image.specs.Conversions.{error_of}
-use Rattle.rc_image.specs.Images.{Refuses, Fails, written, in_one, in_pieces, begun, fault_here}
-use Rattle.rc_image.proofs.Faults.{fails_as, fails_from}
+use Rattle.rc_model.specs.Syntax.Faults.{Fails}
+use Rattle.rc_leaves.specs.Faults.{ImageError}
+use Rattle.rc_image.specs.Images.{Refuses, written, in_one, in_pieces, begun, fault_here}
+use Rattle.rc_model.specs.declared.fault.ImageFault.{ImageFault}
+use Rattle.rc_model.specs.declared.fault.ImageFault.TheVariants as image_fault
 
 grows : (ds : List ℕ) (n : ℕ) → n ≤ digits_value n ds
 grows [] n = omega arith
@@ -62,35 +59,30 @@ these_some w words others pieces first r e h k =
 
 pub ruleset these = (these_some, common_steps)
 
-fails_counted : (n : ℕ) (e : ImageFault) (read : Result (Node cmd) m.ImageFault) → Fails e read → Fails e (counted n read)
-fails_counted n f.BadTag read h = ap (counted n) h
-fails_counted n f.BadLength read h = ap (counted n) h
-fails_counted n f.Trailing read h = ap (counted n) h
-fails_counted n f.TooDeep read h = ap (counted n) h
-fails_counted n f.Version read h = ap (counted n) h
-fails_counted n f.TooLarge read h = h
-fails_counted n f.NoMemory read h = tt
+fails_counted : (n : ℕ) (e : ImageError) (read : Result (Node cmd) ImageFault) → Fails e read → Fails e (counted n read)
+fails_counted n (error.Fault f) read h = ap (counted n) h
+fails_counted n error.NoMemory read h = tt
 
 -- in one word
-pub one_long : (word : List ℕ) → 100000 < length word → in_one word ≡ Err m.BadLength
+pub one_long : (word : List ℕ) → 100000 < length word → in_one word ≡ Err image_fault.BadLength
 unfolding in_one
-one_long word h = ap (λ (t : Bool). if t then counted 1 (read_tree word) else Err m.BadLength) (lt-leb (length word) longest_word h)
+one_long word h = ap (λ (t : Bool). if t then counted 1 (read_tree word) else Err image_fault.BadLength) (lt-leb (length word) longest_word h)
 
 one_read : (word : List ℕ) → length word ≤ 100000 → in_one word ≡ counted 1 (read_tree word)
 unfolding in_one
-one_read word h = ap (λ (t : Bool). if t then counted 1 (read_tree word) else Err m.BadLength) (le-leb (length word) longest_word h)
+one_read word h = ap (λ (t : Bool). if t then counted 1 (read_tree word) else Err image_fault.BadLength) (le-leb (length word) longest_word h)
 
 pub one_is : (word : List ℕ) (c : Node cmd) → length word ≤ 100000 → read_tree word ≡ Ok c → in_one word ≡ Ok (c, 1)
 one_is word c h e = one_read word h ∙ ap (counted 1) e
 
-pub one_fails : (e : ImageFault) (word : List ℕ) → length word ≤ 100000 → Fails e (read_tree word) → Fails e (in_one word)
+pub one_fails : (e : ImageError) (word : List ℕ) → length word ≤ 100000 → Fails e (read_tree word) → Fails e (in_one word)
 one_fails e word h k = subst (Fails e) (sym (one_read word h)) (fails_counted 1 e (read_tree word) k)
 
 pub ruleset ones = (one_long, one_is, one_fails, common_steps)
 
 -- in pieces
 abbrev recorded : List ℕ → List (List ℕ) → Bool → Taken
-recorded text pieces t = if t then counted (suc (length pieces)) (read_spelling text) else Err m.BadLength
+recorded text pieces t = if t then counted (suc (length pieces)) (read_spelling text) else Err image_fault.BadLength
 
 in_pieces_is : (first text : List ℕ) (pieces : List (List ℕ)) (t : Bool) → text ≡ concat pieces → are_these (written text) (first ∷ pieces) ≡ t →
     in_pieces first pieces ≡ recorded text pieces t
@@ -102,7 +94,7 @@ are_by : (o : Option (List (List ℕ))) (words all : List (List ℕ)) (t : Bool)
 are_by o words all t e h = ap (λ x. are_these x all) e ∙ sym h
 
 pub several_other : (first text : List ℕ) (pieces words : List (List ℕ)) (t : Bool) → text ≡ concat pieces → written text ≡ Some words →
-    t ≡ pointwise bytes_eq words (first ∷ pieces) → t ≡ false → in_pieces first pieces ≡ Err m.BadLength
+    t ≡ pointwise bytes_eq words (first ∷ pieces) → t ≡ false → in_pieces first pieces ≡ Err image_fault.BadLength
 several_other first text pieces words t e w h f = in_pieces_is first text pieces t e (are_by (written text) words (first ∷ pieces) t w h) ∙ ap (recorded text pieces) f
 
 several_read : (first text : List ℕ) (pieces words : List (List ℕ)) (t : Bool) → text ≡ concat pieces → written text ≡ Some words →
@@ -119,27 +111,26 @@ several_is first text pieces words t c e w h f r =
     one_more : (ps : List (String Global)) → suc (length (map string_bytes ps)) ≡ length ps + 1
     one_more ps = let e : length (map string_bytes ps) ≡ length ps = length-map ps (λ (p : String Global). string_bytes p) in omega arith
 
-pub several_fails : (e : InputError Fault) (x : ImageFault) (first text : List ℕ) (pieces words : List (List ℕ)) (t : Bool) → text ≡ concat pieces →
-    written text ≡ Some words → t ≡ pointwise bytes_eq words (first ∷ pieces) → t ≡ true → x ≡ error_of e → l.Fails e (read_spelling text) →
-    Fails x (in_pieces first pieces)
-several_fails e x first text pieces words t c w h f k r =
-    subst (Fails x) (sym (several_read first text pieces words t c w h f))
-    (fails_counted (suc (length pieces)) x (read_spelling text) (fails_from e x (read_spelling text) (read_spelling text) k r refl))
+pub several_fails : (e : ImageError) (first text : List ℕ) (pieces words : List (List ℕ)) (t : Bool) → text ≡ concat pieces →
+    written text ≡ Some words → t ≡ pointwise bytes_eq words (first ∷ pieces) → t ≡ true → Fails e (read_spelling text) →
+    Fails e (in_pieces first pieces)
+several_fails e first text pieces words t c w h f r =
+    subst (Fails e) (sym (several_read first text pieces words t c w h f)) (fails_counted (suc (length pieces)) e (read_spelling text) r)
 
-pub several_none : (first text : List ℕ) (pieces : List (List ℕ)) → text ≡ concat pieces → written text ≡ None → in_pieces first pieces ≡ Err m.BadLength
+pub several_none : (first text : List ℕ) (pieces : List (List ℕ)) → text ≡ concat pieces → written text ≡ None → in_pieces first pieces ≡ Err image_fault.BadLength
 several_none first text pieces e w = in_pieces_is first text pieces false e (ap (λ o. are_these o (first ∷ pieces)) w)
 
-refused : (e : ImageFault) (o : Option (List (List ℕ))) → (e ≡ f.NoMemory → ⊥) → Refuses e o → o ≡ None
-refused f.TooLarge o h r = r
-refused f.NoMemory o h r = absurd (h refl)
-refused f.BadTag o h r = absurd r
-refused f.BadLength o h r = absurd r
-refused f.Trailing o h r = absurd r
-refused f.TooDeep o h r = absurd r
-refused f.Version o h r = absurd r
+refused : (e : ImageError) (o : Option (List (List ℕ))) → (e ≡ error.NoMemory → ⊥) → Refuses e o → o ≡ None
+refused (error.Fault image_fault.TooLarge) o h r = r
+refused (error.Fault image_fault.BadTag) o h r = absurd r
+refused (error.Fault image_fault.BadLength) o h r = absurd r
+refused (error.Fault image_fault.Trailing) o h r = absurd r
+refused (error.Fault image_fault.TooDeep) o h r = absurd r
+refused (error.Fault image_fault.Version) o h r = absurd r
+refused error.NoMemory o h r = absurd (h refl)
 
-pub several_refused : (e : ImageFault) (first text : List ℕ) (pieces : List (List ℕ)) → text ≡ concat pieces → (e ≡ f.NoMemory → ⊥) →
-    Refuses e (written text) → in_pieces first pieces ≡ Err m.BadLength
+pub several_refused : (e : ImageError) (first text : List ℕ) (pieces : List (List ℕ)) → text ≡ concat pieces → (e ≡ error.NoMemory → ⊥) →
+    Refuses e (written text) → in_pieces first pieces ≡ Err image_fault.BadLength
 several_refused e first text pieces c h r = several_none first text pieces c (refused e (written text) h r)
 
 pub ruleset severals = (several_other, several_is, several_fails, several_refused, common_steps)
@@ -182,5 +173,3 @@ reads_several words rest pieces first digits claim count e h k d c l n p =
     ∙ take-map (λ (s : String Global). string_bytes s) (digits_value 0 digits) rest
     ∙ ap (λ (ps : List (String Global)). map string_bytes ps) (sym (p ∙ ap (λ z. take z rest) (n ∙ enough (digits_value 0 digits) claim (length rest) l c)
     ∙ take_min (digits_value 0 digits) rest)))
-
-pub ruleset reads = (fails_as, common_steps)

@@ -12,8 +12,9 @@ use Rattle.rc_model.specs.Syntax.Tree.{Node, cmd}
 use Rattle.rc_model.specs.Handed.Pieces.{longest_word, most_pieces, one_word, several_words, can_cut, last_cut, pieces, words_of}
 use Rattle.rc_model.specs.Handed.Image.{image_words, node_image}
 use Rattle.law_image.proofs.Cuts.{cut_back, cut_here}
-use Rattle.rc_image.specs.declared.fault.ImageFault.{ImageFault}
-use Rattle.rc_image.specs.declared.fault.ImageFault.TheVariants as f
+use Rattle.rc_model.specs.declared.fault.InputError.TheVariants as error
+use Rattle.rc_model.specs.declared.fault.ImageFault.TheVariants as fault
+use Rattle.rc_leaves.specs.Faults.{ImageError}
 use Rattle.rc_image.specs.Images.{Refuses, written}
 
 -- ** where a text can be cut
@@ -109,16 +110,16 @@ written_cut text h = ap (λ (t : Bool). if t then Some (one_word text) else opti
 pub written_several : (text : List ℕ) (all : List (List ℕ)) → 99996 < length text → pieces most_pieces longest_word text ≡ Some all → written text ≡ Some (several_words all)
 written_several text all h e = written_cut text h ∙ ap (option_map several_words) e
 
-refuses_mapped : {X Y : Type 0} (g : X → Y) (e : ImageFault) (o : Option X) → Refuses e o → Refuses e (option_map g o)
-refuses_mapped g f.TooLarge o h = ap (option_map g) h
-refuses_mapped g f.NoMemory o h = tt
-refuses_mapped g f.BadTag o h = h
-refuses_mapped g f.BadLength o h = h
-refuses_mapped g f.Trailing o h = h
-refuses_mapped g f.TooDeep o h = h
-refuses_mapped g f.Version o h = h
+refuses_mapped : {X Y : Type 0} (g : X → Y) (e : ImageError) (o : Option X) → Refuses e o → Refuses e (option_map g o)
+refuses_mapped g (error.Fault fault.TooLarge) o h = ap (option_map g) h
+refuses_mapped g (error.Fault fault.BadTag) o h = h
+refuses_mapped g (error.Fault fault.BadLength) o h = h
+refuses_mapped g (error.Fault fault.Trailing) o h = h
+refuses_mapped g (error.Fault fault.TooDeep) o h = h
+refuses_mapped g (error.Fault fault.Version) o h = h
+refuses_mapped g error.NoMemory o h = tt
 
-pub written_refused : (e : ImageFault) (text : List ℕ) → 99996 < length text → Refuses e (pieces most_pieces longest_word text) → Refuses e (written text)
+pub written_refused : (e : ImageError) (text : List ℕ) → 99996 < length text → Refuses e (pieces most_pieces longest_word text) → Refuses e (written text)
 written_refused e text h r = subst (Refuses e) (sym (written_cut text h)) (refuses_mapped several_words e (pieces most_pieces longest_word text) r)
 
 pub image_written : (c : Node cmd) (text : List ℕ) → text ≡ node_image c → image_words c ≡ written text

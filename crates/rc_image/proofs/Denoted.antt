@@ -16,23 +16,23 @@ use Rattle.std.proofs.lemmas.Slice.Eq.{bytes_eq-Decides}
 use Rattle.rc_model.specs.Syntax.Text.{text_cmp, begins_with}
 use Rattle.rc_model.specs.Syntax.Tree.{Node, cmd}
 use Rattle.rc_model.specs.Run.State.{State, new_state, is_function_name, define, function_of}
-use Rattle.rc_model.specs.Handed.TreeReading as m
 use Rattle.rc_model.specs.Handed.TreeReading.{◌>>=◌, read_tree}
 use Rattle.rc_model.specs.Handed.Environment.{Bindings, Functions, bindings, with_cut, cut_entry, is_function, functions_in, read_state}
 use Rattle.rc_model.specs.Handed.Environment as e
 use Rattle.rc_image.specs.Entries.{function_in, values_state, with_function, with_functions}
 use Rattle.rc_tree_types.specs.View.{cmd_tree}
 use Rattle.rc_tree_types.specs.declared.Cmd.{Cmd}
-use Rattle.rc_image.specs.declared.fault.ImageFault.{ImageFault}
-use Rattle.rc_image.specs.declared.fault.ImageFault.TheVariants as f
-use Rattle.rc_image.specs.Images.{Fails, Gives}
+use Rattle.rc_model.specs.declared.fault.InputError.TheVariants as error
+use Rattle.rc_model.specs.Syntax.Faults.{Fails, Gives}
+use Rattle.rc_leaves.specs.Faults.{ImageError}
 use Rattle.rc_image.proofs.Escapes.{begun_split}
 use Rattle.rc_image.proofs.Puts.{found, swap}
+use Rattle.rc_model.specs.declared.fault.ImageFault.{ImageFault}
 
 -- ** functions
 
 -- the functions that are read, among those that are there
-abbrev over : Functions → List (List ℕ) → Bindings → Result Functions m.ImageFault
+abbrev over : Functions → List (List ℕ) → Bindings → Result Functions ImageFault
 over base seen [] = Ok base
 over base seen (b ∷ bs) =
     if is_function b.0 && not (list_any (bytes_eq b.0) seen)
@@ -48,7 +48,7 @@ from_nothing seen (b ∷ bs) =
 marked_name : (key : List ℕ) → is_function key ≡ true → key ≡ codes "fn#" ++ drop 3 key
 marked_name key h = begun_split (codes "fn#") key (and_parts (begins_with (codes "fn#") key) (is_function_name (drop 3 key)) h).0
 
-moved : (key n : List ℕ) (c : Node cmd) (r : Result (Node cmd) m.ImageFault) (q : Result Functions m.ImageFault) → bytes_eq n (drop 3 key) ≡ false → bytes_eq (drop 3 key) n ≡ false →
+moved : (key n : List ℕ) (c : Node cmd) (r : Result (Node cmd) ImageFault) (q : Result Functions ImageFault) → bytes_eq n (drop 3 key) ≡ false → bytes_eq (drop 3 key) n ≡ false →
     e.with_function key r (q >>= λ x. Ok (insert_entry text_cmp x n c)) ≡ (e.with_function key r q >>= λ x. Ok (insert_entry text_cmp x n c))
 moved key n c (Ok d) (Ok x) h k = ap Ok (swap x n (drop 3 key) c d h k)
 moved key n c (Ok d) (Err f) h k = refl
@@ -90,7 +90,7 @@ agree_put seen fs key c a e n =
     ∙ ap is_some (sym (found fs n (drop 3 key) c))
 
 -- the state with the functions of these entries, one after the other
-abbrev pub defined_in : State → Bindings → Result State m.ImageFault
+abbrev pub defined_in : State → Bindings → Result State ImageFault
 defined_in s [] = Ok s
 defined_in s (b ∷ bs) = with_function s (function_in (Some b)) >>= λ t. defined_in t bs
 
@@ -118,7 +118,7 @@ defined_is s seen (b ∷ bs) a = by_tests (λ t r. defined_is t r bs) (is_functi
     Rest : Type 0
     Rest = (t : State) (r : List (List ℕ)) → Agree r t.functions → defined_in t bs ≡ (over t.functions r bs >>= λ fs. Ok (with_those t fs))
 
-    read : Rest → (r : Result (Node cmd) m.ImageFault) → is_function b.0 ≡ true →
+    read : Rest → (r : Result (Node cmd) ImageFault) → is_function b.0 ≡ true →
         ((r >>= λ c. Ok (define s (drop 3 b.0) c)) >>= λ t. defined_in t bs)
         ≡ (e.with_function b.0 r (over s.functions (b.0 ∷ seen) bs) >>= λ fs. Ok (with_those s fs))
     read ih (Err f) p = refl
@@ -169,21 +169,16 @@ is_new : (s : State) (name image entry : List ℕ) (r : Option (Bor Cmd)) → So
 is_new s name image entry r h k i = step_by s name image (function_in (cut_entry entry)) false h (some_copied false r (function_of s name) k (sym i))
 
 -- a fault goes through what follows
-pub fails_on : {X Y : Type 0} (e : ImageFault) (r : Result X m.ImageFault) (k : X → Result Y m.ImageFault) → Fails e r → Fails e (r >>= k)
-fails_on f.BadTag r k h = ap (λ z. z >>= k) h
-fails_on f.BadLength r k h = ap (λ z. z >>= k) h
-fails_on f.Trailing r k h = ap (λ z. z >>= k) h
-fails_on f.TooDeep r k h = ap (λ z. z >>= k) h
-fails_on f.Version r k h = ap (λ z. z >>= k) h
-fails_on f.TooLarge r k h = absurd h
-fails_on f.NoMemory r k h = tt
+pub fails_on : {X Y : Type 0} (e : ImageError) (r : Result X ImageFault) (k : X → Result Y ImageFault) → Fails e r → Fails e (r >>= k)
+fails_on (error.Fault f) r k h = ap (λ z. z >>= k) h
+fails_on error.NoMemory r k h = tt
 
 -- a fault that is passed on
-pub passed_on : {X Y : Type 0} (view : X → Y) (r : Result X ImageFault) (e : ImageFault) (w : Result Y m.ImageFault) → IsErrAnd r (λ x. x ≡ e) → Fails e w → Gives view r w
+pub passed_on : {X Y : Type 0} (view : X → Y) (r : Result X ImageError) (e : ImageError) (w : Result Y ImageFault) → IsErrAnd r (λ x. x ≡ e) → Fails e w → Gives view r w
 passed_on view (Ok x) e w h k = absurd h
 passed_on view (Err x) e w h k = subst (λ y. Fails y w) (sym h) k
 
-pub bad_image : (s : State) (name image entry : List ℕ) (r : Option (Bor Cmd)) (e : ImageFault) → Some (name, image) ≡ function_in (cut_entry entry) → option_map cmd_tree (option_copied r) ≡ function_of s name → is_some r ≡ false →
+pub bad_image : (s : State) (name image entry : List ℕ) (r : Option (Bor Cmd)) (e : ImageError) → Some (name, image) ≡ function_in (cut_entry entry) → option_map cmd_tree (option_copied r) ≡ function_of s name → is_some r ≡ false →
     Fails e (read_tree image) → Fails e (with_function s (function_in (cut_entry entry)))
 bad_image s name image entry r e h k i w =
     subst (Fails e) (sym (is_new s name image entry r h k i)) (fails_on e (read_tree image) (λ c. Ok (define s name c)) w)
@@ -219,7 +214,7 @@ unfolding function_in with_function
 next_by_cut s t None bs h = ap (λ z. z >>= λ t. defined_in t bs) h
 next_by_cut s t (Some b) bs h = ap (λ z. z >>= λ t. defined_in t bs) h
 
-fails_by_cut : (s : State) (e : ImageFault) (cut : Option (List ℕ × List ℕ)) (bs : Bindings) → Fails e (with_function s (function_in cut)) → Fails e (defined_in s (with_cut cut bs))
+fails_by_cut : (s : State) (e : ImageError) (cut : Option (List ℕ × List ℕ)) (bs : Bindings) → Fails e (with_function s (function_in cut)) → Fails e (defined_in s (with_cut cut bs))
 unfolding function_in with_function
 fails_by_cut s e None bs h = fails_on e (with_function s (function_in None)) (λ t. defined_in t bs) h
 fails_by_cut s e (Some b) bs h = fails_on e (with_function s (function_in (Some b))) (λ t. defined_in t bs) h
@@ -229,19 +224,19 @@ entry_left es i x lt is =
     ap (λ z. bindings (map string_bytes z))
     (drop-cons es i x lt ∙ ap (λ n. get_or es i x ∷ drop n es) (sym (add-one i)) ∙ ap (λ w. w ∷ drop (i + 1) es) (sym is))
 
-pub defines_next : (s t : State) (es : List (String Global)) (i : ℕ) (x : String Global) (whole : Result State m.ImageFault) → i < length es → x ≡ get_or es i x →
+pub defines_next : (s t : State) (es : List (String Global)) (i : ℕ) (x : String Global) (whole : Result State ImageFault) → i < length es → x ≡ get_or es i x →
     with_function s (function_in (cut_entry (string_bytes x))) ≡ Ok t → defined_in s (bindings (map string_bytes (drop i es))) ≡ whole → defined_in t (bindings (map string_bytes (drop (i + 1) es))) ≡ whole
 defines_next s t es i x whole lt is h w =
     sym (next_by_cut s t (cut_entry (string_bytes x)) (bindings (map string_bytes (drop (i + 1) es))) h)
     ∙ ap (defined_in s) (sym (entry_left es i x lt is)) ∙ w
 
-pub defines_not : (s : State) (e : ImageFault) (es : List (String Global)) (i : ℕ) (x : String Global) (whole : Result State m.ImageFault) → i < length es → x ≡ get_or es i x →
+pub defines_not : (s : State) (e : ImageError) (es : List (String Global)) (i : ℕ) (x : String Global) (whole : Result State ImageFault) → i < length es → x ≡ get_or es i x →
     Fails e (with_function s (function_in (cut_entry (string_bytes x)))) → defined_in s (bindings (map string_bytes (drop i es))) ≡ whole → Fails e whole
 defines_not s e es i x whole lt is h w =
     subst (Fails e) (ap (defined_in s) (sym (entry_left es i x lt is)) ∙ w)
     (fails_by_cut s e (cut_entry (string_bytes x)) (bindings (map string_bytes (drop (i + 1) es))) h)
 
-pub defines_all : (s : State) (es : List (String Global)) (i : ℕ) (whole : Result State m.ImageFault) → length es ≤ i →
+pub defines_all : (s : State) (es : List (String Global)) (i : ℕ) (whole : Result State ImageFault) → length es ≤ i →
     defined_in s (bindings (map string_bytes (drop i es))) ≡ whole → whole ≡ Ok s
 defines_all s es i whole l w = sym w ∙ ap (λ z. defined_in s (bindings (map string_bytes z))) (drop_of_length-le es l)
 

@@ -6,11 +6,11 @@ use Rattle.std.specs.declared.string.String.{String}
 use Rattle.std.specs.BTreeMap.{insert_entry}
 use Rattle.rc_model.specs.Syntax.Text.{text_cmp}
 use Rattle.rc_model.specs.Run.State.{State, set_value}
-use Rattle.rc_model.specs.Handed.TreeReading as m
 use Rattle.rc_model.specs.Handed.TreeReading.{◌>>=◌}
 use Rattle.rc_model.specs.Handed.Environment.{Bindings, Functions, bindings, variables_in, own_functions, own_status, with_args, fresh_state, read_state}
 use Rattle.rc_image.specs.Entries.{with_arguments}
 use Rattle.rc_image.proofs.Variables.{single}
+use Rattle.rc_model.specs.declared.fault.ImageFault.{ImageFault}
 
 -- ** `$*`
 
@@ -31,7 +31,7 @@ fresh_args [] bs fs st = refl
 fresh_args (a ∷ args) bs fs st =
     ap (λ c. fresh_state (insert_entry text_cmp (variables_in bs) (codes "*") ((a ∷ args) ∷ c)) fs st) (sym (single bs (codes "*")))
 
-args_after : (own : Bool) (args : List (List ℕ)) (bs : Bindings) (r : Result Functions m.ImageFault) →
+args_after : (own : Bool) (args : List (List ℕ)) (bs : Bindings) (r : Result Functions ImageFault) →
     (r >>= λ fs. Ok (fresh_state (with_args args (variables_in bs)) fs (own_status own bs)))
     ≡ ((r >>= λ fs. Ok (fresh_state (variables_in bs) fs (own_status own bs))) >>= λ s. Ok (with_arguments args s))
 args_after own args bs (Ok fs) = ap Ok (fresh_args args bs fs (own_status own bs))

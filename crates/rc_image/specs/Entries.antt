@@ -4,9 +4,10 @@ use Rattle.std.specs.Prelude.{Option, Some, None, Result, Ok}
 use denote.Ref.{Bor}
 use Rattle.std.specs.Str.{bytes_eq}
 use Rattle.rc_model.specs.Run.State.{State, define, function_of, set_value, status_name}
-use Rattle.rc_model.specs.Handed.TreeReading.{ImageFault, ◌>>=◌, read_tree}
+use Rattle.rc_model.specs.Handed.TreeReading.{◌>>=◌, read_tree}
 use Rattle.rc_model.specs.Handed.Environment.{Bindings, is_function, variables_in, functions_in}
 use Rattle.rc_model.specs.Handed.Environment.{own_status, fresh_state}
+use Rattle.rc_model.specs.declared.fault.ImageFault.{ImageFault}
 
 -- two texts that are lent
 abbrev pub pair_of : Bor (List ℕ) × Bor (List ℕ) → List ℕ × List ℕ

@@ -7,39 +7,29 @@ use Rattle.rc_model.specs.Handed.Pieces.{longest_word, words_of}
 use Rattle.rc_model.specs.Handed.WordsReading.{Taken, from_one, from_pieces}
 use Rattle.rc_model.specs.Handed.TreeReading as m
 use Rattle.rc_model.specs.Handed.TreeReading.{digit_run, past_digits, is_count, other_version}
-use Rattle.rc_image.specs.declared.fault.ImageFault.{ImageFault}
-use Rattle.rc_image.specs.declared.fault.ImageFault.TheVariants as f
+use Rattle.rc_model.specs.declared.fault.InputError.TheVariants.{Fault, NoMemory}
+use Rattle.rc_model.specs.declared.fault.ImageFault.TheVariants.{TooLarge}
+use Rattle.rc_leaves.specs.Faults.{ImageError}
+use Rattle.rc_model.specs.declared.fault.ImageFault.{ImageFault}
 
 -- a text that an argument or an entry can be
 unfoldable pub where_short : List ℕ → Option (List ℕ)
 where_short text = if is_short text then Some text else None
 
+-- the image of a command, where an argument or an entry can be so long
 abbrev pub short_image : Node cmd → Option (List ℕ)
 short_image c = where_short (image c)
 
--- what was written, seen by view; where there is nothing to write it is too large; with no memory nothing is said
-abbrev pub Refuses : {Y : Type 0} → ImageFault → Option Y → Type 0
-Refuses f.TooLarge written = written ≡ None
-Refuses f.NoMemory written = Unit {0}
-Refuses _ written = ⊥
+-- where there is nothing to write it is too large; with no memory nothing is said
+abbrev pub Refuses : {Y : Type 0} → ImageError → Option Y → Type 0
+Refuses (Fault TooLarge) written = written ≡ None
+Refuses (Fault _) written = ⊥
+Refuses NoMemory written = Unit {0}
 
-abbrev pub Writes : {X Y : Type 0} → (X → Y) → Result X ImageFault → Option Y → Type 0
+-- what was written, seen by view
+abbrev pub Writes : {X Y : Type 0} → (X → Y) → Result X ImageError → Option Y → Type 0
 Writes view (Ok x) written = written ≡ Some (view x)
 Writes view (Err e) written = Refuses e written
-
--- what was read, or its first fault; with no memory nothing is said
-abbrev pub Fails : {Y : Type 0} → ImageFault → Result Y m.ImageFault → Type 0
-Fails f.BadTag read = read ≡ Err m.BadTag
-Fails f.BadLength read = read ≡ Err m.BadLength
-Fails f.Trailing read = read ≡ Err m.Trailing
-Fails f.TooDeep read = read ≡ Err m.TooDeep
-Fails f.Version read = read ≡ Err m.Version
-Fails f.TooLarge read = ⊥
-Fails f.NoMemory read = Unit {0}
-
-abbrev pub Gives : {X Y : Type 0} → (X → Y) → Result X ImageFault → Result Y m.ImageFault → Type 0
-Gives view (Ok x) read = read ≡ Ok (view x)
-Gives view (Err e) read = Fails e read
 
 -- whether the number of a version and a `;` stand here
 unfoldable pub version_here : List ℕ → Bool
@@ -50,7 +40,7 @@ unfoldable pub begun : List ℕ → List ℕ → Bool
 begun mark text = begins_with mark text
 
 -- the fault of another beginning than that of an image
-unfoldable pub fault_here : List ℕ → m.ImageFault
+unfoldable pub fault_here : List ℕ → ImageFault
 fault_here bytes = m.beginning_fault bytes
 
 -- the words of a spelling

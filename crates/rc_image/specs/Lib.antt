@@ -1,4 +1,3 @@
-pub mod Conversions
 pub mod Images
 pub mod Entries
 pub mod Launches

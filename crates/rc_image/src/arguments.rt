@@ -6,10 +6,10 @@ ghost use Rattle.rc_model.specs.Handed.Environment.{read_state};
 ghost use Rattle.rc_model.specs.Handed.WordsReading.{read_pieces};
 ghost use Rattle.rc_tree_types.specs.View.{cmd_tree};
 ghost use Rattle.rc_scope.specs.States.{state_of};
-ghost use Rattle.rc_image.specs.Images.{Gives};
+ghost use Rattle.rc_model.specs.Syntax.Faults.{Gives};
 ghost use Rattle.rc_image.specs.Entries.{with_arguments};
 
-use crate::ImageFault;
+use crate::ImageError;
 use crate::environment::{read_env, set_value};
 use crate::words::read_pieces;
 use rc_scope::{State, copy_texts};
@@ -34,7 +34,7 @@ pub fn read_state(
     own: bool,
     args: &[String],
     entries: &[String],
-) -> Result<State, ImageFault>
+) -> Result<State, ImageError>
     ensures { Gives (λ state. state_of state) result
         (read_state own (map string_bytes args.now) (map string_bytes entries.now)) }
 {
@@ -45,7 +45,7 @@ pub fn read_state(
 
 /// The tree of the first of these words, in a box, and how many of them it takes.
 #[tactic(auto, using(std::proofs::lemmas::Grind::common_steps))]
-fn read_boxed(alloc: Global, words: &[String]) -> Result<(Box<Cmd>, usize), ImageFault>
+fn read_boxed(alloc: Global, words: &[String]) -> Result<(Box<Cmd>, usize), ImageError>
     ensures { Gives (λ x. (cmd_tree x.0.value, x.1)) result (read_pieces (map string_bytes words.now)) }
 {
     let (cmd, taken) = read_pieces(alloc, words)?;
@@ -58,7 +58,7 @@ pub fn read_image(
     strict: bool,
     words: &[String],
     entries: &[String],
-) -> Result<(Cmd, State), ImageFault>
+) -> Result<(Cmd, State), ImageError>
     ensures { Gives (λ x. (cmd_tree x.0, state_of x.1)) result
         (read_image strict (map string_bytes words.now) (map string_bytes entries.now)) }
 {

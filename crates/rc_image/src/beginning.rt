@@ -1,10 +1,10 @@
 //! How an image begins.
 
 ghost use Rattle.std.specs.Prelude.{◌≡◌, ◌≤◌, codes, IsTrue, length};
-ghost use Rattle.rc_leaves.specs.Faults.{fault_of};
 ghost use Rattle.rc_image.specs.Images.{begun, version_here, fault_here};
 
-use rc_leaves::{Fault, begins_number, number};
+use rc_leaves::{begins_number, number};
+use rc_model::ImageFault;
 
 /// Whether a text begins with another.
 #[cycle(begins)]
@@ -44,16 +44,16 @@ fn has_version(bytes: &[u8]) -> bool
 
 /// The fault of another beginning than that of an image.
 #[tactic(auto, using(crate::proofs::Beginnings::faults))]
-pub fn beginning_fault(bytes: &[u8]) -> Fault
-    ensures { fault_of result ≡ fault_here bytes.now }
+pub fn beginning_fault(bytes: &[u8]) -> ImageFault
+    ensures { result ≡ fault_here bytes.now }
 {
     if !begins("rc".as_bytes(), bytes) {
-        return Fault::BadTag;
+        return ImageFault::BadTag;
     }
     let (_, rest) = bytes.split_at(2);
     if has_version(rest) {
-        Fault::Version
+        ImageFault::Version
     } else {
-        Fault::BadTag
+        ImageFault::BadTag
     }
 }

@@ -5,11 +5,11 @@ ghost use Rattle.rc_model.specs.Handed.Environment.{Bindings, bindings, with_cut
 ghost use Rattle.rc_model.specs.Run.State.{define, is_function_name, is_name, set_value};
 ghost use Rattle.rc_tree_types.specs.View.{cmd_tree};
 ghost use Rattle.rc_scope.specs.States.{state_of};
-ghost use Rattle.rc_image.specs.Images.{Gives};
+ghost use Rattle.rc_model.specs.Syntax.Faults.{Gives};
 ghost use Rattle.rc_image.specs.Entries.{function_in, is_ignored, values_state, with_function, with_functions};
 
 use crate::entries::{cut_entry, function_entry, members};
-use crate::{ImageFault, read_tree};
+use crate::{ImageError, read_tree};
 use rc_scope::{SetError, State};
 use rc_tree::Cmd;
 use std::alloc::{AllocError, Global};
@@ -74,7 +74,7 @@ fn define(state: &mut State, name: &str, body: Cmd) -> Result<(), AllocError>
 }
 
 /// Defines the function of an entry, where it is one of a function and none of its name is there.
-fn define_entry(alloc: Global, state: &mut State, entry: &str) -> Result<(), ImageFault>
+fn define_entry(alloc: Global, state: &mut State, entry: &str) -> Result<(), ImageError>
     ensures { Gives (λ _. state_of state.new) result
         (with_function (state_of state.old) (function_in (cut_entry entry.now))) }
 {
@@ -89,7 +89,7 @@ fn define_entry(alloc: Global, state: &mut State, entry: &str) -> Result<(), Ima
 }
 
 /// Defines the functions of these entries. The first entry of a name counts.
-fn define_functions(alloc: Global, state: &mut State, entries: &[String]) -> Result<(), ImageFault>
+fn define_functions(alloc: Global, state: &mut State, entries: &[String]) -> Result<(), ImageError>
     requires { (state_of state.old).functions ≡ [] }
     ensures { Gives (λ _. state_of state.new) result
         (with_functions (state_of state.old) (bindings (map string_bytes entries.now))) }
@@ -102,7 +102,7 @@ fn define_functions(alloc: Global, state: &mut State, entries: &[String]) -> Res
 
 /// The state that an environment denotes. Functions and the status are read only if it is `own`, from a shell of the
 /// same kind.
-pub fn read_env(alloc: Global, entries: &[String], own: bool) -> Result<State, ImageFault>
+pub fn read_env(alloc: Global, entries: &[String], own: bool) -> Result<State, ImageError>
     ensures { Gives (λ state. state_of state) result (read_state own [] (map string_bytes entries.now)) }
 {
     let mut state = read_values(alloc, entries, own)?;

@@ -7,9 +7,9 @@ ghost use Rattle.rc_scope.specs.States.{state_of};
 ghost use Rattle.rc_image.specs.Images.{Writes};
 ghost use Rattle.rc_image.specs.Launches.{args_with, handed_of, short_entries};
 
-use crate::ImageFault;
 use crate::pieces::write_pieces;
 use crate::texts::push_copies;
+use crate::{ImageError, ImageFault, InputError};
 use rc_builtin::are_short;
 use rc_builtin::environment::entries;
 use rc_scope::State;
@@ -39,20 +39,20 @@ fn shell_args(alloc: Global, state: &State, words: &[String]) -> Result<Vec<Stri
 }
 
 /// The entries of a state. They are too large where one of them would be too long.
-pub fn write_env(alloc: Global, state: &State) -> Result<Vec<String>, ImageFault>
+pub fn write_env(alloc: Global, state: &State) -> Result<Vec<String>, ImageError>
     ensures { Writes (λ all. map string_bytes all.items) result (short_entries (state_of state.now)) }
 {
     let entries = entries(alloc, state)?;
     if are_short(&entries) {
         Ok(entries)
     } else {
-        Err(ImageFault::TooLarge)
+        Err(InputError::Fault(ImageFault::TooLarge))
     }
 }
 
 /// What a shell is handed that is to run a command in a state. It is too large where an argument or an entry would be
 /// too long, or the image in too many pieces.
-pub fn handed(alloc: Global, cmd: &Cmd, state: &State) -> Result<Handover, ImageFault>
+pub fn handed(alloc: Global, cmd: &Cmd, state: &State) -> Result<Handover, ImageError>
     ensures { Writes (λ h. handed_of h) result (handed (cmd_tree cmd.now) (state_of state.now)) }
 {
     let words = write_pieces(alloc, cmd)?;
@@ -61,6 +61,6 @@ pub fn handed(alloc: Global, cmd: &Cmd, state: &State) -> Result<Handover, Image
     if are_short(&args) && are_short(&entries) {
         Ok(Handover { args, entries })
     } else {
-        Err(ImageFault::TooLarge)
+        Err(InputError::Fault(ImageFault::TooLarge))
     }
 }

@@ -4,13 +4,13 @@
 ghost use Rattle.std.specs.Prelude.{◌≡◌, string_bytes};
 ghost use Rattle.rc_model.specs.Handed.TreeReading.{read_tree};
 ghost use Rattle.rc_tree_types.specs.View.{cmd_tree};
-ghost use Rattle.rc_image.specs.Images.{Gives, Writes, short_image};
+ghost use Rattle.rc_model.specs.Syntax.Faults.{Gives};
+ghost use Rattle.rc_image.specs.Images.{Writes, short_image};
 
 mod arguments;
 mod beginning;
 mod entries;
 mod environment;
-mod fault;
 mod launch;
 mod pieces;
 mod texts;
@@ -19,10 +19,11 @@ mod words;
 pub use arguments::{read_image, read_state};
 use beginning::{beginning_fault, begins};
 pub use environment::read_env;
-pub use fault::ImageFault;
 pub use launch::{Handover, handed, write_env};
 pub use pieces::write_pieces;
+pub use rc_leaves::ImageError;
 use rc_model::limits::LONGEST_ARGUMENT;
+pub use rc_model::{ImageFault, InputError};
 use rc_reading::read_spelling;
 use rc_spelling::push_spelling;
 use rc_tree::Cmd;
@@ -31,26 +32,26 @@ pub use words::read_pieces;
 
 /// The image of a tree. It is too large where an argument or an entry of a launch can't be so long.
 #[tactic(auto, using(crate::proofs::Lengths::lengths))]
-pub fn write_tree(alloc: Global, cmd: &Cmd) -> Result<String, ImageFault>
+pub fn write_tree(alloc: Global, cmd: &Cmd) -> Result<String, ImageError>
     ensures { Writes (λ text. string_bytes text) result (short_image (cmd_tree cmd.now)) }
 {
     let mut text = String::from_str(alloc, "rc1;")?;
     push_spelling(&mut text, cmd)?;
     if text.len() > LONGEST_ARGUMENT {
-        return Err(ImageFault::TooLarge);
+        return Err(InputError::Fault(ImageFault::TooLarge));
     }
     Ok(text)
 }
 
 /// The tree of an image.
 #[tactic(auto, using(crate::proofs::Beginnings::images))]
-pub fn read_tree(alloc: Global, text: &str) -> Result<Cmd, ImageFault>
+pub fn read_tree(alloc: Global, text: &str) -> Result<Cmd, ImageError>
     ensures { Gives (λ c. cmd_tree c) result (read_tree text.now) }
 {
     let bytes = text.as_bytes();
     if !begins("rc1;".as_bytes(), bytes) {
-        return Err(ImageFault::from(beginning_fault(bytes)));
+        return Err(InputError::Fault(beginning_fault(bytes)));
     }
     let (_, spelling) = bytes.split_at(4);
-    Ok(read_spelling(alloc, spelling)?)
+    read_spelling(alloc, spelling)
 }

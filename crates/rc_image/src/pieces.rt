@@ -6,28 +6,25 @@ ghost use Rattle.rc_model.specs.Handed.Pieces.{longest_word, most_pieces, one_wo
 ghost use Rattle.rc_tree_types.specs.View.{cmd_tree};
 ghost use Rattle.rc_image.specs.Images.{Writes, written};
 
-use crate::ImageFault;
-use rc_model::limits::LONGEST_ARGUMENT;
+use crate::{ImageError, ImageFault, InputError};
+use rc_model::limits::{LONGEST_ARGUMENT, MOST_PIECES};
 use rc_spelling::push_spelling;
 use rc_tree::Cmd;
 use std::alloc::{AllocError, Global};
-
-/// How many pieces an image may have.
-const MOST_PIECES: usize = 16;
 
 /// The most bytes of a spelling that stands in one word with its mark.
 const LONGEST_SPELLING: usize = LONGEST_ARGUMENT - 4;
 
 /// The pieces of a spelling, each the longest of what is left.
 #[tactic(auto, using(crate::proofs::Cuts::cuts))]
-fn cut(alloc: Global, spelling: &str) -> Result<Vec<String>, ImageFault>
+fn cut(alloc: Global, spelling: &str) -> Result<Vec<String>, ImageError>
     ensures { Writes (λ all. map string_bytes all.items) result (pieces most_pieces longest_word spelling.now) }
 {
     let mut pieces = Vec::new(alloc);
     let mut rest = spelling;
     while !rest.is_empty() {
         if pieces.len() == MOST_PIECES {
-            return Err(ImageFault::TooLarge);
+            return Err(InputError::Fault(ImageFault::TooLarge));
         }
         let (piece, after) = rest.split_at(rest.floor_char_boundary(LONGEST_ARGUMENT));
         pieces.push(String::from_str(alloc, piece)?)?;
@@ -58,7 +55,7 @@ fn several_words(alloc: Global, mut pieces: Vec<String>) -> Result<Vec<String>, 
 
 /// The words of a spelling.
 #[tactic(auto, using(crate::proofs::Cuts::words))]
-pub fn words_of(alloc: Global, spelling: &str) -> Result<Vec<String>, ImageFault>
+pub fn words_of(alloc: Global, spelling: &str) -> Result<Vec<String>, ImageError>
     ensures { Writes (λ words. map string_bytes words.items) result (written spelling.now) }
 {
     if spelling.len() <= LONGEST_SPELLING {
@@ -70,7 +67,7 @@ pub fn words_of(alloc: Global, spelling: &str) -> Result<Vec<String>, ImageFault
 
 /// The words in which a tree is handed over. It is too large where these would be too many.
 #[tactic(auto, using(crate::proofs::Cuts::words))]
-pub fn write_pieces(alloc: Global, cmd: &Cmd) -> Result<Vec<String>, ImageFault>
+pub fn write_pieces(alloc: Global, cmd: &Cmd) -> Result<Vec<String>, ImageError>
     ensures { Writes (λ words. map string_bytes words.items) result (image_words (cmd_tree cmd.now)) }
 {
     let mut spelling = String::new(alloc);

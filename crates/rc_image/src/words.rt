@@ -7,11 +7,12 @@ ghost use Rattle.std.specs.Cmp.Lexicographic.{pointwise};
 ghost use Rattle.rc_model.specs.Run.Numbers.{digits_value};
 ghost use Rattle.rc_model.specs.Handed.WordsReading.{read_pieces};
 ghost use Rattle.rc_tree_types.specs.View.{cmd_tree};
-ghost use Rattle.rc_image.specs.Images.{Gives, in_one, in_pieces};
+ghost use Rattle.rc_model.specs.Syntax.Faults.{Gives};
+ghost use Rattle.rc_image.specs.Images.{in_one, in_pieces};
 
 use crate::beginning::{beginning_fault, begins};
 use crate::pieces::words_of;
-use crate::{ImageFault, read_tree};
+use crate::{ImageError, ImageFault, InputError, read_tree};
 use rc_model::limits::LONGEST_ARGUMENT;
 use rc_reading::read_spelling;
 use rc_tree::Cmd;
@@ -54,18 +55,18 @@ fn are_these(words: &[String], first: &str, pieces: &[String]) -> bool
 
 /// The tree of an image in one word.
 #[tactic(auto, using(crate::proofs::Claims::ones))]
-fn read_one(alloc: Global, word: &str) -> Result<(Cmd, usize), ImageFault>
+fn read_one(alloc: Global, word: &str) -> Result<(Cmd, usize), ImageError>
     ensures { Gives (λ x. (cmd_tree x.0, x.1)) result (in_one word.now) }
 {
     if word.len() > LONGEST_ARGUMENT {
-        return Err(ImageFault::BadLength);
+        return Err(InputError::Fault(ImageFault::BadLength));
     }
     Ok((read_tree(alloc, word)?, 1))
 }
 
 /// The tree of an image in pieces. Its words must be those in which it is written.
 #[tactic(auto, using(crate::proofs::Claims::severals))]
-fn read_several(alloc: Global, first: &str, pieces: &[String]) -> Result<(Cmd, usize), ImageFault>
+fn read_several(alloc: Global, first: &str, pieces: &[String]) -> Result<(Cmd, usize), ImageError>
     ensures { Gives (λ x. (cmd_tree x.0, x.1)) result (in_pieces first.now (map string_bytes pieces.now)) }
 {
     let spelling = joined(alloc, pieces)?;
@@ -73,25 +74,25 @@ fn read_several(alloc: Global, first: &str, pieces: &[String]) -> Result<(Cmd, u
         Ok(words) if are_these(&words, first, pieces) => {
             Ok((read_spelling(alloc, spelling.as_bytes())?, pieces.len() + 1))
         }
-        Err(ImageFault::NoMemory) => Err(ImageFault::NoMemory),
-        _ => Err(ImageFault::BadLength),
+        Err(InputError::NoMemory) => Err(InputError::NoMemory),
+        _ => Err(InputError::Fault(ImageFault::BadLength)),
     }
 }
 
 /// The tree of the first of these words, and how many of them it takes.
-#[tactic(auto, using(crate::proofs::Claims::reads))]
-pub fn read_pieces(alloc: Global, words: &[String]) -> Result<(Cmd, usize), ImageFault>
+#[tactic(auto, using(std::proofs::lemmas::Grind::common_steps))]
+pub fn read_pieces(alloc: Global, words: &[String]) -> Result<(Cmd, usize), ImageError>
     ensures { Gives (λ x. (cmd_tree x.0, x.1)) result (read_pieces (map string_bytes words.now)) }
 {
     let Some((first, rest)) = words.split_first() else {
-        return Err(ImageFault::BadTag);
+        return Err(InputError::Fault(ImageFault::BadTag));
     };
     let bytes = first.as_bytes();
     if begins("rc1;".as_bytes(), bytes) {
         return read_one(alloc, first);
     }
     if !begins("rc2;".as_bytes(), bytes) {
-        return Err(ImageFault::from(beginning_fault(bytes)));
+        return Err(InputError::Fault(beginning_fault(bytes)));
     }
     let (_, digits) = bytes.split_at(4);
     let count = claimed(digits).min(rest.len());

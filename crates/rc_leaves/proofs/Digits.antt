@@ -4,8 +4,9 @@ use Rattle.std.proofs.lemmas.Bool.{le-leb, and_from, and_right, lt-leb}
 use Rattle.std.proofs.lemmas.Grind.{common_steps}
 use Rattle.rc_model.specs.Run.Numbers.{is_digit, digits_value, greatest_number}
 use Rattle.rc_model.specs.Handed.TreeSpelling.{is_numeral}
-use Rattle.rc_model.specs.Handed.TreeReading.{BadTag, BadLength, digit_run, past_digits, marked}
+use Rattle.rc_model.specs.Handed.TreeReading.{digit_run, past_digits, marked}
 use Rattle.rc_leaves.specs.Steps.{first_by, digit_here, number_here, value_from, after_digits, number_by}
+use Rattle.rc_model.specs.declared.fault.ImageFault.TheVariants.{BadLength, BadTag}
 
 pub first_none : (bytes : List ℕ) → length bytes ≡ 0 → first_by bytes ≡ Err BadTag
 unfolding first_by

@@ -7,9 +7,10 @@ use Rattle.std.proofs.lemmas.Str.{is_utf8-from_IsUtf8, IsUtf8-from_is_utf8}
 use Rattle.std.proofs.lemmas.Grind.{common_steps}
 use Rattle.rc_model.specs.Syntax.Text.{without_zero}
 use Rattle.rc_model.specs.Syntax.WellFormed.{has_text}
-use Rattle.rc_model.specs.Handed.TreeReading.{ImageFault, BadLength}
 use Rattle.rc_soundness.proofs.Fitting.{zero_sought}
 use Rattle.rc_leaves.specs.Steps.{string_by}
+use Rattle.rc_model.specs.declared.fault.ImageFault.{ImageFault}
+use Rattle.rc_model.specs.declared.fault.ImageFault.TheVariants.{BadLength}
 
 pub string_short : (n : ℕ) (bytes : List ℕ) → length bytes < n → string_by n bytes ≡ Err BadLength
 unfolding string_by

@@ -3,9 +3,10 @@ use Rattle.std.proofs.Common.{◌≡◌, refl, ap, sym, ◌∙◌, ℕ, suc, tru
 use Rattle.std.proofs.lemmas.Grind.{common_steps}
 use Rattle.rc_model.specs.Syntax.Tree.{Sort, Node, Many, none, snoc}
 use Rattle.rc_model.specs.Syntax.Tree as t
-use Rattle.rc_model.specs.Handed.TreeReading.{ImageFault, Reader, ◌>>=◌, cmd_at, arg_at}
+use Rattle.rc_model.specs.Handed.TreeReading.{Reader, ◌>>=◌, cmd_at, arg_at}
 use Rattle.rc_tree_types.specs.View.{nodes_push, tree_Here}
 use Rattle.rc_leaves.specs.Steps.{nodes_from, list_by, args_by, item_by, pair_by, stage_by, link_by, branch_by, slot_by, background_by, logic_by, count_from}
+use Rattle.rc_model.specs.declared.fault.ImageFault.{ImageFault}
 
 one_less : (count i : ℕ) → i < count → count - i ≡ suc (count - (i + 1))
 one_less count i h = omega arith

@@ -1,7 +1,7 @@
 -- The marks that nodes begin with, and what follows each.
 use Rattle.std.specs.Prelude.{ℕ, ◌==◌, if◌then◌else◌, Option, Some, None, Ok, Err}
 use Rattle.rc_model.specs.declared.call.Mode.TheVariants.{Write, Append}
-use Rattle.rc_model.specs.Handed.TreeReading.{BadTag, Reader, ◌>>=◌}
+use Rattle.rc_model.specs.Handed.TreeReading.{Reader, ◌>>=◌}
 use Rattle.rc_leaves.specs.Steps.{first_by}
 use Rattle.rc_leaves.specs.declared.shape.CmdShape.{CmdShape}
 use Rattle.rc_leaves.specs.declared.shape.CmdShape.TheVariants as s
@@ -15,6 +15,7 @@ use Rattle.rc_leaves.specs.declared.shape.ArgShape.TheVariants as a
 use Rattle.rc_leaves.specs.declared.shape.NameShape.TheVariants as n
 use Rattle.rc_leaves.specs.declared.shape.RedirShape.{RedirShape}
 use Rattle.rc_leaves.specs.declared.shape.RedirShape.TheVariants as r
+use Rattle.rc_model.specs.declared.fault.ImageFault.TheVariants.{BadTag}
 
 -- the shape of a command, by its mark
 unfoldable pub cmd_shape : ℕ → Option CmdShape

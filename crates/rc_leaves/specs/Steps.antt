@@ -5,11 +5,13 @@ use Rattle.rc_model.specs.declared.syntax.Logic.{Logic}
 use Rattle.rc_model.specs.declared.syntax.Logic.TheVariants.{And, Or}
 use Rattle.rc_model.specs.Syntax.Tree.{Node, Many, none, more, snoc}
 use Rattle.rc_model.specs.Syntax.Tree as t
-use Rattle.rc_model.specs.Handed.TreeReading.{BadTag, BadLength, Reader, ◌>>=◌, digit_run, past_digits}
+use Rattle.rc_model.specs.Handed.TreeReading.{Reader, ◌>>=◌, digit_run, past_digits}
 use Rattle.rc_model.specs.Handed.TreeReading.{count_at, bytes_at, cmd_at, arg_at}
 use Rattle.rc_model.specs.Handed.TreeSpelling.{is_numeral}
 use Rattle.rc_model.specs.Run.Numbers.{is_digit, digits_value}
 use Rattle.rc_model.specs.Syntax.WellFormed.{has_text}
+use Rattle.rc_model.specs.declared.fault.ImageFault.TheVariants.{BadLength, BadTag}
+use Rattle.rc_model.specs.declared.limits.TheConstants.{MOST_STAGES}
 
 -- the byte that stands here
 unfoldable pub first_by : Reader ℕ
@@ -51,7 +53,7 @@ count_from least bytes = number_by 44 bytes >>= λ n. if nat_le least n.0 then O
 
 -- how many stages stand before the last
 unfoldable pub stage_count : Reader ℕ
-stage_count bytes = count_from 1 bytes >>= λ n. if nat_lt n.0 64 then Ok n else Err BadLength
+stage_count bytes = count_from 1 bytes >>= λ n. if nat_lt n.0 MOST_STAGES then Ok n else Err BadLength
 
 -- a given number of nodes, after those that were read
 unfoldable pub nodes_from : {s : t.Sort} → Reader (Node s) → ℕ → Many s → Reader (Many s)

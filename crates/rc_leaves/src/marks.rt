@@ -1,16 +1,16 @@
 //! The marks that nodes begin with.
 
 ghost use Rattle.std.specs.Prelude.{◌≡◌};
-ghost use Rattle.rc_leaves.specs.Faults.{Gives};
+ghost use Rattle.rc_model.specs.Syntax.Faults.{Gives};
 ghost use Rattle.rc_leaves.specs.Shapes.{cmd_shape, arg_shape, redir_shape, mark_by};
 
+use crate::ImageError;
 use crate::numbers::first;
 use crate::shape::{
     ArgShape, BodiesShape, BodyShape, CmdShape, FrontShape, NameShape, RedirShape, SubjectShape,
     WordsShape,
 };
-use crate::{Fault, ReadError};
-use rc_model::{InputError, Mode};
+use rc_model::{ImageFault, InputError, Mode};
 
 /// The shape of a command, by its mark.
 #[tactic(auto, unfolding(crate::specs::Shapes::cmd_shape))]
@@ -77,36 +77,36 @@ fn redir_shape(mark: u8) -> Option<RedirShape>
 
 /// The mark of a command.
 #[tactic(auto, unfolding(crate::specs::Shapes::mark_by))]
-pub fn cmd_mark(bytes: &[u8]) -> Result<(CmdShape, &[u8]), ReadError>
+pub fn cmd_mark(bytes: &[u8]) -> Result<(CmdShape, &[u8]), ImageError>
     ensures { Gives (λ x. (x.0, x.1.now)) result (mark_by cmd_shape bytes.now) }
 {
     let (mark, rest) = first(bytes)?;
     match cmd_shape(mark) {
         Some(shape) => Ok((shape, rest)),
-        None => Err(InputError::Fault(Fault::BadTag)),
+        None => Err(InputError::Fault(ImageFault::BadTag)),
     }
 }
 
 /// The mark of an argument.
 #[tactic(auto, unfolding(crate::specs::Shapes::mark_by))]
-pub fn arg_mark(bytes: &[u8]) -> Result<(ArgShape, &[u8]), ReadError>
+pub fn arg_mark(bytes: &[u8]) -> Result<(ArgShape, &[u8]), ImageError>
     ensures { Gives (λ x. (x.0, x.1.now)) result (mark_by arg_shape bytes.now) }
 {
     let (mark, rest) = first(bytes)?;
     match arg_shape(mark) {
         Some(shape) => Ok((shape, rest)),
-        None => Err(InputError::Fault(Fault::BadTag)),
+        None => Err(InputError::Fault(ImageFault::BadTag)),
     }
 }
 
 /// The mark of a redirection.
 #[tactic(auto, unfolding(crate::specs::Shapes::mark_by))]
-pub fn redir_mark(bytes: &[u8]) -> Result<(RedirShape, &[u8]), ReadError>
+pub fn redir_mark(bytes: &[u8]) -> Result<(RedirShape, &[u8]), ImageError>
     ensures { Gives (λ x. (x.0, x.1.now)) result (mark_by redir_shape bytes.now) }
 {
     let (mark, rest) = first(bytes)?;
     match redir_shape(mark) {
         Some(shape) => Ok((shape, rest)),
-        None => Err(InputError::Fault(Fault::BadTag)),
+        None => Err(InputError::Fault(ImageFault::BadTag)),
     }
 }

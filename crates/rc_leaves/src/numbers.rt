@@ -2,25 +2,22 @@
 
 ghost use Rattle.std.specs.Prelude.{◌≡◌, ◌<◌, ◌≤◌, MatchOption};
 ghost use Rattle.rc_model.specs.Run.Numbers.{greatest_number};
-ghost use Rattle.rc_leaves.specs.Faults.{Gives};
+ghost use Rattle.rc_model.specs.Syntax.Faults.{Gives};
 ghost use Rattle.rc_leaves.specs.Steps.{first_by, digit_here, number_here, value_from, after_digits};
 ghost use Rattle.rc_leaves.specs.Steps.{number_by, count_from, stage_count};
 
-use crate::{Fault, ReadError};
-use rc_model::InputError;
-use rc_model::limits::MOST_STAGES;
-
-/// The greatest number of an image.
-const GREATEST: usize = 4_294_967_295;
+use crate::ImageError;
+use rc_model::limits::{GREATEST_NUMBER, MOST_STAGES};
+use rc_model::{ImageFault, InputError};
 
 /// The byte that stands here, and those after it.
 #[tactic(auto, using(crate::proofs::Digits::firsts))]
-pub fn first(bytes: &[u8]) -> Result<(u8, &[u8]), ReadError>
+pub fn first(bytes: &[u8]) -> Result<(u8, &[u8]), ImageError>
     ensures { Gives (λ x. (x.0, x.1.now)) result (first_by bytes.now) }
 {
     match bytes.split_first() {
         Some((byte, rest)) => Ok((*byte, rest)),
-        None => Err(InputError::Fault(Fault::BadTag)),
+        None => Err(InputError::Fault(ImageFault::BadTag)),
     }
 }
 
@@ -65,7 +62,7 @@ fn number_from(value: usize, bytes: &[u8]) -> Option<(usize, &[u8])>
         return Some((value, bytes));
     }
     let value = value * 10 + (*digit - b'0') as usize;
-    if value > GREATEST {
+    if value > GREATEST_NUMBER {
         return None;
     }
     number_from(value, rest)
@@ -81,44 +78,44 @@ pub fn number(bytes: &[u8]) -> Option<(usize, &[u8])>
 
 /// A number and the mark that follows it.
 #[tactic(auto, using(crate::proofs::Digits::counts))]
-pub fn count_at(mark: u8, bytes: &[u8]) -> Result<(usize, &[u8]), ReadError>
+pub fn count_at(mark: u8, bytes: &[u8]) -> Result<(usize, &[u8]), ImageError>
     ensures { Gives (λ x. (x.0, x.1.now)) result (number_by mark bytes.now) }
 {
     if !begins_number(bytes) {
-        return Err(InputError::Fault(Fault::BadLength));
+        return Err(InputError::Fault(ImageFault::BadLength));
     }
     let Some((number, rest)) = number(bytes) else {
-        return Err(InputError::Fault(Fault::BadLength));
+        return Err(InputError::Fault(ImageFault::BadLength));
     };
     let Some((byte, rest)) = rest.split_first() else {
-        return Err(InputError::Fault(Fault::BadLength));
+        return Err(InputError::Fault(ImageFault::BadLength));
     };
     if *byte != mark {
-        return Err(InputError::Fault(Fault::BadLength));
+        return Err(InputError::Fault(ImageFault::BadLength));
     }
     Ok((number, rest))
 }
 
 /// How many things a list has, where these are enough.
 #[tactic(auto, unfolding(crate::specs::Steps::count_from))]
-pub fn count_from(least: usize, bytes: &[u8]) -> Result<(usize, &[u8]), ReadError>
+pub fn count_from(least: usize, bytes: &[u8]) -> Result<(usize, &[u8]), ImageError>
     ensures { Gives (λ x. (x.0, x.1.now)) result (count_from least bytes.now) }
 {
     let (count, rest) = count_at(b',', bytes)?;
     if count < least {
-        return Err(InputError::Fault(Fault::BadLength));
+        return Err(InputError::Fault(ImageFault::BadLength));
     }
     Ok((count, rest))
 }
 
 /// How many stages stand before the last one.
 #[tactic(auto, unfolding(crate::specs::Steps::stage_count))]
-pub fn stage_count(bytes: &[u8]) -> Result<(usize, &[u8]), ReadError>
+pub fn stage_count(bytes: &[u8]) -> Result<(usize, &[u8]), ImageError>
     ensures { Gives (λ x. (x.0, x.1.now)) result (stage_count bytes.now) }
 {
     let (count, rest) = count_from(1, bytes)?;
     if count >= MOST_STAGES {
-        return Err(InputError::Fault(Fault::BadLength));
+        return Err(InputError::Fault(ImageFault::BadLength));
     }
     Ok((count, rest))
 }

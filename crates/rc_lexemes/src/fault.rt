@@ -3,22 +3,12 @@
 ghost use Rattle.std.specs.Prelude.{◌≡◌, length};
 
 use crate::lexeme::Lexeme;
-use rc_model::InputError;
-
-/// A fault of the tokens.
-#[derive(Clone, Copy, Debug)]
-pub enum Fault {
-    Unexpected,
-    /// An `if not` does not follow an `if`.
-    IfNot,
-    TooDeep,
-    TooManyStages,
-}
+use rc_model::{DescentFault, InputError};
 
 /// A fault of the tokens, with how many of them were left there.
 #[derive(Clone, Copy, Debug)]
 pub struct TokenFault {
-    pub fault: Fault,
+    pub fault: DescentFault,
     pub left: usize,
 }
 
@@ -26,7 +16,7 @@ pub struct TokenFault {
 pub type TokenError = InputError<TokenFault>;
 
 /// The fault at the first of the tokens that are left.
-pub fn fault_at(fault: Fault, left: &[Lexeme]) -> TokenError
+pub fn fault_at(fault: DescentFault, left: &[Lexeme]) -> TokenError
     ensures { result ≡ InputError.Fault (record { fault = fault; left = length left.now }) }
 {
     InputError::Fault(TokenFault {

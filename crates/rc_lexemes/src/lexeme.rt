@@ -8,8 +8,8 @@ ghost use Rattle.rc_model.specs.Mirrors.Descent.{begins_leading, item_end};
 ghost use Rattle.rc_lexemes.specs.Lexemes.{lexemes_of};
 ghost use Rattle.rc_lexemes.specs.Reading.{Gives};
 
-use crate::fault::{Fault, TokenError, fault_at};
-use rc_model::{Keyword, Mode};
+use crate::fault::{TokenError, fault_at};
+use rc_model::{DescentFault, Keyword, Mode};
 
 /// A token with its text. A here document has its body.
 #[derive(Drop)]
@@ -244,7 +244,7 @@ pub fn item_end(lexemes: &[Lexeme]) -> Result<(bool, &[Lexeme]), TokenError>
             if closes(lexemes) {
                 Ok((false, lexemes))
             } else {
-                Err(fault_at(Fault::Unexpected, lexemes))
+                Err(fault_at(DescentFault::Unexpected, lexemes))
             }
         }
     }

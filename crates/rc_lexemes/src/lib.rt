@@ -15,7 +15,7 @@ pub use commands::{
     matching, not, pipeline, redirect, redirected, repeated, seq, simple, subshell, switched,
     undefined,
 };
-pub use fault::{Fault, TokenError, TokenFault, fault_at};
+pub use fault::{TokenError, TokenFault, fault_at};
 pub use lexeme::{
     Lexeme, after_caret, begins_arg, begins_brace, begins_command, begins_leading, begins_link,
     begins_redir, closes, ends, ends_case, is_case, item_end, keyword_named, past_blanks,

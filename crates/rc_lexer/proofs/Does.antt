@@ -6,16 +6,15 @@ use Rattle.rc_model.specs.Mirrors.Reading as reading
 use Rattle.rc_model.specs.Mirrors.Reading.{Step}
 use Rattle.rc_lexer.specs.Answers.{LexError}
 use Rattle.rc_model.specs.declared.fault.InputError.TheVariants.{Fault, NoMemory}
-use Rattle.rc_lexer.specs.declared.classes.Class.{Class}
-use Rattle.rc_lexer.specs.declared.classes.Class.TheVariants as class
-use Rattle.rc_lexer.specs.declared.state.Previous.{Previous}
-use Rattle.rc_lexer.specs.declared.state.Place.{Place}
+use Rattle.rc_model.specs.declared.syntax.Class.{Class}
+use Rattle.rc_model.specs.declared.syntax.Class.TheVariants as class
+use Rattle.rc_model.specs.declared.syntax.Previous.{Previous}
+use Rattle.rc_model.specs.declared.syntax.Place.{Place}
 use Rattle.rc_lexer.specs.declared.state.State.{State}
 use Rattle.rc_lexer.specs.declared.state.Lexer.{Lexer}
 use Rattle.rc_lexer.specs.Views.{slice_at}
-use Rattle.rc_lexer.specs.Classes.{class_is}
-use Rattle.rc_lexer.specs.declared.state.Previous.TheVariants as previous
-use Rattle.rc_lexer.specs.Machine.{place_of, previous_of, pending_of, pending_in, tokens_in, dollars_in, bodies_in, after_step, Does}
+use Rattle.rc_model.specs.declared.syntax.Previous.TheVariants as previous
+use Rattle.rc_lexer.specs.Machine.{pending_of, pending_in, tokens_in, dollars_in, bodies_in, after_step, Does}
 use Rattle.rc_lexer.specs.Machine.{Pushed, Keeps, PushedDollars}
 use Rattle.std.proofs.lemmas.Bool.{eqb-true}
 use Rattle.std.specs.Char.{encode_utf8}
@@ -39,21 +38,21 @@ pub along : (script : List ℕ) (end : ℕ) (old new : Lexer) (r : Result State 
 along script end old new r x y e d = subst (λ z. Does script end old new r z) e d
 
 -- a lexeme ends, and the character begins something
-pub ends_does : (script : List ℕ) (end : ℕ) (previous after : Previous) (l : model.Lexeme) (start place : Place) (c : ℕ) (k : model.Class)
+pub ends_does : (script : List ℕ) (end : ℕ) (previous after : Previous) (l : model.Lexeme) (start place : Place) (c : ℕ) (k : Class)
     (old mid new : Lexer) (r : Result State LexError) →
-    Pushed script previous after l start place old mid → Does script end mid new r (reading.begin (previous_of after) (pending_in mid) (place_of place) c k) →
-    Does script end old new r (reading.ends (previous_of previous) l (place_of start) (pending_in old) (place_of place) c k)
+    Pushed script previous after l start place old mid → Does script end mid new r (reading.begin after (pending_in mid) place c k) →
+    Does script end old new r (reading.ends previous l start (pending_in old) place c k)
 ends_does script end previous after l start place c k old mid new r s d =
-    emits script end (model.tokens_of (previous_of previous) l (place_of start) (place_of place))
-    (reading.begin (model.as_before (previous_of previous) l) (model.due_after (previous_of previous) l (pending_in old)) (place_of place) c k)
+    emits script end (model.tokens_of previous l start place)
+    (reading.begin (model.after_token previous l) (model.pending_after previous l (pending_in old)) place c k)
     old mid new r s.tokens s.bodies
-    (along script end mid new r _ _ (ap (λ b. reading.begin b (pending_in mid) (place_of place) c k) s.after_token
-    ∙ ap (λ q. reading.begin (model.as_before (previous_of previous) l) q (place_of place) c k) s.pending) d)
+    (along script end mid new r _ _ (ap (λ b. reading.begin b (pending_in mid) place c k) s.after_token
+    ∙ ap (λ q. reading.begin (model.after_token previous l) q place c k) s.pending) d)
 
 -- a character that ends a word
-in_word_other : (prev : model.Before) (q : model.Place) (text : List ℕ) (pending : List model.Due) (p : model.Place) (c : ℕ) (k : Class) →
+in_word_other : (prev : Previous) (q : Place) (text : List ℕ) (pending : List model.PendingHereDoc) (p : Place) (c : ℕ) (k : Class) →
     k ≢ class.Ordinary → k ≢ class.Backslash →
-    reading.ends prev (model.Word text) q pending p c (class_is k) ≡ reading.in_word prev q text pending p c (class_is k)
+    reading.ends prev (model.Word text) q pending p c k ≡ reading.in_word prev q text pending p c k
 in_word_other prev q text pending p c class.Ordinary h j = absurd (h refl)
 in_word_other prev q text pending p c class.Backslash h j = absurd (j refl)
 in_word_other prev q text pending p c k h j = refl
@@ -62,60 +61,60 @@ pub word_does : (script : List ℕ) (end : ℕ) (previous after : Previous) (tex
     (r : Result State LexError) →
     k ≢ class.Ordinary → k ≢ class.Backslash →
     Pushed script previous after (model.Word text) start place old mid →
-    Does script end mid new r (reading.begin (previous_of after) (pending_in mid) (place_of place) c (class_is k)) →
-    Does script end old new r (reading.in_word (previous_of previous) (place_of start) text (pending_in old) (place_of place) c (class_is k))
+    Does script end mid new r (reading.begin after (pending_in mid) place c k) →
+    Does script end old new r (reading.in_word previous start text (pending_in old) place c k)
 word_does script end previous after text start place c k old mid new r h j s d =
-    along script end old new r _ _ (in_word_other (previous_of previous) (place_of start) text (pending_in old) (place_of place) c k h j)
-    (ends_does script end previous after (model.Word text) start place c (class_is k) old mid new r s d)
+    along script end old new r _ _ (in_word_other previous start text (pending_in old) place c k h j)
+    (ends_does script end previous after (model.Word text) start place c k old mid new r s d)
 
 -- a `^` before a `$`
-pub caret_is : (b : Bool) (prev : model.Before) (p : model.Place) → model.joins prev model.Dollar ≡ b →
+pub caret_is : (b : Bool) (prev : Previous) (p : Place) → model.wants_caret prev model.Dollar ≡ b →
     model.caret prev model.Dollar p ≡ cond b (model.token model.FreeCaret p p ∷ []) []
 caret_is b prev p h = ap (λ v. cond v (model.token model.FreeCaret p p ∷ []) []) h
 
 -- a name ends, and the character begins something
-pub name_does : (script : List ℕ) (end : ℕ) (text : List ℕ) (start place : Place) (c : ℕ) (k : model.Class) (old mid new : Lexer) (r : Result State LexError) →
+pub name_does : (script : List ℕ) (end : ℕ) (text : List ℕ) (start place : Place) (c : ℕ) (k : Class) (old mid new : Lexer) (r : Result State LexError) →
     model.is_name_char c ≡ false → text ≡ slice_range script start.byte place.byte →
     ((script' : List ℕ) → tokens_in script' mid ≡ tokens_in script' old
-    ++ model.token (model.Name (slice_range script' start.byte place.byte)) (place_of start) (place_of place) ∷ []) → Keeps old mid →
-    Does script end mid new r (reading.begin model.NameBefore (pending_in mid) (place_of place) c k) →
-    Does script end old new r (reading.step (reading.Name (place_of start) text) (pending_in old) (place_of place) c k)
+    ++ model.token (model.Name (slice_range script' start.byte place.byte)) start place ∷ []) → Keeps old mid →
+    Does script end mid new r (reading.begin previous.Name (pending_in mid) place c k) →
+    Does script end old new r (reading.step (reading.Name start text) (pending_in old) place c k)
 name_does script end text start place c k old mid new r h e t kept d =
     let text' = slice_range script start.byte place.byte in
     along script end old new r _ _
-    (sym (ap (λ v. cond v (reading.goes [] (reading.Name (place_of start) (text ++ encode_utf8 c)) (pending_in old))
-    (reading.ends model.DollarBefore (model.Name text) (place_of start) (pending_in old) (place_of place) c k)) h
-    ∙ ap (λ z. reading.ends model.DollarBefore (model.Name z) (place_of start) (pending_in old) (place_of place) c k) e))
+    (sym (ap (λ v. cond v (reading.goes [] (reading.Name start (text ++ encode_utf8 c)) (pending_in old))
+    (reading.ends previous.Dollar (model.Name text) start (pending_in old) place c k)) h
+    ∙ ap (λ z. reading.ends previous.Dollar (model.Name z) start (pending_in old) place c k) e))
     (ends_does script end previous.Dollar previous.Name (model.Name text') start place c k old mid new r
     (record { tokens = t script; pending = ap (map pending_of) kept.pending; after_token = refl; dollars = kept.dollars; bodies = kept.bodies }) d)
 
 -- after `$`s
-abbrev dollars_step : Bool → Bool → List model.Token → List model.Due → model.Place → ℕ → model.Class → Step
+abbrev dollars_step : Bool → Bool → List model.Token → List model.PendingHereDoc → Place → ℕ → Class → Step
 dollars_step a b dollars pending p c k =
-    cond a (reading.emit dollars (reading.begin model.DollarBefore pending p c k))
-    (cond b (reading.goes [] (reading.Operator model.DollarBefore dollars p (c ∷ [])) pending)
-    (reading.emit (reading.bare dollars) (reading.begin model.Apart pending p c k)))
+    cond a (reading.emit dollars (reading.begin previous.Dollar pending p c k))
+    (cond b (reading.goes [] (reading.Operator previous.Dollar dollars p (c ∷ [])) pending)
+    (reading.emit (reading.bare dollars) (reading.begin previous.Apart pending p c k)))
 
-pub named_does : (script : List ℕ) (end : ℕ) (place : Place) (c : ℕ) (k : model.Class) (old mid new : Lexer) (r : Result State LexError) →
+pub named_does : (script : List ℕ) (end : ℕ) (place : Place) (c : ℕ) (k : Class) (old mid new : Lexer) (r : Result State LexError) →
     (model.is_name_char c || (c == 39)) ≡ true → PushedDollars (λ dollars. dollars) old mid →
-    Does script end mid new r (reading.begin model.DollarBefore (pending_in mid) (place_of place) c k) →
-    Does script end old new r (reading.after_dollars (dollars_in script old) (pending_in old) (place_of place) c k)
+    Does script end mid new r (reading.begin previous.Dollar (pending_in mid) place c k) →
+    Does script end old new r (reading.after_dollars (dollars_in script old) (pending_in old) place c k)
 named_does script end place c k old mid new r h s d =
-    along script end old new r _ _ (sym (ap (λ v. dollars_step v (c == 36) (dollars_in script old) (pending_in old) (place_of place) c k) h))
-    (emits script end (dollars_in script old) (reading.begin model.DollarBefore (pending_in old) (place_of place) c k) old mid new r (s.tokens script) s.bodies
-    (along script end mid new r _ _ (ap (λ q. reading.begin model.DollarBefore (map pending_of q) (place_of place) c k) s.pending) d))
+    along script end old new r _ _ (sym (ap (λ v. dollars_step v (c == 36) (dollars_in script old) (pending_in old) place c k) h))
+    (emits script end (dollars_in script old) (reading.begin previous.Dollar (pending_in old) place c k) old mid new r (s.tokens script) s.bodies
+    (along script end mid new r _ _ (ap (λ q. reading.begin previous.Dollar (map pending_of q) place c k) s.pending) d))
 
-pub bare_does : (script : List ℕ) (end : ℕ) (place : Place) (c : ℕ) (k : model.Class) (old mid new : Lexer) (r : Result State LexError) →
+pub bare_does : (script : List ℕ) (end : ℕ) (place : Place) (c : ℕ) (k : Class) (old mid new : Lexer) (r : Result State LexError) →
     (model.is_name_char c || (c == 39)) ≡ false → c ≢ 36 → PushedDollars reading.bare old mid →
-    Does script end mid new r (reading.begin model.Apart (pending_in mid) (place_of place) c k) →
-    Does script end old new r (reading.after_dollars (dollars_in script old) (pending_in old) (place_of place) c k)
+    Does script end mid new r (reading.begin previous.Apart (pending_in mid) place c k) →
+    Does script end old new r (reading.after_dollars (dollars_in script old) (pending_in old) place c k)
 bare_does script end place c k old mid new r h n s d =
     along script end old new r _ _
-    (sym (ap (λ v. dollars_step v (c == 36) (dollars_in script old) (pending_in old) (place_of place) c k) h
-    ∙ ap (λ v. dollars_step false v (dollars_in script old) (pending_in old) (place_of place) c k) (no (c == 36) refl)))
-    (emits script end (reading.bare (dollars_in script old)) (reading.begin model.Apart (pending_in old) (place_of place) c k) old mid new r
+    (sym (ap (λ v. dollars_step v (c == 36) (dollars_in script old) (pending_in old) place c k) h
+    ∙ ap (λ v. dollars_step false v (dollars_in script old) (pending_in old) place c k) (no (c == 36) refl)))
+    (emits script end (reading.bare (dollars_in script old)) (reading.begin previous.Apart (pending_in old) place c k) old mid new r
     (s.tokens script) s.bodies
-    (along script end mid new r _ _ (ap (λ q. reading.begin model.Apart (map pending_of q) (place_of place) c k) s.pending) d))
+    (along script end mid new r _ _ (ap (λ q. reading.begin previous.Apart (map pending_of q) place c k) s.pending) d))
   where
     no : (b : Bool) → (c == 36) ≡ b → (c == 36) ≡ false
     no true e = absurd (n (eqb-true c 36 e))

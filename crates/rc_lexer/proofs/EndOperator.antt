@@ -6,8 +6,8 @@ use Rattle.rc_model.specs.Syntax.Tokens as model
 use Rattle.rc_model.specs.Mirrors.Reading as reading
 use Rattle.rc_model.specs.Mirrors.Reading.{Step}
 use Rattle.rc_lexer.specs.Answers.{LexError}
-use Rattle.rc_lexer.specs.declared.state.Previous.{Previous}
-use Rattle.rc_lexer.specs.declared.state.Place.{Place}
+use Rattle.rc_model.specs.declared.syntax.Previous.{Previous}
+use Rattle.rc_model.specs.declared.syntax.Place.{Place}
 use Rattle.rc_lexer.specs.declared.state.State.{State}
 use Rattle.rc_lexer.specs.declared.state.Lexer.{Lexer}
 use Rattle.rc_lexer.proofs.Does.{along, emits, ends_does}
@@ -17,100 +17,102 @@ use Rattle.rc_lexer.specs.declared.TokenKind.{TokenKind}
 use Rattle.rc_lexer.specs.declared.TokenKind.TheVariants as tk
 use Rattle.rc_lexer.specs.declared.state.State.TheVariants as state
 use Rattle.rc_lexer.specs.Views.{token_of, tokens_of, lexeme_of}
-use Rattle.rc_lexer.specs.Machine.{lexeme_tokens, place_of, previous_of, pending_of, pending_in, tokens_in, dollars_in, bodies_in, Does, Keeps, PushedDollars}
+use Rattle.rc_lexer.specs.Machine.{lexeme_tokens, pending_of, pending_in, tokens_in, dollars_in, bodies_in, Does, Keeps, PushedDollars}
 use Rattle.std.specs.Char.{encode_utf8}
 use Rattle.law_lexing.proofs.Operators.{same_due}
+use Rattle.rc_model.specs.declared.syntax.Class.{Class}
+use Rattle.rc_model.specs.declared.syntax.Previous.TheVariants as previous
 
-end_operator_along : (script : List ℕ) (end : ℕ) (prev : model.Before) (dollars : List model.Token) (q : model.Place) (o o' : Option model.Lexeme)
-    (pending : List model.Due) (p : model.Place) (c : ℕ) (k : model.Class) (old new : Lexer) (r : Result State LexError) →
-    o ≡ o' → Does script end old new r (reading.operated prev dollars q o' pending p c k) →
-    Does script end old new r (reading.operated prev dollars q o pending p c k)
+end_operator_along : (script : List ℕ) (end : ℕ) (prev : Previous) (dollars : List model.Token) (q : Place) (o o' : Option model.Lexeme)
+    (pending : List model.PendingHereDoc) (p : Place) (c : ℕ) (k : Class) (old new : Lexer) (r : Result State LexError) →
+    o ≡ o' → Does script end old new r (reading.end_operator prev dollars q o' pending p c k) →
+    Does script end old new r (reading.end_operator prev dollars q o pending p c k)
 end_operator_along script end prev dollars q o o' pending p c k old new r e d =
-    along script end old new r _ _ (sym (ap (λ z. reading.operated prev dollars q z pending p c k) e)) d
+    along script end old new r _ _ (sym (ap (λ z. reading.end_operator prev dollars q z pending p c k) e)) d
 
 -- a `<<`
-pub here_does : (script : List ℕ) (end : ℕ) (prev : model.Before) (dollars : List model.Token) (q : model.Place) (kind : TokenKind)
-    (o : Option model.Lexeme) (pending : List model.Due) (p : model.Place) (c : ℕ) (k : model.Class) (old new : Lexer) (r : Result State LexError) →
+pub here_does : (script : List ℕ) (end : ℕ) (prev : Previous) (dollars : List model.Token) (q : Place) (kind : TokenKind)
+    (o : Option model.Lexeme) (pending : List model.PendingHereDoc) (p : Place) (c : ℕ) (k : Class) (old new : Lexer) (r : Result State LexError) →
     ((s slice : List ℕ) → o ≡ Some (lexeme_of s kind slice)) → kind ≡ tk.BareHere →
-    Does script end old new r (reading.begin (model.HereBefore q p) pending p c k) →
-    Does script end old new r (reading.operated prev dollars q o pending p c k)
+    Does script end old new r (reading.begin (previous.Here q p) pending p c k) →
+    Does script end old new r (reading.end_operator prev dollars q o pending p c k)
 here_does script end prev dollars q kind o pending p c k old new r e h d =
     end_operator_along script end prev dollars q o (Some model.BareHere) pending p c k old new r (e [] [] ∙ ap (λ z. Some (lexeme_of [] z [])) h) d
 
 -- a `$`
-pub dollar_does : (script : List ℕ) (end : ℕ) (prev : model.Before) (q place : Place) (kind : TokenKind) (o : Option model.Lexeme) (c : ℕ)
-    (k : model.Class) (t : Token) (old mid mid' new : Lexer) (r : Result State LexError) →
+pub dollar_does : (script : List ℕ) (end : ℕ) (prev : Previous) (q place : Place) (kind : TokenKind) (o : Option model.Lexeme) (c : ℕ)
+    (k : Class) (t : Token) (old mid mid' new : Lexer) (r : Result State LexError) →
     ((s slice : List ℕ) → o ≡ Some (lexeme_of s kind slice)) → kind ≡ tk.Dollar →
-    ((s : List ℕ) → tokens_in s mid ≡ tokens_in s old ++ model.caret prev model.Dollar (place_of q)) → Keeps old mid →
+    ((s : List ℕ) → tokens_in s mid ≡ tokens_in s old ++ model.caret prev model.Dollar q) → Keeps old mid →
     mid'.tokens.items ≡ mid.tokens.items → mid'.dollars.items ≡ mid.dollars.items ++ t ∷ [] → mid'.bodies.items ≡ mid.bodies.items →
     mid'.pending.items ≡ mid.pending.items →
-    token_of script t ≡ model.token model.Dollar (place_of q) (place_of place) →
-    Does script end mid' new r (reading.after_dollars (dollars_in script mid') (pending_in mid') (place_of place) c k) →
-    Does script end old new r (reading.operated prev (dollars_in script old) (place_of q) o (pending_in old) (place_of place) c k)
+    token_of script t ≡ model.token model.Dollar q place →
+    Does script end mid' new r (reading.after_dollars (dollars_in script mid') (pending_in mid') place c k) →
+    Does script end old new r (reading.end_operator prev (dollars_in script old) q o (pending_in old) place c k)
 dollar_does script end prev q place kind o c k t old mid mid' new r e h ts kept mt md mb mq is d =
-    let tok = model.token model.Dollar (place_of q) (place_of place) in
+    let tok = model.token model.Dollar q place in
     let ds : dollars_in script mid' ≡ dollars_in script old ++ tok ∷ [] =
     ap (tokens_of script) (md ∙ ap (λ z. z ++ t ∷ []) kept.dollars) ∙ map-append (token_of script) old.dollars.items (t ∷ [])
     ∙ ap (λ z. dollars_in script old ++ z ∷ []) is in
-    end_operator_along script end prev (dollars_in script old) (place_of q) o (Some model.Dollar) (pending_in old) (place_of place) c k old new r
+    end_operator_along script end prev (dollars_in script old) q o (Some model.Dollar) (pending_in old) place c k old new r
     (e [] [] ∙ ap (λ z. Some (lexeme_of [] z [])) h)
-    (emits script end (model.caret prev model.Dollar (place_of q))
-    (reading.after_dollars (dollars_in script old ++ tok ∷ []) (pending_in old) (place_of place) c k) old mid' new r
+    (emits script end (model.caret prev model.Dollar q)
+    (reading.after_dollars (dollars_in script old ++ tok ∷ []) (pending_in old) place c k) old mid' new r
     (ap (tokens_of script) mt ∙ ts script) (mb ∙ kept.bodies)
     (along script end mid' new r _ _
-    (ap (λ z. reading.after_dollars z (pending_in mid') (place_of place) c k) ds
-    ∙ ap (λ z. reading.after_dollars (dollars_in script old ++ tok ∷ []) (map pending_of z) (place_of place) c k) (mq ∙ kept.pending)) d))
+    (ap (λ z. reading.after_dollars z (pending_in mid') place c k) ds
+    ∙ ap (λ z. reading.after_dollars (dollars_in script old ++ tok ∷ []) (map pending_of z) place c k) (mq ∙ kept.pending)) d))
 
 -- a `$#` or a `$"`
-pub sigil_does : (script : List ℕ) (end : ℕ) (prev : model.Before) (q place : Place) (kind : TokenKind) (o : Option model.Lexeme) (c : ℕ)
-    (k : model.Class) (t : Token) (slice : List ℕ) (old mid bared mid' new : Lexer) (r : Result State LexError) →
+pub sigil_does : (script : List ℕ) (end : ℕ) (prev : Previous) (q place : Place) (kind : TokenKind) (o : Option model.Lexeme) (c : ℕ)
+    (k : Class) (t : Token) (slice : List ℕ) (old mid bared mid' new : Lexer) (r : Result State LexError) →
     ((s slice : List ℕ) → o ≡ Some (lexeme_of s kind slice)) → (kind ≡ tk.DollarCount) ⊎ (kind ≡ tk.DollarFlat) →
-    ((s : List ℕ) → tokens_in s mid ≡ tokens_in s old ++ model.caret prev model.Dollar (place_of q)) → Keeps old mid → PushedDollars reading.bare mid bared →
+    ((s : List ℕ) → tokens_in s mid ≡ tokens_in s old ++ model.caret prev model.Dollar q) → Keeps old mid → PushedDollars reading.bare mid bared →
     mid'.tokens.items ≡ bared.tokens.items → mid'.dollars.items ≡ bared.dollars.items ++ t ∷ [] → mid'.bodies.items ≡ bared.bodies.items →
     mid'.pending.items ≡ bared.pending.items →
-    token_of script t ≡ model.token (lexeme_of script kind (slice)) (place_of q) (place_of place) →
-    Does script end mid' new r (reading.after_dollars (dollars_in script mid') (pending_in mid') (place_of place) c k) →
-    Does script end old new r (reading.operated prev (dollars_in script old) (place_of q) o (pending_in old) (place_of place) c k)
+    token_of script t ≡ model.token (lexeme_of script kind (slice)) q place →
+    Does script end mid' new r (reading.after_dollars (dollars_in script mid') (pending_in mid') place c k) →
+    Does script end old new r (reading.end_operator prev (dollars_in script old) q o (pending_in old) place c k)
 sigil_does script end prev q place kind o c k t slice old mid bared mid' new r e h ts kept b mt md mb mq is d = by h
   where
-    tokens : tokens_in script mid' ≡ tokens_in script old ++ (model.caret prev model.Dollar (place_of q) ++ reading.bare (dollars_in script old))
+    tokens : tokens_in script mid' ≡ tokens_in script old ++ (model.caret prev model.Dollar q ++ reading.bare (dollars_in script old))
     tokens =
         ap (tokens_of script) mt ∙ b.tokens script ∙ ap (λ z. z ++ reading.bare (dollars_in script mid)) (ts script)
-        ∙ append_assoc (tokens_in script old) (model.caret prev model.Dollar (place_of q)) (reading.bare (dollars_in script mid))
-        ∙ ap (λ z. tokens_in script old ++ (model.caret prev model.Dollar (place_of q) ++ reading.bare (tokens_of script z))) kept.dollars
+        ∙ append_assoc (tokens_in script old) (model.caret prev model.Dollar q) (reading.bare (dollars_in script mid))
+        ∙ ap (λ z. tokens_in script old ++ (model.caret prev model.Dollar q ++ reading.bare (tokens_of script z))) kept.dollars
 
     dollars : dollars_in script mid' ≡ token_of script t ∷ []
     dollars = ap (tokens_of script) (md ∙ ap (λ z. z ++ t ∷ []) b.dollars)
 
     at : (l : model.Lexeme) → lexeme_of script kind (slice) ≡ l →
-        Does script end old new r (reading.emit (model.caret prev model.Dollar (place_of q) ++ reading.bare (dollars_in script old))
-        (reading.after_dollars (model.token l (place_of q) (place_of place) ∷ []) (pending_in old) (place_of place) c k))
+        Does script end old new r (reading.emit (model.caret prev model.Dollar q ++ reading.bare (dollars_in script old))
+        (reading.after_dollars (model.token l q place ∷ []) (pending_in old) place c k))
     at l f =
-        emits script end (model.caret prev model.Dollar (place_of q) ++ reading.bare (dollars_in script old))
-        (reading.after_dollars (model.token l (place_of q) (place_of place) ∷ []) (pending_in old) (place_of place) c k) old mid' new r
+        emits script end (model.caret prev model.Dollar q ++ reading.bare (dollars_in script old))
+        (reading.after_dollars (model.token l q place ∷ []) (pending_in old) place c k) old mid' new r
         tokens (mb ∙ b.bodies ∙ kept.bodies)
         (along script end mid' new r _ _
-        (ap (λ z. reading.after_dollars z (pending_in mid') (place_of place) c k)
-        (dollars ∙ ap (λ z. z ∷ []) (is ∙ ap (λ z. model.token z (place_of q) (place_of place)) f))
-        ∙ ap (λ z. reading.after_dollars (model.token l (place_of q) (place_of place) ∷ []) (map pending_of z) (place_of place) c k)
+        (ap (λ z. reading.after_dollars z (pending_in mid') place c k)
+        (dollars ∙ ap (λ z. z ∷ []) (is ∙ ap (λ z. model.token z q place) f))
+        ∙ ap (λ z. reading.after_dollars (model.token l q place ∷ []) (map pending_of z) place c k)
         (mq ∙ b.pending ∙ kept.pending)) d)
 
     by : (kind ≡ tk.DollarCount) ⊎ (kind ≡ tk.DollarFlat) → Does script end old new r
-        (reading.operated prev (dollars_in script old) (place_of q) o (pending_in old) (place_of place) c k)
+        (reading.end_operator prev (dollars_in script old) q o (pending_in old) place c k)
     by (inl f) =
-        end_operator_along script end prev (dollars_in script old) (place_of q) o (Some model.DollarCount) (pending_in old) (place_of place) c k old new r
+        end_operator_along script end prev (dollars_in script old) q o (Some model.DollarCount) (pending_in old) place c k old new r
         (e [] [] ∙ ap (λ z. Some (lexeme_of [] z [])) f)
         (at model.DollarCount (ap (λ z. lexeme_of script z (slice)) f))
     by (inr f) =
-        end_operator_along script end prev (dollars_in script old) (place_of q) o (Some model.DollarFlat) (pending_in old) (place_of place) c k old new r
+        end_operator_along script end prev (dollars_in script old) q o (Some model.DollarFlat) (pending_in old) place c k old new r
         (e [] [] ∙ ap (λ z. Some (lexeme_of [] z [])) f)
         (at model.DollarFlat (ap (λ z. lexeme_of script z (slice)) f))
 
 -- any other operator
 plain : (kind : TokenKind) → kind ≢ tk.BareHere → kind ≢ tk.Dollar → kind ≢ tk.DollarCount → kind ≢ tk.DollarFlat →
-    (script slice : List ℕ) (prev : model.Before) (dollars : List model.Token) (q : model.Place)
-    (pending : List model.Due) (p : model.Place) (c : ℕ) (k : model.Class) →
-    reading.operated prev dollars q (Some (lexeme_of script kind slice)) pending p c k
+    (script slice : List ℕ) (prev : Previous) (dollars : List model.Token) (q : Place)
+    (pending : List model.PendingHereDoc) (p : Place) (c : ℕ) (k : Class) →
+    reading.end_operator prev dollars q (Some (lexeme_of script kind slice)) pending p c k
     ≡ reading.ends prev (model.meant prev [] (lexeme_of script kind slice)) q pending p c k
 plain tk.BareHere a b d e script slice prev dollars q pending p c k = absurd (a refl)
 plain tk.Dollar a b d e script slice prev dollars q pending p c k = absurd (b refl)
@@ -118,67 +120,67 @@ plain tk.DollarCount a b d e script slice prev dollars q pending p c k = absurd 
 plain tk.DollarFlat a b d e script slice prev dollars q pending p c k = absurd (e refl)
 plain kind a b d e script slice prev dollars q pending p c k = refl
 
-tokens_apart : (prev : model.Before) (l : model.Lexeme) (p q : model.Place) → model.awaits_mark prev ≡ false →
+tokens_apart : (prev : Previous) (l : model.Lexeme) (p q : Place) → model.awaits_mark prev ≡ false →
     model.tokens_of prev l p q ≡ model.caret prev l p ++ model.token l p q ∷ []
-tokens_apart (model.HereBefore b e) l p q h = absurd cc
+tokens_apart (previous.Here b e) l p q h = absurd cc
 tokens_apart prev l p q h = refl
 
 pub plain_does : (script : List ℕ) (end : ℕ) (previous after : Previous) (q place : Place) (kind meaning : TokenKind) (o : Option model.Lexeme) (c : ℕ)
-    (k : model.Class) (old mid new : Lexer) (r : Result State LexError) →
+    (k : Class) (old mid new : Lexer) (r : Result State LexError) →
     ((s slice : List ℕ) → o ≡ Some (lexeme_of s kind slice)) → kind ≢ tk.BareHere → kind ≢ tk.Dollar → kind ≢ tk.DollarCount → kind ≢ tk.DollarFlat →
-    model.awaits_mark (previous_of previous) ≡ false →
-    ((s slice : List ℕ) → lexeme_of s meaning slice ≡ model.meant (previous_of previous) [] (lexeme_of s kind slice)) →
-    ((s slice : List ℕ) → previous_of after ≡ model.as_before (previous_of previous) (lexeme_of s meaning slice)) →
-    ((s : List ℕ) → tokens_in s mid ≡ tokens_in s old ++ lexeme_tokens s (previous_of previous) meaning q place) → Keeps old mid →
-    Does script end mid new r (reading.begin (previous_of after) (pending_in mid) (place_of place) c k) →
-    Does script end old new r (reading.operated (previous_of previous) (dollars_in script old) (place_of q) o (pending_in old) (place_of place) c k)
+    model.awaits_mark previous ≡ false →
+    ((s slice : List ℕ) → lexeme_of s meaning slice ≡ model.meant previous [] (lexeme_of s kind slice)) →
+    ((s slice : List ℕ) → after ≡ model.after_token previous (lexeme_of s meaning slice)) →
+    ((s : List ℕ) → tokens_in s mid ≡ tokens_in s old ++ lexeme_tokens s previous meaning q place) → Keeps old mid →
+    Does script end mid new r (reading.begin after (pending_in mid) place c k) →
+    Does script end old new r (reading.end_operator previous (dollars_in script old) q o (pending_in old) place c k)
 plain_does script end previous after q place kind meaning o c k old mid new r e a b f g h m n ts kept d =
     let slice = slice_range script q.byte place.byte in
     let l = lexeme_of script meaning slice in
-    end_operator_along script end (previous_of previous) (dollars_in script old) (place_of q) o (Some (lexeme_of script kind slice)) (pending_in old)
-    (place_of place) c k old new r (e script slice)
+    end_operator_along script end previous (dollars_in script old) q o (Some (lexeme_of script kind slice)) (pending_in old)
+    place c k old new r (e script slice)
     (along script end old new r _ _
-    (ap (λ z. reading.ends (previous_of previous) z (place_of q) (pending_in old) (place_of place) c k) (m script slice)
-    ∙ sym (plain kind a b f g script slice (previous_of previous) (dollars_in script old) (place_of q) (pending_in old) (place_of place) c k))
+    (ap (λ z. reading.ends previous z q (pending_in old) place c k) (m script slice)
+    ∙ sym (plain kind a b f g script slice previous (dollars_in script old) q (pending_in old) place c k))
     (ends_does script end previous after l q place c k old mid new r
     (record {
-      tokens = ts script ∙ ap (λ z. tokens_in script old ++ z) (sym (tokens_apart (previous_of previous) l (place_of q) (place_of place) h));
-      pending = ap (map pending_of) kept.pending ∙ sym (same_due (previous_of previous) l (pending_in old) h);
+      tokens = ts script ∙ ap (λ z. tokens_in script old ++ z) (sym (tokens_apart previous l q place h));
+      pending = ap (map pending_of) kept.pending ∙ sym (same_due previous l (pending_in old) h);
       after_token = n script slice;
       dollars = kept.dollars;
       bodies = kept.bodies;
     }) d))
 
 -- an operator goes on, or ends
-abbrev stepped : Bool → model.Before → List model.Token → model.Place → List ℕ → List model.Due → model.Place → ℕ → model.Class → Step
+abbrev stepped : Bool → Previous → List model.Token → Place → List ℕ → List model.PendingHereDoc → Place → ℕ → Class → Step
 stepped b prev dollars q cs pending p c k = cond b (reading.goes [] (reading.Operator prev dollars q (cs ++ c ∷ [])) pending)
-    (reading.operated prev dollars q (model.operator cs) pending p c k)
+    (reading.end_operator prev dollars q (model.operator cs) pending p c k)
 
-pub operator_goes : (script : List ℕ) (end : ℕ) (previous : Previous) (q : Place) (cs : List ℕ) (p : model.Place) (c : ℕ) (k : model.Class) (old : Lexer)
+pub operator_goes : (script : List ℕ) (end : ℕ) (previous : Previous) (q : Place) (cs : List ℕ) (p : Place) (c : ℕ) (k : Class) (old : Lexer)
     (b : Bool) →
     slice_range script q.byte end ≡ cs ++ encode_utf8 c → b ≡ model.begins_operator (slice_range script q.byte end) → b ≡ true →
     Does script end old old (Ok (state.Operator (record { previous = previous; place = q })))
-    (reading.step (reading.Operator (previous_of previous) (dollars_in script old) (place_of q) cs)
+    (reading.step (reading.Operator previous (dollars_in script old) q cs)
     (pending_in old) p c k)
 operator_goes script end previous q cs p c k old b e f h =
     let begins : model.begins_operator (cs ++ encode_utf8 c) ≡ true = ap model.begins_operator (sym e) ∙ sym f ∙ h in
     let g = goes_on cs c in
     let text : cs ++ c ∷ [] ≡ slice_range script q.byte end = sym (e ∙ ap (λ z. cs ++ z) (g.byte begins)) in
     along script end old old (Ok (state.Operator (record { previous = previous; place = q }))) _ _
-    (sym (ap (λ v. stepped v (previous_of previous) (dollars_in script old) (place_of q) cs (pending_in old) p c k) (sym g.same ∙ begins)))
-    (ap (λ z. Ok (z, bodies_in script old ++ [], reading.Operator (previous_of previous) (dollars_in script old) (place_of q) (cs ++ c ∷ []), pending_in old))
+    (sym (ap (λ v. stepped v previous (dollars_in script old) q cs (pending_in old) p c k) (sym g.same ∙ begins)))
+    (ap (λ z. Ok (z, bodies_in script old ++ [], reading.Operator previous (dollars_in script old) q (cs ++ c ∷ []), pending_in old))
     (append-nil (tokens_in script old))
-    ∙ ap (λ z. Ok (tokens_in script old, z, reading.Operator (previous_of previous) (dollars_in script old) (place_of q) (cs ++ c ∷ []), pending_in old))
+    ∙ ap (λ z. Ok (tokens_in script old, z, reading.Operator previous (dollars_in script old) q (cs ++ c ∷ []), pending_in old))
     (append-nil (bodies_in script old))
-    ∙ ap (λ z. Ok (tokens_in script old, bodies_in script old, reading.Operator (previous_of previous) (dollars_in script old) (place_of q) z, pending_in old))
+    ∙ ap (λ z. Ok (tokens_in script old, bodies_in script old, reading.Operator previous (dollars_in script old) q z, pending_in old))
     text)
 
-pub operator_ends : (script : List ℕ) (end : ℕ) (previous : Previous) (q : Place) (cs : List ℕ) (p : model.Place) (c : ℕ) (k : model.Class)
+pub operator_ends : (script : List ℕ) (end : ℕ) (previous : Previous) (q : Place) (cs : List ℕ) (p : Place) (c : ℕ) (k : Class)
     (old new : Lexer) (r : Result State LexError) (b : Bool) →
     slice_range script q.byte end ≡ cs ++ encode_utf8 c → b ≡ model.begins_operator (slice_range script q.byte end) → b ≡ false →
-    Does script end old new r (reading.operated (previous_of previous) (dollars_in script old) (place_of q) (model.operator cs) (pending_in old) p c k) →
-    Does script end old new r (reading.step (reading.Operator (previous_of previous) (dollars_in script old) (place_of q) cs) (pending_in old) p c k)
+    Does script end old new r (reading.end_operator previous (dollars_in script old) q (model.operator cs) (pending_in old) p c k) →
+    Does script end old new r (reading.step (reading.Operator previous (dollars_in script old) q cs) (pending_in old) p c k)
 operator_ends script end previous q cs p c k old new r b e f h d =
     along script end old new r _ _
-    (sym (ap (λ v. stepped v (previous_of previous) (dollars_in script old) (place_of q) cs (pending_in old) p c k)
+    (sym (ap (λ v. stepped v previous (dollars_in script old) q cs (pending_in old) p c k)
     (sym (goes_on cs c).same ∙ ap model.begins_operator (sym e) ∙ sym f ∙ h))) d

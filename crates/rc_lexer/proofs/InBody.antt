@@ -16,6 +16,8 @@ use Rattle.rc_lexer.specs.declared.Span.{Span}
 use Rattle.rc_lexer.specs.declared.state.PendingHereDoc.{PendingHereDoc}
 use Rattle.rc_lexer.specs.Machine.{body_of, after_first, line_of, state_of, pending_after, pending_of, after_step}
 use Rattle.std.specs.Char.{encode_utf8}
+use Rattle.rc_model.specs.declared.syntax.Place.{Place}
+use Rattle.rc_model.specs.declared.syntax.Class.TheVariants as class
 
 -- the first pending here document
 pub record First (d : PendingHereDoc) (pending : List PendingHereDoc) : Type 0 where
@@ -27,7 +29,7 @@ first d d' [] h e = absurd (omega arith)
 first d d' (x ∷ xs) h e = record { rest = xs; is = ap (λ z. z ∷ xs) (sym e) }
 
 -- a newline after a line that is not the mark
-abbrev ended : Bool → model.Due → List ℕ → List ℕ → List model.Due → ℕ → Step
+abbrev ended : Bool → model.PendingHereDoc → List ℕ → List ℕ → List model.PendingHereDoc → ℕ → Step
 ended b d body line pending c = cond b (reading.begin_line [] (body ∷ []) pending) (reading.goes [] (reading.Body d (body ++ line ++ encode_utf8 c) []) pending)
 
 slices_join : (script : List ℕ) (a b c : ℕ) → a ≤ b → b ≤ c → slice_range script a b ++ slice_range script b c ≡ slice_range script a c
@@ -38,13 +40,13 @@ slices_join script a b c h k =
 -- a line that is not the mark
 pub other_line : (script : List ℕ) (body line place next : ℕ) (c : ℕ) (d : PendingHereDoc) (pending : List PendingHereDoc)
     (ts : List model.Token) (bodies : List (List ℕ))
-    (p : model.Place) → First d pending → body ≤ line → line ≤ place →
+    (p : Place) → First d pending → body ≤ line → line ≤ place →
     slice_range script body next ≡ slice_range script body place ++ encode_utf8 c → bytes_eq (slice_range script line place) d.mark.items ≡ false →
-    after_step ts bodies (reading.step (body_of pending (slice_range script body line) (slice_range script line place)) (after_first pending) p c model.LineEnd)
+    after_step ts bodies (reading.step (body_of pending (slice_range script body line) (slice_range script line place)) (after_first pending) p c class.LineEnd)
     ≡ Ok (ts, bodies, body_of pending (slice_range script body next) (slice_range script next next), after_first pending)
 other_line script body line place next c d pending ts bodies p f h k e n =
     subst (λ z. after_step ts bodies (reading.step (body_of z (slice_range script body line) (slice_range script line place)) (after_first z) p c
-    model.LineEnd)
+    class.LineEnd)
     ≡ Ok (ts, bodies, body_of z (slice_range script body next) (slice_range script next next), after_first z)) (sym f.is)
     (ap (λ v. after_step ts bodies (ended v (pending_of d) (slice_range script body line) (slice_range script line place) (map pending_of f.rest) c)) n
     ∙ ap (λ z. Ok (
@@ -66,16 +68,16 @@ other_line script body line place next c d pending ts bodies p f h k e n =
 -- a line that is the mark
 pub mark_line : (script : List ℕ) (body line place next : ℕ) (c : ℕ) (d : PendingHereDoc) (pending pending' : List PendingHereDoc)
     (s : State) (dollars ts : List model.Token)
-    (bodies : List (List ℕ)) (bodies' : List (List ℕ)) (p : model.Place) → First d pending →
+    (bodies : List (List ℕ)) (bodies' : List (List ℕ)) (p : Place) → First d pending →
     bytes_eq (slice_range script line place) d.mark.items ≡ true → pending' ≡ drop 1 pending → s ≡ line_of pending' next →
     bodies' ≡ bodies ++ slice_range script body line ∷ [] →
-    after_step ts bodies (reading.step (body_of pending (slice_range script body line) (slice_range script line place)) (after_first pending) p c model.LineEnd)
+    after_step ts bodies (reading.step (body_of pending (slice_range script body line) (slice_range script line place)) (after_first pending) p c class.LineEnd)
     ≡ Ok (ts, bodies', state_of script next dollars pending' s, pending_after pending' s)
 mark_line script body line place next c d pending pending' s dollars ts bodies bodies' p f e g h b =
     let r : pending' ≡ f.rest = g ∙ ap (drop 1) f.is in
     let is : s ≡ line_of f.rest next = h ∙ ap (λ z. line_of z next) r in
     ap (λ z. after_step ts bodies (reading.step (body_of z (slice_range script body line) (slice_range script line place)) (after_first z) p c
-    model.LineEnd)) f.is
+    class.LineEnd)) f.is
     ∙ ap (λ v. after_step ts bodies (ended v (pending_of d) (slice_range script body line) (slice_range script line place) (map pending_of f.rest) c)) e
     ∙ line_step script next dollars f.rest ts [] bodies (slice_range script body line ∷ [])
     ∙ ap (λ z. Ok (

@@ -8,9 +8,9 @@ use Rattle.rc_model.specs.Mirrors.Reading.{Step}
 use Rattle.rc_lexer.specs.declared.TokenKind.{TokenKind}
 use Rattle.rc_lexer.specs.Answers.{LexError}
 use Rattle.rc_model.specs.declared.fault.InputError.TheVariants.{Fault, NoMemory}
-use Rattle.rc_lexer.specs.declared.state.Place.{Place}
-use Rattle.rc_lexer.specs.declared.state.Previous.{Previous}
-use Rattle.rc_lexer.specs.declared.state.Previous.TheVariants as previous
+use Rattle.rc_model.specs.declared.syntax.Place.{Place}
+use Rattle.rc_model.specs.declared.syntax.Previous.{Previous}
+use Rattle.rc_model.specs.declared.syntax.Previous.TheVariants as previous
 use Rattle.rc_lexer.specs.declared.state.State.{State}
 use Rattle.rc_lexer.specs.declared.state.State.TheVariants.{Between, Comment, Backslash, WordBackslash, Word, Name}
 use Rattle.rc_lexer.specs.declared.state.State.TheVariants.{Quoted, Closed, Operator, Body}
@@ -18,27 +18,13 @@ use Rattle.rc_lexer.specs.declared.state.CurrentChar.{CurrentChar}
 use Rattle.rc_lexer.specs.declared.state.PendingHereDoc.{PendingHereDoc}
 use Rattle.rc_lexer.specs.declared.state.Lexer.{Lexer}
 use Rattle.rc_lexer.specs.Views.{slice_at, tokens_of, lexeme_of}
-use Rattle.rc_lexer.specs.Classes.{class_is}
-
--- a place in the script, as the definitions have it
-abbrev pub place_of : Place → model.Place
-place_of p = record { byte = p.byte; line = p.line }
-
--- what stands before the next token, as the definitions have it
-abbrev pub previous_of : Previous → model.Before
-previous_of previous.Apart = model.Apart
-previous_of previous.Word = model.WordBefore
-previous_of previous.Quoted = model.QuotedBefore
-previous_of previous.Name = model.NameBefore
-previous_of previous.Dollar = model.DollarBefore
-previous_of (previous.Here p q) = model.HereBefore (place_of p) (place_of q)
 
 -- a pending here document, as the definitions have it
-abbrev pub pending_of : PendingHereDoc → model.Due
+abbrev pub pending_of : PendingHereDoc → model.PendingHereDoc
 pending_of d = record { mark = d.mark.items; line = d.line }
 
 -- the pending here documents
-abbrev pub pending_in : Lexer → List model.Due
+abbrev pub pending_in : Lexer → List model.PendingHereDoc
 pending_in l = map pending_of l.pending.items
 
 -- the tokens so far
@@ -55,38 +41,38 @@ bodies_in script l = map (slice_at script) l.bodies.items
 
 -- the state in the body of the first pending here document, after these bytes of it and of its last line
 abbrev pub body_of : List PendingHereDoc → List ℕ → List ℕ → reading.State
-body_of [] body line = reading.Between model.Apart
+body_of [] body line = reading.Between previous.Apart
 body_of (d ∷ pending) body line = reading.Body (pending_of d) body line
 
 -- the state of a lexer that has read this many bytes of the script, by what else it holds
 abbrev pub state_of : List ℕ → ℕ → List model.Token → List PendingHereDoc → State → reading.State
-state_of script end dollars pending (Between prev) = reading.Between (previous_of prev)
+state_of script end dollars pending (Between prev) = reading.Between prev
 state_of script end dollars pending Comment = reading.Comment
 state_of script end dollars pending (Backslash start) =
-    reading.Backslash (previous_of start.previous) (place_of start.place)
+    reading.Backslash start.previous start.place
 state_of script end dollars pending (WordBackslash start q) =
-    reading.WordBackslash (previous_of start.previous) (place_of start.place)
-    (slice_range script start.place.byte q.byte) (place_of q)
+    reading.WordBackslash start.previous start.place
+    (slice_range script start.place.byte q.byte) q
 state_of script end dollars pending (Word start) =
-    reading.Word (previous_of start.previous) (place_of start.place) (slice_range script start.place.byte end)
-state_of script end dollars pending (Name p) = reading.Name (place_of p) (slice_range script p.byte end)
+    reading.Word start.previous start.place (slice_range script start.place.byte end)
+state_of script end dollars pending (Name p) = reading.Name p (slice_range script p.byte end)
 state_of script end dollars pending (Quoted start) =
-    reading.Quoted (previous_of start.previous) (place_of start.place) (slice_range script start.place.byte end)
+    reading.Quoted start.previous start.place (slice_range script start.place.byte end)
 state_of script end dollars pending (Closed start) =
-    reading.Closed (previous_of start.previous) (place_of start.place) (slice_range script start.place.byte end)
+    reading.Closed start.previous start.place (slice_range script start.place.byte end)
 state_of script end dollars pending (Operator start) =
-    reading.Operator (previous_of start.previous) dollars (place_of start.place)
+    reading.Operator start.previous dollars start.place
     (slice_range script start.place.byte end)
 state_of script end dollars pending (Body body line) =
     body_of pending (slice_range script body line) (slice_range script line end)
 
 -- the pending here documents after the one whose body is read
-abbrev pub after_first : List PendingHereDoc → List model.Due
+abbrev pub after_first : List PendingHereDoc → List model.PendingHereDoc
 after_first [] = []
 after_first (d ∷ pending) = map pending_of pending
 
 -- the pending here documents besides the one whose body is read, if one is
-abbrev pub pending_after : List PendingHereDoc → State → List model.Due
+abbrev pub pending_after : List PendingHereDoc → State → List model.PendingHereDoc
 pending_after pending (Body body line) = after_first pending
 pending_after pending s = map pending_of pending
 
@@ -95,7 +81,7 @@ abbrev pub state_in : List ℕ → ℕ → Lexer → State → reading.State
 state_in script end l s = state_of script end (dollars_in script l) l.pending.items s
 
 -- the here documents that a lexer in this state has still to read after that one
-abbrev pub pending_left : Lexer → State → List model.Due
+abbrev pub pending_left : Lexer → State → List model.PendingHereDoc
 pending_left l s = pending_after l.pending.items s
 
 -- the state says what stands in the script before this byte
@@ -109,16 +95,16 @@ Stands script end (Name p) = p.byte ≤ end
 Stands script end (Quoted start) = start.place.byte ≤ end
 Stands script end (Closed start) = start.place.byte ≤ end
 Stands script end (Operator start) =
-    (start.place.byte ≤ end) × (model.awaits_mark (previous_of start.previous) ≡ false)
+    (start.place.byte ≤ end) × (model.awaits_mark start.previous ≡ false)
 Stands script end (Body body line) = (body ≤ line) × (line ≤ end)
 Stands script end s = Unit {0}
 
 -- the current character stands in the script between its places
 pub record IsCurrent (script : List ℕ) (current : CurrentChar) : Type 0 where
-  pub next : place_of current.next ≡ model.after_char (place_of current.place) current.c
+  pub next : current.next ≡ model.after_char current.place current.c
   pub reads : (a : ℕ) → a ≤ current.place.byte →
       slice_range script a current.next.byte ≡ slice_range script a current.place.byte ++ encode_utf8 current.c
-  pub class : class_is current.class ≡ model.class_of current.c
+  pub class : current.class ≡ model.class_of current.c
   pub within : current.next.byte ≤ length script
 
 -- a step, with tokens and bodies before it
@@ -138,9 +124,9 @@ Does script end old new (Err NoMemory) x = Unit {0}
 pub record Pushed (script : List ℕ) (previous after : Previous) (l : model.Lexeme) (p q : Place)
     (old new : Lexer) : Type 0 where
   pub tokens : tokens_in script new ≡ tokens_in script old
-      ++ model.tokens_of (previous_of previous) l (place_of p) (place_of q)
-  pub pending : pending_in new ≡ model.due_after (previous_of previous) l (pending_in old)
-  pub after_token : previous_of after ≡ model.as_before (previous_of previous) l
+      ++ model.tokens_of previous l p q
+  pub pending : pending_in new ≡ model.pending_after previous l (pending_in old)
+  pub after_token : after ≡ model.after_token previous l
   pub dollars : new.dollars.items ≡ old.dollars.items
   pub bodies : new.bodies.items ≡ old.bodies.items
 
@@ -170,15 +156,15 @@ line_of [] at = Between previous.Apart
 line_of (d ∷ pending) at = Body at at
 
 -- a token between two places, with a `^` before it where it wants one
-abbrev pub lexeme_tokens : List ℕ → model.Before → TokenKind → Place → Place → List model.Token
+abbrev pub lexeme_tokens : List ℕ → Previous → TokenKind → Place → Place → List model.Token
 lexeme_tokens script prev kind p q =
     let l = lexeme_of script kind (slice_range script p.byte q.byte) in
-    model.caret prev l (place_of p) ++ model.token l (place_of p) (place_of q) ∷ []
+    model.caret prev l p ++ model.token l p q ∷ []
 
 -- the lexer has put a here document with this mark there
 pub record PushedHereDoc (quoted : Bool) (mark : List ℕ) (p q : Place) (old new : Lexer) : Type 0 where
   pub tokens : (script : List ℕ) → tokens_in script new ≡ tokens_in script old
-      ++ model.token (model.HereDoc quoted []) (place_of p) (place_of q) ∷ []
+      ++ model.token (model.HereDoc quoted []) p q ∷ []
   pub pending : pending_in new ≡ pending_in old ++ record { mark = mark; line = p.line } ∷ []
   pub dollars : new.dollars.items ≡ old.dollars.items
   pub bodies : new.bodies.items ≡ old.bodies.items
@@ -191,7 +177,7 @@ pub record PushedDollars (seen : List model.Token → List model.Token) (old new
   pub pending : new.pending.items ≡ old.pending.items
 
 -- no here document is pending, or the first pending one is open
-abbrev pub IsClosed : List model.Due → Result (Unit {0}) LexError → Type 0
+abbrev pub IsClosed : List model.PendingHereDoc → Result (Unit {0}) LexError → Type 0
 IsClosed pending (Ok u) = reading.closed [] [] pending ≡ Ok ([], [])
 IsClosed pending (Err (Fault f)) = reading.closed [] [] pending ≡ Err f
 IsClosed pending (Err NoMemory) = ⊥

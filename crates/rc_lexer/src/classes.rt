@@ -2,23 +2,12 @@
 
 ghost use Rattle.std.specs.Prelude.{◌≡◌};
 ghost use Rattle.rc_model.specs.Syntax.Tokens.{class_of};
-ghost use Rattle.rc_lexer.specs.Classes.{class_is};
 
-/// What a character is outside of quotes and comments.
-#[derive(Clone, Copy)]
-pub enum Class {
-    Operates,
-    Blank,
-    LineEnd,
-    Hash,
-    Quote,
-    Backslash,
-    Ordinary,
-}
+use rc_model::Class;
 
 /// What the character is outside of quotes and comments.
 pub fn class_of(c: char) -> Class
-    ensures { class_is result ≡ class_of c }
+    ensures { result ≡ class_of c }
 {
     match c {
         ';' | '&' | '|' | '^' | '=' | '(' | ')' | '{' | '}' | '`' | '>' | '<' | '$' =>

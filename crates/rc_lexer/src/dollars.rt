@@ -4,15 +4,15 @@ ghost use Rattle.std.specs.Prelude.{◌||◌, ◌==◌, ◌≡◌, ℕ, List, �
 ghost use Rattle.rc_model.specs.Syntax.Tokens as model;
 ghost use Rattle.rc_model.specs.Mirrors.Reading as reading;
 ghost use Rattle.rc_lexer.specs.Views.{tokens_of};
-ghost use Rattle.rc_lexer.specs.Classes.{class_is};
 ghost use Rattle.rc_lexer.specs.Machine.{Does, IsCurrent, Keeps, PushedDollars, Stands};
-ghost use Rattle.rc_lexer.specs.Machine.{dollars_in, pending_in, place_of, previous_of, tokens_in};
+ghost use Rattle.rc_lexer.specs.Machine.{dollars_in, pending_in, tokens_in};
 
 use crate::previous::wants_caret;
-use crate::state::{CurrentChar, Lexer, Place, Previous, State, TokenStart};
+use crate::state::{CurrentChar, Lexer, State, TokenStart};
 use crate::tokens::token_between;
 use crate::{LexError, Token, TokenKind};
 use rc_characters::is_name_char;
+use rc_model::{Place, Previous};
 use std::alloc::AllocError;
 
 /// Whether the name of `$`s begins with the character, quoted or not.
@@ -45,7 +45,7 @@ impl Lexer {
         start: Place,
     ) -> Result<(), AllocError>
         ensures tokens { OnOk result ((script : List ℕ) → tokens_in script self.new
-            ≡ tokens_in script self.old ++ model.caret (previous_of previous) model.Dollar (place_of start)) }
+            ≡ tokens_in script self.old ++ model.caret previous model.Dollar start) }
         ensures rest { OnOk result (Keeps self.old self.new) }
     {
         if wants_caret(previous, TokenKind::Dollar) {
@@ -81,8 +81,8 @@ impl Lexer {
     ) -> Result<State, LexError>
         requires { IsCurrent script.now current }
         ensures does { Does script.now current.next.byte self.old self.new result
-            (reading.after_dollars (dollars_in script.now self.old) (pending_in self.old) (place_of current.place)
-            current.c (class_is current.class)) }
+            (reading.after_dollars (dollars_in script.now self.old) (pending_in self.old) current.place
+            current.c current.class) }
         ensures stands { IfOk result (λ s. Stands script.now current.next.byte s) }
     {
         if begins_dollar_name(current.c) {

@@ -3,15 +3,14 @@
 ghost use Rattle.std.specs.Prelude.{◌≡◌, ℕ, ◌≤◌, List, ◌∷◌, map, length, IfOk};
 ghost use Rattle.rc_model.specs.Syntax.Tokens as model;
 ghost use Rattle.rc_model.specs.Mirrors.Reading as reading;
+ghost use Rattle.rc_model.specs.declared.syntax.Place.{Place};
 ghost use Rattle.rc_lexer.specs.Views.{slice_at, token_of, tokens_of};
-ghost use Rattle.rc_lexer.specs.Classes.{class_is};
 ghost use Rattle.rc_lexer.specs.Machine.{Does, Ends, IsClosed, IsCurrent, Stands};
-ghost use Rattle.rc_lexer.specs.Machine.{bodies_in, line_of, pending_in, pending_left, place_of, state_in, tokens_in};
+ghost use Rattle.rc_lexer.specs.Machine.{bodies_in, line_of, pending_in, pending_left, state_in, tokens_in};
 
-use crate::classes::Class;
-use crate::state::{CurrentChar, Lexer, Previous, State};
+use crate::state::{CurrentChar, Lexer, State};
 use crate::{LexError, Span, Token, TokenKind, fault};
-use rc_model::FaultKind;
+use rc_model::{Class, FaultKind, Previous};
 
 /// The token with the next body, if it is a here document, and the bodies after that.
 fn with_body(token: Token, bodies: &[Span]) -> (Token, &[Span])
@@ -72,8 +71,7 @@ impl Lexer {
         requires within { line ≤ current.place.byte }
         ensures does { Does script.now current.next.byte self.old self.new result
             (reading.step (state_in script.now current.place.byte self.old (State.Body body line))
-            (pending_left self.old (State.Body body line))
-            (place_of current.place) current.c (class_is current.class)) }
+            (pending_left self.old (State.Body body line)) current.place current.c current.class) }
         ensures stands { IfOk result (λ s. Stands script.now current.next.byte s) }
     {
         let Some(first) = self.pending.front() else {
@@ -106,7 +104,7 @@ impl Lexer {
         requires order { body ≤ line }
         requires until { line ≤ end }
         requires within { end ≤ length script.now }
-        ensures { (p : model.Place) → Ends script.now self.old self.new result
+        ensures { (p : Place) → Ends script.now self.old self.new result
             (reading.finish (state_in script.now end self.old (State.Body body line))
             (pending_left self.old (State.Body body line)) p) }
     {

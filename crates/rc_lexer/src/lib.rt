@@ -7,7 +7,7 @@ ghost use Rattle.rc_model.specs.Syntax.Tokens as model;
 ghost use Rattle.rc_model.specs.Mirrors.Reading as reading;
 ghost use Rattle.rc_lexer.specs.Answers.{Reads};
 ghost use Rattle.rc_lexer.specs.Lexed.{ReadTo};
-ghost use Rattle.rc_lexer.specs.Machine.{place_of};
+ghost use Rattle.rc_model.specs.declared.syntax.Previous.TheVariants as previous;
 
 mod classes;
 mod dollars;
@@ -21,8 +21,8 @@ mod words;
 
 use classes::class_of;
 use rc_characters::first_char;
-use rc_model::{FaultKind, InputError, SyntaxFault};
-use state::{CurrentChar, Lexer, Place, Previous, State};
+use rc_model::{FaultKind, InputError, Place, Previous, SyntaxFault};
+use state::{CurrentChar, Lexer, State};
 use std::alloc::Global;
 
 /// A part of the script, in bytes.
@@ -128,7 +128,7 @@ fn zero_line(script: &str) -> Option<usize>
 fn after_char(place: Place, c: char) -> Place
     requires byte { place.byte < 2 ^ 63 }
     requires line { place.line < 2 ^ 63 + 1 }
-    ensures { place_of result ≡ model.after_char (place_of place) c }
+    ensures { result ≡ model.after_char place c }
 {
     Place {
         byte: place.byte + c.len_utf8(),
@@ -143,7 +143,7 @@ fn after_char(place: Place, c: char) -> Place
 /// Reads the whole script.
 fn read(alloc: Global, script: &str) -> Result<Lexer, LexError>
     requires { length script.now < 2 ^ 63 }
-    ensures { ReadTo script.now result (reading.run (reading.Between model.Apart) [] model.first_place
+    ensures { ReadTo script.now result (reading.run (reading.Between previous.Apart) [] model.first_place
         (chars script.now)) }
 {
     let mut lexer = Lexer::new(alloc);

@@ -2,13 +2,11 @@
 
 ghost use Rattle.std.specs.Prelude.{◌≤◌, length, IfOk};
 ghost use Rattle.rc_model.specs.Mirrors.Reading as reading;
-ghost use Rattle.rc_lexer.specs.Classes.{class_is};
-ghost use Rattle.rc_lexer.specs.Machine.{Does, Ends, IsCurrent, Stands, pending_left, place_of, state_in};
+ghost use Rattle.rc_lexer.specs.Machine.{Does, Ends, IsCurrent, Stands, pending_left, state_in};
 
-use crate::classes::Class;
-use crate::state::{CurrentChar, Lexer, Place, Previous, State};
+use crate::state::{CurrentChar, Lexer, State};
 use crate::{LexError, TokenKind, fault};
-use rc_model::FaultKind;
+use rc_model::{Class, FaultKind, Place, Previous};
 
 impl Lexer {
     /// Reads one more character.
@@ -22,7 +20,7 @@ impl Lexer {
         requires stands { Stands script.now current.place.byte state }
         ensures does { Does script.now current.next.byte self.old self.new result
             (reading.step (state_in script.now current.place.byte self.old state) (pending_left self.old state)
-            (place_of current.place) current.c (class_is current.class)) }
+            current.place current.c current.class) }
         ensures stands { IfOk result (λ s. Stands script.now current.next.byte s) }
     {
         match state {
@@ -61,7 +59,7 @@ impl Lexer {
         requires within { place.byte ≤ length script.now }
         ensures { Ends script.now self.old self.new result
             (reading.finish (state_in script.now place.byte self.old state) (pending_left self.old state)
-            (place_of place)) }
+            place) }
     {
         match state {
             State::Between(previous) => {

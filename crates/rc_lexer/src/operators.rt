@@ -5,15 +5,14 @@ ghost use Rattle.rc_model.specs.Syntax.Tokens.{begins_operator, operator};
 ghost use Rattle.rc_model.specs.Syntax.Tokens as model;
 ghost use Rattle.rc_model.specs.Mirrors.Reading as reading;
 ghost use Rattle.rc_lexer.specs.Views.{lexeme_of};
-ghost use Rattle.rc_lexer.specs.Classes.{class_is};
 ghost use Rattle.rc_lexer.specs.Machine.{Does, Ends, IsCurrent, Stands};
-ghost use Rattle.rc_lexer.specs.Machine.{dollars_in, pending_in, place_of, previous_of};
+ghost use Rattle.rc_lexer.specs.Machine.{dollars_in, pending_in};
 
 use crate::previous::{after_token, meaning_after};
-use crate::state::{CurrentChar, Lexer, Place, Previous, State, TokenStart};
+use crate::state::{CurrentChar, Lexer, State, TokenStart};
 use crate::tokens::token_between;
 use crate::{LexError, TokenKind, fault};
-use rc_model::FaultKind;
+use rc_model::{FaultKind, Place, Previous};
 
 /// How each operator is written.
 const OPERATORS: [(&str, TokenKind); 29] = [
@@ -84,9 +83,9 @@ impl Lexer {
         requires current { IsCurrent script.now current }
         requires stands { Stands script.now current.place.byte (State.Operator start) }
         ensures does { Does script.now current.next.byte self.old self.new result
-            (reading.step (reading.Operator (previous_of start.previous) (dollars_in script.now self.old)
-            (place_of start.place) (slice_range script.now start.place.byte current.place.byte))
-            (pending_in self.old) (place_of current.place) current.c (class_is current.class)) }
+            (reading.step (reading.Operator start.previous (dollars_in script.now self.old)
+            start.place (slice_range script.now start.place.byte current.place.byte))
+            (pending_in self.old) current.place current.c current.class) }
         ensures stands { IfOk result (λ s. Stands script.now current.next.byte s) }
     {
         if begins_operator(&script[start.place.byte..current.next.byte]) {
@@ -105,9 +104,9 @@ impl Lexer {
         requires current { IsCurrent script.now current }
         requires stands { Stands script.now current.place.byte (State.Operator start) }
         ensures does { Does script.now current.next.byte self.old self.new result
-            (reading.operated (previous_of start.previous) (dollars_in script.now self.old) (place_of start.place)
+            (reading.end_operator start.previous (dollars_in script.now self.old) start.place
             (model.operator (slice_range script.now start.place.byte current.place.byte)) (pending_in self.old)
-            (place_of current.place) current.c (class_is current.class)) }
+            current.place current.c current.class) }
         ensures stands { IfOk result (λ s. Stands script.now current.next.byte s) }
     {
         let TokenStart { previous, place } = start;
@@ -145,11 +144,11 @@ impl Lexer {
     ) -> Result<(), LexError>
         requires order { start.place.byte ≤ place.byte }
         requires within { place.byte ≤ length script.now }
-        requires apart { model.awaits_mark (previous_of start.previous) ≡ false }
+        requires apart { model.awaits_mark start.previous ≡ false }
         ensures { Ends script.now self.old self.new result
-            (reading.operated_last (previous_of start.previous) (dollars_in script.now self.old)
-            (place_of start.place) (model.operator (slice_range script.now start.place.byte place.byte))
-            (pending_in self.old) (place_of place)) }
+            (reading.finish_operator start.previous (dollars_in script.now self.old)
+            start.place (model.operator (slice_range script.now start.place.byte place.byte))
+            (pending_in self.old) place) }
     {
         let Some(kind) = operator(&script[start.place.byte..place.byte]) else {
             return Err(fault(FaultKind::BadDescriptor, start.place.line));

@@ -4,15 +4,14 @@ ghost use Rattle.std.specs.Prelude.{false, ◌≡◌, ℕ, List, []};
 ghost use Rattle.rc_model.specs.Syntax.Tokens as model;
 ghost use Rattle.rc_model.specs.Mirrors.Reading as reading;
 ghost use Rattle.rc_lexer.specs.Views.{lexeme_of};
-ghost use Rattle.rc_lexer.specs.Machine.{previous_of};
 
 use crate::TokenKind;
-use crate::state::Previous;
 use rc_characters::is_name_char;
+use rc_model::Previous;
 
 /// Whether a `^` is inserted before the token.
 pub fn wants_caret(previous: Previous, kind: TokenKind) -> bool
-    ensures { (script text : List ℕ) → result ≡ model.joins (previous_of previous) (lexeme_of script kind text) }
+    ensures { (script text : List ℕ) → result ≡ model.wants_caret previous (lexeme_of script kind text) }
 {
     let begins_part = matches!(
         kind,
@@ -32,7 +31,7 @@ pub fn wants_caret(previous: Previous, kind: TokenKind) -> bool
 
 /// What stands before the place after a blank.
 pub fn after_blank(previous: Previous) -> Previous
-    ensures { previous_of result ≡ model.after_blank (previous_of previous) }
+    ensures { result ≡ model.after_blank previous }
 {
     match previous {
         Previous::Here(start, stop) => Previous::Here(start, stop),
@@ -42,8 +41,8 @@ pub fn after_blank(previous: Previous) -> Previous
 
 /// The same where the mark of a `<<` no longer comes.
 pub fn without_here(previous: Previous) -> Previous
-    ensures value { previous_of result ≡ reading.without_here (previous_of previous) }
-    ensures apart { model.awaits_mark (previous_of result) ≡ false }
+    ensures value { result ≡ reading.without_here previous }
+    ensures apart { model.awaits_mark result ≡ false }
 {
     match previous {
         Previous::Here(_, _) => Previous::Apart,
@@ -53,7 +52,7 @@ pub fn without_here(previous: Previous) -> Previous
 
 /// Whether the character begins the name of a `$`.
 pub fn begins_name(previous: Previous, c: char) -> bool
-    ensures { result ≡ model.begins_name (previous_of previous) c }
+    ensures { result ≡ model.begins_name previous c }
 {
     match previous {
         Previous::Dollar => is_name_char(c),
@@ -63,8 +62,8 @@ pub fn begins_name(previous: Previous, c: char) -> bool
 
 /// What the token is for what follows.
 pub fn after_token(previous: Previous, kind: TokenKind) -> Previous
-    ensures { (script text : List ℕ) → previous_of result
-        ≡ model.as_before (previous_of previous) (lexeme_of script kind text) }
+    ensures { (script text : List ℕ) → result
+        ≡ model.after_token previous (lexeme_of script kind text) }
 {
     match (previous, kind) {
         (Previous::Here(_, _), _) => Previous::Apart,
@@ -80,7 +79,7 @@ pub fn after_token(previous: Previous, kind: TokenKind) -> Previous
 /// What the operator means here, where no name follows.
 pub fn meaning_after(previous: Previous, kind: TokenKind) -> TokenKind
     ensures { (script text : List ℕ) → lexeme_of script result text
-        ≡ model.meant (previous_of previous) [] (lexeme_of script kind text) }
+        ≡ model.meant previous [] (lexeme_of script kind text) }
 {
     match (previous, kind) {
         (Previous::Name, TokenKind::LeftParen) => TokenKind::Subscript,

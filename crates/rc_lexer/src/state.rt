@@ -2,31 +2,10 @@
 
 ghost use Rattle.std.specs.Prelude.{◌≡◌, []};
 
-use crate::classes::Class;
 use crate::{Span, Token};
+use rc_model::{Class, Place, Previous};
 use std::alloc::Global;
 use std::collections::VecDeque;
-
-/// A place in the script: how many bytes stand before it, and its line.
-#[derive(Clone, Copy)]
-pub struct Place {
-    pub byte: usize,
-    pub line: usize,
-}
-
-/// What stands directly before a place.
-#[derive(Clone, Copy)]
-pub enum Previous {
-    /// Nothing that matters to what follows.
-    Apart,
-    Word,
-    Quoted,
-    Name,
-    /// A `$` with its name still to come.
-    Dollar,
-    /// A `<<` between these places, with its mark still to come.
-    Here(Place, Place),
-}
 
 /// Where a token begins, and what stands directly before it.
 #[derive(Clone, Copy)]

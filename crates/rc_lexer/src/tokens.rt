@@ -4,12 +4,13 @@ ghost use Rattle.std.specs.Prelude.{◌≡◌, ℕ, ◌≤◌, List, [], ◌++�
 ghost use Rattle.rc_model.specs.Syntax.Tokens as model;
 ghost use Rattle.rc_model.specs.Mirrors.Reading as reading;
 ghost use Rattle.rc_lexer.specs.Machine.{IfPushed, Keeps, PushedHereDoc};
-ghost use Rattle.rc_lexer.specs.Machine.{lexeme_tokens, previous_of, tokens_in};
+ghost use Rattle.rc_lexer.specs.Machine.{lexeme_tokens, tokens_in};
 
 use crate::previous::{after_token, wants_caret};
-use crate::state::{Lexer, PendingHereDoc, Place, Previous, TokenStart};
+use crate::state::{Lexer, PendingHereDoc, TokenStart};
 use crate::{LexError, Span, Token, TokenKind};
 use rc_characters::unquote;
+use rc_model::{Place, Previous};
 use std::alloc::AllocError;
 
 /// The token of this kind between two places.
@@ -31,7 +32,7 @@ impl Lexer {
     /// A `<<` whose mark does not come.
     pub(crate) fn push_bare_here(&mut self, previous: Previous) -> Result<(), AllocError>
         ensures tokens { OnOk result ((script : List ℕ) → tokens_in script self.new
-            ≡ tokens_in script self.old ++ reading.bare_here (previous_of previous)) }
+            ≡ tokens_in script self.old ++ reading.bare_here previous) }
         ensures rest { OnOk result (Keeps self.old self.new) }
     {
         if let Previous::Here(start, stop) = previous {
@@ -50,7 +51,7 @@ impl Lexer {
         stop: Place,
     ) -> Result<(), AllocError>
         ensures tokens { OnOk result ((script : List ℕ) → tokens_in script self.new
-            ≡ tokens_in script self.old ++ lexeme_tokens script (previous_of previous) kind start stop) }
+            ≡ tokens_in script self.old ++ lexeme_tokens script previous kind start stop) }
         ensures rest { OnOk result (Keeps self.old self.new) }
     {
         if wants_caret(previous, kind) {

@@ -3,16 +3,15 @@
 ghost use Rattle.std.specs.Prelude.{◌≤◌, length, slice_range, IfOk};
 ghost use Rattle.rc_model.specs.Syntax.Tokens as model;
 ghost use Rattle.rc_model.specs.Mirrors.Reading as reading;
-ghost use Rattle.rc_lexer.specs.Classes.{class_is};
 ghost use Rattle.rc_lexer.specs.Machine.{Does, Ends, IsCurrent, Stands};
-ghost use Rattle.rc_lexer.specs.Machine.{pending_in, pending_left, place_of, previous_of, state_in};
+ghost use Rattle.rc_lexer.specs.Machine.{pending_in, pending_left, state_in};
 
-use crate::classes::Class;
 use crate::previous::{after_blank, begins_name, without_here};
-use crate::state::{CurrentChar, Lexer, Place, Previous, State, TokenStart};
+use crate::state::{CurrentChar, Lexer, State, TokenStart};
 use crate::tokens::token_between;
 use crate::{LexError, TokenKind};
 use rc_characters::is_name_char;
+use rc_model::{Class, Place, Previous};
 
 impl Lexer {
     /// What the character begins.
@@ -24,8 +23,7 @@ impl Lexer {
     ) -> Result<State, LexError>
         requires { IsCurrent script.now current }
         ensures does { Does script.now current.next.byte self.old self.new result
-            (reading.begin (previous_of previous) (pending_in self.old) (place_of current.place) current.c
-            (class_is current.class)) }
+            (reading.begin previous (pending_in self.old) current.place current.c current.class) }
         ensures stands { IfOk result (λ s. Stands script.now current.next.byte s) }
     {
         let place = current.place;
@@ -65,8 +63,7 @@ impl Lexer {
         requires stands { Stands script.now current.place.byte (State.Backslash start) }
         ensures does { Does script.now current.next.byte self.old self.new result
             (reading.step (state_in script.now current.place.byte self.old (State.Backslash start))
-            (pending_left self.old (State.Backslash start)) (place_of current.place) current.c
-            (class_is current.class)) }
+            (pending_left self.old (State.Backslash start)) current.place current.c current.class) }
         ensures stands { IfOk result (λ s. Stands script.now current.next.byte s) }
     {
         match current.class {
@@ -87,8 +84,7 @@ impl Lexer {
         requires stands { Stands script.now current.place.byte (State.WordBackslash start stop) }
         ensures does { Does script.now current.next.byte self.old self.new result
             (reading.step (state_in script.now current.place.byte self.old (State.WordBackslash start stop))
-            (pending_left self.old (State.WordBackslash start stop)) (place_of current.place) current.c
-            (class_is current.class)) }
+            (pending_left self.old (State.WordBackslash start stop)) current.place current.c current.class) }
         ensures stands { IfOk result (λ s. Stands script.now current.next.byte s) }
     {
         match current.class {
@@ -110,9 +106,9 @@ impl Lexer {
         requires current { IsCurrent script.now current }
         requires order { start.place.byte ≤ current.place.byte }
         ensures does { Does script.now current.next.byte self.old self.new result
-            (reading.in_word (previous_of start.previous) (place_of start.place)
+            (reading.in_word start.previous start.place
             (slice_range script.now start.place.byte current.place.byte) (pending_in self.old)
-            (place_of current.place) current.c (class_is current.class)) }
+            current.place current.c current.class) }
         ensures stands { IfOk result (λ s. Stands script.now current.next.byte s) }
     {
         match current.class {
@@ -135,9 +131,8 @@ impl Lexer {
         requires current { IsCurrent script.now current }
         requires order { start.byte ≤ current.place.byte }
         ensures does { Does script.now current.next.byte self.old self.new result
-            (reading.step (reading.Name (place_of start) (slice_range script.now start.byte current.place.byte))
-            (pending_in self.old)
-            (place_of current.place) current.c (class_is current.class)) }
+            (reading.step (reading.Name start (slice_range script.now start.byte current.place.byte))
+            (pending_in self.old) current.place current.c current.class) }
         ensures stands { IfOk result (λ s. Stands script.now current.next.byte s) }
     {
         if is_name_char(current.c) {
@@ -157,10 +152,9 @@ impl Lexer {
         requires current { IsCurrent script.now current }
         requires order { start.place.byte ≤ current.place.byte }
         ensures does { Does script.now current.next.byte self.old self.new result
-            (reading.ends (previous_of start.previous)
+            (reading.ends start.previous
             (model.Quoted (model.unquoted_text (slice_range script.now start.place.byte current.place.byte)))
-            (place_of start.place) (pending_in self.old) (place_of current.place) current.c
-            (class_is current.class)) }
+            start.place (pending_in self.old) current.place current.c current.class) }
         ensures stands { IfOk result (λ s. Stands script.now current.next.byte s) }
     {
         let after = self.push_quoted(script, start, current.place)?;
@@ -177,9 +171,9 @@ impl Lexer {
         requires order { start.place.byte ≤ place.byte }
         requires within { place.byte ≤ length script.now }
         ensures { Ends script.now self.old self.new result
-            (reading.ended (previous_of start.previous)
-            (model.Word (slice_range script.now start.place.byte place.byte)) (place_of start.place)
-            (pending_in self.old) (place_of place)) }
+            (reading.ended start.previous
+            (model.Word (slice_range script.now start.place.byte place.byte)) start.place
+            (pending_in self.old) place) }
     {
         let _ = self.push_word(script, start, place)?;
         self.expect_none_pending()

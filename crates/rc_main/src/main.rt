@@ -1,17 +1,17 @@
 //! The shell.
 #![tactic(auto)]
 
-use rc_cli::{RunFault, Source, report, request_of, run_rc};
-use rc_host::{ArgumentsFault, HostWorld, arguments, entries, open_standard, own_path};
+use rc_cli::{RunError, Source, report, request_of, run_rc};
+use rc_host::{ArgumentsFault, HostWorld, InputError, arguments, entries, open_standard, own_path};
 use std::fs;
 use std::process::ExitCode;
 
 /// No file of a script gets the number 0, 1 or 2: these are open before anything else is.
-fn run<'a>(rt: HostRuntime, arguments: &'a [String]) -> Result<u8, RunFault<'a>> {
+fn run<'a>(rt: HostRuntime, arguments: &'a [String]) -> Result<u8, RunError<'a>> {
     let Some(request) = request_of(arguments) else {
-        return Err(RunFault::Usage);
+        return Err(RunError::Usage);
     };
-    open_standard(&rt).map_err(|_| RunFault::CannotRead("standard input"))?;
+    open_standard(&rt).map_err(|_| RunError::CannotRead("standard input"))?;
     let shell = own_path(&rt)?;
     let entries = entries(&rt)?;
     let mut world = HostWorld::new(rt, shell);
@@ -35,7 +35,7 @@ fn run<'a>(rt: HostRuntime, arguments: &'a [String]) -> Result<u8, RunFault<'a>>
 fn main(rt: HostRuntime) -> ExitCode {
     match arguments(&rt) {
         Ok(arguments) => report(&rt, run(rt, &arguments)),
-        Err(ArgumentsFault::NotText) => report(&rt, Err(RunFault::Usage)),
-        Err(ArgumentsFault::NoMemory) => report(&rt, Err(RunFault::NoMemory)),
+        Err(InputError::Fault(ArgumentsFault::NotText)) => report(&rt, Err(RunError::Usage)),
+        Err(InputError::NoMemory) => report(&rt, Err(RunError::NoMemory)),
     }
 }

@@ -1,11 +1,12 @@
-//! Why a script is not accepted.
+//! What is wrong with an input, and why there is no answer to it.
 
 ghost use Rattle.std.specs.Prelude.{◌≡◌, Some};
-ghost use Rattle.rc_model.specs.Syntax.Faults.{fault_words, kind_words};
+ghost use Rattle.rc_model.specs.Run.Lists.{list_words};
+ghost use Rattle.rc_model.specs.Syntax.Faults.{error_words, fault_words, kind_words};
 
 use std::alloc::{AllocError, AllocFailed};
-use std::error::Error;
-use std::fmt;
+use std::{error, fmt};
+use thiserror::Error;
 
 /// What is wrong with a script.
 #[derive(Clone, Copy, Debug, PartialEq)]
@@ -64,14 +65,95 @@ impl fmt::Display for SyntaxFault {
     }
 }
 
-impl Error for SyntaxFault {}
+impl error::Error for SyntaxFault {}
 
-/// Why an input was not read: a fault of its own, or memory was refused.
+/// What is wrong with a row of tokens.
+#[derive(Clone, Copy, Debug)]
+pub enum DescentFault {
+    /// A token fits no script at its place.
+    Unexpected,
+    /// An `if not` does not follow an `if`.
+    IfNot,
+    /// The tree has too many levels.
+    TooDeep,
+    /// A pipeline of the tree has too many stages.
+    TooManyStages,
+}
+
+/// What is wrong with an image: the first fault from left to right of one that is read, or that one to be written is
+/// too large.
+#[derive(Clone, Copy, Debug, PartialEq, Error)]
+pub enum ImageFault {
+    /// An image begins otherwise, or no tag of the wanted sort stands at a place.
+    #[error("bad tag")]
+    BadTag,
+    /// A number or a text is not spelled as it must be, or a list is too short or too long.
+    #[error("bad length")]
+    BadLength,
+    /// Something stands after the tree.
+    #[error("something after the tree")]
+    Trailing,
+    /// A node is below the deepest level.
+    #[error("too deep")]
+    TooDeep,
+    /// The image is of another version.
+    #[error("another version")]
+    Version,
+    /// An argument or an entry would have more than 100,000 bytes, or an image more than 16 pieces.
+    #[error("too large")]
+    TooLarge,
+}
+
+/// Why two lists can't be joined.
+#[derive(Clone, Copy, Debug)]
+pub enum ListFault {
+    /// One list is empty, and the other is not.
+    EmptyConcat,
+    /// The counts differ, and neither is 1.
+    CountMismatch,
+}
+
+impl ListFault {
+    /// The fault in words, as a shell reports it.
+    pub fn words(self) -> &'static str
+        ensures { result.now ≡ list_words self }
+    {
+        match self {
+            ListFault::EmptyConcat => "empty list in concatenation",
+            ListFault::CountMismatch => "list lengths differ in concatenation",
+        }
+    }
+}
+
+impl fmt::Display for ListFault {
+    ghost output = { λ fault. Some (list_words fault) };
+
+    fn fmt<W: fmt::Write>(&self, f: &mut fmt::Formatter<W>) -> fmt::Result {
+        f.write_str(self.words())
+    }
+}
+
+impl error::Error for ListFault {}
+
+/// Why there is no answer to an input: a fault of its own, or memory was refused.
 #[derive(Clone, Copy, Debug, PartialEq)]
 pub enum InputError<F> {
     Fault(F),
     NoMemory,
 }
+
+impl<F: fmt::Display> fmt::Display for InputError<F> {
+    ghost output = { λ error. error_words F.output error };
+
+    fn fmt<W: fmt::Write>(&self, f: &mut fmt::Formatter<W>) -> fmt::Result {
+        match self {
+            InputError::Fault(fault) => fault.fmt(f),
+            InputError::NoMemory => f.write_str("out of memory"),
+        }
+    }
+}
+
+impl<F: error::Error> error::Error for InputError<F> {}
 
 impl From<SyntaxFault> for InputError<SyntaxFault> {
     ghost use Rattle.rc_model.specs.declared.fault.InputError.TheVariants.{Fault};

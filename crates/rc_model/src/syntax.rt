@@ -7,6 +7,39 @@ pub enum Logic {
     Or,
 }
 
+/// A place in a script: how many bytes stand before it, and its line.
+#[derive(Clone, Copy)]
+pub struct Place {
+    pub byte: usize,
+    pub line: usize,
+}
+
+/// What stands directly before a place.
+#[derive(Clone, Copy)]
+pub enum Previous {
+    /// Nothing that matters to what follows.
+    Apart,
+    Word,
+    Quoted,
+    Name,
+    /// A `$` with its name still to come.
+    Dollar,
+    /// A `<<` between these places, with its mark still to come.
+    Here(Place, Place),
+}
+
+/// What a character is outside of quotes and comments.
+#[derive(Clone, Copy)]
+pub enum Class {
+    Operates,
+    Blank,
+    LineEnd,
+    Hash,
+    Quote,
+    Backslash,
+    Ordinary,
+}
+
 /// The keywords, and a word that is none.
 #[derive(Clone, Copy)]
 pub enum Keyword {

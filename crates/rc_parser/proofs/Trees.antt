@@ -1,24 +1,24 @@
 -- What the laws say of the trees of a script.
 use Rattle.std.specs.Prelude.{Vec, IfErr}
-use Rattle.std.proofs.Common.{◌≡◌, ℕ, ◌<◌, ◌≤◌, true, false, List, Result, Ok, Err, IfOk, length, ◌⊎◌, inl, inr, refl, sym, ap, subst, ◌∙◌}
+use Rattle.std.proofs.Common.{◌≡◌, ℕ, ◌<◌, ◌≤◌, true, List, Result, Ok, Err, IfOk, length, ◌⊎◌, inl, inr, refl, sym, ap, subst, ◌∙◌}
 use Rattle.std.proofs.lemmas.Str.{is_utf8-from_IsUtf8}
 use Rattle.std.specs.Str.{IsUtf8, is_utf8}
 use Rattle.rc_model.specs.Syntax.Tokens.{Token, Lexes}
 use Rattle.rc_model.specs.Syntax.Tokens as t
 use Rattle.rc_model.specs.Syntax.Tree.{Node, cmd}
-use Rattle.rc_model.specs.Syntax.WellFormed.{depth, most_stages, is_sound}
+use Rattle.rc_model.specs.Syntax.WellFormed.{depth, most_stages}
 use Rattle.rc_model.specs.Syntax.Accepted.{HasTokens, IsAccepted, IsRefused, lexemes, longest_script}
 use Rattle.rc_model.specs.Syntax.Accepted as script
 use Rattle.rc_model.specs.Syntax.Grammar.{HaveTree}
 use Rattle.rc_model.specs.Syntax.Grammar as grammar
-use Rattle.law_acceptance.proofs.Decided.{are_spelled, same_tokens}
+use Rattle.law_acceptance.proofs.Decided.{same_tokens}
 use Rattle.rc_model.specs.declared.fault.SyntaxFault.{SyntaxFault}
 use Rattle.rc_model.specs.declared.fault.InputError.TheVariants as error
 use Rattle.rc_lexer.specs.declared.Token as lexer
 use Rattle.rc_lexer.specs.Answers.{LexError, Reads}
 use Rattle.rc_lexer.specs.Views.{tokens_of}
-use Rattle.rc_lexemes.specs.declared.fault.Fault.{Fault}
-use Rattle.rc_lexemes.specs.declared.fault.Fault.TheVariants as descent
+use Rattle.rc_model.specs.declared.fault.DescentFault.{DescentFault}
+use Rattle.rc_model.specs.declared.fault.DescentFault.TheVariants as descent
 use Rattle.rc_lexemes.specs.declared.fault.TokenFault.{TokenFault}
 use Rattle.rc_lexemes.specs.Reading.{HasFault, TokenError}
 use Rattle.rc_tree_types.specs.declared.Cmd.{Cmd}
@@ -57,7 +57,7 @@ pub has_no_other : (text : List ℕ) (tokens : List Token) (ts : List t.Lexeme) 
 has_no_other text tokens ts tree h e only other a = only other (subst (λ z. HaveTree z other) (ap lexemes (same_tokens a.has h) ∙ sym e) a.tree_is.script)
 
 -- what the descent says of its faults
-pub record Says (ts : List t.Lexeme) (fault : Fault) : Type 0 where
+pub record Says (ts : List t.Lexeme) (fault : DescentFault) : Type 0 where
   pub none : (fault ≡ descent.Unexpected) ⊎ (fault ≡ descent.IfNot) → (tree : Node cmd) → HaveTree ts tree → ⊥
   pub stages : fault ≡ descent.TooManyStages → (tree : Node cmd) → HaveTree ts tree → 64 < most_stages tree
   pub levels : fault ≡ descent.TooDeep → (tree : Node cmd) → HaveTree ts tree → 200 < depth tree
@@ -68,7 +68,7 @@ pub says : (o : Result Cmd TokenError) (ts : List t.Lexeme) (found : TokenFault)
     (HasFault o descent.TooDeep → (tree : Node cmd) → HaveTree ts tree → 200 < depth tree) → Says ts found.fault
 says o ts found e none stages levels = record { none = λ h. none (either h); stages = λ h. stages (at h); levels = λ h. levels (at h) }
   where
-    at : {other : Fault} → found.fault ≡ other → HasFault o other
+    at : {other : DescentFault} → found.fault ≡ other → HasFault o other
     at {other = other} h = (found.left, e ∙ ap (λ f. Err (error.Fault (record { fault = f; left = found.left }))) h)
 
     either : (found.fault ≡ descent.Unexpected) ⊎ (found.fault ≡ descent.IfNot) → HasFault o descent.Unexpected ⊎ HasFault o descent.IfNot
@@ -76,7 +76,7 @@ says o ts found e none stages levels = record { none = λ h. none (either h); st
     either (inr h) = inr (at h)
 
 -- a fault of the descent is the script's
-pub is_refused : (text : List ℕ) (tokens : List Token) (ts : List t.Lexeme) (fault : Fault) (f : SyntaxFault) → HasTokens text tokens → ts ≡ lexemes tokens → Says ts fault →
+pub is_refused : (text : List ℕ) (tokens : List Token) (ts : List t.Lexeme) (fault : DescentFault) (f : SyntaxFault) → HasTokens text tokens → ts ≡ lexemes tokens → Says ts fault →
     IsPlaced text tokens fault f → IsRefused text f
 is_refused text tokens ts descent.Unexpected f h e says p =
     subst (IsRefused text) (sym p.0) (script.unexpected tokens f.line h p.1 (λ tree s. says.none (inl refl) tree (subst (λ z. HaveTree z tree) (sym e) s)))

@@ -7,8 +7,8 @@ use Rattle.rc_model.specs.declared.fault.InputError.TheVariants as error
 use Rattle.rc_model.specs.Syntax.Faults.{fault}
 use Rattle.rc_model.specs.Syntax.Accepted.{IsRefused, IsLineOf}
 use Rattle.rc_model.specs.Syntax.Tokens.{Token}
-use Rattle.rc_lexemes.specs.declared.fault.Fault.{Fault}
-use Rattle.rc_lexemes.specs.declared.fault.Fault.TheVariants as descent
+use Rattle.rc_model.specs.declared.fault.DescentFault.{DescentFault}
+use Rattle.rc_model.specs.declared.fault.DescentFault.TheVariants as descent
 
 -- why there is no tree
 abbrev pub ParseError : Type 0
@@ -20,7 +20,7 @@ Refuses (error.Fault f) script = IsRefused script f
 Refuses error.NoMemory script = Unit {0}
 
 -- a fault of the tokens, at the line of one of them or at the end; too great a depth has no line
-abbrev pub IsPlaced : List ℕ → List Token → Fault → SyntaxFault → Type 0
+abbrev pub IsPlaced : List ℕ → List Token → DescentFault → SyntaxFault → Type 0
 IsPlaced script tokens descent.Unexpected f = (f ≡ fault Unexpected f.line) × IsLineOf script tokens f.line
 IsPlaced script tokens descent.IfNot f = (f ≡ fault IfNot f.line) × IsLineOf script tokens f.line
 IsPlaced script tokens descent.TooDeep f = f ≡ fault TooDeep 0

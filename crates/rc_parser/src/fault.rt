@@ -6,9 +6,9 @@ ghost use Rattle.rc_lexer.specs.Views.{tokens_of};
 ghost use Rattle.rc_parser.specs.Faults.{IsPlaced};
 
 use crate::text::line_of;
-use rc_descent::{Fault, TokenFault};
+use rc_descent::TokenFault;
 use rc_lexer::Token;
-use rc_model::{FaultKind, SyntaxFault};
+use rc_model::{DescentFault, FaultKind, SyntaxFault};
 
 /// The fault of a script whose tokens have this one.
 pub fn syntax_fault(script: &[u8], tokens: &[Token], found: TokenFault) -> SyntaxFault
@@ -17,19 +17,19 @@ pub fn syntax_fault(script: &[u8], tokens: &[Token], found: TokenFault) -> Synta
 {
     let line = line_at(script, tokens, found.left);
     match found.fault {
-        Fault::Unexpected => SyntaxFault {
+        DescentFault::Unexpected => SyntaxFault {
             kind: FaultKind::Unexpected,
             line,
         },
-        Fault::IfNot => SyntaxFault {
+        DescentFault::IfNot => SyntaxFault {
             kind: FaultKind::IfNot,
             line,
         },
-        Fault::TooDeep => SyntaxFault {
+        DescentFault::TooDeep => SyntaxFault {
             kind: FaultKind::TooDeep,
             line: 0,
         },
-        Fault::TooManyStages => SyntaxFault {
+        DescentFault::TooManyStages => SyntaxFault {
             kind: FaultKind::TooManyStages,
             line,
         },

@@ -8,7 +8,7 @@ use Rattle.rc_model.specs.Run.Shell as shell
 use Rattle.rc_model.specs.Run.State.{State}
 use Rattle.rc_model.specs.Syntax.Tree.{Many, stage}
 use Rattle.rc_model.specs.declared.call.Slots.{Slots}
-use Rattle.rc_scope.specs.States.{numbers}
+use Rattle.rc_scope.specs.States.{child_numbers}
 use Rattle.rc_world.specs.Comes.{Left}
 use Rattle.rc_world.specs.declared.types.Stop.{Stop}
 use Rattle.rc_pipes.specs.declared.stages.StageStart.{StageStart}
@@ -26,9 +26,10 @@ abbrev pub ends_or_waits : Option ℕ → List ℕ → State → Option (List �
 ends_or_waits read children s None = done_with (shell.Next (acts.Running read children) s)
 ends_or_waits read children s (Some why) = acts.no_stages None children why s
 
+-- the same of what a start of stages returned
 abbrev pub after_stages : State → StartedStages → Plan (shell.Result acts.StartedStages)
 after_stages s started =
-    ends_or_waits (option_map (λ end. end.0) started.read) (numbers started.children.items) s
+    ends_or_waits (option_map (λ end. end.0) started.read) (child_numbers started.children.items) s
     (option_map (λ why. why.now) started.refused)
 
 -- a plan went on as its result says, or it was left

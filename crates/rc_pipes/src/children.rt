@@ -6,7 +6,7 @@ ghost use Rattle.rc_model.specs.Run.Acts.{stages_status, end_stages, no_stages, 
 ghost use Rattle.rc_model.specs.Run.State as model;
 ghost use Rattle.rc_model.specs.Run.Shell.{Next};
 ghost use Rattle.rc_world.specs.Comes.{Comes, Reads, Does};
-ghost use Rattle.rc_scope.specs.States.{state_of};
+ghost use Rattle.rc_scope.specs.States.{child_numbers, state_of};
 
 use rc_builtin::ending_status;
 use rc_scope::State;
@@ -28,7 +28,7 @@ pub fn wait_stages<W: World>(
     world: &mut W,
     children: &[ChildNo],
 ) -> Result<Vec<String>, Stop>
-    ensures { (s : model.State) → let numbers = map (λ child. child.0) children.now in
+    ensures { (s : model.State) → let numbers = child_numbers children.now in
         Reads W.events world.old world.new s
         (wait_each numbers) (λ statuses. map string_bytes statuses.items) result }
 {
@@ -62,7 +62,7 @@ pub fn end_stages<W: World>(
     state: &mut State,
     children: &[ChildNo],
 ) -> Result<(), Stop>
-    ensures { let numbers = map (λ child. child.0) children.now in
+    ensures { let numbers = child_numbers children.now in
         Does W.events world.old world.new state_of state.old state.new
         (end_stages None numbers) (λ x. x) result }
 {
@@ -81,7 +81,7 @@ pub fn end_refused<W: World>(
     children: &[ChildNo],
     why: &str,
 ) -> Result<(), Stop>
-    ensures { let numbers = map (λ child. child.0) children.now in
+    ensures { let numbers = child_numbers children.now in
         Does W.events world.old world.new state_of state.old state.new
         (no_stages None numbers why.now) (λ x. Refused) result }
 {

@@ -11,7 +11,7 @@ ghost use Rattle.rc_tree_types.specs.View.{cmd_tree};
 ghost use Rattle.rc_world.specs.Comes.{Does};
 ghost use Rattle.rc_world.specs.declared.types.Stop.TheVariants.{NoMemory};
 ghost use Rattle.rc_builtin.specs.Starts.{started_of};
-ghost use Rattle.rc_scope.specs.States.{numbers, state_of};
+ghost use Rattle.rc_scope.specs.States.{child_numbers, state_of};
 ghost use Rattle.rc_pipes.specs.Jobs.{arguments_of};
 
 use crate::children::wait_child as waited;
@@ -111,7 +111,7 @@ fn wait_all<W: World>(
     children: &[ChildNo],
 ) -> Result<(), Stop>
     ensures { Does W.events world.old world.new state_of state.old state.new
-        (wait_all (numbers children.now)) (λ x. x) result }
+        (wait_all (child_numbers children.now)) (λ x. x) result }
 {
     for child in children {
         wait_child(alloc, world, state, *child)?;

@@ -12,7 +12,7 @@ ghost use Rattle.rc_pipes.specs.Launches.{if_fit};
 
 use crate::children::wait_child;
 use rc_builtin::{Started, make_started};
-use rc_image::{Handover, ImageFault, handed};
+use rc_image::{Handover, InputError, handed};
 use rc_scope::State;
 use rc_tree_types::Cmd;
 use rc_world::{Launch, Program, Slots, Stop, World};
@@ -35,8 +35,8 @@ fn shell_launch(
             env: entries,
             slots,
         })),
-        Err(ImageFault::NoMemory) => Err(AllocError),
-        Err(_) => Ok(None),
+        Err(InputError::Fault(_)) => Ok(None),
+        Err(InputError::NoMemory) => Err(AllocError),
     }
 }
 

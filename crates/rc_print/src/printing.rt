@@ -13,32 +13,30 @@ ghost use Rattle.rc_tree_types.specs.View.{branches_tree};
 use rc_form::{
     bar, copying, has_here, is_empty, opening, parting, print_literal, sign, stands_first,
 };
-use rc_model::Logic;
+use rc_model::{InputError, Logic};
 use rc_tree_types::{Arg, Branch, Cmd, Item, Redir, Stage};
 use std::alloc::{AllocError, Global};
 use thiserror::Error;
 
 /// Why a tree has no text.
-#[derive(Debug, Drop, Error)]
+#[derive(Clone, Copy, Debug, Error)]
 pub enum PrintFault {
     #[error("a here document is inside")]
     HereInside,
-    #[error("out of memory")]
-    NoMemory,
 }
 
 /// The text of the tree. What is read back from it is the tree, if that was read from a script and the text is
 /// no longer than a script may be.
-pub fn print(alloc: Global, cmd: &Cmd) -> Result<String, PrintFault>
+pub fn print(alloc: Global, cmd: &Cmd) -> Result<String, InputError<PrintFault>>
     ensures text { IfOk result (λ text. string_bytes text ≡ printed (cmd_tree cmd.now)) }
     ensures without { OnOk result (has_here (cmd_tree cmd.now) ≡ false) }
-    ensures inside { IsErrOf result PrintFault.HereInside → has_here (cmd_tree cmd.now) ≡ true }
+    ensures inside { IsErrOf result (InputError.Fault PrintFault.HereInside) → has_here (cmd_tree cmd.now) ≡ true }
 {
     if has_here(cmd) {
-        return Err(PrintFault::HereInside);
+        return Err(InputError::Fault(PrintFault::HereInside));
     }
     let mut out = String::new(alloc);
-    print_cmd(&mut out, cmd, false).map_err(|_| PrintFault::NoMemory)?;
+    print_cmd(&mut out, cmd, false)?;
     Ok(out)
 }
 

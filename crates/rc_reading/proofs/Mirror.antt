@@ -9,7 +9,7 @@ use Rattle.rc_model.specs.Syntax.Tree.{Node, Many, none, more, snoc}
 use Rattle.rc_model.specs.Syntax.Tree as t
 use Rattle.rc_model.specs.Handed.TreeReading as m
 use Rattle.rc_model.specs.Syntax.WellFormed.{has_text}
-use Rattle.rc_model.specs.Handed.TreeReading.{ImageFault, BadTag, BadLength, TooDeep, Reader, ◌>>=◌, made, both, tested, tagged, chosen, given, listed, nodes_at, count_at, text_at, cmd_at, arg_at}
+use Rattle.rc_model.specs.Handed.TreeReading.{Reader, ◌>>=◌, made, both, tested, tagged, chosen, given, listed, nodes_at, count_at, text_at, cmd_at, arg_at}
 use Rattle.rc_leaves.specs.Steps.{first_by, number_by, string_by, text_by, only_by, count_from, stage_count, nodes_from, list_by, word_by, quoted_by, copy_by, piece_by, here_by, slot_by, background_by, logic_by}
 use Rattle.rc_leaves.specs.Steps.{args_by, item_by, pair_by, stage_by, link_by, branch_by}
 use Rattle.rc_leaves.specs.Shapes.{cmd_shape, arg_shape, redir_shape, shaped, mark_by}
@@ -17,6 +17,8 @@ use Rattle.rc_leaves.specs.declared.shape.CmdShape.{CmdShape}
 use Rattle.rc_leaves.specs.declared.shape.ArgShape.{ArgShape}
 use Rattle.rc_leaves.specs.Nodes.{body_node, bodies_node, words_node, name_node}
 use Rattle.rc_reading.specs.Reading.{opened_by, redir_of, redir_by, front_by, subject_by, cmd_of, arg_of}
+use Rattle.rc_model.specs.declared.fault.ImageFault.{ImageFault}
+use Rattle.rc_model.specs.declared.fault.ImageFault.TheVariants.{BadLength, BadTag, TooDeep}
 
 abbrev Read-of : Type 0 → Type 0
 Read-of X = Result (X × List ℕ) ImageFault

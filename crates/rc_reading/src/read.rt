@@ -4,13 +4,13 @@ ghost use Rattle.std.specs.Prelude.{◌≡◌, true};
 ghost use Rattle.rc_model.specs.Handed.TreeReading.{cmd_at, arg_at};
 ghost use Rattle.rc_tree_types.specs.View.{cmd_tree, arg_tree, redir_tree, args_tree, items_tree, pairs_tree};
 ghost use Rattle.rc_tree_types.specs.View.{redirs_tree, stages_tree, links_tree, branches_tree};
-ghost use Rattle.rc_leaves.specs.Faults.{Gives};
+ghost use Rattle.rc_model.specs.Syntax.Faults.{Gives};
 ghost use Rattle.rc_leaves.specs.Steps.{args_by, item_by, pair_by, stage_by, link_by, branch_by};
 ghost use Rattle.rc_leaves.specs.Steps.{list_by, count_from, stage_count};
 ghost use Rattle.rc_reading.specs.Reading.{cmd_of, front_by, subject_by, arg_of, redir_by};
 
 use rc_leaves::{
-    ArgShape, CmdShape, Fault, FrontShape, ReadError, RedirShape, SubjectShape, and_or, arg_mark,
+    ArgShape, CmdShape, FrontShape, ImageError, RedirShape, SubjectShape, and_or, arg_mark,
     background, cmd_mark, concat, copy, count_from, here, logic, pipeline, push_branch, quoted,
     redir_mark, slot, stage_count, with_bodies, with_body, with_name, with_words, word,
 };
@@ -19,18 +19,18 @@ use rc_lexemes::{
     push_item, push_link, push_pair, push_redir, push_stage, redirected, seq, subscripted,
     switched,
 };
-use rc_model::{InputError, Logic, Mode};
+use rc_model::{ImageFault, InputError, Logic, Mode};
 use rc_tree::{Arg, Branch, Cmd, Item, Redir, Stage};
 use std::alloc::Global;
 
 /// A command with at most this many levels.
 #[cycle(read)]
 #[tactic(auto, using(crate::proofs::Mirror::levels))]
-pub fn read_cmd(alloc: Global, left: usize, bytes: &[u8]) -> Result<(Box<Cmd>, &[u8]), ReadError>
+pub fn read_cmd(alloc: Global, left: usize, bytes: &[u8]) -> Result<(Box<Cmd>, &[u8]), ImageError>
     ensures { Gives (λ x. (cmd_tree x.0.value, x.1.now)) result (cmd_at true left bytes.now) }
 {
     if left == 0 {
-        return Err(InputError::Fault(Fault::TooDeep));
+        return Err(InputError::Fault(ImageFault::TooDeep));
     }
     let (shape, rest) = cmd_mark(bytes)?;
     read_cmd_of(alloc, left - 1, shape, rest)
@@ -44,7 +44,7 @@ fn read_cmd_of(
     below: usize,
     shape: CmdShape,
     rest: &[u8],
-) -> Result<(Box<Cmd>, &[u8]), ReadError>
+) -> Result<(Box<Cmd>, &[u8]), ImageError>
     ensures { Gives (λ x. (cmd_tree x.0.value, x.1.now)) result (cmd_of below shape rest.now) }
 {
     match shape {
@@ -87,7 +87,7 @@ fn read_front(
     left: usize,
     shape: FrontShape,
     bytes: &[u8],
-) -> Result<(Box<Cmd>, &[u8]), ReadError>
+) -> Result<(Box<Cmd>, &[u8]), ImageError>
     ensures { Gives (λ x. (cmd_tree x.0.value, x.1.now)) result (front_by left shape bytes.now) }
 {
     match shape {
@@ -123,7 +123,7 @@ fn read_subject(
     shape: SubjectShape,
     subject: Box<Arg>,
     bytes: &[u8],
-) -> Result<(Box<Cmd>, &[u8]), ReadError>
+) -> Result<(Box<Cmd>, &[u8]), ImageError>
     ensures { Gives (λ x. (cmd_tree x.0.value, x.1.now)) result
         (subject_by left shape (arg_tree subject.value) bytes.now) }
 {
@@ -151,11 +151,11 @@ fn read_subject(
 /// An argument with at most this many levels.
 #[cycle(read)]
 #[tactic(auto, using(crate::proofs::Mirror::levels))]
-fn read_arg(alloc: Global, left: usize, bytes: &[u8]) -> Result<(Box<Arg>, &[u8]), ReadError>
+fn read_arg(alloc: Global, left: usize, bytes: &[u8]) -> Result<(Box<Arg>, &[u8]), ImageError>
     ensures { Gives (λ x. (arg_tree x.0.value, x.1.now)) result (arg_at true left bytes.now) }
 {
     if left == 0 {
-        return Err(InputError::Fault(Fault::TooDeep));
+        return Err(InputError::Fault(ImageFault::TooDeep));
     }
     let (shape, rest) = arg_mark(bytes)?;
     read_arg_of(alloc, left - 1, shape, rest)
@@ -169,7 +169,7 @@ fn read_arg_of(
     below: usize,
     shape: ArgShape,
     rest: &[u8],
-) -> Result<(Box<Arg>, &[u8]), ReadError>
+) -> Result<(Box<Arg>, &[u8]), ImageError>
     ensures { Gives (λ x. (arg_tree x.0.value, x.1.now)) result (arg_of below shape rest.now) }
 {
     match shape {
@@ -202,7 +202,7 @@ fn read_arg_of(
 /// A redirection.
 #[cycle(read)]
 #[tactic(auto, using(std::proofs::lemmas::Grind::common_steps), unfolding(crate::specs::Reading::redir_by))]
-fn read_redir(alloc: Global, left: usize, bytes: &[u8]) -> Result<(Box<Redir>, &[u8]), ReadError>
+fn read_redir(alloc: Global, left: usize, bytes: &[u8]) -> Result<(Box<Redir>, &[u8]), ImageError>
     ensures { Gives (λ x. (redir_tree x.0.value, x.1.now)) result (redir_by left bytes.now) }
 {
     let (shape, rest) = redir_mark(bytes)?;
@@ -229,7 +229,7 @@ fn read_args(
     left: usize,
     least: usize,
     bytes: &[u8],
-) -> Result<(Vec<Arg>, &[u8]), ReadError>
+) -> Result<(Vec<Arg>, &[u8]), ImageError>
     ensures { Gives (λ x. (args_tree x.0.items, x.1.now)) result (args_by least left bytes.now) }
 {
     let (count, mut rest) = count_from(least, bytes)?;
@@ -244,7 +244,7 @@ fn read_args(
 
 #[cycle(read)]
 #[tactic(auto, using(rc_leaves::proofs::Turns::items))]
-fn read_items(alloc: Global, left: usize, bytes: &[u8]) -> Result<(Vec<Item>, &[u8]), ReadError>
+fn read_items(alloc: Global, left: usize, bytes: &[u8]) -> Result<(Vec<Item>, &[u8]), ImageError>
     ensures { Gives (λ x. (items_tree x.0.items, x.1.now)) result (list_by (count_from 0) (item_by left) bytes.now) }
 {
     let (count, mut rest) = count_from(0, bytes)?;
@@ -264,7 +264,7 @@ fn read_pairs(
     alloc: Global,
     left: usize,
     bytes: &[u8],
-) -> Result<(Vec<(Arg, Arg)>, &[u8]), ReadError>
+) -> Result<(Vec<(Arg, Arg)>, &[u8]), ImageError>
     ensures { Gives (λ x. (pairs_tree x.0.items, x.1.now)) result (list_by (count_from 1) (pair_by left) bytes.now) }
 {
     let (count, mut rest) = count_from(1, bytes)?;
@@ -280,7 +280,7 @@ fn read_pairs(
 
 #[cycle(read)]
 #[tactic(auto, using(rc_leaves::proofs::Turns::redirs))]
-fn read_redirs(alloc: Global, left: usize, bytes: &[u8]) -> Result<(Vec<Redir>, &[u8]), ReadError>
+fn read_redirs(alloc: Global, left: usize, bytes: &[u8]) -> Result<(Vec<Redir>, &[u8]), ImageError>
     ensures { Gives (λ x. (redirs_tree x.0.items, x.1.now)) result (list_by (count_from 1) (redir_by left) bytes.now) }
 {
     let (count, mut rest) = count_from(1, bytes)?;
@@ -296,7 +296,7 @@ fn read_redirs(alloc: Global, left: usize, bytes: &[u8]) -> Result<(Vec<Redir>, 
 /// The stages before the last one.
 #[cycle(read)]
 #[tactic(auto, using(rc_leaves::proofs::Turns::stages))]
-fn read_stages(alloc: Global, left: usize, bytes: &[u8]) -> Result<(Vec<Stage>, &[u8]), ReadError>
+fn read_stages(alloc: Global, left: usize, bytes: &[u8]) -> Result<(Vec<Stage>, &[u8]), ImageError>
     ensures { Gives (λ x. (stages_tree x.0.items, x.1.now)) result (list_by stage_count (stage_by left) bytes.now) }
 {
     let (count, mut rest) = stage_count(bytes)?;
@@ -317,7 +317,7 @@ fn read_links(
     alloc: Global,
     left: usize,
     bytes: &[u8],
-) -> Result<(Vec<(Logic, Cmd)>, &[u8]), ReadError>
+) -> Result<(Vec<(Logic, Cmd)>, &[u8]), ImageError>
     ensures { Gives (λ x. (links_tree x.0.items, x.1.now)) result (list_by (count_from 1) (link_by left) bytes.now) }
 {
     let (count, mut rest) = count_from(1, bytes)?;
@@ -337,7 +337,7 @@ fn read_branches(
     alloc: Global,
     left: usize,
     bytes: &[u8],
-) -> Result<(Vec<Branch>, &[u8]), ReadError>
+) -> Result<(Vec<Branch>, &[u8]), ImageError>
     ensures { Gives (λ x. (branches_tree x.0.items, x.1.now)) result
         (list_by (count_from 0) (branch_by left) bytes.now) }
 {

@@ -11,7 +11,7 @@ ghost use Rattle.rc_tree_types.specs.View.{cmd_tree};
 ghost use Rattle.rc_scope.specs.Bindings.{bindings_of, visible_values};
 ghost use Rattle.rc_scope.specs.Bodies.{IsCodeOf};
 ghost use Rattle.rc_scope.specs.Stacks.{flat_names};
-ghost use Rattle.rc_scope.specs.States.{numbers};
+ghost use Rattle.rc_scope.specs.States.{child_numbers};
 
 use crate::children::place_of;
 use crate::functions::{Function, names};
@@ -329,7 +329,7 @@ impl State {
     /// The children that run in the background, in the order of their starts.
     #[tactic(auto, unfolding(crate::specs::States::state_of))]
     pub fn children(&self) -> &[ChildNo]
-        ensures { numbers result.now ≡ (state_of self.now).background }
+        ensures { child_numbers result.now ≡ (state_of self.now).background }
     {
         self.background.as_slice()
     }

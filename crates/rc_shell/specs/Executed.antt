@@ -10,8 +10,6 @@ use Rattle.rc_model.specs.Syntax.Accepted.{IsAccepted}
 use Rattle.rc_model.specs.Syntax.Tree.{Node, cmd}
 use Rattle.rc_model.specs.Handed.Arguments.{read_image}
 use Rattle.rc_model.specs.Handed.Proper.{IsProper}
-use Rattle.rc_model.specs.Handed.TreeReading as reading
-use Rattle.rc_image.specs.declared.fault.ImageFault.{ImageFault}
 use Rattle.rc_model.specs.Handed.HandedLaws.{AllReadBack}
 use Rattle.rc_model.specs.Family.Accounts.{IsFresh, NothingLost, NothingLeft}
 use Rattle.rc_model.specs.declared.fault.SyntaxFault.{SyntaxFault}
@@ -22,6 +20,7 @@ use Rattle.rc_shell.specs.declared.run.Ran.{Ran}
 use Rattle.rc_shell.specs.declared.run.Ran.TheVariants.{Ended, Limit, Halted}
 use Rattle.rc_shell.specs.declared.run.ShellFault.{ShellFault}
 use Rattle.rc_shell.specs.declared.run.ShellFault.TheVariants.{Syntax, Image, NoMemory}
+use Rattle.rc_model.specs.declared.fault.ImageFault.{ImageFault}
 
 -- at most `limit` instructions end in this state, and so does the meaning
 pub record EndsWithin (limit : ℕ) (t : Node cmd) (s : model.State) (trace : List Event)
@@ -88,11 +87,11 @@ IfSyntax NoMemory P = Unit {0}
 
 -- the tree and the state that words and entries denote
 abbrev pub denoted : (strict : Bool) → List (String Global) → List (String Global) →
-    Result (Node cmd × model.State) reading.ImageFault
+    Result (Node cmd × model.State) ImageFault
 denoted strict words entries = read_image strict (map string_bytes words) (map string_bytes entries)
 
 -- where a tree and a state are denoted, a world recorded this of them between two moments
-abbrev pub IfDenoted : Result (Node cmd × model.State) reading.ImageFault → Option (List Event) →
+abbrev pub IfDenoted : Result (Node cmd × model.State) ImageFault → Option (List Event) →
     Option (List Event) → (Node cmd → model.State → List Event → Type 0) → Type 0
 IfDenoted read before after P = (t : Node cmd) (s : model.State) → read ≡ Ok (t, s) → Recorded before after (P t s)
 

@@ -1,19 +1,18 @@
 //! Runs what a shell was handed.
 
-ghost use Rattle.std.specs.Prelude.{◌≡◌, ◌≢◌, List, IfErr, OnOk, Ok, Err};
-ghost use Rattle.rc_image.specs.Images.{Fails};
+ghost use Rattle.std.specs.Prelude.{◌≡◌, List, IfErr, OnOk, Ok, Err};
 ghost use Rattle.rc_model.specs.Handed.HandedLaws.{AllReadBack};
 ghost use Rattle.rc_model.specs.Handed.Proper.{IsProper};
-ghost use Rattle.rc_model.specs.Handed.TreeReading as reading;
 ghost use Rattle.rc_model.specs.Run.Calls.{Answer, calls};
 ghost use Rattle.rc_model.specs.Run.Script.{Agrees};
 ghost use Rattle.rc_model.specs.Run.State as model;
 ghost use Rattle.rc_model.specs.Syntax.Tree.{Node, cmd};
 ghost use Rattle.rc_shell.specs.Executed.{IfDenoted, IfEnded, IfImage, LeavesNothing, LosesNothing, RunsAsMeant};
 ghost use Rattle.rc_shell.specs.Executed.{denoted};
+ghost use Rattle.rc_model.specs.declared.fault.ImageFault.{ImageFault};
 
 use crate::run::{Ran, ShellFault, run_tree};
-use rc_image::{ImageFault, read_image};
+use rc_image::{InputError, read_image};
 use rc_world::World;
 use std::alloc::Global;
 
@@ -31,9 +30,8 @@ pub fn execute_image<W: World>(
     // A fault of the image comes exactly where the words and entries denote nothing, and no call is made then.
     ensures denoted { OnOk result ((t : Node cmd) × (s : model.State) ×
         (denoted strict words.now entries.now ≡ Ok (t, s))) }
-    ensures image { IfErr result (λ f. IfImage f (λ fault.
-        Fails fault (denoted strict words.now entries.now) × (fault ≢ ImageFault.NoMemory))) }
-    ensures silent { (fault : reading.ImageFault) → denoted strict words.now entries.now ≡ Err fault →
+    ensures image { IfErr result (λ f. IfImage f (λ fault. denoted strict words.now entries.now ≡ Err fault)) }
+    ensures silent { (fault : ImageFault) → denoted strict words.now entries.now ≡ Err fault →
         W.events world.new ≡ W.events world.old }
 
     // The calls are those of the meaning, and of at most `limit` instructions, over the answers that were given.
@@ -56,7 +54,7 @@ pub fn execute_image<W: World>(
 {
     match read_image(alloc, strict, words, entries) {
         Ok((cmd, state)) => run_tree(alloc, world, cmd, state, limit),
-        Err(ImageFault::NoMemory) => Err(ShellFault::NoMemory),
-        Err(fault) => Err(ShellFault::Image(fault)),
+        Err(InputError::Fault(fault)) => Err(ShellFault::Image(fault)),
+        Err(InputError::NoMemory) => Err(ShellFault::NoMemory),
     }
 }

@@ -7,9 +7,8 @@ ghost use Rattle.rc_shell.specs.Executed.{IsOutcome, RunsAsMeant};
 ghost use Rattle.rc_tree_types.specs.View.{cmd_tree};
 
 use rc_code::compile;
-use rc_image::ImageFault;
 use rc_machine::{Machine, Progress};
-use rc_model::SyntaxFault;
+use rc_model::{ImageFault, SyntaxFault};
 use rc_scope::State;
 use rc_tree::Cmd;
 use rc_world::World;

@@ -1,55 +1,36 @@
 //! Two lists joined into one.
 ghost use Rattle.std.specs.Prelude.{◌≡◌, ◌++◌, Ok, map, IfOk, MatchResult};
 ghost use Rattle.rc_model.specs.Run.Lists.{concatenated, pairwise};
-ghost use Rattle.rc_text.specs.Faults.{Refuses};
+ghost use Rattle.rc_model.specs.Syntax.Faults.{Fails};
 
 use crate::lists::List;
 use crate::words::Word;
+use rc_model::{InputError, ListFault};
 use std::alloc::{AllocError, Global};
-use thiserror::Error;
-
-/// Why two lists can't be joined.
-#[derive(Debug, Drop, Error)]
-pub enum ConcatError {
-    /// One list is empty, and the other is not.
-    #[error("empty list in concatenation")]
-    EmptyConcat,
-    /// The counts differ, and neither is 1.
-    #[error("list lengths differ in concatenation")]
-    CountMismatch,
-    #[error("out of memory")]
-    NoMemory,
-}
-
-impl From<AllocError> for ConcatError {
-    ghost use Rattle.rc_text.specs.declared.concatenation.ConcatError.TheVariants.{NoMemory};
-
-    ghost from_gives = { λ _ e. e ≡ NoMemory };
-
-    fn from(_: AllocError) -> Self {
-        ConcatError::NoMemory
-    }
-}
 
 /// Lists of equal length are joined pairwise. Otherwise the one word of a list goes to each word of the other.
-pub fn concat(alloc: Global, left: &List, right: &List) -> Result<List, ConcatError>
+pub fn concat(alloc: Global, left: &List, right: &List) -> Result<List, InputError<ListFault>>
     ensures { MatchResult result (λ list. concatenated left.now right.now ≡ Ok list)
-        (λ error. Refuses error (concatenated left.now right.now)) }
+        (λ error. Fails error (concatenated left.now right.now)) }
 {
     concat_words(alloc, left.words(), right.words())
 }
 
 /// The same of the words of two lists.
-pub fn concat_words(alloc: Global, left: &[Word], right: &[Word]) -> Result<List, ConcatError>
+pub fn concat_words(
+    alloc: Global,
+    left: &[Word],
+    right: &[Word],
+) -> Result<List, InputError<ListFault>>
     ensures { MatchResult result (λ list. concatenated left.now right.now ≡ Ok list)
-        (λ error. Refuses error (concatenated left.now right.now)) }
+        (λ error. Fails error (concatenated left.now right.now)) }
 {
     let joined = match (left, right) {
         (lefts, rights) if lefts.len() == rights.len() => pairwise(alloc, lefts, rights)?,
-        ([], _) | (_, []) => return Err(ConcatError::EmptyConcat),
+        ([], _) | (_, []) => return Err(InputError::Fault(ListFault::EmptyConcat)),
         ([first], rights) => before_each(alloc, first, rights)?,
         (lefts, [last]) => after_each(alloc, lefts, last)?,
-        _ => return Err(ConcatError::CountMismatch),
+        _ => return Err(InputError::Fault(ListFault::CountMismatch)),
     };
     Ok(joined)
 }

@@ -11,13 +11,14 @@ mod separators;
 mod values;
 mod words;
 
-pub use concatenation::{ConcatError, concat, concat_words};
+pub use concatenation::{concat, concat_words};
 pub use lists::{List, count, spaced_unmarked};
 pub use members::{Members, Output};
 pub use numbers::number_of;
 pub use output::{into_lossy, lossy, split};
 pub use rc_characters::{first_char, is_name_char, push_quoted, quote, unquote};
 pub use rc_literal::{Ch, Literal};
+pub use rc_model::{InputError, ListFault};
 pub use selection::select;
 pub use values::{flat, is_true};
 pub use words::Word;

@@ -4,6 +4,7 @@ ghost use Rattle.std.specs.Prelude.{◌≡◌, ◌≤◌, option_map, IfOk, IfSo
 ghost use Rattle.rc_model.specs.Run.Calls.{open_file, here, make_pipe, close, read, write, start, wait};
 ghost use Rattle.rc_model.specs.Run.Calls.{list_names, probe, change_dir};
 ghost use Rattle.rc_model.specs.Run.Calls.{as_file, as_pair, as_done, as_bytes, as_child, as_ending, as_names, as_kind};
+ghost use Rattle.rc_model.specs.declared.limits.TheConstants.{LONGEST_READ};
 ghost use Rattle.rc_world.specs.Comes.{Asks, unless_refused, was_done};
 ghost use Rattle.rc_world.specs.Views.{launch_of};
 
@@ -59,7 +60,7 @@ pub fn close<W: World>(world: &mut W, handle: Handle) -> Result<bool, Stop>
 pub fn read<W: World>(world: &mut W, handle: Handle) -> Result<Option<Vec<u8>>, Stop>
     ensures came { Asks W.events world.old world.new (read handle.0) as_bytes
         (option_map (λ bytes. bytes.items)) result }
-    ensures bound { IfOk result (λ given. IfSome given (λ bytes. vec_len bytes ≤ 4096)) }
+    ensures bound { IfOk result (λ given. IfSome given (λ bytes. vec_len bytes ≤ LONGEST_READ)) }
 {
     unless_refused(world.read(handle))
 }

@@ -142,7 +142,7 @@ impl World for Tape {
     #[tactic(auto, using(crate::proofs::Tapes::refusal_made))]
     fn read(&mut self, handle: Handle) -> Result<Vec<u8>, Fault>
         ensures played { Plays self.old self.new (read handle.0) (bytes_answer result) }
-        ensures bound { IfOk result (λ bytes. vec_len bytes ≤ 4096) }
+        ensures bound { IfOk result (λ bytes. vec_len bytes ≤ LONGEST_READ) }
     {
         match self.play(Call::Read(handle))? {
             Answer::Bytes(bytes) => {

@@ -3,6 +3,7 @@
 ghost use Rattle.std.specs.Prelude.{◌≤◌, List, Option, IfOk, vec_len};
 ghost use Rattle.rc_model.specs.Run.Calls.{Event, open_file, here, make_pipe, close, read, write, start, wait};
 ghost use Rattle.rc_model.specs.Run.Calls.{list_names, probe, change_dir};
+ghost use Rattle.rc_model.specs.declared.limits.TheConstants.{LONGEST_READ};
 ghost use Rattle.rc_world.specs.Comes.{Records};
 ghost use Rattle.rc_world.specs.Views.{launch_of};
 ghost use Rattle.rc_world.specs.Views.{file_answer, pair_answer, done_answer, bytes_answer};
@@ -35,7 +36,7 @@ pub trait World {
     /// The next bytes, at least one but at the end.
     fn read(&mut self, handle: Handle) -> Result<Vec<u8>, Fault>
         ensures recorded { Records events self.old self.new (read handle.0) (bytes_answer result) }
-        ensures bound { IfOk result (λ bytes. vec_len bytes ≤ 4096) };
+        ensures bound { IfOk result (λ bytes. vec_len bytes ≤ LONGEST_READ) };
 
     /// Writes the whole text.
     fn write(&mut self, slot: Slot, text: &[u8]) -> Result<(), Fault>

@@ -1,6 +1,6 @@
 //! What a program takes from its process: the test starts itself again, by way of `/bin/sh`.
 use crate::host::{again, granted, host, is_started_again, run, run_script};
-use rc_host::{ArgumentsFault, arguments, entries, open_standard, own_path};
+use rc_host::{ArgumentsFault, InputError, arguments, entries, open_standard, own_path};
 use rc_world::{Ending, Mode, PLAIN_SLOTS, World};
 use std::test::Fail;
 
@@ -14,7 +14,12 @@ fn is_taken(rt: HostRuntime) -> Result<(), Fail> {
     open_standard(&rt)?;
     let mut host = host(rt)?;
     if is_started_again(rt)? {
-        assert!(rt; matches!(arguments(&rt), Err(ArgumentsFault::NotText)));
+        assert!(rt;
+            matches!(
+                arguments(&rt),
+                Err(InputError::Fault(ArgumentsFault::NotText))
+            )
+        );
         assert!(rt;
             !entries(&rt)?
                 .iter()

@@ -1,44 +1,44 @@
 //! Why nothing comes of a row.
 
-use rc_image::ImageFault;
+use rc_image::{ImageError, ImageFault, InputError};
 use rc_scope::SetError;
 use std::alloc::{AllocError, AllocFailed};
 
 /// Why nothing comes of a row.
 #[derive(Clone, Copy)]
-pub enum RowFault {
+pub enum RowError {
     Image(ImageFault),
     /// The row is not written as it must be.
     BadRow,
     NoMemory,
 }
 
-impl From<ImageFault> for RowFault {
-    fn from(fault: ImageFault) -> Self {
-        match fault {
-            ImageFault::NoMemory => RowFault::NoMemory,
-            _ => RowFault::Image(fault),
+impl From<ImageError> for RowError {
+    fn from(error: ImageError) -> Self {
+        match error {
+            InputError::Fault(fault) => RowError::Image(fault),
+            InputError::NoMemory => RowError::NoMemory,
         }
     }
 }
 
-impl From<AllocError> for RowFault {
+impl From<AllocError> for RowError {
     fn from(_: AllocError) -> Self {
-        RowFault::NoMemory
+        RowError::NoMemory
     }
 }
 
-impl<T: Drop> From<AllocFailed<T>> for RowFault {
+impl<T: Drop> From<AllocFailed<T>> for RowError {
     fn from(_: AllocFailed<T>) -> Self {
-        RowFault::NoMemory
+        RowError::NoMemory
     }
 }
 
-impl From<SetError> for RowFault {
+impl From<SetError> for RowError {
     fn from(error: SetError) -> Self {
         match error {
-            SetError::BadName => RowFault::BadRow,
-            SetError::NoMemory => RowFault::NoMemory,
+            SetError::BadName => RowError::BadRow,
+            SetError::NoMemory => RowError::NoMemory,
         }
     }
 }

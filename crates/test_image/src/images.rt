@@ -1,7 +1,9 @@
 //! What comes of images and of words.
 
-use crate::fault::RowFault;
-use rc_image::{ImageFault, read_pieces, read_tree, write_pieces, write_tree};
+use crate::fault::RowError;
+use rc_image::{
+    ImageError, ImageFault, InputError, read_pieces, read_tree, write_pieces, write_tree,
+};
 use rc_tree::Cmd;
 use std::alloc::{AllocError, Global};
 
@@ -12,25 +14,25 @@ const SHORT_IMAGE: usize = 1_000;
 const SHORT_WORD: usize = 20;
 
 /// The tree of an image, in a box: each place that may drop a tree takes long to prove.
-pub fn tree_of(alloc: Global, image: &str) -> Result<Box<Cmd>, ImageFault> {
+pub fn tree_of(alloc: Global, image: &str) -> Result<Box<Cmd>, ImageError> {
     Ok(Box::new(alloc, read_tree(alloc, image)?)?)
 }
 
 /// Whether the tree of an image has this image.
-fn is_read_back(alloc: Global, image: &str) -> Result<bool, ImageFault> {
+fn is_read_back(alloc: Global, image: &str) -> Result<bool, ImageError> {
     let tree = tree_of(alloc, image)?;
     Ok(write_tree(alloc, &tree)?.as_str() == image)
 }
 
 /// Whether an image has the fault of one whose end is missing, wherever it is cut.
-fn is_refused_where_cut(alloc: Global, image: &str) -> Result<bool, ImageFault> {
+fn is_refused_where_cut(alloc: Global, image: &str) -> Result<bool, ImageError> {
     for place in 0..image.len() {
         let Some(cut) = image.get(..place) else {
             continue;
         };
         match is_read_back(alloc, cut) {
-            Err(ImageFault::BadTag) | Err(ImageFault::BadLength) => {}
-            Err(ImageFault::NoMemory) => return Err(ImageFault::NoMemory),
+            Err(InputError::Fault(ImageFault::BadTag | ImageFault::BadLength)) => {}
+            Err(InputError::NoMemory) => return Err(InputError::NoMemory),
             Ok(_) | Err(_) => return Ok(false),
         }
     }
@@ -38,7 +40,7 @@ fn is_refused_where_cut(alloc: Global, image: &str) -> Result<bool, ImageFault> 
 }
 
 /// Whether an image is read back, and a short one is refused wherever it is cut.
-pub fn tree(alloc: Global, image: &str) -> Result<&'static str, ImageFault> {
+pub fn tree(alloc: Global, image: &str) -> Result<&'static str, ImageError> {
     if !is_read_back(alloc, image)? {
         return Ok("read back as another");
     }
@@ -50,7 +52,7 @@ pub fn tree(alloc: Global, image: &str) -> Result<&'static str, ImageFault> {
 }
 
 /// The words in which the tree of an image is handed over.
-fn words_of(alloc: Global, image: &str) -> Result<Vec<String>, ImageFault> {
+fn words_of(alloc: Global, image: &str) -> Result<Vec<String>, ImageError> {
     let tree = tree_of(alloc, image)?;
     write_pieces(alloc, &tree)
 }
@@ -69,7 +71,7 @@ fn add_words(out: &mut String, words: &[String]) -> Result<(), AllocError> {
 }
 
 /// Adds the words in which the tree of an image is handed over, and what comes of them where another word follows.
-pub fn add_pieces(alloc: Global, out: &mut String, image: &str) -> Result<(), RowFault> {
+pub fn add_pieces(alloc: Global, out: &mut String, image: &str) -> Result<(), RowError> {
     let mut words = words_of(alloc, image)?;
     add_words(out, &words)?;
     words.push(String::from_str(alloc, "x")?)?;
@@ -77,7 +79,7 @@ pub fn add_pieces(alloc: Global, out: &mut String, image: &str) -> Result<(), Ro
 }
 
 /// The tree of the first of these words, and how many it takes.
-fn taken(alloc: Global, words: &[String]) -> Result<Box<(Cmd, usize)>, ImageFault> {
+fn taken(alloc: Global, words: &[String]) -> Result<Box<(Cmd, usize)>, ImageError> {
     Ok(Box::new(alloc, read_pieces(alloc, words)?)?)
 }
 
@@ -87,7 +89,7 @@ fn add_count(
     out: &mut String,
     tree: &Cmd,
     taken: &[String],
-) -> Result<(), RowFault> {
+) -> Result<(), RowError> {
     let words = write_pieces(alloc, tree)?;
     if words.as_slice() == taken {
         let count = taken.len();
@@ -98,7 +100,7 @@ fn add_count(
 }
 
 /// Adds how many of these words the tree takes that they begin with.
-pub fn add_taken(alloc: Global, out: &mut String, words: &[String]) -> Result<(), RowFault> {
+pub fn add_taken(alloc: Global, out: &mut String, words: &[String]) -> Result<(), RowError> {
     let taken = taken(alloc, words)?;
     add_count(alloc, out, &taken.0, words.get(..taken.1).unwrap_or(&[]))
 }

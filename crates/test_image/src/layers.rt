@@ -1,6 +1,6 @@
 //! What is shown of the rows of a file, and how they stand there.
 
-use crate::fault::RowFault;
+use crate::fault::RowError;
 use crate::images::{add_pieces, add_taken, tree};
 use crate::rows::{list, unescaped};
 use crate::states::begun;
@@ -30,7 +30,7 @@ impl Layer {
     }
 
     /// Adds what comes of a row, unless it is a fault.
-    fn answer(self, alloc: Global, out: &mut String, written: &str) -> Result<(), RowFault> {
+    fn answer(self, alloc: Global, out: &mut String, written: &str) -> Result<(), RowError> {
         match self {
             Layer::Trees => {
                 let shown = tree(alloc, &unescaped(alloc, written)?)?;
@@ -47,9 +47,9 @@ impl Layer {
         let mut out = String::new(alloc);
         match self.answer(alloc, &mut out, written) {
             Ok(()) => {}
-            Err(RowFault::Image(fault)) => write!(out, "{fault}")?,
-            Err(RowFault::BadRow) => out.push_str("this is no row")?,
-            Err(RowFault::NoMemory) => return Err(AllocError),
+            Err(RowError::Image(fault)) => write!(out, "{fault}")?,
+            Err(RowError::BadRow) => out.push_str("this is no row")?,
+            Err(RowError::NoMemory) => return Err(AllocError),
         }
         Ok(out)
     }

@@ -1,6 +1,6 @@
 //! The options of a row, each on a line: its kind, and after a space what it says.
 
-use crate::fault::RowFault;
+use crate::fault::RowError;
 use crate::rows::unescaped;
 use std::alloc::Global;
 
@@ -26,7 +26,7 @@ pub fn has(options: &str, wanted: &str) -> bool {
 }
 
 /// What the options of this kind say.
-pub fn all(alloc: Global, options: &str, wanted: &str) -> Result<Vec<String>, RowFault> {
+pub fn all(alloc: Global, options: &str, wanted: &str) -> Result<Vec<String>, RowError> {
     let mut texts = Vec::new(alloc);
     for option in options.lines() {
         let (kind, said) = cut(option);

@@ -1,7 +1,7 @@
 //! How texts are written. After a backslash stand `n` for a newline, `s` for a space, `0`, `1` and `2` for these bytes,
 //! and `\` for itself; and `(20*a\)` after one is 20 times `a`.
 
-use crate::fault::RowFault;
+use crate::fault::RowError;
 use std::alloc::{AllocError, Global};
 
 /// The character that one after a backslash stands for.
@@ -43,9 +43,9 @@ fn repetition(written: &str) -> Option<(usize, &str, &str)> {
 }
 
 /// Adds what is written, from the number of a repetition on.
-fn add_repeated(text: &mut String, written: &str) -> Result<(), RowFault> {
+fn add_repeated(text: &mut String, written: &str) -> Result<(), RowError> {
     let Some((times, once, after)) = repetition(written) else {
-        return Err(RowFault::BadRow);
+        return Err(RowError::BadRow);
     };
     for _ in 0..times {
         add(text, once)?;
@@ -54,7 +54,7 @@ fn add_repeated(text: &mut String, written: &str) -> Result<(), RowFault> {
 }
 
 /// Adds what is written.
-fn add_all(text: &mut String, written: &str) -> Result<(), RowFault> {
+fn add_all(text: &mut String, written: &str) -> Result<(), RowError> {
     let mut parts = written.split("\\(");
     if let Some(first) = parts.next() {
         add(text, first)?;
@@ -66,14 +66,14 @@ fn add_all(text: &mut String, written: &str) -> Result<(), RowFault> {
 }
 
 /// The text that is written so.
-pub fn unescaped(alloc: Global, written: &str) -> Result<String, RowFault> {
+pub fn unescaped(alloc: Global, written: &str) -> Result<String, RowError> {
     let mut text = String::new(alloc);
     add_all(&mut text, written)?;
     Ok(text)
 }
 
 /// The texts that are written so, with spaces between them. `''` is an empty one.
-pub fn list(alloc: Global, written: &str) -> Result<Vec<String>, RowFault> {
+pub fn list(alloc: Global, written: &str) -> Result<Vec<String>, RowError> {
     let mut list = Vec::new(alloc);
     for word in written.split_whitespace() {
         let word = if word == "''" { "" } else { word };

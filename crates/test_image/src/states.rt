@@ -7,12 +7,12 @@
 //!   `strict`. What is shown is the state; with `tree rc1;e`, the launch of a shell that is to run
 //!   this; with `entries`, the entries of that state.
 
-use crate::fault::RowFault;
+use crate::fault::RowError;
 use crate::images::tree_of;
 use crate::options::{all, cut, first, has};
 use crate::rows::{list, unescaped};
 use rc_image::{
-    Handover, ImageFault, handed, read_env, read_image, read_state, write_env, write_tree,
+    Handover, ImageError, handed, read_env, read_image, read_state, write_env, write_tree,
 };
 use rc_scope::State;
 use rc_tree::Cmd;
@@ -22,7 +22,7 @@ use std::alloc::{AllocError, Global};
 const SHORT_TEXT: usize = 1_000;
 
 /// Adds the image of a tree after its name.
-fn add_tree(alloc: Global, out: &mut String, name: &str, tree: &Cmd) -> Result<(), RowFault> {
+fn add_tree(alloc: Global, out: &mut String, name: &str, tree: &Cmd) -> Result<(), RowError> {
     let image = write_tree(alloc, tree)?;
     Ok(write!(out, "{name} {image:?}\n")?)
 }
@@ -37,7 +37,7 @@ fn add_values(out: &mut String, state: &State) -> Result<(), AllocError> {
 }
 
 /// Adds a state.
-fn add_state(alloc: Global, out: &mut String, state: &State) -> Result<(), RowFault> {
+fn add_state(alloc: Global, out: &mut String, state: &State) -> Result<(), RowError> {
     add_values(out, state)?;
     if !state.has_functions() {
         return Ok(());
@@ -56,7 +56,7 @@ fn begun_with(
     is_strict: bool,
     words: &[String],
     entries: &[String],
-) -> Result<Box<(Cmd, State)>, ImageFault> {
+) -> Result<Box<(Cmd, State)>, ImageError> {
     Ok(Box::new(alloc, read_image(alloc, is_strict, words, entries)?)?)
 }
 
@@ -66,7 +66,7 @@ fn begun_by_words(
     out: &mut String,
     options: &str,
     entries: &[String],
-) -> Result<(), RowFault> {
+) -> Result<(), RowError> {
     let words = all(alloc, options, "word")?;
     let begun = begun_with(alloc, has(options, "strict"), &words, entries)?;
     add_tree(alloc, out, "tree", &begun.0)?;
@@ -74,7 +74,7 @@ fn begun_by_words(
 }
 
 /// Changes a state as an option says.
-fn change(alloc: Global, state: &mut State, option: &str) -> Result<(), RowFault> {
+fn change(alloc: Global, state: &mut State, option: &str) -> Result<(), RowError> {
     let (kind, said) = cut(option);
     let (name, members) = cut(said);
     match kind {
@@ -83,7 +83,7 @@ fn change(alloc: Global, state: &mut State, option: &str) -> Result<(), RowFault
         "unlocal" => state.pop_local(),
         "strict" => state.set_strict(true),
         "own" | "arg" | "entry" | "entries" | "tree" | "#" => {}
-        _ => return Err(RowFault::BadRow),
+        _ => return Err(RowError::BadRow),
     }
     Ok(())
 }
@@ -102,13 +102,13 @@ fn add_texts(out: &mut String, kind: &str, texts: &[String]) -> Result<(), Alloc
 }
 
 /// What a shell is handed that is to run the tree of an image.
-fn handed_of(alloc: Global, image: &str, state: &State) -> Result<Handover, ImageFault> {
+fn handed_of(alloc: Global, image: &str, state: &State) -> Result<Handover, ImageError> {
     let tree = tree_of(alloc, image)?;
     handed(alloc, &tree, state)
 }
 
 /// Adds the launch of a shell that is to run the tree of an image in a state.
-fn add_launch(alloc: Global, out: &mut String, image: &str, state: &State) -> Result<(), RowFault> {
+fn add_launch(alloc: Global, out: &mut String, image: &str, state: &State) -> Result<(), RowError> {
     let given = handed_of(alloc, image, state)?;
     add_texts(out, "arg", &given.args)?;
     Ok(add_texts(out, "entry", &given.entries)?)
@@ -120,7 +120,7 @@ fn add_answer(
     out: &mut String,
     options: &str,
     state: &State,
-) -> Result<(), RowFault> {
+) -> Result<(), RowError> {
     if let Some(image) = first(options, "tree") {
         return add_launch(alloc, out, &unescaped(alloc, image)?, state);
     }
@@ -136,7 +136,7 @@ fn add_changed(
     out: &mut String,
     options: &str,
     state: &mut State,
-) -> Result<(), RowFault> {
+) -> Result<(), RowError> {
     for option in options.lines() {
         change(alloc, state, option)?;
     }
@@ -150,7 +150,7 @@ fn begun_by_arguments(
     options: &str,
     args: &[String],
     entries: &[String],
-) -> Result<(), RowFault> {
+) -> Result<(), RowError> {
     let is_own = has(options, "own");
     let mut read = if args.is_empty() {
         read_env(alloc, entries, is_own)
@@ -159,12 +159,12 @@ fn begun_by_arguments(
     };
     match &mut read {
         Ok(state) => add_changed(alloc, out, options, state),
-        Err(fault) => Err(RowFault::from(*fault)),
+        Err(fault) => Err(RowError::from(*fault)),
     }
 }
 
 /// Adds what comes of a row.
-pub fn begun(alloc: Global, out: &mut String, options: &str) -> Result<(), RowFault> {
+pub fn begun(alloc: Global, out: &mut String, options: &str) -> Result<(), RowError> {
     let entries = all(alloc, options, "entry")?;
     if has(options, "image") {
         return begun_by_words(alloc, out, options, &entries);

@@ -7,17 +7,17 @@ mod children;
 mod runs;
 
 use anyhow::Result;
-use rc_cli::{RunFault, Source, report, request_of, run_rc};
-use rc_host::{ArgumentsFault, HostWorld, arguments, entries, open_standard, own_path};
+use rc_cli::{RunError, Source, report, request_of, run_rc};
+use rc_host::{ArgumentsFault, HostWorld, InputError, arguments, entries, open_standard, own_path};
 use runs::show_all;
 use std::fs;
 use std::process::ExitCode;
 
-fn shell<'a>(rt: HostRuntime, arguments: &'a [String]) -> Result<u8, RunFault<'a>> {
+fn shell<'a>(rt: HostRuntime, arguments: &'a [String]) -> Result<u8, RunError<'a>> {
     let Some(request) = request_of(arguments) else {
-        return Err(RunFault::Usage);
+        return Err(RunError::Usage);
     };
-    open_standard(&rt).map_err(|_| RunFault::CannotRead("standard input"))?;
+    open_standard(&rt).map_err(|_| RunError::CannotRead("standard input"))?;
     let shell = own_path(&rt)?;
     let entries = entries(&rt)?;
     let mut world = HostWorld::new(rt, shell);
@@ -41,8 +41,11 @@ fn shell<'a>(rt: HostRuntime, arguments: &'a [String]) -> Result<u8, RunFault<'a
 fn main(rt: HostRuntime) -> Result<ExitCode> {
     let arguments = match arguments(&rt) {
         Ok(arguments) => arguments,
-        Err(ArgumentsFault::NotText) => return Ok(report(&rt, Err(RunFault::Usage))),
-        Err(ArgumentsFault::NoMemory) => return Ok(report(&rt, Err(RunFault::NoMemory))),
+        Err(InputError::Fault(ArgumentsFault::NotText)) => return Ok(report(
+            &rt,
+            Err(RunError::Usage),
+        )),
+        Err(InputError::NoMemory) => return Ok(report(&rt, Err(RunError::NoMemory))),
     };
     match arguments.as_slice() {
         [] => {

@@ -2,7 +2,7 @@
 
 use crate::trees::{fault_line, tree_of};
 use anyhow::Result;
-use rc_tree::{Cmd, PrintFault, print};
+use rc_tree::{Cmd, InputError, PrintFault, print};
 use std::alloc::{AllocError, Global};
 use std::fs;
 
@@ -20,8 +20,8 @@ fn complaint_of_text(alloc: Global, tree: &Cmd) -> Result<Option<String>, AllocE
         Ok(text) if !is_read_back(alloc, text.as_str()) => {
             Ok(Some(String::from_str(alloc, "its text is not read back")?))
         }
-        Ok(_) | Err(PrintFault::HereInside) => Ok(None),
-        Err(PrintFault::NoMemory) => Err(AllocError),
+        Ok(_) | Err(InputError::Fault(PrintFault::HereInside)) => Ok(None),
+        Err(InputError::NoMemory) => Err(AllocError),
     }
 }
 

@@ -4,7 +4,7 @@ use crate::dump::dump;
 use crate::trees::{fault_line, refused, tree_of};
 use rc_lexer::{Token, lex};
 use rc_parser::InputError;
-use rc_tree::{Cmd, PrintFault, clone_tree, print};
+use rc_tree::{Cmd, clone_tree, print};
 use std::alloc::{AllocError, Global};
 use std::str;
 
@@ -86,8 +86,8 @@ fn text_of_copy(alloc: Global, tree: &Cmd) -> Result<String, AllocError> {
     let copy = copied(alloc, tree)?;
     match print(alloc, &copy) {
         Ok(text) => Ok(text),
-        Err(PrintFault::HereInside) => String::from_str(alloc, "a here document is inside"),
-        Err(PrintFault::NoMemory) => Err(AllocError),
+        Err(InputError::Fault(fault)) => format!(in alloc; "{fault}"),
+        Err(InputError::NoMemory) => Err(AllocError),
     }
 }
 

@@ -1,6 +1,6 @@
 //! A text in quotes, and lists that are joined, where memory is refused.
 
-use rc_text::{ConcatError, List, Word, concat, count, quote};
+use rc_text::{InputError, List, Word, concat, count, quote};
 use std::alloc::{AllocError, Global};
 use std::test::Fail;
 
@@ -27,7 +27,7 @@ fn joined(alloc: Global, left: &List, right: &List) -> Result<(usize, String), F
             let last = list.words().last().map_or("", |word| word.text());
             Ok((count(&list), String::from_str(alloc, last)?))
         }
-        Err(ConcatError::NoMemory) => Err(Fail::from(AllocError)),
+        Err(InputError::NoMemory) => Err(Fail::from(AllocError)),
         Err(_) => Err(Fail::from("lists that join")),
     }
 }

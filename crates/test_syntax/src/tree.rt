@@ -1,7 +1,7 @@
 //! The bounds of a well formed tree, and the text of a copy where memory is refused.
 
 use rc_parser::{ParseError, parse};
-use rc_tree::{Cmd, PrintFault, Stage, clone_tree, print, well_formed};
+use rc_tree::{Cmd, InputError, PrintFault, Stage, clone_tree, print, well_formed};
 use std::alloc::{AllocError, Global};
 use std::test::Fail;
 
@@ -60,8 +60,8 @@ fn out_of_memory_is_reported(rt: HostRuntime) -> Result<(), Fail> {
     let copy = Box::new(alloc, clone_tree(alloc, &made)?)?;
     match print(alloc, &copy) {
         Ok(text) => assert_eq!(rt; text.as_str(), "'it''s' x > f"),
-        Err(PrintFault::NoMemory) => return Err(Fail::from(AllocError)),
-        Err(PrintFault::HereInside) => panic!(rt; "no here document is inside"),
+        Err(InputError::NoMemory) => return Err(Fail::from(AllocError)),
+        Err(InputError::Fault(PrintFault::HereInside)) => panic!(rt; "no here document is inside"),
     }
     Ok(())
 }

@@ -1,6 +1,6 @@
 //! How the answers of calls are written.
 
-use crate::fault::RowFault;
+use crate::fault::RowError;
 use rc_world::{Answer, ChildNo, Ending, Fault, Handle, Kind};
 use std::alloc::{AllocError, Global};
 
@@ -16,7 +16,7 @@ pub struct Calls {
 
 impl Calls {
     /// The calls that are written so. The last may have no answer.
-    pub fn read(alloc: Global, written: &str) -> Result<Calls, RowFault> {
+    pub fn read(alloc: Global, written: &str) -> Result<Calls, RowError> {
         let mut calls = Calls {
             lines: String::new(alloc),
             answers: Vec::new(alloc),
@@ -28,7 +28,7 @@ impl Calls {
     }
 
     /// Adds the call of a line.
-    fn add(&mut self, alloc: Global, line: &str) -> Result<(), RowFault> {
+    fn add(&mut self, alloc: Global, line: &str) -> Result<(), RowError> {
         let (call, answered) = line.split_once(ARROW).unwrap_or((line, ""));
         self.lines.push_str(call)?;
         self.lines.push('\n')?;
@@ -49,7 +49,7 @@ impl Calls {
 }
 
 /// The answer that is written so.
-fn answer(alloc: Global, written: &str) -> Result<Answer, RowFault> {
+fn answer(alloc: Global, written: &str) -> Result<Answer, RowError> {
     let (kind, rest) = written.split_once(' ').unwrap_or((written, ""));
     match kind {
         "code" | "child" | "file" | "pipe" => numbered(kind, rest),
@@ -59,7 +59,7 @@ fn answer(alloc: Global, written: &str) -> Result<Answer, RowFault> {
 }
 
 /// The answer of this kind, which has nothing with it.
-fn plain(kind: &str) -> Result<Answer, RowFault> {
+fn plain(kind: &str) -> Result<Answer, RowError> {
     Ok(match kind {
         "done" => Answer::Done,
         "refused" => Answer::Refused(Fault::Denied),
@@ -67,12 +67,12 @@ fn plain(kind: &str) -> Result<Answer, RowFault> {
         "directory" => Answer::Found(Kind::Directory),
         "other" => Answer::Found(Kind::Other),
         "signal" => Answer::Ended(Ending::Signal),
-        _ => return Err(RowFault::BadRow),
+        _ => return Err(RowError::BadRow),
     })
 }
 
 /// The answer of this kind with its numbers.
-fn numbered(kind: &str, rest: &str) -> Result<Answer, RowFault> {
+fn numbered(kind: &str, rest: &str) -> Result<Answer, RowError> {
     Ok(match kind {
         "code" => Answer::Ended(Ending::Code(rest.parse::<u8>()?)),
         "child" => Answer::Child(ChildNo(rest.parse::<u32>()?)),
@@ -85,7 +85,7 @@ fn numbered(kind: &str, rest: &str) -> Result<Answer, RowFault> {
 }
 
 /// The answer of this kind with its names or its bytes.
-fn listed(alloc: Global, kind: &str, rest: &str) -> Result<Answer, RowFault> {
+fn listed(alloc: Global, kind: &str, rest: &str) -> Result<Answer, RowError> {
     Ok(match kind {
         "names" => Answer::Names(names(alloc, rest)?),
         "bytes" => Answer::Bytes(bytes(alloc, rest)?),
@@ -104,7 +104,7 @@ fn names(alloc: Global, text: &str) -> Result<Vec<String>, AllocError> {
 }
 
 /// The bytes whose numbers stand in a text.
-fn bytes(alloc: Global, numbers: &str) -> Result<Vec<u8>, RowFault> {
+fn bytes(alloc: Global, numbers: &str) -> Result<Vec<u8>, RowError> {
     let mut bytes = Vec::new(alloc);
     for number in numbers.split_whitespace() {
         bytes.push(number.parse::<u8>()?)?;
@@ -113,7 +113,7 @@ fn bytes(alloc: Global, numbers: &str) -> Result<Vec<u8>, RowFault> {
 }
 
 /// As many bytes 0 as a text says.
-fn zeros(alloc: Global, count: &str) -> Result<Vec<u8>, RowFault> {
+fn zeros(alloc: Global, count: &str) -> Result<Vec<u8>, RowError> {
     let count = count.parse::<usize>()?;
     Ok(vec![in alloc; 0; count]?)
 }

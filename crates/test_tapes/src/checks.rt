@@ -2,7 +2,7 @@
 //! the first of these calls, and the same in steps of one instruction.
 
 use crate::answers::Calls;
-use crate::fault::RowFault;
+use crate::fault::RowError;
 use crate::rows::Row;
 use crate::runs::{Stepped, run};
 use crate::story::Story;
@@ -42,7 +42,7 @@ fn said_unless_wanted(
 }
 
 /// What differs in a row.
-pub fn difference(alloc: Global, row: &Row<'_>) -> Result<Option<String>, RowFault> {
+pub fn difference(alloc: Global, row: &Row<'_>) -> Result<Option<String>, RowError> {
     let calls = Calls::read(alloc, row.calls.as_str())?;
     let difference = difference_of_run(alloc, row, &calls)?;
     if difference.is_some() || row.is_of_the_program() {
@@ -56,7 +56,7 @@ fn difference_of_run(
     alloc: Global,
     row: &Row<'_>,
     calls: &Calls,
-) -> Result<Option<String>, RowFault> {
+) -> Result<Option<String>, RowError> {
     let came = run(alloc, row, calls, row.limit)?;
     Ok(said_unless_wanted(alloc, "run", &came, calls, row)?)
 }
@@ -66,7 +66,7 @@ fn difference_of_parts(
     alloc: Global,
     row: &Row<'_>,
     calls: &Calls,
-) -> Result<Option<String>, RowFault> {
+) -> Result<Option<String>, RowError> {
     let difference = difference_in_steps(alloc, row, calls)?;
     if difference.is_some() || SHORT < row.script.len().max(row.calls.len()) {
         return Ok(difference);
@@ -84,7 +84,7 @@ fn difference_at_limits(
     alloc: Global,
     row: &Row<'_>,
     calls: &Calls,
-) -> Result<Option<String>, RowFault> {
+) -> Result<Option<String>, RowError> {
     for limit in 0..row.limit.min(MOST_LIMITS) {
         let came = run(alloc, row, calls, limit)?;
         if is_wanted(&came, calls, row) {
@@ -113,10 +113,10 @@ fn difference_in_steps(
     alloc: Global,
     row: &Row<'_>,
     calls: &Calls,
-) -> Result<Option<String>, RowFault> {
+) -> Result<Option<String>, RowError> {
     match Stepped::new(alloc, row, calls) {
         Ok(mut stepped) => difference_of_steps(alloc, row, calls, &mut stepped),
-        Err(RowFault::Refused) => Ok(None),
+        Err(RowError::Refused) => Ok(None),
         Err(fault) => Err(fault),
     }
 }
@@ -126,7 +126,7 @@ fn difference_of_steps(
     row: &Row<'_>,
     calls: &Calls,
     stepped: &mut Stepped,
-) -> Result<Option<String>, RowFault> {
+) -> Result<Option<String>, RowError> {
     let difference = stepped_on(alloc, "in steps", row.limit, row, calls, stepped)?;
     if difference.is_some() || row.end == "limit" {
         return Ok(difference);

@@ -1,14 +1,13 @@
 //! Why nothing comes of a row.
 
-use rc_image::ImageFault;
-use rc_model::{InputError, SyntaxFault};
+use rc_model::InputError;
 use rc_scope::SetError;
 use std::alloc::{AllocError, AllocFailed};
 use std::num::ParseIntError;
 
 /// Why nothing comes of a row.
 #[derive(Clone, Copy)]
-pub enum RowFault {
+pub enum RowError {
     /// The row is not written as it must be.
     BadRow,
     /// The script or the image of the row is refused.
@@ -16,47 +15,38 @@ pub enum RowFault {
     NoMemory,
 }
 
-impl From<AllocError> for RowFault {
+impl From<AllocError> for RowError {
     fn from(_: AllocError) -> Self {
-        RowFault::NoMemory
+        RowError::NoMemory
     }
 }
 
-impl<T: Drop> From<AllocFailed<T>> for RowFault {
+impl<T: Drop> From<AllocFailed<T>> for RowError {
     fn from(_: AllocFailed<T>) -> Self {
-        RowFault::NoMemory
+        RowError::NoMemory
     }
 }
 
-impl From<ParseIntError> for RowFault {
+impl From<ParseIntError> for RowError {
     fn from(_: ParseIntError) -> Self {
-        RowFault::BadRow
+        RowError::BadRow
     }
 }
 
-impl From<SetError> for RowFault {
+impl From<SetError> for RowError {
     fn from(error: SetError) -> Self {
         match error {
-            SetError::BadName => RowFault::BadRow,
-            SetError::NoMemory => RowFault::NoMemory,
+            SetError::BadName => RowError::BadRow,
+            SetError::NoMemory => RowError::NoMemory,
         }
     }
 }
 
-impl From<InputError<SyntaxFault>> for RowFault {
-    fn from(error: InputError<SyntaxFault>) -> Self {
+impl<F: Drop> From<InputError<F>> for RowError {
+    fn from(error: InputError<F>) -> Self {
         match error {
-            InputError::Fault(_) => RowFault::Refused,
-            InputError::NoMemory => RowFault::NoMemory,
-        }
-    }
-}
-
-impl From<ImageFault> for RowFault {
-    fn from(fault: ImageFault) -> Self {
-        match fault {
-            ImageFault::NoMemory => RowFault::NoMemory,
-            _ => RowFault::Refused,
+            InputError::Fault(_) => RowError::Refused,
+            InputError::NoMemory => RowError::NoMemory,
         }
     }
 }

@@ -12,7 +12,7 @@ mod story;
 
 use anyhow::Result;
 use checks::difference;
-use fault::RowFault;
+use fault::RowError;
 use rows::Row;
 use std::alloc::{AllocError, Global};
 use std::fs;
@@ -32,7 +32,7 @@ fn files(rt: &HostRuntime) -> Result<Vec<String>> {
 }
 
 /// What differs in the row that is written so, if it is one.
-fn difference_of(alloc: Global, written: &str) -> Result<Option<String>, RowFault> {
+fn difference_of(alloc: Global, written: &str) -> Result<Option<String>, RowError> {
     let row = Row::read(alloc, written)?;
     difference(alloc, &row)
 }
@@ -46,7 +46,7 @@ fn is_well(alloc: Global, out: &mut String, row: &str) -> Result<bool, AllocErro
             write!(out, "{name} differs, {difference}\n")?;
             return Ok(false);
         }
-        Err(RowFault::NoMemory) => return Err(AllocError),
+        Err(RowError::NoMemory) => return Err(AllocError),
         Err(_) => {
             write!(out, "{name} is no row\n")?;
             return Ok(false);

@@ -14,7 +14,7 @@
 //!
 //! Before the options `path` is `/bin`.
 
-use crate::fault::RowFault;
+use crate::fault::RowError;
 use rc_scope::State;
 use std::alloc::{AllocError, Global};
 
@@ -22,13 +22,13 @@ use std::alloc::{AllocError, Global};
 const LIMIT: u64 = 100_000;
 
 /// The state that the options give.
-pub fn set_up(alloc: Global, options: &str) -> Result<State, RowFault> {
+pub fn set_up(alloc: Global, options: &str) -> Result<State, RowError> {
     let mut state = State::new(alloc);
     set_all(alloc, &mut state, options)?;
     Ok(state)
 }
 
-fn set_all(alloc: Global, state: &mut State, options: &str) -> Result<(), RowFault> {
+fn set_all(alloc: Global, state: &mut State, options: &str) -> Result<(), RowError> {
     set(alloc, state, "path", "/bin")?;
     for option in options.lines() {
         change(alloc, state, option)?;
@@ -37,7 +37,7 @@ fn set_all(alloc: Global, state: &mut State, options: &str) -> Result<(), RowFau
 }
 
 /// Does to a state what an option says.
-fn change(alloc: Global, state: &mut State, option: &str) -> Result<(), RowFault> {
+fn change(alloc: Global, state: &mut State, option: &str) -> Result<(), RowError> {
     let (kind, rest) = option.split_once(' ').unwrap_or((option, ""));
     match kind {
         "args" => set(alloc, state, "*", rest),
@@ -51,12 +51,12 @@ fn change(alloc: Global, state: &mut State, option: &str) -> Result<(), RowFault
             Ok(())
         }
         "limit" | "repeat" | "image" | "entry" => Ok(()),
-        _ => Err(RowFault::BadRow),
+        _ => Err(RowError::BadRow),
     }
 }
 
 /// Sets a variable to the members that are written so.
-fn set(alloc: Global, state: &mut State, name: &str, written: &str) -> Result<(), RowFault> {
+fn set(alloc: Global, state: &mut State, name: &str, written: &str) -> Result<(), RowError> {
     let members = members(alloc, written)?;
     Ok(state.set(name, members)?)
 }
@@ -72,7 +72,7 @@ pub fn has(options: &str, wanted: &str) -> bool {
 }
 
 /// What the options of this kind give, each a text.
-pub fn texts(alloc: Global, options: &str, wanted: &str) -> Result<Vec<String>, RowFault> {
+pub fn texts(alloc: Global, options: &str, wanted: &str) -> Result<Vec<String>, RowError> {
     let mut texts = Vec::new(alloc);
     for option in options.lines() {
         let (kind, rest) = option.split_once(' ').unwrap_or((option, ""));
@@ -84,13 +84,13 @@ pub fn texts(alloc: Global, options: &str, wanted: &str) -> Result<Vec<String>, 
 }
 
 /// The text that is written so.
-fn text(alloc: Global, options: &str, written: &str) -> Result<String, RowFault> {
+fn text(alloc: Global, options: &str, written: &str) -> Result<String, RowError> {
     let text = unescaped(alloc, written)?;
     repeated(alloc, options, text.as_str())
 }
 
 /// How many instructions a run may have.
-pub fn limit(options: &str) -> Result<u64, RowFault> {
+pub fn limit(options: &str) -> Result<u64, RowError> {
     for option in options.lines() {
         if let Some(limit) = option.strip_prefix("limit ") {
             return Ok(limit.parse::<u64>()?);
@@ -100,7 +100,7 @@ pub fn limit(options: &str) -> Result<u64, RowFault> {
 }
 
 /// A text with what its marks stand for.
-pub fn repeated(alloc: Global, options: &str, text: &str) -> Result<String, RowFault> {
+pub fn repeated(alloc: Global, options: &str, text: &str) -> Result<String, RowError> {
     let mut repeated = String::from_str(alloc, text)?;
     for option in options.lines() {
         if let Some(repeat) = option.strip_prefix("repeat ") {
@@ -111,7 +111,7 @@ pub fn repeated(alloc: Global, options: &str, text: &str) -> Result<String, RowF
 }
 
 /// A text with what the mark of this repetition stands for.
-fn replaced(alloc: Global, text: &str, repeat: &str) -> Result<String, RowFault> {
+fn replaced(alloc: Global, text: &str, repeat: &str) -> Result<String, RowError> {
     let (mark, repeat) = repeat.split_once(' ').unwrap_or((repeat, ""));
     let (times, once) = repeat.split_once(' ').unwrap_or((repeat, ""));
     let times = times.parse::<usize>()?;

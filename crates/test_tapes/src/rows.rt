@@ -12,7 +12,7 @@
 //!
 //! Lines that begin with `#` may stand before a row, and empty lines after it.
 
-use crate::fault::RowFault;
+use crate::fault::RowError;
 use crate::input::Input;
 use crate::options::{has, limit, repeated, set_up, texts};
 use rc_scope::State;
@@ -47,9 +47,9 @@ pub struct Given {
 
 impl<'a> Row<'a> {
     /// The row that is written so, from the line after its name on.
-    pub fn read(alloc: Global, written: &'a str) -> Result<Row<'a>, RowFault> {
+    pub fn read(alloc: Global, written: &'a str) -> Result<Row<'a>, RowError> {
         let Some((options, script, calls, end)) = parts(written) else {
-            return Err(RowFault::BadRow);
+            return Err(RowError::BadRow);
         };
         let limit = limit(options)?;
         let script = repeated(alloc, options, script)?;
@@ -64,12 +64,12 @@ impl<'a> Row<'a> {
     }
 
     /// The state before the run.
-    pub fn state(&self, alloc: Global) -> Result<State, RowFault> {
+    pub fn state(&self, alloc: Global) -> Result<State, RowError> {
         set_up(alloc, self.options)
     }
 
     /// What a shell is handed, where this is no script.
-    pub fn handed(&self, alloc: Global) -> Result<Option<Handed>, RowFault> {
+    pub fn handed(&self, alloc: Global) -> Result<Option<Handed>, RowError> {
         if !has(self.options, "image") {
             return Ok(None);
         }
@@ -88,7 +88,7 @@ impl<'a> Row<'a> {
     }
 
     /// What the program is given.
-    pub fn given(&self, alloc: Global) -> Result<Given, RowFault> {
+    pub fn given(&self, alloc: Global) -> Result<Given, RowError> {
         let words = texts(alloc, self.options, "word")?;
         let entries = texts(alloc, self.options, "entry")?;
         Ok(Given { words, entries })

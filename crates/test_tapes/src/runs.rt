@@ -1,12 +1,12 @@
 //! The runs of a row.
 
 use crate::answers::Calls;
-use crate::fault::RowFault;
+use crate::fault::RowError;
 use crate::rows::{Handed, Row};
 use crate::story::{End, Story};
 use rc_cli::run_rc;
 use rc_code::{Code, compile};
-use rc_image::{ImageFault, read_image};
+use rc_image::{ImageError, read_image};
 use rc_machine::{Machine, Progress};
 use rc_parser::{ParseError, parse};
 use rc_scope::State;
@@ -16,7 +16,7 @@ use rc_world::Tape;
 use std::alloc::{AllocError, Global};
 
 /// What comes of a row with at most this many instructions.
-pub fn run(alloc: Global, row: &Row<'_>, calls: &Calls, limit: u64) -> Result<Story, RowFault> {
+pub fn run(alloc: Global, row: &Row<'_>, calls: &Calls, limit: u64) -> Result<Story, RowError> {
     let mut tape = Tape::new(calls.answers(alloc)?);
     if row.is_of_the_program() {
         run_program(alloc, row, &mut tape)
@@ -32,7 +32,7 @@ fn run_script(
     row: &Row<'_>,
     tape: &mut Tape,
     limit: u64,
-) -> Result<Story, RowFault> {
+) -> Result<Story, RowError> {
     let state = row.state(alloc)?;
     let ran = execute(alloc, tape, row.script.as_bytes(), state, limit);
     Ok(story(alloc, tape, &ran)?)
@@ -63,7 +63,7 @@ fn story(alloc: Global, tape: &Tape, ran: &Result<Ran, ShellFault>) -> Result<St
 }
 
 /// What comes of a run of the program.
-fn run_program(alloc: Global, row: &Row<'_>, tape: &mut Tape) -> Result<Story, RowFault> {
+fn run_program(alloc: Global, row: &Row<'_>, tape: &mut Tape) -> Result<Story, RowError> {
     let given = row.given(alloc)?;
     let end = match run_rc(alloc, tape, &given.words, &given.entries, row.input()) {
         Ok(number) => End::Number(number),
@@ -78,20 +78,20 @@ fn tree_of(alloc: Global, script: &[u8]) -> Result<Box<Cmd>, ParseError> {
 }
 
 /// The code of a script.
-fn code_of(alloc: Global, script: &[u8]) -> Result<Code, RowFault> {
+fn code_of(alloc: Global, script: &[u8]) -> Result<Code, RowError> {
     let tree = tree_of(alloc, script)?;
     Ok(compile(alloc, &tree)?)
 }
 
 /// The machine of a row before its first instruction.
-fn machine_of_script(alloc: Global, row: &Row<'_>) -> Result<Box<Machine>, RowFault> {
+fn machine_of_script(alloc: Global, row: &Row<'_>) -> Result<Box<Machine>, RowError> {
     let code = code_of(alloc, row.script.as_bytes())?;
     let state = row.state(alloc)?;
     Ok(Box::new(alloc, Machine::new(alloc, code, state))?)
 }
 
 /// The tree and the state of an image, in a box.
-fn image_of(alloc: Global, handed: &Handed) -> Result<Box<(Cmd, State)>, ImageFault> {
+fn image_of(alloc: Global, handed: &Handed) -> Result<Box<(Cmd, State)>, ImageError> {
     let (words, entries) = (&handed.words, &handed.entries);
     Ok(Box::new(alloc, read_image(alloc, handed.is_strict, words, entries)?)?)
 }
@@ -103,7 +103,7 @@ fn started(alloc: Global, code: Code, image: Box<(Cmd, State)>) -> Machine {
 }
 
 /// The machine of an image before its first instruction.
-fn machine_of_image(alloc: Global, handed: &Handed) -> Result<Box<Machine>, RowFault> {
+fn machine_of_image(alloc: Global, handed: &Handed) -> Result<Box<Machine>, RowError> {
     let image = image_of(alloc, handed)?;
     let code = compile(alloc, &image.0)?;
     Ok(Box::new(alloc, started(alloc, code, image))?)
@@ -119,7 +119,7 @@ pub struct Stepped {
 
 impl Stepped {
     /// The machine of a row before its first instruction, unless its script or image is refused.
-    pub fn new(alloc: Global, row: &Row<'_>, calls: &Calls) -> Result<Stepped, RowFault> {
+    pub fn new(alloc: Global, row: &Row<'_>, calls: &Calls) -> Result<Stepped, RowError> {
         let answers = calls.answers(alloc)?;
         let machine = match row.handed(alloc)? {
             None => machine_of_script(alloc, row)?,

@@ -1,6 +1,6 @@
 //! What a run did: its calls, each on a line, and how it ended.
 
-use rc_cli::RunFault;
+use rc_cli::RunError;
 use rc_image::ImageFault;
 use rc_model::SyntaxFault;
 use rc_scope::State;
@@ -19,7 +19,7 @@ pub enum End<'a> {
     /// The program ended with this number.
     Number(u8),
     /// The program ended with the line of this fault.
-    Fault(RunFault<'a>),
+    Fault(RunError<'a>),
 }
 
 /// What a run did.

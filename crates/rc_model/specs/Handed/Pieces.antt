@@ -3,14 +3,15 @@ use Rattle.std.specs.Prelude.{◌≢◌, ℕ, zero, suc, ◌≤◌, ◌<◌, nat
 use Rattle.std.specs.Prelude.{◌≡◌, Bool, true, ◌&&◌, ◌||◌, if◌then◌else◌, codes, Option, Some, None, option_map}
 use Rattle.std.specs.Str.{IsCharBoundary}
 use Rattle.std.specs.Fmt.{decimal}
+use Rattle.rc_model.specs.declared.limits.TheConstants.{LONGEST_ARGUMENT, MOST_PIECES}
 
 -- the most bytes that a word of a launch has
 abbrev pub longest_word : ℕ
-longest_word = 100000
+longest_word = LONGEST_ARGUMENT
 
 -- the most pieces that an image has
 abbrev pub most_pieces : ℕ
-most_pieces = 16
+most_pieces = MOST_PIECES
 
 -- ** the rule
 

@@ -9,14 +9,9 @@ use Rattle.rc_model.specs.Syntax.Tree.{more, And, Or}
 use Rattle.rc_model.specs.Syntax.Tree as t
 use Rattle.rc_model.specs.Syntax.WellFormed.{has_text}
 use Rattle.rc_model.specs.Handed.TreeSpelling.{is_numeral, is_text}
-
--- what can be wrong with the spelling of a tree
-pub data ImageFault : Type 0 where
-  BadTag : ImageFault
-  BadLength : ImageFault
-  Trailing : ImageFault
-  TooDeep : ImageFault
-  Version : ImageFault
+pub use Rattle.rc_model.specs.declared.fault.ImageFault.{ImageFault}
+pub use Rattle.rc_model.specs.declared.fault.ImageFault.TheVariants.{BadTag, BadLength, Trailing, TooDeep, Version}
+use Rattle.rc_model.specs.declared.limits.TheConstants.{MOST_LEVELS, MOST_STAGES}
 
 -- what stands at the front of a text, and what stands after it
 abbrev pub Reader : Type 0 → Type 0
@@ -132,7 +127,7 @@ several k n = need k (nat_lt 1 n)
 
 -- a list has 1 to 63 nodes
 abbrev pub few : Bool → ℕ → Bool
-few k n = need k (nat_lt 0 n && nat_lt n 64)
+few k n = need k (nat_lt 0 n && nat_lt n MOST_STAGES)
 
 -- an item of a sequence, by its mark, given the reader of commands
 abbrev pub item_rows : Reader (Node cmd) → List (ℕ × Reader (Node item))
@@ -254,7 +249,7 @@ beginning_fault text =
 
 -- the tree of a spelling
 abbrev pub read_spelling : List ℕ → Result (Node cmd) ImageFault
-read_spelling text = whole (cmd_at true 200 text)
+read_spelling text = whole (cmd_at true MOST_LEVELS text)
 
 -- the tree of a text
 abbrev pub read_tree : List ℕ → Result (Node cmd) ImageFault

@@ -12,16 +12,18 @@ use Rattle.rc_model.specs.Syntax.Grammar.{begins_redir, begins_command, begins_l
 use Rattle.rc_model.specs.Syntax.Grammar.{ends}
 use Rattle.rc_model.specs.Syntax.Grammar.{past_newlines, past_caret, redirect}
 use Rattle.rc_model.specs.Syntax.Grammar.{and_or, is_if}
-pub use Rattle.rc_model.specs.Mirrors.DescentParts.{Fault, Unexpected, IfNot, TooDeep, TooManyStages, Read, Reader}
-pub use Rattle.rc_model.specs.Mirrors.DescentParts.{◌>>=◌, Nested, a_name, a_part, an_operand, a_piped, a_command}
-pub use Rattle.rc_model.specs.Mirrors.DescentParts.{a_list, Inner, Readers, parts_turn, members_turn, closed_by_brace}
-pub use Rattle.rc_model.specs.Mirrors.DescentParts.{closed_by_paren, value_by, branches_turn, defined_by}
+pub use Rattle.rc_model.specs.Mirrors.DescentParts.{DescentFault, Unexpected, IfNot, TooDeep, TooManyStages, Read}
+pub use Rattle.rc_model.specs.Mirrors.DescentParts.{Reader, ◌>>=◌, Nested, a_name, a_part, an_operand, a_piped}
+pub use Rattle.rc_model.specs.Mirrors.DescentParts.{a_command, a_list, Inner, Readers, parts_turn}
+pub use Rattle.rc_model.specs.Mirrors.DescentParts.{members_turn, closed_by_brace, closed_by_paren, value_by}
+pub use Rattle.rc_model.specs.Mirrors.DescentParts.{branches_turn, defined_by}
 unfoldable pub use Rattle.rc_model.specs.Mirrors.DescentParts.{name_by, parts_from, parts_by, arg_by, members_from}
 unfoldable pub use Rattle.rc_model.specs.Mirrors.DescentParts.{members_by, words_from, words_by, redir_by}
 unfoldable pub use Rattle.rc_model.specs.Mirrors.DescentParts.{redirs_from, redirs_by, simple_from, simple_by}
 unfoldable pub use Rattle.rc_model.specs.Mirrors.DescentParts.{brace_by, paren_by, dollar_by, part_by, branch_by}
 unfoldable pub use Rattle.rc_model.specs.Mirrors.DescentParts.{branches_from, branches_by, switch_by, match_by}
 unfoldable pub use Rattle.rc_model.specs.Mirrors.DescentParts.{define_by, block_by}
+use Rattle.rc_model.specs.declared.limits.TheConstants.{MOST_LEVELS, MOST_STAGES}
 
 -- a stage of a pipeline, or the name of an assignment with the `=` after it
 pub data Opening : Type 0 where
@@ -157,7 +159,7 @@ pipeline_of (more s ss) last = t.Pipeline (more s ss) last
 abbrev pub pipe_turn : Readers → (Many t.stage → Node t.cmd → Reader (Node t.cmd)) → Many t.stage → Node t.cmd →
     Reader (Node t.cmd)
 pipe_turn deeper go_on stages last (Bar slot ∷ ts) =
-    if nat_lt (count stages) 63 then (deeper a_piped (past_newlines ts) >>= λ p.
+    if nat_lt (suc (count stages)) MOST_STAGES then (deeper a_piped (past_newlines ts) >>= λ p.
     (if p.0.1 then go_on (snoc stages (t.Stage last slot)) p.0.0 p.1
     else Ok (pipeline_of (snoc stages (t.Stage last slot)) p.0.0, p.1)))
     else Err TooManyStages
@@ -288,11 +290,11 @@ read zero n ts = Err TooDeep
 read (suc left) n ts = read_by (λ m u. read left m u) n ts
 
 -- a list is a script where no token is left and it isn't too deep
-abbrev pub whole : Read (Many t.item) → Result (Node t.cmd) Fault
-whole (Ok (is, [])) = if nat_le (depth (t.Seq is)) 200 then Ok (t.Seq is) else Err TooDeep
+abbrev pub whole : Read (Many t.item) → Result (Node t.cmd) DescentFault
+whole (Ok (is, [])) = if nat_le (depth (t.Seq is)) MOST_LEVELS then Ok (t.Seq is) else Err TooDeep
 whole (Ok _) = Err Unexpected
 whole (Err e) = Err e
 
 -- the tree of a script, or why it has none; reading goes at most a given number of levels deep
-unfoldable pub script_tree : ℕ → List Lexeme → Result (Node t.cmd) Fault
+unfoldable pub script_tree : ℕ → List Lexeme → Result (Node t.cmd) DescentFault
 script_tree levels ts = whole (read levels (a_list false) ts)

@@ -12,19 +12,12 @@ use Rattle.rc_model.specs.Syntax.Grammar.{is_case}
 use Rattle.rc_model.specs.Syntax.Grammar.{begins_arg, begins_redir, begins_brace}
 use Rattle.rc_model.specs.Syntax.Grammar.{ends_case}
 use Rattle.rc_model.specs.Syntax.Grammar.{past_newlines, past_blanks, past_caret, after_caret, concat_of, redirect}
-
--- why tokens aren't read to their end
-pub data Fault : Type 0 where
-  Unexpected : Fault
-  -- an `if not` that isn't after an `if`
-  IfNot : Fault
-  -- the tree has too many levels, or a pipeline in it too many stages
-  TooDeep : Fault
-  TooManyStages : Fault
+pub use Rattle.rc_model.specs.declared.fault.DescentFault.{DescentFault}
+pub use Rattle.rc_model.specs.declared.fault.DescentFault.TheVariants.{Unexpected, IfNot, TooDeep, TooManyStages}
 
 -- what was read, with the tokens after it
 abbrev pub Read : Type 0 → Type 0
-Read A = Result (A × List Lexeme) Fault
+Read A = Result (A × List Lexeme) DescentFault
 
 -- how something is read from the front of the tokens
 abbrev pub Reader : Type 0 → Type 0
@@ -32,7 +25,7 @@ Reader A = List Lexeme → Read A
 
 -- reading goes on with what was read, unless there was a fault
 infixl 10 ◌>>=◌
-abbrev pub ◌>>=◌ : {A B : Type 0} → Result A Fault → (A → Result B Fault) → Result B Fault
+abbrev pub ◌>>=◌ : {A B : Type 0} → Result A DescentFault → (A → Result B DescentFault) → Result B DescentFault
 (Ok x) >>= f = f x
 (Err e) >>= f = Err e
 

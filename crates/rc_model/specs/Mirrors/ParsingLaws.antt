@@ -11,6 +11,7 @@ use Rattle.rc_model.specs.Syntax.Accepted.{lexemes, longest_script, IsRefused}
 use Rattle.rc_model.specs.Syntax.Accepted as script
 use Rattle.rc_model.specs.Syntax.Grammar.{HaveTree, HaveAcceptedTree}
 use Rattle.rc_model.specs.Mirrors.Descent.{Unexpected, IfNot, TooDeep, TooManyStages, script_tree}
+use Rattle.rc_model.specs.declared.limits.TheConstants.{MOST_LEVELS, MOST_STAGES}
 
 -- what is found is the tree of an accepted script
 abbrev pub FindsOnlyTrees : Type 0
@@ -20,7 +21,7 @@ FindsOnlyTrees =
 -- each tree of an accepted script is found
 abbrev pub FindsEachTree : Type 0
 FindsEachTree =
-    (levels : ℕ) (ts : List Lexeme) (tree : Node t.cmd) → 200 ≤ levels → HaveAcceptedTree ts tree →
+    (levels : ℕ) (ts : List Lexeme) (tree : Node t.cmd) → MOST_LEVELS ≤ levels → HaveAcceptedTree ts tree →
     script_tree levels ts ≡ Ok tree
 
 -- an accepted script has no other tree
@@ -37,19 +38,19 @@ HasNoTree =
 abbrev pub HasTooManyStages : Type 0
 HasTooManyStages =
     (levels : ℕ) (ts : List Lexeme) (tree : Node t.cmd) → script_tree levels ts ≡ Err TooManyStages → HaveTree ts tree →
-    64 < most_stages tree
+    MOST_STAGES < most_stages tree
 
 -- and too many levels only where the tree has them
 abbrev pub IsTooDeep : Type 0
 IsTooDeep =
-    (levels : ℕ) (ts : List Lexeme) (tree : Node t.cmd) → 200 ≤ levels → script_tree levels ts ≡ Err TooDeep →
-    HaveTree ts tree → 200 < depth tree
+    (levels : ℕ) (ts : List Lexeme) (tree : Node t.cmd) → MOST_LEVELS ≤ levels → script_tree levels ts ≡ Err TooDeep →
+    HaveTree ts tree → MOST_LEVELS < depth tree
 
 -- a tree of spelled lexemes is sound, unless it has too many stages
 abbrev pub HasSoundTrees : Type 0
 HasSoundTrees =
-    (ts : List Lexeme) (tree : Node t.cmd) → AreSpelled ts → HaveTree ts tree → most_stages tree ≤ 64 → is_sound tree
-    ≡ true
+    (ts : List Lexeme) (tree : Node t.cmd) → AreSpelled ts → HaveTree ts tree → most_stages tree ≤ MOST_STAGES →
+    is_sound tree ≡ true
 
 -- each tree of a text that is well formed and has no here document is that of its print, where that isn't too long
 abbrev pub RoundTrip : Type 0

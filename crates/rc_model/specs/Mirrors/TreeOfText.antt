@@ -5,17 +5,18 @@ use Rattle.rc_model.specs.Syntax.Tokens.{Token}
 use Rattle.rc_model.specs.Syntax.Faults.{SyntaxFault}
 use Rattle.rc_model.specs.Mirrors.Reading.{lexed}
 use Rattle.rc_model.specs.Syntax.Tree.{Node, cmd}
-use Rattle.rc_model.specs.Mirrors.Descent.{Fault, script_tree}
+use Rattle.rc_model.specs.Mirrors.Descent.{DescentFault, script_tree}
 use Rattle.rc_model.specs.Syntax.Accepted.{IsAccepted, lexemes, longest_script}
+use Rattle.rc_model.specs.declared.limits.TheConstants.{MOST_LEVELS}
 
 -- the tree that was found
-abbrev pub found : Result (Node cmd) Fault → Option (Node cmd)
+abbrev pub found : Result (Node cmd) DescentFault → Option (Node cmd)
 found (Ok tree) = Some tree
 found (Err e) = None
 
 -- the tree of these tokens, where they are accepted
 abbrev pub tree_of_tokens : Result (List Token) SyntaxFault → Option (Node cmd)
-tree_of_tokens (Ok tokens) = found (script_tree 200 (lexemes tokens))
+tree_of_tokens (Ok tokens) = found (script_tree MOST_LEVELS (lexemes tokens))
 tree_of_tokens (Err f) = None
 
 -- the tree of this script, where it is accepted

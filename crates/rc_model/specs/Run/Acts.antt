@@ -19,6 +19,7 @@ use Rattle.rc_model.specs.Handed.Image.{program_launch, shell_launch, is_fit}
 pub use Rattle.rc_model.specs.Run.Values.{set_status, report, fault, fails, closing, close_end, check, one_name}
 pub use Rattle.rc_model.specs.Run.Values.{variable, value, value_words, count_words, flat_words, selected_words}
 pub use Rattle.rc_model.specs.Run.Values.{joined_lists, concat_words, match_status, define_each}
+use Rattle.rc_model.specs.declared.limits.TheConstants.{LONGEST_OUTPUT, LONGEST_SCRIPT}
 
 -- ** redirections
 
@@ -277,11 +278,11 @@ reading (suc n) most h text = do
 
 -- the most bytes that a backquote gives
 unfoldable pub longest_output : ℕ
-longest_output = 16777216
+longest_output = LONGEST_OUTPUT
 
 -- the most bytes that a file of commands has
 unfoldable pub longest_file : ℕ
-longest_file = 1048576
+longest_file = LONGEST_SCRIPT
 
 -- reads an open file to its end, unless there are more bytes than this
 abbrev pub read_all : ℕ → ℕ → Shell Got

@@ -14,6 +14,8 @@ pub use Rattle.rc_model.specs.declared.call.Ending.TheVariants.{Code, Signal}
 pub use Rattle.rc_model.specs.declared.call.Fault.{Fault}
 pub use Rattle.rc_model.specs.declared.call.Fault.TheVariants.{NotFound, Denied, Exists, Broken, Full, Other, Halt}
 pub use Rattle.rc_model.specs.declared.call.Fault.TheVariants.{NoMemory}
+use Rattle.rc_model.specs.declared.limits.TheConstants.{LONGEST_READ}
+use Rattle.rc_model.specs.declared.call.TheConstants.{PLAIN_SLOTS}
 
 -- an open file in the place of a descriptor
 abbrev pub to_file : ℕ → Slot
@@ -21,7 +23,7 @@ to_file h = To (record { 0 = h })
 
 -- each descriptor is the shell's own
 abbrev pub plain : Slots
-plain = record { input = Own 0; output = Own 1; errors = Own 2 }
+plain = PLAIN_SLOTS
 
 -- what a descriptor stands for
 abbrev pub slot_of : Slots → ℕ → Slot
@@ -148,7 +150,7 @@ abbrev pub taken_as : Want → Answer → Answer
 taken_as WantsFile (file h) = file h
 taken_as WantsPair (pair r w) = pair r w
 taken_as WantsDone done = done
-taken_as WantsBytes (bytes b) = if nat_le (length b) 4096 then bytes b else refused Other
+taken_as WantsBytes (bytes b) = if nat_le (length b) LONGEST_READ then bytes b else refused Other
 taken_as WantsChild (child n) = child n
 taken_as WantsEnding (ended e) = ended e
 taken_as WantsNames (names ns) = names ns

@@ -1,15 +1,17 @@
 -- Lists of words and of texts: joining, selecting, splitting.
 use Rattle.std.specs.Prelude.{ℕ, zero, suc, ◌==◌, not, List, [], ◌∷◌, ◌++◌, map, length, take, drop, Option, Some, None}
-use Rattle.std.specs.Prelude.{Result, Ok, Err, if◌then◌else◌, filter}
+use Rattle.std.specs.Prelude.{Result, Ok, Err, if◌then◌else◌, filter, codes}
 use Rattle.std.specs.List.{list_any, flat_map, before_first, after_first, slice_split}
 use Rattle.std.specs.Str.{chars, encode_utf8_all}
 use Rattle.rc_model.specs.Syntax.Words.{Word}
 use Rattle.rc_model.specs.Run.Numbers.{number_of}
+pub use Rattle.rc_model.specs.declared.fault.ListFault.{ListFault}
+pub use Rattle.rc_model.specs.declared.fault.ListFault.TheVariants.{EmptyConcat, CountMismatch}
 
--- why lists can't be joined: exactly one is empty, or their counts differ
-pub data ListFault : Type 0 where
-  EmptyConcat : ListFault
-  CountMismatch : ListFault
+-- a fault of lists in words
+abbrev pub list_words : ListFault → List ℕ
+list_words EmptyConcat = codes "empty list in concatenation"
+list_words CountMismatch = codes "list lengths differ in concatenation"
 
 -- each word with the one in its place
 abbrev pub pairwise : List Word → List Word → List Word

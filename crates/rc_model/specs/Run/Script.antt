@@ -47,7 +47,7 @@ pub record Agrees (c : Node cmd) (s : State) (given : List Answer) : Type 0 wher
   -- with more turns nothing changes but a cut
   pub meaning_goes_on : (n k : ℕ) → n ≤ k → Within (script n c s given) (script k c s given)
 
--- What is recorded of a run of a script, by its trace.
+-- ** what is recorded of a run of a script, by its trace
 
 -- between two records of a world came a trace of which this holds
 abbrev pub Recorded : Option (List Event) → Option (List Event) → (List Event → Type 0) → Type 0

@@ -4,7 +4,7 @@ use Rattle.std.specs.Prelude.{if◌then◌else◌, Option, Some, None, codes, Re
 use Rattle.std.specs.Fmt.{decimal}
 use Rattle.rc_model.specs.Syntax.Text.{spaced}
 use Rattle.rc_model.specs.Syntax.Words.{Word, word_texts, plain_words}
-use Rattle.rc_model.specs.Run.Lists.{ListFault, EmptyConcat, CountMismatch, concatenated, selected}
+use Rattle.rc_model.specs.Run.Lists.{ListFault, list_words, concatenated, selected}
 use Rattle.rc_model.specs.Run.Patterns.{matched}
 use Rattle.rc_model.specs.Run.Calls.{Slots}
 use Rattle.rc_model.specs.Run.Calls.{close, write}
@@ -93,8 +93,7 @@ selected_words slots words subscripts = do
 -- the words of a concatenation, or the runtime error that it is
 abbrev pub joined_lists : Slots → Result (List Word) ListFault → Shell (List Word)
 joined_lists slots (Ok ws) = pure ws
-joined_lists slots (Err EmptyConcat) = fails slots (codes "empty list in concatenation")
-joined_lists slots (Err CountMismatch) = fails slots (codes "list lengths differ in concatenation")
+joined_lists slots (Err fault) = fails slots (list_words fault)
 
 -- `a^b`
 abbrev pub concat_words : Slots → List Word → List Word → Shell (List Word)

@@ -10,10 +10,11 @@ use Rattle.rc_model.specs.Syntax.Tree.{Node, cmd}
 use Rattle.rc_model.specs.Syntax.WellFormed.{depth, most_stages}
 use Rattle.rc_model.specs.Syntax.Grammar.{HaveTree}
 use Rattle.rc_model.specs.Syntax.Grammar as g
+use Rattle.rc_model.specs.declared.limits.TheConstants.{LONGEST_SCRIPT, MOST_LEVELS, MOST_STAGES}
 
 -- the most bytes that a script has
 abbrev pub longest_script : ℕ
-longest_script = 1048576
+longest_script = LONGEST_SCRIPT
 
 -- The script is short enough, it is text, and it is cut into these tokens.
 pub record HasTokens (script : List ℕ) (tokens : List Token) : Type 0 where
@@ -53,8 +54,8 @@ pub data IsRefused (script : List ℕ) : SyntaxFault → Type 0 where
       ((tree : Node cmd) → HaveTree (lexemes tokens) tree → ⊥) → IsRefused script (fault IfNot line)
   -- no tree but one that is too deep, and none but one with a pipeline of too many stages
   too_deep : (tokens : List Token) → HasTokens script tokens →
-      ((tree : Node cmd) → HaveTree (lexemes tokens) tree → 200 < depth tree) →
+      ((tree : Node cmd) → HaveTree (lexemes tokens) tree → MOST_LEVELS < depth tree) →
       IsRefused script (fault TooDeep 0)
   too_many_stages : (tokens : List Token) (line : ℕ) → HasTokens script tokens → IsLineOf script tokens line →
-      ((tree : Node cmd) → HaveTree (lexemes tokens) tree → 64 < most_stages tree) →
+      ((tree : Node cmd) → HaveTree (lexemes tokens) tree → MOST_STAGES < most_stages tree) →
       IsRefused script (fault TooManyStages line)

@@ -20,6 +20,7 @@ pub use Rattle.rc_model.specs.Syntax.Ahead.{begins_brace, begins_command, begins
 pub use Rattle.rc_model.specs.Syntax.Ahead.{begins_subscript, closes, ends, ends_case, past_newlines, past_blanks}
 pub use Rattle.rc_model.specs.Syntax.Ahead.{past_caret, after_caret, concat_of, redirect, stages_of, last_of}
 pub use Rattle.rc_model.specs.Syntax.Ahead.{pipeline, and_or, is_if}
+use Rattle.rc_model.specs.declared.limits.TheConstants.{MOST_LEVELS, MOST_STAGES}
 
 -- what a production describes
 pub data Level : Type 0 where
@@ -307,5 +308,5 @@ HaveTree ts tree = (is : Many t.item) × Phrase (items false false) ts is [] × 
 -- A script is accepted where it has a tree of at most 200 levels, with at most 64 stages in each pipeline.
 pub record HaveAcceptedTree (ts : List Lexeme) (tree : Node t.cmd) : Type 0 where
   pub script : HaveTree ts tree
-  pub shallow : depth tree ≤ 200
-  pub narrow : most_stages tree ≤ 64
+  pub shallow : depth tree ≤ MOST_LEVELS
+  pub narrow : most_stages tree ≤ MOST_STAGES

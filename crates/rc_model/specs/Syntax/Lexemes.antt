@@ -7,6 +7,10 @@ use Rattle.std.specs.List.{list_any}
 use Rattle.std.specs.Str.{bytes_eq}
 use Rattle.rc_model.specs.Run.Calls.{Mode, Read, Write, Append}
 use Rattle.rc_model.specs.Syntax.Text.{begins_with}
+use Rattle.rc_model.specs.declared.syntax.Place.{Place}
+use Rattle.rc_model.specs.declared.syntax.Class.{Class}
+use Rattle.rc_model.specs.declared.syntax.Class.TheVariants.{Operates, Blank, LineEnd, Hash, Quote, Backslash}
+use Rattle.rc_model.specs.declared.syntax.Class.TheVariants.{Ordinary}
 pub use Rattle.rc_model.specs.Syntax.Faults.{SyntaxFault, fault, OpenQuote, OpenHere, BadDescriptor, ZeroByte}
 
 -- what a token is
@@ -51,11 +55,6 @@ pub record Token : Type 0 where
   pub lexeme : Lexeme
   pub start : ℕ
   pub stop : ℕ
-  pub line : ℕ
-
--- the place of a character: how many bytes stand before it, and its line
-pub record Place : Type 0 where
-  pub byte : ℕ
   pub line : ℕ
 
 -- the place of the first character
@@ -103,16 +102,6 @@ goes_on cs [] = false
 goes_on cs (c ∷ rest) = begins_operator (cs ++ c ∷ [])
 
 -- what a character is outside of quotes and comments
-pub data Class : Type 0 where
-  Operates : Class
-  Blank : Class
-  LineEnd : Class
-  Hash : Class
-  Quote : Class
-  Backslash : Class
-  Ordinary : Class
-
--- the class of a character
 abbrev pub class_of : ℕ → Class
 class_of c =
     if begins_operator (c ∷ []) then Operates

@@ -1,8 +1,8 @@
 -- The text of a tree, and the trees that have none, since a here document is inside.
 use Rattle.std.specs.Prelude.{ℕ, Bool, true, false, not, ◌&&◌, ◌||◌, ◌==◌, if◌then◌else◌, List, [], ◌∷◌, ◌++◌, codes}
-use Rattle.std.specs.Prelude.{bytes_eq}
 use Rattle.std.specs.List.{flat_map}
 use Rattle.rc_model.specs.Run.Calls.{Mode, Read, Write, Append}
+use Rattle.rc_model.specs.Syntax.Ahead.{is_case}
 use Rattle.rc_model.specs.Syntax.Tokens.{quoted_text}
 use Rattle.rc_model.specs.Syntax.Tree.{Sort, Node, Many, none, more, is_empty, Logic, And, Or}
 use Rattle.rc_model.specs.Syntax.Tree as t
@@ -57,7 +57,7 @@ copying to from = if to == 2 then codes ">[2=1]" else codes ">[1=2]"
 abbrev mutual
   -- the text of an argument does
   pub begins_with_case : Node t.arg → Bool
-  begins_with_case (t.Lit text quoted) = not quoted && bytes_eq text (codes "case")
+  begins_with_case (t.Lit text quoted) = not quoted && is_case text
   begins_with_case (t.Concat parts) = begin_with_case parts
   begins_with_case _ = false
 

@@ -8,11 +8,16 @@ pub use Rattle.rc_model.specs.Syntax.Faults.{SyntaxFault, fault, OpenQuote, Open
 pub use Rattle.rc_model.specs.Syntax.Lexemes.{Lexeme, Word, Quoted, Semicolon, Ampersand, Newline, AndAnd, OrOr, Bar}
 pub use Rattle.rc_model.specs.Syntax.Lexemes.{Caret, FreeCaret, Equals, LeftParen, RightParen, LeftBrace, RightBrace}
 pub use Rattle.rc_model.specs.Syntax.Lexemes.{Backquote, Redirection, CopyTo, HereDoc, Dollar, DollarCount}
-pub use Rattle.rc_model.specs.Syntax.Lexemes.{DollarFlat, Name, Subscript, BareDollar, BareHere, Token, Place}
+pub use Rattle.rc_model.specs.Syntax.Lexemes.{DollarFlat, Name, Subscript, BareDollar, BareHere, Token}
 pub use Rattle.rc_model.specs.Syntax.Lexemes.{first_place, after_char, after_chars, token, operators, operator}
-pub use Rattle.rc_model.specs.Syntax.Lexemes.{begins_operator, goes_on, Class, Operates, Blank, LineEnd, Hash, Quote}
-pub use Rattle.rc_model.specs.Syntax.Lexemes.{Backslash, Ordinary, class_of, at_newline, is_in_word, word_goes_on}
+pub use Rattle.rc_model.specs.Syntax.Lexemes.{begins_operator, goes_on}
+pub use Rattle.rc_model.specs.Syntax.Lexemes.{class_of, at_newline, is_in_word, word_goes_on}
 pub use Rattle.rc_model.specs.Syntax.Lexemes.{is_name_char, name_goes_on, line_goes_on, names}
+use Rattle.rc_model.specs.declared.syntax.Place.{Place}
+use Rattle.rc_model.specs.declared.syntax.Previous.{Previous}
+use Rattle.rc_model.specs.declared.syntax.Class.{Class}
+use Rattle.rc_model.specs.declared.syntax.Previous.TheVariants as previous
+use Rattle.rc_model.specs.declared.syntax.Class.TheVariants as class
 
 -- the longest run of characters with which a text goes on, and what is after it
 pub data Run (more : List ℕ → Bool) : List ℕ → List ℕ → Type 0 where
@@ -25,7 +30,7 @@ pub data InQuotes : List ℕ → Type 0 where
   plain : (c : ℕ) (cs : List ℕ) → (c == 39) ≡ false → InQuotes cs → InQuotes (c ∷ cs)
   doubled : (cs : List ℕ) → InQuotes cs → InQuotes (39 ∷ 39 ∷ cs)
 
--- a text in quotes
+-- a text with each quote doubled
 abbrev pub doubled_quotes : List ℕ → List ℕ
 doubled_quotes [] = []
 doubled_quotes (b ∷ bs) = if b == 39 then 39 ∷ 39 ∷ doubled_quotes bs else b ∷ doubled_quotes bs
@@ -45,35 +50,24 @@ abbrev pub unquoted_text : List ℕ → List ℕ
 unquoted_text [] = []
 unquoted_text (q ∷ bs) = without_quotes false bs
 
--- What stands directly before a place: nothing that matters, an unquoted word, a quoted word, a name, a `$` with its
--- name still to come, or a `<<` between these places
--- with its mark still to come.
-pub data Before : Type 0 where
-  Apart : Before
-  WordBefore : Before
-  QuotedBefore : Before
-  NameBefore : Before
-  DollarBefore : Before
-  HereBefore : Place → Place → Before
-
 -- the mark of a here document is still to come
-abbrev pub awaits_mark : Before → Bool
-awaits_mark (HereBefore p q) = true
+abbrev pub awaits_mark : Previous → Bool
+awaits_mark (previous.Here p q) = true
 awaits_mark _ = false
 
 -- blanks may stand before a mark
-abbrev pub after_blank : Before → Before
-after_blank (HereBefore p q) = HereBefore p q
-after_blank _ = Apart
+abbrev pub after_blank : Previous → Previous
+after_blank (previous.Here p q) = previous.Here p q
+after_blank _ = previous.Apart
 
 -- the character begins a name
-abbrev pub begins_name : Before → ℕ → Bool
-begins_name DollarBefore c = is_name_char c
+abbrev pub begins_name : Previous → ℕ → Bool
+begins_name previous.Dollar c = is_name_char c
 begins_name _ c = false
 
 -- a `$` without a name is bare, and a `(` directly after a name is a subscript
-abbrev pub meant : Before → List ℕ → Lexeme → Lexeme
-meant NameBefore rest LeftParen = Subscript
+abbrev pub meant : Previous → List ℕ → Lexeme → Lexeme
+meant previous.Name rest LeftParen = Subscript
 meant prev rest Dollar = if names rest then Dollar else BareDollar
 meant prev rest DollarCount = if names rest then DollarCount else BareDollar
 meant prev rest DollarFlat = if names rest then DollarFlat else BareDollar
@@ -95,13 +89,13 @@ is_word (Word text) = true
 is_word _ = false
 
 -- a `^` is inserted before this lexeme
-abbrev pub joins : Before → Lexeme → Bool
-joins WordBefore l = begins_part l
-joins QuotedBefore l = begins_part l || is_word l
-joins NameBefore l = begins_part l || is_word l
-joins _ l = false
+abbrev pub wants_caret : Previous → Lexeme → Bool
+wants_caret previous.Word l = begins_part l
+wants_caret previous.Quoted l = begins_part l || is_word l
+wants_caret previous.Name l = begins_part l || is_word l
+wants_caret _ l = false
 
--- a word as the mark of a here document, whose body is still to come, and the text of the mark
+-- a word as the mark of a here document, whose body is still to come
 abbrev pub as_mark : Lexeme → Lexeme
 as_mark (Quoted text) = HereDoc true []
 as_mark _ = HereDoc false []
@@ -113,45 +107,45 @@ text_of (Quoted text) = text
 text_of _ = []
 
 -- a `^` where the lexeme wants one
-abbrev pub caret : Before → Lexeme → Place → List Token
-caret prev l p = if joins prev l then token FreeCaret p p ∷ [] else []
+abbrev pub caret : Previous → Lexeme → Place → List Token
+caret prev l p = if wants_caret prev l then token FreeCaret p p ∷ [] else []
 
 -- the tokens of a lexeme between two places
-abbrev pub tokens_of : Before → Lexeme → Place → Place → List Token
-tokens_of (HereBefore begin end) l p q = token (as_mark l) begin q ∷ []
+abbrev pub tokens_of : Previous → Lexeme → Place → Place → List Token
+tokens_of (previous.Here begin end) l p q = token (as_mark l) begin q ∷ []
 tokens_of prev l p q = caret prev l p ++ token l p q ∷ []
 
 -- what it is for what follows
-abbrev pub as_before : Before → Lexeme → Before
-as_before (HereBefore begin end) l = Apart
-as_before DollarBefore (Quoted text) = NameBefore
-as_before prev (Word text) = WordBefore
-as_before prev (Quoted text) = QuotedBefore
-as_before prev (Name text) = NameBefore
-as_before prev Dollar = DollarBefore
-as_before prev DollarCount = DollarBefore
-as_before prev DollarFlat = DollarBefore
-as_before prev _ = Apart
+abbrev pub after_token : Previous → Lexeme → Previous
+after_token (previous.Here begin end) l = previous.Apart
+after_token previous.Dollar (Quoted text) = previous.Name
+after_token prev (Word text) = previous.Word
+after_token prev (Quoted text) = previous.Quoted
+after_token prev (Name text) = previous.Name
+after_token prev Dollar = previous.Dollar
+after_token prev DollarCount = previous.Dollar
+after_token prev DollarFlat = previous.Dollar
+after_token prev _ = previous.Apart
 
 -- a here document whose body is still to come: the text of its mark, and the line of its `<<`
-pub record Due : Type 0 where
+pub record PendingHereDoc : Type 0 where
   pub mark : List ℕ
   pub line : ℕ
 
--- a mark makes a here document due
-abbrev pub due_after : Before → Lexeme → List Due → List Due
-due_after (HereBefore begin end) l due = due ++ record { mark = text_of l; line = begin.line } ∷ []
-due_after prev l due = due
+-- the here documents that are pending: a mark adds one
+abbrev pub pending_after : Previous → Lexeme → List PendingHereDoc → List PendingHereDoc
+pending_after (previous.Here begin end) l due = due ++ record { mark = text_of l; line = begin.line } ∷ []
+pending_after prev l due = due
 
 -- The characters are this lexeme, where that stands before them and this after.
-pub data Spells : Before → List ℕ → List ℕ → Lexeme → Type 0 where
-  word : (prev : Before) (c : ℕ) (cs rest : List ℕ) → begins_name prev c ≡ false → Run word_goes_on (c ∷ cs) rest →
+pub data Spells : Previous → List ℕ → List ℕ → Lexeme → Type 0 where
+  word : (prev : Previous) (c : ℕ) (cs rest : List ℕ) → begins_name prev c ≡ false → Run word_goes_on (c ∷ cs) rest →
       Spells prev (c ∷ cs) rest (Word (encode_utf8_all (c ∷ cs)))
   name : (c : ℕ) (cs rest : List ℕ) → Run name_goes_on (c ∷ cs) rest →
-      Spells DollarBefore (c ∷ cs) rest (Name (encode_utf8_all (c ∷ cs)))
-  quoted : (prev : Before) (cs rest : List ℕ) → InQuotes cs → begins_with (39 ∷ []) rest ≡ false →
+      Spells previous.Dollar (c ∷ cs) rest (Name (encode_utf8_all (c ∷ cs)))
+  quoted : (prev : Previous) (cs rest : List ℕ) → InQuotes cs → begins_with (39 ∷ []) rest ≡ false →
       Spells prev (39 ∷ cs ++ 39 ∷ []) rest (Quoted (unquoted_text (encode_utf8_all (39 ∷ cs ++ 39 ∷ []))))
-  operated : (prev : Before) (cs rest : List ℕ) (l : Lexeme) → awaits_mark prev ≡ false → operator cs ≡ Some l →
+  operated : (prev : Previous) (cs rest : List ℕ) (l : Lexeme) → awaits_mark prev ≡ false → operator cs ≡ Some l →
       l ≢ BareHere → goes_on cs rest ≡ false →
       Spells prev cs rest (meant prev rest l)
 
@@ -174,16 +168,18 @@ pub data NoBody (mark : List ℕ) : List ℕ → Type 0 where
       NoBody mark (line ++ 10 ∷ rest)
 
 -- The text begins with the bodies of these here documents and their ends, one after the other.
-pub data Bodies : List Due → List ℕ → List ℕ → List (List ℕ) → Type 0 where
+pub data Bodies : List PendingHereDoc → List ℕ → List ℕ → List (List ℕ) → Type 0 where
   all : (rest : List ℕ) → Bodies [] [] rest []
-  one : (d : Due) (due : List Due) (body end cs rest : List ℕ) (bodies : List (List ℕ)) →
+  one : (d : PendingHereDoc) (due : List PendingHereDoc) (body end cs rest : List ℕ) (bodies : List (List ℕ)) →
       Body d.mark body end (cs ++ rest) → Bodies due cs rest bodies →
       Bodies (d ∷ due) (body ++ end ++ cs) rest (encode_utf8_all body ∷ bodies)
 
 -- One of the bodies has no end: the first such here document begins at this line.
-pub data OpenBody : List Due → List ℕ → ℕ → Type 0 where
-  first : (d : Due) (due : List Due) (text : List ℕ) → NoBody d.mark text → OpenBody (d ∷ due) text d.line
-  later : (d : Due) (due : List Due) (body end text : List ℕ) (line : ℕ) → Body d.mark body end text →
+pub data OpenBody : List PendingHereDoc → List ℕ → ℕ → Type 0 where
+  first : (d : PendingHereDoc) (due : List PendingHereDoc) (text : List ℕ) → NoBody d.mark text →
+      OpenBody (d ∷ due) text d.line
+  later : (d : PendingHereDoc) (due : List PendingHereDoc) (body end text : List ℕ) (line : ℕ) →
+      Body d.mark body end text →
       OpenBody due text line →
       OpenBody (d ∷ due) (body ++ end ++ text) line
 
@@ -198,10 +194,10 @@ join ts bodies (Err f) = Err f
 
 -- a mark stands here, perhaps after blanks
 abbrev pub is_mark : Class → Bool
-is_mark Blank = true
-is_mark Quote = true
-is_mark Backslash = true
-is_mark Ordinary = true
+is_mark class.Blank = true
+is_mark class.Quote = true
+is_mark class.Backslash = true
+is_mark class.Ordinary = true
 is_mark _ = false
 
 -- the text goes on with a mark
@@ -210,48 +206,57 @@ mark_goes_on [] = false
 mark_goes_on (c ∷ cs) = is_mark (class_of c)
 
 -- The text at this place, after that and with these here documents due, is cut into longest pieces with this outcome.
-pub data Cuts : Before → List Due → Place → List ℕ → Outcome → Type 0 where
+pub data Cuts : Previous → List PendingHereDoc → Place → List ℕ → Outcome → Type 0 where
   -- the end, with no body due, and with one
-  finish : (prev : Before) (p : Place) → awaits_mark prev ≡ false → Cuts prev [] p [] (Ok ([], []))
-  open_here : (prev : Before) (d : Due) (due : List Due) (p : Place) → awaits_mark prev ≡ false →
+  finish : (prev : Previous) (p : Place) → awaits_mark prev ≡ false → Cuts prev [] p [] (Ok ([], []))
+  open_here : (prev : Previous) (d : PendingHereDoc) (due : List PendingHereDoc) (p : Place) →
+      awaits_mark prev ≡ false →
       Cuts prev (d ∷ due) p [] (Err (fault OpenHere d.line))
   -- a blank, a newline after a backslash, and a comment
-  blank : (prev : Before) (due : List Due) (p : Place) (c : ℕ) (cs : List ℕ) (o : Outcome) → class_of c ≡ Blank →
+  blank : (prev : Previous) (due : List PendingHereDoc) (p : Place) (c : ℕ) (cs : List ℕ) (o : Outcome) →
+      class_of c ≡ class.Blank →
       Cuts (after_blank prev) due (after_char p c) cs o → Cuts prev due p (c ∷ cs) o
-  continued : (prev : Before) (due : List Due) (p : Place) (cs : List ℕ) (o : Outcome) →
+  continued : (prev : Previous) (due : List PendingHereDoc) (p : Place) (cs : List ℕ) (o : Outcome) →
       Cuts (after_blank prev) due (after_chars p (92 ∷ 10 ∷ [])) cs o → Cuts prev due p (92 ∷ 10 ∷ cs) o
-  comment : (prev : Before) (due : List Due) (p : Place) (cs rest : List ℕ) (o : Outcome) → awaits_mark prev ≡ false →
+  comment : (prev : Previous) (due : List PendingHereDoc) (p : Place) (cs rest : List ℕ) (o : Outcome) →
+      awaits_mark prev ≡ false →
       Run line_goes_on cs rest →
-      Cuts Apart due (after_chars p (35 ∷ cs)) rest o → Cuts prev due p (35 ∷ cs ++ rest) o
+      Cuts previous.Apart due (after_chars p (35 ∷ cs)) rest o → Cuts prev due p (35 ∷ cs ++ rest) o
   -- a word, a name, an operator
-  lexeme : (prev : Before) (due : List Due) (p : Place) (cs rest : List ℕ) (l : Lexeme) (o : Outcome) →
+  lexeme : (prev : Previous) (due : List PendingHereDoc) (p : Place) (cs rest : List ℕ) (l : Lexeme) (o : Outcome) →
       Spells prev cs rest l →
-      Cuts (as_before prev l) (due_after prev l due) (after_chars p cs) rest o →
+      Cuts (after_token prev l) (pending_after prev l due) (after_chars p cs) rest o →
       Cuts prev due p (cs ++ rest) (join (tokens_of prev l p (after_chars p cs)) [] o)
-  open_quote : (prev : Before) (due : List Due) (p : Place) (cs : List ℕ) → InQuotes cs →
+  open_quote : (prev : Previous) (due : List PendingHereDoc) (p : Place) (cs : List ℕ) → InQuotes cs →
       Cuts prev due p (39 ∷ cs) (Err (fault OpenQuote p.line))
-  bad_descriptor : (prev : Before) (due : List Due) (p : Place) (c : ℕ) (cs rest : List ℕ) → awaits_mark prev ≡ false →
+  bad_descriptor : (prev : Previous) (due : List PendingHereDoc) (p : Place) (c : ℕ) (cs rest : List ℕ) →
+      awaits_mark prev ≡ false →
       begins_operator (c ∷ cs) ≡ true →
       operator (c ∷ cs) ≡ None →
       goes_on (c ∷ cs) rest ≡ false → Cuts prev due p (c ∷ cs ++ rest) (Err (fault BadDescriptor p.line))
   -- a `<<`, and one without a mark
-  here : (prev : Before) (due : List Due) (p : Place) (cs rest : List ℕ) (o : Outcome) → awaits_mark prev ≡ false →
+  here : (prev : Previous) (due : List PendingHereDoc) (p : Place) (cs rest : List ℕ) (o : Outcome) →
+      awaits_mark prev ≡ false →
       operator cs ≡ Some BareHere →
       goes_on cs rest ≡ false →
-      Cuts (HereBefore p (after_chars p cs)) due (after_chars p cs) rest o → Cuts prev due p (cs ++ rest) o
-  no_mark : (begin end : Place) (due : List Due) (p : Place) (text : List ℕ) (o : Outcome) → mark_goes_on text ≡ false →
-      Cuts Apart due p text o → Cuts (HereBefore begin end) due p text (join (token BareHere begin end ∷ []) [] o)
+      Cuts (previous.Here p (after_chars p cs)) due (after_chars p cs) rest o → Cuts prev due p (cs ++ rest) o
+  no_mark : (begin end : Place) (due : List PendingHereDoc) (p : Place) (text : List ℕ) (o : Outcome) →
+      mark_goes_on text ≡ false →
+      Cuts previous.Apart due p text o →
+      Cuts (previous.Here begin end) due p text (join (token BareHere begin end ∷ []) [] o)
   -- a newline with the bodies that are due
-  newline : (prev : Before) (due : List Due) (p : Place) (cs rest : List ℕ) (bodies : List (List ℕ)) (o : Outcome) →
+  newline : (prev : Previous) (due : List PendingHereDoc) (p : Place) (cs rest : List ℕ) (bodies : List (List ℕ))
+      (o : Outcome) →
       awaits_mark prev ≡ false →
       Bodies due cs rest bodies →
-      Cuts Apart [] (after_chars p (10 ∷ cs)) rest o →
+      Cuts previous.Apart [] (after_chars p (10 ∷ cs)) rest o →
       Cuts prev due p (10 ∷ cs ++ rest) (join (token Newline p (after_char p 10) ∷ []) bodies o)
-  open_body : (prev : Before) (due : List Due) (p : Place) (rest : List ℕ) (line : ℕ) → awaits_mark prev ≡ false →
+  open_body : (prev : Previous) (due : List PendingHereDoc) (p : Place) (rest : List ℕ) (line : ℕ) →
+      awaits_mark prev ≡ false →
       OpenBody due rest line →
       Cuts prev due p (10 ∷ rest) (Err (fault OpenHere line))
 
--- each here document takes the next body
+-- a here document with its body
 abbrev pub with_body : Lexeme → List ℕ → Lexeme
 with_body (HereDoc is_quoted none_yet) body = HereDoc is_quoted body
 with_body l body = l
@@ -261,7 +266,7 @@ abbrev pub is_here : Lexeme → Bool
 is_here (HereDoc is_quoted body) = true
 is_here _ = false
 
--- the tokens with the bodies of their here documents
+-- the tokens with the bodies of their here documents: each takes the next one
 abbrev pub filled : List Token → List (List ℕ) → List Token
 filled [] bodies = []
 filled (t ∷ ts) [] = t ∷ ts
@@ -279,7 +284,7 @@ result_of (Err f) = Err f
 pub data Lexes (text : List ℕ) : Result (List Token) SyntaxFault → Type 0 where
   zero_byte : (cs rest : List ℕ) → chars text ≡ cs ++ 0 ∷ rest → without_zero cs ≡ true →
       Lexes text (Err (fault ZeroByte (after_chars first_place cs).line))
-  cut : (o : Outcome) → without_zero (chars text) ≡ true → Cuts Apart [] first_place (chars text) o →
+  cut : (o : Outcome) → without_zero (chars text) ≡ true → Cuts previous.Apart [] first_place (chars text) o →
       Lexes text (result_of o)
 
 -- this and nothing else comes of the text

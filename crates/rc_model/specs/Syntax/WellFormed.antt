@@ -4,6 +4,7 @@ use Rattle.rc_model.specs.Run.Calls.{Mode, Read, Write, Append}
 use Rattle.rc_model.specs.Syntax.Text.{without_zero}
 use Rattle.rc_model.specs.Syntax.Tree.{Sort, Node, Many, none, more, count}
 use Rattle.rc_model.specs.Syntax.Tree as t
+use Rattle.rc_model.specs.declared.limits.TheConstants.{MOST_LEVELS, MOST_STAGES}
 
 -- the greatest number of commands and arguments on one way from the root
 abbrev mutual
@@ -109,7 +110,7 @@ has_several ns = nat_lt 1 (count ns)
 
 -- a list of 1 to 63 stages
 abbrev pub has_stages : {s : Sort} → Many s → Bool
-has_stages ns = nat_lt 0 (count ns) && nat_lt (count ns) 64
+has_stages ns = nat_lt 0 (count ns) && nat_lt (count ns) MOST_STAGES
 
 -- the text isn't empty
 abbrev pub has_text : List ℕ → Bool
@@ -179,4 +180,4 @@ abbrev mutual
 
 -- a sound tree of depth at most 200
 abbrev pub well_formed : Node t.cmd → Bool
-well_formed c = is_sound c && nat_le (depth c) 200
+well_formed c = is_sound c && nat_le (depth c) MOST_LEVELS

@@ -1,11 +1,12 @@
-use Rattle.std.proofs.Common.{rules, ◌≡◌, ◌∷◌, ◌∙◌, Ok, Err, Some, ap}
+use Rattle.std.proofs.Common.{rules, ◌≡◌, ◌∷◌, ◌∙◌, sym, Ok, Err, Some, ap}
 use Rattle.rc_model.specs.Code.Machine.{goes, next}
-use Rattle.rc_model.specs.Run.Lists.{concatenated, EmptyConcat, CountMismatch}
+use Rattle.rc_model.specs.Run.Lists.{concatenated}
 use Rattle.rc_stack.specs.Lists.{two_of, below_two}
 use Rattle.law_plans.proofs.Runs.{ran_none}
 use Rattle.rc_world.proofs.Joins.{left_memory, ran_as}
 use Rattle.rc_configuration.specs.Configs.{config_of}
-use Rattle.rc_expressions.proofs.Acts.{concats, concats_empty, concats_other}
+use Rattle.rc_configuration.specs.Outcomes.{failed}
+use Rattle.rc_expressions.proofs.Acts.{concats, concats_not}
 use Rattle.rc_configuration.proofs.Left.{steps_as}
 use Rattle.rc_configuration.proofs.Stacks.{two_topped}
 use Rattle.rc_scope.specs.States.{state_of}
@@ -21,23 +22,14 @@ returns-in_ok-put-in-Ok g c =
     ran_as _ _ _ _ _ (concats (config_of m) a b (below_two m.words) (two_topped m.words a b two) c.in-Ok.joined joined ∙ (let e : c.in-Ok.joined ∷ below_two m.words ≡ c.put.new.self = search rules in ap (λ ws. goes (next (config_of m) ws (state_of m.state))) e))
     (ran_none _ _)
 
-pub returns-in-Err-EmptyConcat : goal.returns-in-Err-EmptyConcat
-returns-in-Err-EmptyConcat g c =
+pub returns-in-Err-Fault : goal.returns-in-Err-Fault
+returns-in-Err-Fault g c =
     let m = c.args.machine.now in
     let a = c.in-Some.first.now in
     let b = c.in-Some.second.now in
     let two : two_of m.words ≡ Some (a, b) = search rules in
-    let refused : concatenated a b ≡ Err EmptyConcat = search rules in
-    steps_as _ _ _ _ _ _ (concats_empty (config_of m) a b (below_two m.words) (two_topped m.words a b two) refused) c.fail.ensures
-
-pub returns-in-Err-CountMismatch : goal.returns-in-Err-CountMismatch
-returns-in-Err-CountMismatch g c =
-    let m = c.args.machine.now in
-    let a = c.in-Some.first.now in
-    let b = c.in-Some.second.now in
-    let two : two_of m.words ≡ Some (a, b) = search rules in
-    let refused : concatenated a b ≡ Err CountMismatch = search rules in
-    steps_as _ _ _ _ _ _ (concats_other (config_of m) a b (below_two m.words) (two_topped m.words a b two) refused) c.fail-in-Err-CountMismatch.ensures
+    let refused : concatenated a b ≡ Err c.in-Err-Fault.fault = search rules in
+    steps_as _ _ _ _ _ _ (concats_not (config_of m) a b (below_two m.words) (two_topped m.words a b two) c.in-Err-Fault.fault refused ∙ ap (failed (config_of m)) (sym c.words.ensures)) c.fail.ensures
 
 pub returns-in-Err-NoMemory : goal.returns-in-Err-NoMemory
 returns-in-Err-NoMemory g c = left_memory _ _

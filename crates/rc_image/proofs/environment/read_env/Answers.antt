@@ -2,7 +2,7 @@ use Rattle.std.proofs.Common.{Ok, sym, ap, subst, ◌∙◌, map, string_bytes}
 use Rattle.rc_model.specs.Run.State.{State}
 use Rattle.rc_model.specs.Handed.Environment.{bindings}
 use Rattle.rc_scope.specs.States.{state_of}
-use Rattle.rc_image.specs.Images.{Fails}
+use Rattle.rc_model.specs.Syntax.Faults.{Fails}
 use Rattle.rc_image.proofs.Denoted.{no_functions, passed_on, read_own, read_other}
 use Rattle.rc_image.proofs.environment.read_env.Goals as goal
 use Rattle.rc_image.proofs.environment.read_env.Goals.{then-own+in_ok-define_functions, else-own}

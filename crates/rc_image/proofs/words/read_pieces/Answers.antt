@@ -3,7 +3,6 @@ use Rattle.std.proofs.lemmas.Grind.{common_steps}
 use Rattle.rc_model.specs.Run.Numbers.{digits_value}
 use Rattle.rc_image.specs.Images.{begun, fault_here}
 use Rattle.rc_image.proofs.Claims.{reads_one, reads_other, reads_several}
-use Rattle.rc_image.proofs.Faults.{fails_as}
 use Rattle.rc_image.proofs.words.read_pieces.Goals as goal
 
 pub returns-then-begins : goal.returns-then-begins
@@ -23,7 +22,6 @@ returns-then-not-begins c =
     let h : begun (codes "rc1;") (string_bytes first) ≡ false = grind (arith, common_steps) in
     let k : begun (codes "rc2;") (string_bytes first) ≡ false = grind (arith, common_steps) in
     let b : c.as_bytes-bytes.result.now ≡ string_bytes first = search rules in
-    fails_as c.beginning_fault.result c.from.result _ c.from.ensures
     (reads_other words c.in-Some.rest.now first e h k ∙ ap (λ f. Err f) (ap fault_here (sym b) ∙ sym c.beginning_fault.ensures))
 
 pub returns : goal.returns

@@ -2,9 +2,10 @@ use Rattle.std.proofs.Common.{map, drop, string_bytes}
 use Rattle.rc_model.specs.Run.State.{State}
 use Rattle.rc_pipes.proofs.Waits.{HasWaited}
 use Rattle.rc_pipes.proofs.children.wait_stages.Given as goal
+use Rattle.rc_scope.specs.States.{child_numbers}
 
 -- the children before this one were waited for
 abbrev pub invariant-loop-child : goal.invariant-loop-child
 invariant-loop-child g l =
     (s : State) → HasWaited s (g.W.World.events l.initial.world) (g.W.World.events l.world)
-    (map (λ child. child.0) l.children) (map (λ child. child.0) (drop l.child-index l.children)) (map string_bytes l.statuses.items)
+    (child_numbers l.children) (child_numbers (drop l.child-index l.children)) (map string_bytes l.statuses.items)

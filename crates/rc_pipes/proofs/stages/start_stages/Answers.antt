@@ -1,6 +1,6 @@
 use Rattle.std.proofs.Common.{◌≡◌, ◌+◌, [], ◌∷◌, ◌++◌, drop, option_map, arith}
 use Rattle.std.proofs.lemmas.Grind.{common_steps}
-use Rattle.rc_scope.specs.States.{numbers, state_of}
+use Rattle.rc_scope.specs.States.{child_numbers, state_of}
 use Rattle.rc_tree_types.specs.View.{stages_tree}
 use Rattle.rc_world.specs.declared.types.Stop.TheVariants.{NoMemory}
 use Rattle.rc_world.proofs.Joins.{left_here}
@@ -19,7 +19,7 @@ returns-in_err-read_end g c =
     let all = stages_tree c.args.stages.now in
     let rest = stages_tree (drop (c.loop-stage.stage-index + 1) c.args.stages.now) in
     let before = option_map (λ end. end.0) c.loop-stage.read in
-    let children = numbers c.loop-stage.children.items in
+    let children = child_numbers c.loop-stage.children.items in
     given_up _ _ _ _ c.from_residual-in_err-read_end.result c.in_err-read_end.field-0.0 c.from_residual-in_err-read_end.ensures.1
     (next_left c.args.slots s _ _ all before children c.args.stages.now c.loop-stage.stage-index c.loop-stage.invariant
     c.stage-item.result _ c.loop-stage-test.true c.stage-item.is _ (c.in_err-read_end.ensures rest children))
@@ -30,7 +30,7 @@ returns-in_err-push-in-Running g c =
     let all = stages_tree c.args.stages.now in
     let rest = stages_tree (drop (c.loop-stage.stage-index + 1) c.args.stages.now) in
     let before = option_map (λ end. end.0) c.loop-stage.read in
-    let children = numbers c.loop-stage.children.items in
+    let children = child_numbers c.loop-stage.children.items in
     let started = next_started c.args.slots s _ _ all before children c.args.stages.now c.loop-stage.stage-index c.loop-stage.invariant
     c.stage-item.result _ c.loop-stage-test.true c.stage-item.is
     c.in-Running.read_end.0 c.in-Running.child.0 (rw c.in-Running.is at (c.in_ok-read_end.ensures rest children)) in
@@ -43,7 +43,7 @@ returns-in-Refused g c =
     let all = stages_tree c.args.stages.now in
     let rest = stages_tree (drop (c.loop-stage.stage-index + 1) c.args.stages.now) in
     let before = option_map (λ end. end.0) c.loop-stage.read in
-    let children = numbers c.loop-stage.children.items in
+    let children = child_numbers c.loop-stage.children.items in
     next_refused c.args.slots s _ _ all before children c.args.stages.now c.loop-stage.stage-index c.loop-stage.invariant
     c.stage-item.result _ c.loop-stage-test.true c.stage-item.is
     c.in-Refused.why.now (rw c.in-Refused.is at (c.in_ok-read_end.ensures rest children))
@@ -54,8 +54,8 @@ loop-stage-preserved g c =
     let all = stages_tree c.args.stages.now in
     let rest = stages_tree (drop (c.loop-stage.stage-index + 1) c.args.stages.now) in
     let before = option_map (λ end. end.0) c.loop-stage.read in
-    let children = numbers c.loop-stage.children.items in
-    let more : numbers c.push.new.self.items ≡ children ++ c.in-Running.child.0 ∷ [] = grind (arith, common_steps) in
+    let children = child_numbers c.loop-stage.children.items in
+    let more : child_numbers c.push.new.self.items ≡ children ++ c.in-Running.child.0 ∷ [] = grind (arith, common_steps) in
     rw more
     (next_started c.args.slots s _ _ all before children c.args.stages.now c.loop-stage.stage-index c.loop-stage.invariant
     c.stage-item.result _ c.loop-stage-test.true c.stage-item.is
@@ -66,5 +66,5 @@ returns g c =
     let s = state_of c.args.state.now in
     let all = stages_tree c.args.stages.now in
     let before = option_map (λ end. end.0) c.loop-stage.read in
-    let children = numbers c.loop-stage.children.items in
+    let children = child_numbers c.loop-stage.children.items in
     row_started c.args.slots s _ _ all before children c.args.stages.now c.loop-stage.stage-index c.loop-stage.invariant c.loop-stage-test.false

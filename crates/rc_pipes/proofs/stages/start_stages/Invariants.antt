@@ -1,7 +1,7 @@
 use Rattle.std.proofs.Common.{drop, option_map}
 use Rattle.rc_model.specs.Run.Acts.{start_stages, stages_from}
 use Rattle.rc_model.specs.Run.Plans.{Ran}
-use Rattle.rc_scope.specs.States.{numbers, state_of}
+use Rattle.rc_scope.specs.States.{child_numbers, state_of}
 use Rattle.rc_tree_types.specs.View.{stages_tree}
 use Rattle.rc_pipes.proofs.stages.start_stages.Given as goal
 
@@ -10,4 +10,4 @@ abbrev pub invariant-loop-stage : goal.invariant-loop-stage
 invariant-loop-stage g l =
     let s = state_of l.state in
     Ran (g.W.World.events l.initial.world) (g.W.World.events l.world) (start_stages l.slots (stages_tree l.stages) s)
-    (stages_from l.slots (stages_tree (drop l.stage-index l.stages)) (option_map (λ end. end.0) l.read) (numbers l.children.items) s)
+    (stages_from l.slots (stages_tree (drop l.stage-index l.stages)) (option_map (λ end. end.0) l.read) (child_numbers l.children.items) s)

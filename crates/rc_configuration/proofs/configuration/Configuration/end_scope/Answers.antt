@@ -1,14 +1,14 @@
 use Rattle.rc_model.specs.Code.Machine.{unwind}
-use Rattle.rc_scope.specs.States.{state_of}
+use Rattle.rc_scope.specs.States.{child_numbers, state_of}
 use Rattle.rc_world.specs.declared.types.Stop.TheVariants.{NoMemory}
-use Rattle.rc_configuration.specs.Configs.{children_of, scopes_of}
+use Rattle.rc_configuration.specs.Configs.{scopes_of}
 use Rattle.rc_configuration.proofs.ScopeEnds.{goes_closed, goes_left, left_after_close, left_pipeline, ran_pipeline}
 use Rattle.rc_configuration.proofs.configuration.Configuration.end_scope.Goals as goal
 
 pub returns-in-Redirection-clause-ended : goal.returns-in-Redirection-clause-ended
 returns-in-Redirection-clause-ended g c =
     let m = c.args.self.now in
-    rw c.in-Redirection.is (goes_closed _ _ m.redirs (λ n. unwind (scopes_of m.scopes n) (state_of m.state) (children_of c.args.owed.now.items)) c.pop.new.self c.pop.result c.pop.ensures.closed c.pop.ensures.ok)
+    rw c.in-Redirection.is (goes_closed _ _ m.redirs (λ n. unwind (scopes_of m.scopes n) (state_of m.state) (child_numbers c.args.owed.now.items)) c.pop.new.self c.pop.result c.pop.ensures.closed c.pop.ensures.ok)
 
 pub returns-in_err-pop-in-Pipeline-clause-ended : goal.returns-in_err-pop-in-Pipeline-clause-ended
 returns-in_err-pop-in-Pipeline-clause-ended g c =

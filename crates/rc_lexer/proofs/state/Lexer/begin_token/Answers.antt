@@ -2,8 +2,7 @@ use Rattle.std.proofs.Common.{refl, ap, ◌∙◌, ◌++◌, ◌∷◌, [], map}
 use Rattle.rc_model.specs.Syntax.Tokens as model
 use Rattle.rc_model.specs.Mirrors.Reading as reading
 use Rattle.rc_lexer.specs.Views.{slice_at, token_of}
-use Rattle.rc_lexer.specs.Classes.{class_is}
-use Rattle.rc_lexer.specs.Machine.{place_of, previous_of, pending_in, tokens_in, bodies_in, after_step}
+use Rattle.rc_lexer.specs.Machine.{pending_in, tokens_in, bodies_in, after_step}
 use Rattle.rc_lexer.proofs.Steps.{newline_step, tokens_pushed}
 use Rattle.rc_lexer.proofs.state.Lexer.begin_token.Goals as goal
 
@@ -12,13 +11,13 @@ returns-in_ok-push-in-LineEnd-clause-does c =
     let script = c.args.script.now in
     let old = c.args.self.now in
     let current = c.args.current in
-    let nl = model.token model.Newline (place_of current.place) (model.after_char (place_of current.place) current.c) in
+    let nl = model.token model.Newline current.place (model.after_char current.place current.c) in
     ap (λ k. after_step (tokens_in script old) (bodies_in script old)
-    (reading.begin (previous_of c.args.previous) (pending_in old) (place_of current.place) current.c (class_is k))) c.in-LineEnd.is
+    (reading.begin c.args.previous (pending_in old) current.place current.c k)) c.in-LineEnd.is
     ∙ newline_step script current.next.byte current.next.byte _ old.pending.items _ _ (tokens_in script old)
-    (reading.bare_here (previous_of c.args.previous)) _ _ nl (bodies_in script old) _
+    (reading.bare_here c.args.previous) _ _ nl (bodies_in script old) _
     refl c.in_ok-push_bare_here-in-LineEnd.ensures.rest.pending c.begin_line.ensures (c.in_ok-push_bare_here-in-LineEnd.ensures.tokens script)
     (tokens_pushed script _ _ _ c.in_ok-push-in-LineEnd.ensures.items
     ∙ ap (λ t. tokens_in script c.push_bare_here-in-LineEnd.new.self ++ t ∷ [])
-    (ap (token_of script) c.token_between.ensures ∙ ap (λ z. model.token model.Newline (place_of current.place) z) c.requires.next))
+    (ap (token_of script) c.token_between.ensures ∙ ap (λ z. model.token model.Newline current.place z) c.requires.next))
     (ap (map (slice_at script)) c.in_ok-push_bare_here-in-LineEnd.ensures.rest.bodies)

@@ -1,23 +1,22 @@
 use Rattle.std.proofs.Common.{◌≡◌, ℕ, List, ap, ◌∙◌, arith}
 use Rattle.rc_model.specs.Mirrors.Reading as reading
-use Rattle.rc_lexer.specs.declared.classes.Class.{Class}
+use Rattle.rc_model.specs.declared.syntax.Class.{Class}
 use Rattle.rc_lexer.specs.declared.state.CurrentChar.{CurrentChar}
 use Rattle.rc_lexer.specs.declared.state.Lexer.{Lexer}
-use Rattle.rc_lexer.specs.Classes.{class_is}
 use Rattle.std.specs.Prelude.{slice_range}
-use Rattle.rc_lexer.specs.Machine.{place_of, tokens_in, bodies_in, dollars_in, after_step, body_of, after_first}
+use Rattle.rc_lexer.specs.Machine.{tokens_in, bodies_in, dollars_in, after_step, body_of, after_first}
 use Rattle.rc_lexer.proofs.InBody.{first, other_line, mark_line, bodies_pushed, is_mark, is_no_mark}
 use Rattle.rc_lexer.proofs.state.Lexer.continue_body.Goals as goal
 
 -- the step at a character of a known class
 step_at : (script : List ℕ) (old : Lexer) (body line : ℕ) (current : CurrentChar) {class : Class} → current.class ≡ class →
     after_step (tokens_in script old) (bodies_in script old) (reading.step (body_of old.pending.items (slice_range script body line)
-    (slice_range script line current.place.byte)) (after_first old.pending.items) (place_of current.place) current.c (class_is current.class))
+    (slice_range script line current.place.byte)) (after_first old.pending.items) current.place current.c current.class)
     ≡ after_step (tokens_in script old) (bodies_in script old) (reading.step (body_of old.pending.items (slice_range script body line)
-    (slice_range script line current.place.byte)) (after_first old.pending.items) (place_of current.place) current.c (class_is class))
+    (slice_range script line current.place.byte)) (after_first old.pending.items) current.place current.c class)
 step_at script old body line current e =
     ap (λ k. after_step (tokens_in script old) (bodies_in script old) (reading.step (body_of old.pending.items (slice_range script body line)
-    (slice_range script line current.place.byte)) (after_first old.pending.items) (place_of current.place) current.c (class_is k))) e
+    (slice_range script line current.place.byte)) (after_first old.pending.items) current.place current.c k)) e
 
 pub returns-then-ne-clause-does : goal.returns-then-ne-clause-does
 returns-then-ne-clause-does c =
@@ -26,7 +25,7 @@ returns-then-ne-clause-does c =
     let current = c.args.current in
     step_at script old c.args.body c.args.line current c.in-LineEnd.is
     ∙ other_line script c.args.body c.args.line current.place.byte current.next.byte current.c c.in-Some.first.now old.pending.items (tokens_in script old)
-    (bodies_in script old) (place_of current.place)
+    (bodies_in script old) current.place
     (first _ c.in-Some.first.now _ c.in-Some.ensures.item.3.0 c.in-Some.ensures.lookup) c.requires.order c.requires.within
     (c.requires.current.reads _ (omega (arith, c.requires.order, c.requires.within)))
     (is_no_mark _ _ _ _ c.as_slice.ensures.value c.ne.ensures c.if-ne.true)
@@ -38,6 +37,6 @@ returns-in_ok-push-in-LineEnd-clause-does c =
     let current = c.args.current in
     step_at script old c.args.body c.args.line current c.in-LineEnd.is
     ∙ mark_line script c.args.body c.args.line current.place.byte current.next.byte current.c c.in-Some.first.now old.pending.items _ _ (dollars_in script old)
-    (tokens_in script old) (bodies_in script old) _ (place_of current.place)
+    (tokens_in script old) (bodies_in script old) _ current.place
     (first _ c.in-Some.first.now _ c.in-Some.ensures.item.3.0 c.in-Some.ensures.lookup) (is_mark _ _ _ _ c.as_slice.ensures.value c.ne.ensures c.if-ne.false)
     c.pop_front.ensures.rest c.begin_line.ensures (bodies_pushed script _ _ _ c.in_ok-push-in-LineEnd.ensures.items)

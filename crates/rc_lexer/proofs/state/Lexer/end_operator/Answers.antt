@@ -2,7 +2,6 @@ use Rattle.std.proofs.Common.{refl, ap, ◌∙◌}
 use Rattle.std.specs.Prelude.{slice_range}
 use Rattle.rc_model.specs.Syntax.Tokens as model
 use Rattle.rc_lexer.specs.Views.{token_of, lexeme_of}
-use Rattle.rc_lexer.specs.Machine.{place_of}
 use Rattle.rc_lexer.proofs.EndOperator.{here_does, dollar_does, sigil_does, plain_does}
 use Rattle.rc_lexer.proofs.state.Lexer.end_operator.Goals as goal
 
@@ -18,7 +17,7 @@ returns-in_ok-push-in-Dollar-clause-does c =
     c.in_ok-push-in-Dollar.ensures.items refl refl
     (ap (token_of c.args.script.now) c.token_between.ensures
     ∙ ap (λ k. model.token (lexeme_of c.args.script.now k (slice_range c.args.script.now c.args.start.place.byte c.args.current.place.byte))
-    (place_of c.args.start.place) (place_of c.args.current.place)) c.in-Dollar.is)
+    c.args.start.place c.args.current.place) c.in-Dollar.is)
     c.continue_dollars.ensures.does
 
 pub returns-in_ok-push-in-DollarCount-clause-does : goal.returns-in_ok-push-in-DollarCount-clause-does

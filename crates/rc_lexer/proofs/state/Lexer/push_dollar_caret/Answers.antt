@@ -1,7 +1,7 @@
 use Rattle.std.proofs.Common.{ap, sym, ◌∙◌, ◌++◌, [], ◌∷◌}
 use Rattle.std.proofs.lemmas.List.{append-nil}
 use Rattle.rc_lexer.specs.Views.{token_of}
-use Rattle.rc_lexer.specs.Machine.{previous_of, place_of, tokens_in}
+use Rattle.rc_lexer.specs.Machine.{tokens_in}
 use Rattle.rc_lexer.proofs.Steps.{tokens_pushed}
 use Rattle.rc_lexer.proofs.Does.{caret_is}
 use Rattle.rc_lexer.proofs.state.Lexer.push_dollar_caret.Goals as goal
@@ -11,10 +11,10 @@ returns-in_ok-push-clause-tokens c =
     λ script. tokens_pushed script _ _ _ c.in_ok-push.ensures.items
     ∙ ap (λ t. tokens_in script c.args.self.now ++ token_of script t ∷ []) c.token_between.ensures
     ∙ ap (λ ts. tokens_in script c.args.self.now ++ ts) (sym
-    (caret_is _ (previous_of c.args.previous) (place_of c.args.start) (sym (c.wants_caret.ensures [] []) ∙ c.if-wants_caret.true)))
+    (caret_is _ c.args.previous c.args.start (sym (c.wants_caret.ensures [] []) ∙ c.if-wants_caret.true)))
 
 pub returns-else-wants_caret-clause-tokens : goal.returns-else-wants_caret-clause-tokens
 returns-else-wants_caret-clause-tokens c =
     λ script. sym (append-nil (tokens_in script c.args.self.now))
     ∙ ap (λ ts. tokens_in script c.args.self.now ++ ts) (sym
-    (caret_is _ (previous_of c.args.previous) (place_of c.args.start) (sym (c.wants_caret.ensures [] []) ∙ c.if-wants_caret.false)))
+    (caret_is _ c.args.previous c.args.start (sym (c.wants_caret.ensures [] []) ∙ c.if-wants_caret.false)))
