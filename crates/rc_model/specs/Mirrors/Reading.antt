@@ -72,7 +72,8 @@ begin prev due p c class.Ordinary =
 
 -- the character ends a lexeme
 abbrev pub ends : Previous → Lexeme → Place → List PendingHereDoc → Place → ℕ → Class → Step
-ends prev l q due p c k = emit (t.tokens_of prev l q p) (begin (t.after_token prev l) (t.pending_after prev l due) p c k)
+ends prev l q due p c k =
+    emit (t.tokens_of prev l q p) (begin (t.after_token prev l) (t.pending_after prev l due) p c k)
 
 -- one character of a word, or the first after it
 abbrev pub in_word : Previous → Place → List ℕ → List PendingHereDoc → Place → ℕ → Class → Step
