@@ -12,7 +12,7 @@ use Rattle.law_grammar.proofs.Shorter.{Phrase-shorter, past_newlines-shorter}
 use Rattle.law_grammar.proofs.Lists.{append, append_snoc, append_none}
 use Rattle.rc_model.specs.declared.syntax.Logic.TheVariants.{And, Or}
 use Rattle.law_grammar.proofs.CompletenessOfArguments.{Meets, deepen, bind, Good, name_meets, part_meets}
-use Rattle.law_grammar.proofs.CompletenessOfForms.{command_commands}
+use Rattle.law_grammar.proofs.Beginnings.{command_commands}
 use Rattle.law_grammar.proofs.CompletenessOfPipelines.{operand_meets, piped_stage_meets, piped_leading_meets, piped_assigned_meets}
 
 -- commands and lists

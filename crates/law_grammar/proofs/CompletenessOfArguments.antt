@@ -10,7 +10,7 @@ use Rattle.rc_model.specs.Mirrors.Descent as d
 use Rattle.rc_model.specs.Mirrors.Descent.{Read, Reader, Readers, ◌>>=◌}
 use Rattle.law_grammar.proofs.Shorter.{Phrase-shorter, past_blanks-shorter, after_caret-shorter}
 use Rattle.law_grammar.proofs.Lists.{append, append_snoc, append_none}
-use Rattle.law_grammar.proofs.SoundnessOfArguments.{arg_begins}
+use Rattle.law_grammar.proofs.Beginnings.{arg_begins, redir_begins, redir_no_arg}
 use Rattle.rc_model.specs.declared.fault.DescentFault.TheVariants as descent
 
 -- what is read with `left` levels left, where the phrase has a tree of `tall` levels with at most `wide` stages in a pipeline
@@ -148,17 +148,6 @@ redir_meets a T W p gp (g.open_redir {mode = mode} {slot = slot} {ts = ts} {rest
     bind (d.arg_by p false ts) _ (x, rest) (t.Open mode slot x, rest) (arg_meets a T W p false gp q dt dw) (record { met = refl })
 redir_meets a T W p gp (g.copy_redir) dt dw = record { met = refl }
 redir_meets a T W p gp (g.here_redir) dt dw = record { met = refl }
-
-pub redir_begins : {ts : List Lexeme} {n : Node t.redir} {rest : List Lexeme} → Phrase g.redir ts n rest → begins_redir ts ≡ true
-redir_begins (g.open_redir q) = refl
-redir_begins (g.copy_redir) = refl
-redir_begins (g.here_redir) = refl
-
-pub redir_no_arg : (ts : List Lexeme) → begins_redir ts ≡ true → begins_arg ts ≡ false
-redir_no_arg (Redirection mode slot ∷ ts) h = refl
-redir_no_arg (CopyTo to from ∷ ts) h = refl
-redir_no_arg (HereDoc quoted text ∷ ts) h = refl
-redir_no_arg ts h = absurd cc
 
 redirs_from_meets : (a T W : ℕ) (p : Reader (Node t.arg)) → GoodPart a false p → (k : ℕ) (front : Many t.redir) {ts : List Lexeme} {rs : Many t.redir} {rest : List Lexeme} →
     Phrase g.redirs ts rs rest → length ts ≤ k → depths rs ≤ T → most_stages_in rs ≤ W → Meets a T W (d.redirs_from p k front ts) (append front rs, rest)

@@ -11,9 +11,9 @@ use Rattle.rc_model.specs.Mirrors.Descent as d
 use Rattle.rc_model.specs.Mirrors.Descent.{Read, Readers, ◌>>=◌, Staged, Named}
 use Rattle.law_grammar.proofs.Shorter.{Phrase-shorter, past_caret-shorter}
 use Rattle.law_grammar.proofs.Lists.{append, append_snoc, append_none}
-use Rattle.law_grammar.proofs.SoundnessOfArguments.{arg_begins}
+use Rattle.law_grammar.proofs.Beginnings.{arg_begins, redir_begins, plain_is, brace_begins, operand_commands, command_commands}
 use Rattle.rc_model.specs.declared.syntax.Keyword.TheVariants.{Plain as NoKeyword}
-use Rattle.law_grammar.proofs.CompletenessOfArguments.{Meets, deepen, bind, Good, good_part, arg_meets, members_meets, words_meets, redir_meets, redir_begins, redir_no_arg, redirs_meets, simple_meets, brace_meets, paren_meets}
+use Rattle.law_grammar.proofs.CompletenessOfArguments.{Meets, deepen, bind, Good, good_part, arg_meets, members_meets, words_meets, redir_meets, redirs_meets, simple_meets, brace_meets, paren_meets}
 
 -- the case lines of a switch
 branch_meets : (a T W : ℕ) (r : Readers) → Good a r → {ts mid next : List Lexeme} {as' : Many t.arg} {is : Many t.item} → Phrase g.words ts as' mid → ends_case mid ≡ true →
@@ -55,10 +55,6 @@ redirect_tall : (rs : Many t.redir) (c : Node t.cmd) → 0 < depth c → (suc (d
 redirect_tall none c h = (omega arith, omega arith, omega arith, omega arith)
 redirect_tall (more r rs) c h = (omega arith, omega arith, omega arith, omega arith)
 
-plain_is : (k : Keyword) → is_plain k ≡ true → k ≡ NoKeyword
-plain_is NoKeyword h = refl
-plain_is k h = absurd cc
-
 opening_first : (r : Readers) (ts : List Lexeme) → begins_first ts ≡ true → begins_arg ts ≡ true → d.opening_by r ts ≡ d.first_by r ts
 unfolding d.opening_by d.worded_by
 opening_first r (Word text ∷ ts) h b = ap (λ k. d.worded_by r k (Word text) ts) (plain_is (keyword text) h)
@@ -73,9 +69,6 @@ first_simple r a ts h = refl
 brace_opens : (r : Readers) {ts : List Lexeme} {c : Node t.cmd} {rest : List Lexeme} → Phrase g.brace ts c rest → d.opening_by r ts ≡ d.staged (d.block_by r ts)
 unfolding d.opening_by
 brace_opens r (g.braced q) = refl
-
-brace_begins : {ts : List Lexeme} {c : Node t.cmd} {rest : List Lexeme} → Phrase g.brace ts c rest → begins_brace ts ≡ true
-brace_begins (g.braced q) = refl
 
 staged_meets : (a T W : ℕ) (o : Read (Node t.cmd)) (c : Node t.cmd) (rest : List Lexeme) → Meets a T W o (c, rest) → Meets a T W (d.staged o) (Staged c, rest)
 staged_meets a T W o c rest m = bind o _ (c, rest) (Staged c, rest) m (record { met = refl })
@@ -191,41 +184,6 @@ stage_follows (g.switch_stage h q e s v) = ap d.is_leading h
 stage_follows (g.match_stage h q s) = ap d.is_leading h
 stage_follows (g.define_stage h q s v) = ap d.is_leading h
 stage_follows (g.undefine_stage h q s j) = ap d.is_leading h
-
-pub arg_commands : (ts : List Lexeme) → begins_arg ts ≡ true → begins_command ts ≡ true
-arg_commands ts h = rw h refl
-
-redir_commands : (ts : List Lexeme) → begins_redir ts ≡ true → begins_command ts ≡ true
-redir_commands ts h = rw (redir_no_arg ts h, h) refl
-
-brace_commands : {ts : List Lexeme} {c : Node t.cmd} {rest : List Lexeme} → Phrase g.brace ts c rest → begins_command ts ≡ true
-brace_commands (g.braced q) = refl
-
-pub stage_commands : {ts : List Lexeme} {c : Node t.cmd} {rest : List Lexeme} → Phrase g.stage ts c rest → begins_command ts ≡ true
-stage_commands (g.simple_stage {ts = ts} h q j s) = arg_commands ts (arg_begins q)
-stage_commands (g.brace_stage q s) = brace_commands q
-stage_commands (g.switch_stage h q e s v) = refl
-stage_commands (g.match_stage h q s) = refl
-stage_commands (g.define_stage h q s v) = refl
-stage_commands (g.undefine_stage h q s j) = refl
-
-leading_commands : {f : Bool} {ts : List Lexeme} {c : Node t.cmd} {rest : List Lexeme} → Phrase (g.leading f) ts c rest → begins_command ts ≡ true
-leading_commands (g.not_leading h q) = refl
-leading_commands (g.subshell_leading h q) = refl
-leading_commands (g.redir_leading {ts = ts} q s v) = redir_commands ts (redir_begins q)
-leading_commands (g.if_leading h q s) = refl
-leading_commands (g.while_leading h q s) = refl
-leading_commands (g.if_not_leading h e k q) = refl
-leading_commands (g.for_all_leading h e q k s) = refl
-leading_commands (g.for_leading h e q k j s v) = refl
-
-operand_commands : {f : Bool} {ts : List Lexeme} {c : Node t.cmd} {rest : List Lexeme} → Phrase (g.operand f) ts c rest → begins_command ts ≡ true
-operand_commands (g.leading_operand q) = leading_commands q
-operand_commands (g.assigned_operand (g.assignment {ts = ts} h q s v)) = arg_commands ts (arg_begins q)
-operand_commands (g.pipe_operand (g.piped q s)) = stage_commands q
-
-pub command_commands : {f : Bool} {ts : List Lexeme} {c : Node t.cmd} {rest : List Lexeme} → Phrase (g.command f) ts c rest → begins_command ts ≡ true
-command_commands (g.linked q s) = operand_commands q
 
 -- bodies of control forms
 body_meets : (a T W : ℕ) (r : Readers) → Good a r → {ts : List Lexeme} {c : Node t.cmd} {rest : List Lexeme} → Phrase g.body ts c rest → suc (depth c) ≤ T → most_stages c ≤ W →

@@ -11,10 +11,10 @@ use Rattle.rc_model.specs.Mirrors.Descent as d
 use Rattle.rc_model.specs.Mirrors.Descent.{Read, Reader, Readers, Staged, Named}
 use Rattle.law_grammar.proofs.Shorter.{Phrase-shorter, past_newlines-shorter}
 use Rattle.law_grammar.proofs.Lists.{append, append_snoc, append_none, count_snoc}
-use Rattle.law_grammar.proofs.SoundnessOfArguments.{arg_begins}
+use Rattle.law_grammar.proofs.Beginnings.{arg_begins, arg_commands, stage_commands}
 use Rattle.law_grammar.proofs.SoundnessOfPipelines.{pipeline_same}
 use Rattle.law_grammar.proofs.CompletenessOfArguments.{Meets, deepen, bind, Good}
-use Rattle.law_grammar.proofs.CompletenessOfForms.{stage_meets, named_meets, leading_leads, first_follows, stage_follows, arg_commands, stage_commands, arg_deeper, leading_meets}
+use Rattle.law_grammar.proofs.CompletenessOfForms.{stage_meets, named_meets, leading_leads, first_follows, stage_follows, arg_deeper, leading_meets}
 use Rattle.rc_model.specs.declared.fault.DescentFault.TheVariants as descent
 
 -- pipelines: how tall and how wide the stages are together

@@ -1,5 +1,6 @@
 pub mod Shorter
 pub mod Lists
+pub mod Beginnings
 pub mod SoundnessOfArguments
 pub mod SoundnessOfForms
 pub mod SoundnessOfPipelines

@@ -249,16 +249,3 @@ part_sound r s inside (DollarFlat ∷ ts) x h =
     let w = bind_ok (r d.a_name ts) _ x h in
     found (g.part inside) (DollarFlat ∷ ts) (t.Flat w.0.0, w.0.1) x (g.flat_part (s.name ts w.0 w.1)) w.2
 part_sound r s inside ts x h = absurd cc
-
-part_begins : {inside : Bool} {ts : List Lexeme} {a : Node t.arg} {rest : List Lexeme} → Phrase (g.part inside) ts a rest → begins_arg ts ≡ true
-part_begins g.word_part = refl
-part_begins g.quoted_part = refl
-part_begins (g.paren_part p) = refl
-part_begins (g.back_part p) = refl
-part_begins (g.var_part p h) = refl
-part_begins (g.sub_part p q) = refl
-part_begins (g.count_part p) = refl
-part_begins (g.flat_part p) = refl
-
-pub arg_begins : {inside : Bool} {ts : List Lexeme} {a : Node t.arg} {rest : List Lexeme} → Phrase (g.arg inside) ts a rest → begins_arg ts ≡ true
-arg_begins (g.joined p q) = part_begins p

@@ -10,7 +10,8 @@ use Rattle.rc_model.specs.Mirrors.Descent as d
 use Rattle.rc_model.specs.Mirrors.Descent.{Read, Readers, Opening, Staged, Named}
 use Rattle.law_grammar.proofs.Lists.{done, ok_same, bind_ok, if_ok, Adds, adds_none, adds_more, adds_same, all_added}
 use Rattle.rc_model.specs.declared.syntax.Keyword.TheVariants.{At as AtWord, Bang as BangWord, Fn as FnWord, For as ForWord, If as IfWord, In as InWord, Match as MatchWord, Not as NotWord, Plain as NoKeyword, Switch as SwitchWord, While as WhileWord}
-use Rattle.law_grammar.proofs.SoundnessOfArguments.{Sound, found, arg_sound, members_sound, words_sound, redir_sound, redirs_sound, simple_sound, brace_sound, paren_sound, arg_begins}
+use Rattle.law_grammar.proofs.SoundnessOfArguments.{Sound, found, arg_sound, members_sound, words_sound, redir_sound, redirs_sound, simple_sound, brace_sound, paren_sound}
+use Rattle.law_grammar.proofs.Beginnings.{arg_begins}
 use Rattle.rc_model.specs.declared.fault.DescentFault.TheVariants as descent
 
 -- the case lines of a switch

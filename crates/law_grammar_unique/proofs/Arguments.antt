@@ -8,7 +8,8 @@ use Rattle.rc_model.specs.Syntax.Tree as t
 use Rattle.rc_model.specs.Syntax.HereDocs.{pieces_of}
 use Rattle.rc_model.specs.Syntax.Grammar.{Phrase, past_blanks, after_caret, concat_of, begins_arg, begins_redir, begins_subscript}
 use Rattle.rc_model.specs.Syntax.Grammar as g
-use Rattle.law_grammar_unique.proofs.Same.{Alike, One, arg_begins, redir_begins, redir_no_arg}
+use Rattle.law_grammar_unique.proofs.Same.{Alike, One}
+use Rattle.law_grammar.proofs.Beginnings.{arg_begins, redir_begins, redir_no_arg}
 
 -- names
 pub bare_name : (text : List ℕ) (rest : List Lexeme) → Alike g.name (Name text ∷ rest) (t.Lit text false) rest

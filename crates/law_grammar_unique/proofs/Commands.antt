@@ -7,8 +7,9 @@ use Rattle.rc_model.specs.Syntax.Grammar.{Phrase, keyword, is_plain, past_newlin
 use Rattle.rc_model.specs.declared.syntax.Keyword.{Keyword}
 use Rattle.rc_model.specs.Syntax.Grammar.{redirect, pipeline, begins_first, begins_brace, begins_bar, begins_value}
 use Rattle.rc_model.specs.Syntax.Grammar as g
+use Rattle.law_grammar.proofs.Beginnings.{brace_begins}
 use Rattle.law_grammar_unique.proofs.Same.{Alike, Apart, One, keyword_at, leads, first_plain, first_no_brace}
-use Rattle.law_grammar_unique.proofs.Same.{brace_begins, brace_word, stage_leads, assigned_leads, leading_leads, through, tail}
+use Rattle.law_grammar_unique.proofs.Same.{brace_word, stage_leads, assigned_leads, leading_leads, through, tail}
 use Rattle.rc_model.specs.declared.syntax.Keyword.TheVariants.{Fn as FnWord, Match as MatchWord, Plain as NoKeyword, Switch as SwitchWord}
 
 -- lists in braces and parentheses

@@ -5,7 +5,8 @@ use Rattle.rc_model.specs.Syntax.Tree.{Node, Many, none, more}
 use Rattle.rc_model.specs.Syntax.Tree as t
 use Rattle.rc_model.specs.Syntax.Grammar.{Phrase, past_caret, is_if, begins_command, closes, ends}
 use Rattle.rc_model.specs.Syntax.Grammar as g
-use Rattle.law_grammar_unique.proofs.Same.{Alike, One, command_begins, through, tail}
+use Rattle.law_grammar_unique.proofs.Same.{Alike, One, through, tail}
+use Rattle.law_grammar.proofs.Beginnings.{command_commands}
 
 -- a list doesn't end at a `;` or a newline
 more_semicolon : (in_switch : Bool) (ts us : List Lexeme) → ends in_switch ts ≡ true → ts ≡ Semicolon ∷ us → ⊥
@@ -27,14 +28,14 @@ pub semicolon_item : (in_switch after_if : Bool) {ts rest : List Lexeme} {is : M
 semicolon_item b f o us y s (g.no_item k) e = absurd (more_semicolon b us _ k (sym e))
 semicolon_item b f o us y s (g.semicolon_item q) e = let m = o.same _ _ _ q (tail e) in record { tree = m.tree; rest = m.rest }
 semicolon_item b f o us y s (g.newline_item q) e = absurd cc
-semicolon_item b f o us y s (g.one_item k q r) e = let i = through begins_command e refl (command_begins q) in absurd cc
+semicolon_item b f o us y s (g.one_item k q r) e = let i = through begins_command e refl (command_commands q) in absurd cc
 
 pub newline_item : (in_switch after_if : Bool) {ts rest : List Lexeme} {is : Many t.item} → One (g.items in_switch after_if) ts is rest →
     Alike (g.items in_switch after_if) (Newline ∷ ts) is rest
 newline_item b f o us y s (g.no_item k) e = absurd (more_newline b us _ k (sym e))
 newline_item b f o us y s (g.semicolon_item q) e = absurd cc
 newline_item b f o us y s (g.newline_item q) e = let m = o.same _ _ _ q (tail e) in record { tree = m.tree; rest = m.rest }
-newline_item b f o us y s (g.one_item k q r) e = let i = through begins_command e refl (command_begins q) in absurd cc
+newline_item b f o us y s (g.one_item k q r) e = let i = through begins_command e refl (command_commands q) in absurd cc
 
 pub one_item : (in_switch after_if : Bool) (ts : List Lexeme) {mid rest : List Lexeme} {c : Node t.cmd} {x : Bool × Many t.item} →
     ends in_switch ts ≡ false → begins_command ts ≡ true →

@@ -6,7 +6,8 @@ use Rattle.rc_model.specs.Syntax.Tree as t
 use Rattle.rc_model.specs.Syntax.Grammar.{Phrase, keyword, past_newlines, past_caret, and_or, begins_first, begins_redir, begins_command, begins_link}
 use Rattle.rc_model.specs.Syntax.Grammar as g
 use Rattle.law_grammar_unique.proofs.Same.{Alike, Apart, One, keyword_at, leads, redir_word, paren_word, pipe_leads, assigned_leads, leading_leads}
-use Rattle.law_grammar_unique.proofs.Same.{first_leads, arg_starts, pipe_begins, leading_begins, operand_begins, command_begins, through, tail}
+use Rattle.law_grammar_unique.proofs.Same.{first_leads, through, tail}
+use Rattle.law_grammar.proofs.Beginnings.{arg_starts, pipe_commands, leading_commands, operand_commands, command_commands}
 use Rattle.rc_model.specs.declared.syntax.Keyword.TheVariants.{At as AtWord, Bang as BangWord, For as ForWord, If as IfWord, Not as NotWord, Plain as NoKeyword, While as WhileWord}
 use Rattle.rc_model.specs.declared.syntax.Logic.TheVariants.{And, Or}
 
@@ -159,8 +160,8 @@ another_value ts h b d o p l us y s (g.values_pipe (g.piped q r)) e = absurd (d 
 pub values_alone : (rest : List Lexeme) → begins_command rest ≡ false → Alike g.values rest (none, t.Empty) rest
 values_alone rest h us y s (g.another_value k q r j) e = let i = through begins_command e h (arg_starts q) in absurd cc
 values_alone rest h us y s (g.values_alone k) e = record { tree = refl; rest = e }
-values_alone rest h us y s (g.values_leading q) e = let i = through begins_command e h (leading_begins q) in absurd cc
-values_alone rest h us y s (g.values_pipe q) e = let i = through begins_command e h (pipe_begins q) in absurd cc
+values_alone rest h us y s (g.values_leading q) e = let i = through begins_command e h (leading_commands q) in absurd cc
+values_alone rest h us y s (g.values_pipe q) e = let i = through begins_command e h (pipe_commands q) in absurd cc
 
 pub values_leading : (ts : List Lexeme) {rest : List Lexeme} {c : Node t.cmd} → leads ts ≡ true → begins_command ts ≡ true →
     One (g.leading false) ts c rest → Alike g.values ts (none, c) rest
@@ -197,7 +198,7 @@ pipe_operand f ts h o us y s (g.pipe_operand q) e = let m = o.same _ _ _ q e in 
 
 pub no_operand : (rest : List Lexeme) → begins_command rest ≡ false → Alike g.optional rest t.Empty rest
 no_operand rest h us y s (g.no_operand k) e = record { tree = refl; rest = e }
-no_operand rest h us y s (g.one_operand q) e = let i = through begins_command e h (operand_begins q) in absurd cc
+no_operand rest h us y s (g.one_operand q) e = let i = through begins_command e h (operand_commands q) in absurd cc
 
 pub one_operand : (ts : List Lexeme) {rest : List Lexeme} {c : Node t.cmd} → begins_command ts ≡ true → One (g.operand false) ts c rest →
     Alike g.optional ts c rest
@@ -237,7 +238,7 @@ or_link ts o p us y s (g.and_link q r) e = absurd cc
 -- bodies of control forms
 pub no_body : (ts : List Lexeme) → begins_command (past_newlines ts) ≡ false → Alike g.body ts t.Empty (past_newlines ts)
 no_body ts h us y s (g.no_body k l) e = record { tree = refl; rest = ap past_newlines e }
-no_body ts h us y s (g.one_body q) e = let i = through begins_command (ap past_newlines e) h (command_begins q) in absurd cc
+no_body ts h us y s (g.one_body q) e = let i = through begins_command (ap past_newlines e) h (command_commands q) in absurd cc
 
 pub one_body : (ts : List Lexeme) {rest : List Lexeme} {c : Node t.cmd} → begins_command (past_newlines ts) ≡ true →
     One (g.command false) (past_newlines ts) c rest → Alike g.body ts c rest

@@ -7,6 +7,7 @@ use Rattle.rc_model.specs.Syntax.Grammar.{Phrase, Level, Out, keyword, is_plain,
 use Rattle.rc_model.specs.declared.syntax.Keyword.{Keyword}
 use Rattle.rc_model.specs.Syntax.Grammar as g
 use Rattle.rc_model.specs.declared.syntax.Keyword.TheVariants.{At as AtWord, Bang as BangWord, Fn as FnWord, For as ForWord, If as IfWord, Match as MatchWord, Plain as NoKeyword, Switch as SwitchWord, While as WhileWord}
+use Rattle.law_grammar.proofs.Beginnings.{plain_is}
 
 -- the same tree and the same rest
 pub record Same (l : Level) (x : Out l) (r : List Lexeme) (y : Out l) (s : List Lexeme) : Type 0 where
@@ -28,31 +29,6 @@ pub record One (l : Level) (ts : List Lexeme) (x : Out l) (r : List Lexeme) : Ty
   pub same : Alike l ts x r
   pub apart : Apart l ts
 
--- how arguments and redirections begin
-part_begins : {inside : Bool} {ts : List Lexeme} {a : Node t.arg} {rest : List Lexeme} → Phrase (g.part inside) ts a rest → begins_arg ts ≡ true
-part_begins g.word_part = refl
-part_begins g.quoted_part = refl
-part_begins (g.paren_part p) = refl
-part_begins (g.back_part p) = refl
-part_begins (g.var_part p h) = refl
-part_begins (g.sub_part p q) = refl
-part_begins (g.count_part p) = refl
-part_begins (g.flat_part p) = refl
-
-pub arg_begins : {inside : Bool} {ts : List Lexeme} {a : Node t.arg} {rest : List Lexeme} → Phrase (g.arg inside) ts a rest → begins_arg ts ≡ true
-arg_begins (g.joined p q) = part_begins p
-
-pub redir_begins : {ts : List Lexeme} {n : Node t.redir} {rest : List Lexeme} → Phrase g.redir ts n rest → begins_redir ts ≡ true
-redir_begins (g.open_redir q) = refl
-redir_begins (g.copy_redir) = refl
-redir_begins (g.here_redir) = refl
-
-pub redir_no_arg : (ts : List Lexeme) → begins_redir ts ≡ true → begins_arg ts ≡ false
-redir_no_arg (Redirection mode slot ∷ ts) h = refl
-redir_no_arg (CopyTo to from ∷ ts) h = refl
-redir_no_arg (HereDoc quoted text ∷ ts) h = refl
-redir_no_arg ts h = absurd cc
-
 -- the keywords that a stage may begin with
 abbrev pub is_stage_word : Keyword → Bool
 is_stage_word SwitchWord = true
@@ -65,10 +41,6 @@ is_stage_word _ = false
 abbrev pub leads : List Lexeme → Bool
 leads (Word text ∷ ts) = not (is_stage_word (keyword text))
 leads ts = begins_redir ts
-
-plain_is : (k : Keyword) → is_plain k ≡ true → k ≡ NoKeyword
-plain_is NoKeyword h = refl
-plain_is k h = absurd cc
 
 -- the keyword of the first word
 abbrev pub keyword_at : List Lexeme → Keyword
@@ -89,9 +61,6 @@ first_leads (Redirection mode slot ∷ ts) h = absurd cc
 first_leads (CopyTo to from ∷ ts) h = absurd cc
 first_leads (HereDoc quoted text ∷ ts) h = absurd cc
 first_leads ts h = refl
-
-pub brace_begins : {ts : List Lexeme} {c : Node t.cmd} {rest : List Lexeme} → Phrase g.brace ts c rest → begins_brace ts ≡ true
-brace_begins (g.braced q) = refl
 
 brace_leads : {ts : List Lexeme} {c : Node t.cmd} {rest : List Lexeme} → Phrase g.brace ts c rest → leads ts ≡ false
 brace_leads (g.braced q) = refl
@@ -130,53 +99,6 @@ leading_leads (g.while_leading {text = text} k q r) = word_leads text WhileWord 
 leading_leads (g.if_not_leading {text = text} k e j r) = word_leads text IfWord k
 leading_leads (g.for_all_leading {text = text} k e q j r) = word_leads text ForWord k
 leading_leads (g.for_leading {text = text} k e q j i s r) = word_leads text ForWord k
-
--- a command begins like one
-arg_command : (ts : List Lexeme) → begins_arg ts ≡ true → begins_command ts ≡ true
-arg_command ts h = ap (λ b. b || (begins_redir ts || begins_brace ts)) h
-
-redir_command : {ts : List Lexeme} {n : Node t.redir} {rest : List Lexeme} → Phrase g.redir ts n rest → begins_command ts ≡ true
-redir_command (g.open_redir q) = refl
-redir_command (g.copy_redir) = refl
-redir_command (g.here_redir) = refl
-
-brace_command : {ts : List Lexeme} {c : Node t.cmd} {rest : List Lexeme} → Phrase g.brace ts c rest → begins_command ts ≡ true
-brace_command (g.braced q) = refl
-
-stage_begins : {ts : List Lexeme} {c : Node t.cmd} {rest : List Lexeme} → Phrase g.stage ts c rest → begins_command ts ≡ true
-stage_begins (g.simple_stage {ts = ts} first q v s) = arg_command ts (arg_begins q)
-stage_begins (g.brace_stage q s) = brace_command q
-stage_begins (g.switch_stage k q e s r) = refl
-stage_begins (g.match_stage k q s) = refl
-stage_begins (g.define_stage k q s r) = refl
-stage_begins (g.undefine_stage k q s e) = refl
-
-pub pipe_begins : {ts : List Lexeme} {c : Node t.cmd} {rest : List Lexeme} → Phrase g.pipe ts c rest → begins_command ts ≡ true
-pipe_begins (g.piped q r) = stage_begins q
-
-pub leading_begins : {after_if : Bool} {ts : List Lexeme} {c : Node t.cmd} {rest : List Lexeme} → Phrase (g.leading after_if) ts c rest →
-    begins_command ts ≡ true
-leading_begins (g.redir_leading q s o) = redir_command q
-leading_begins (g.not_leading k q) = refl
-leading_begins (g.subshell_leading k q) = refl
-leading_begins (g.if_leading k q r) = refl
-leading_begins (g.while_leading k q r) = refl
-leading_begins (g.if_not_leading k e j r) = refl
-leading_begins (g.for_all_leading k e q j r) = refl
-leading_begins (g.for_leading k e q j i s r) = refl
-
-pub arg_starts : {inside : Bool} {ts : List Lexeme} {a : Node t.arg} {rest : List Lexeme} → Phrase (g.arg inside) ts a rest → begins_command ts ≡ true
-arg_starts {ts = ts} q = arg_command ts (arg_begins q)
-
-pub operand_begins : {after_if : Bool} {ts : List Lexeme} {c : Node t.cmd} {rest : List Lexeme} → Phrase (g.operand after_if) ts c rest →
-    begins_command ts ≡ true
-operand_begins (g.leading_operand q) = leading_begins q
-operand_begins (g.assigned_operand (g.assignment first q r s)) = arg_starts q
-operand_begins (g.pipe_operand q) = pipe_begins q
-
-pub command_begins : {after_if : Bool} {ts : List Lexeme} {c : Node t.cmd} {rest : List Lexeme} → Phrase (g.command after_if) ts c rest →
-    begins_command ts ≡ true
-command_begins (g.linked q r) = operand_begins q
 
 -- no redirection and no parenthesis begins with a keyword
 pub redir_word : {ts : List Lexeme} {n : Node t.redir} {rest : List Lexeme} → Phrase g.redir ts n rest → keyword_at ts ≡ NoKeyword

@@ -5,9 +5,10 @@ use Rattle.rc_model.specs.Syntax.Tree.{Node, Many}
 use Rattle.rc_model.specs.Syntax.Tree as t
 use Rattle.rc_model.specs.Syntax.Grammar.{Phrase, Level, Out, HaveTree}
 use Rattle.rc_model.specs.Syntax.Grammar as g
-use Rattle.law_grammar_unique.proofs.Same.{One, arg_begins, redir_begins, redir_word, brace_begins, brace_word}
+use Rattle.law_grammar_unique.proofs.Same.{One, redir_word, brace_word}
+use Rattle.law_grammar.proofs.Beginnings.{arg_begins, redir_begins, brace_begins}
 use Rattle.law_grammar_unique.proofs.Same.{paren_word, stage_leads, pipe_leads, assigned_leads, leading_leads}
-use Rattle.law_grammar_unique.proofs.Same.{arg_starts, pipe_begins, leading_begins, operand_begins, command_begins}
+use Rattle.law_grammar.proofs.Beginnings.{arg_starts, pipe_commands, leading_commands, operand_commands, command_commands}
 use Rattle.law_grammar_unique.proofs.Arguments as a
 use Rattle.law_grammar_unique.proofs.Commands as c
 use Rattle.law_grammar_unique.proofs.Operands as o
@@ -71,23 +72,23 @@ one (g.assignment {ts = ts} h q r j) = let p = one q in record { same = o.assign
 one (g.another_value {ts = ts} h q r j) =
     let p = one q in record { same = o.another_value ts h (arg_starts q) (c.assigned_apart ts h p) p (one r) (one j); apart = tt }
 one (g.values_alone {rest = rest} h) = record { same = o.values_alone rest h; apart = tt }
-one (g.values_leading {ts = ts} q) = record { same = o.values_leading ts (leading_leads q) (leading_begins q) (one q); apart = tt }
-one (g.values_pipe {ts = ts} q) = record { same = o.values_pipe ts (pipe_leads q) (pipe_begins q) (one q); apart = tt }
+one (g.values_leading {ts = ts} q) = record { same = o.values_leading ts (leading_leads q) (leading_commands q) (one q); apart = tt }
+one (g.values_pipe {ts = ts} q) = record { same = o.values_pipe ts (pipe_leads q) (pipe_commands q) (one q); apart = tt }
 one (g.leading_operand {after_if = f} {ts = ts} q) = record { same = o.leading_operand f ts (leading_leads q) (one q); apart = tt }
 one (g.assigned_operand {after_if = f} {ts = ts} q) = record { same = o.assigned_operand f ts (assigned_leads q) (one q); apart = tt }
 one (g.pipe_operand {after_if = f} {ts = ts} q) = record { same = o.pipe_operand f ts (pipe_leads q) (one q); apart = tt }
 one (g.no_operand {rest = rest} h) = record { same = o.no_operand rest h; apart = tt }
-one (g.one_operand {ts = ts} q) = record { same = o.one_operand ts (operand_begins q) (one q); apart = tt }
+one (g.one_operand {ts = ts} q) = record { same = o.one_operand ts (operand_commands q) (one q); apart = tt }
 one (g.linked {after_if = f} q r) = record { same = o.linked f (one q) (one r); apart = tt }
 one (g.no_link {rest = rest} h) = record { same = o.no_link rest h; apart = tt }
 one (g.and_link {ts = ts} q r) = record { same = o.and_link ts (one q) (one r); apart = tt }
 one (g.or_link {ts = ts} q r) = record { same = o.or_link ts (one q) (one r); apart = tt }
 one (g.no_body {ts = ts} h k) = record { same = o.no_body ts h; apart = tt }
-one (g.one_body {ts = ts} q) = record { same = o.one_body ts (command_begins q) (one q); apart = tt }
+one (g.one_body {ts = ts} q) = record { same = o.one_body ts (command_commands q) (one q); apart = tt }
 one (g.no_item {in_switch = b} {after_if = f} {rest = rest} h) = record { same = l.no_item b f rest h; apart = tt }
 one (g.semicolon_item {in_switch = b} {after_if = f} q) = record { same = l.semicolon_item b f (one q); apart = tt }
 one (g.newline_item {in_switch = b} {after_if = f} q) = record { same = l.newline_item b f (one q); apart = tt }
-one (g.one_item {in_switch = b} {after_if = f} {ts = ts} h q r) = record { same = l.one_item b f ts h (command_begins q) (one q) (one r); apart = tt }
+one (g.one_item {in_switch = b} {after_if = f} {ts = ts} h q r) = record { same = l.one_item b f ts h (command_commands q) (one q) (one r); apart = tt }
 one (g.after_last {in_switch = b} {after_if = f} {rest = rest} h) = record { same = l.after_last b f rest h; apart = tt }
 one (g.after_semicolon {in_switch = b} {after_if = f} q) = record { same = l.after_semicolon b f (one q); apart = tt }
 one (g.after_newline {in_switch = b} {after_if = f} q) = record { same = l.after_newline b f (one q); apart = tt }

@@ -69,11 +69,6 @@ concat_calm a (more b bs) o = open_on (further_parts (more b bs)) o
 pub arg_calm : {inside : Bool} {ts mid : List Lexeme} {a : Node t.arg} → Phrase (g.arg inside) ts a mid → begins_with_case a ≡ false → Opens true (arg_lexemes a)
 arg_calm (g.joined {a = a} {as' = as'} p q) h = concat_calm a as' (part_calm p (concat_case a as' ∙ h))
 
-pub redir_begins : {ts rest : List Lexeme} {r : Node t.redir} → Phrase g.redir ts r rest → begins_redir ts ≡ true
-redir_begins (g.open_redir q) = refl
-redir_begins (g.copy_redir) = refl
-redir_begins (g.here_redir) = refl
-
 -- no link follows the body of a control form
 links_end : {ts rest : List Lexeme} {ls : Many t.link} → Phrase g.links ts ls rest → begins_link rest ≡ false
 links_end (g.no_link h) = h

@@ -9,7 +9,8 @@ use Rattle.rc_model.specs.Syntax.Printing.{has_here, have_here, begins_with_case
 use Rattle.law_print_lexing.specs.Lexemes.{cmd_lexemes}
 use Rattle.law_print_parsing.proofs.Follows.{Opens, ArgOpens, arg_open, at_end}
 use Rattle.law_print_parsing.proofs.Heres.{or_first, or_second, here_concat, here_redirect, here_pipeline, here_and_or}
-use Rattle.law_print_parsing.proofs.Heads.{arg_first, arg_case, arg_calm, redir_begins, body_end}
+use Rattle.law_print_parsing.proofs.Heads.{arg_first, arg_case, arg_calm, body_end}
+use Rattle.law_grammar.proofs.Beginnings.{redir_begins}
 use Rattle.law_print_parsing.proofs.Arguments.{PrintsName, PrintsPart, PrintsArg, PrintsRedir, PrintsParts, PrintsArgs, PrintsRedirs, concat_prints}
 use Rattle.law_print_parsing.proofs.Parts as p
 use Rattle.law_print_parsing.proofs.Commands.{PrintsBrace, PrintsParen, PrintsStage, Prints, AsLeading, AsAssigned, AsPipe, AsOperand, stage_prints, simple_firm}

@@ -1,13 +1,19 @@
 //! What the calls of a world take and answer.
 
-/// Why a call was refused.
+/// Why a call was refused. Which fault it is, a halt aside, changes nothing for a script.
 #[derive(Clone, Copy, PartialEq)]
 pub enum Fault {
+    /// There is nothing of this name.
     NotFound,
+    /// There is no permission for it.
     Denied,
+    /// Something of this name is there already.
     Exists,
+    /// Nobody reads from the other end of the pipe.
     Broken,
+    /// There is no space left.
     Full,
+    /// Any other reason, as a number that isn't held.
     Other,
     /// The world is over, and the call was not answered.
     Halt,
@@ -53,7 +59,7 @@ pub enum Mode {
     Append,
 }
 
-/// What a path names.
+/// What a path names, links followed. A program is a plain file that can be executed.
 #[derive(Clone, Copy, PartialEq)]
 pub enum Kind {
     Directory,

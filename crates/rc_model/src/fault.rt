@@ -67,7 +67,7 @@ impl fmt::Display for SyntaxFault {
 
 impl error::Error for SyntaxFault {}
 
-/// What is wrong with a row of tokens.
+/// What is wrong with a list of tokens.
 #[derive(Clone, Copy, Debug)]
 pub enum DescentFault {
     /// A token fits no script at its place.

@@ -5,7 +5,7 @@ use Rattle.rc_model.specs.Run.Calls.{Call, Answer, Event, event, extend, refused
 use Rattle.rc_model.specs.declared.call.Fault.TheVariants.{Halt as halt}
 use Rattle.rc_model.specs.Run.Plans.{Plan, done_with, ask, asks, and_then, Ran}
 use Rattle.law_plans.proofs.Runs.{ran_none, halted_call, ran_join, halted_join, ran_then, halted_then, ran_bind}
-use Rattle.rc_world.specs.Comes.{Left, for_memory, by_halt, Comes}
+use Rattle.rc_world.specs.Comes.{Left, for_memory, by_halt, GoesOn, Comes}
 use Rattle.rc_world.specs.declared.types.Stop.{Stop}
 use Rattle.rc_world.specs.declared.types.Stop.TheVariants.{NoMemory, Halt}
 
@@ -29,10 +29,15 @@ pub left_halt : {X : Type 0} (a b : Option (List Event)) (call : Call) (go : Ans
 left_halt a b call go h = by_halt (halted_call a b call go h)
 
 -- a `?` hands on why
+pub given_up : {X T : Type 0} (a b : Option (List Event)) (plan : Plan X) (rest : T → Plan X) (result : Result T Stop) (stop : Stop) →
+    IsErrAnd result (λ s. s ≡ stop) → Left a b plan stop → GoesOn a b plan rest result
+given_up a b plan rest (Err s) stop h k = subst (λ s. Left a b plan s) (sym h) k
+given_up a b plan rest (Ok x) stop h k = absurd h
+
+-- and so it does where the plan was to come to a value
 pub passed_up : {X T : Type 0} (a b : Option (List Event)) (plan : Plan X) (view : T → X) (result : Result T Stop) (stop : Stop) →
     IsErrAnd result (λ s. s ≡ stop) → Left a b plan stop → Comes a b plan view result
-passed_up a b plan view (Err s) stop h k = subst (λ s. Left a b plan s) (sym h) k
-passed_up a b plan view (Ok x) stop h k = absurd h
+passed_up a b plan view result stop h k = given_up a b plan (λ v. done_with (view v)) result stop h k
 
 -- ** after a run
 

@@ -10,8 +10,6 @@ use Rattle.rc_model.specs.declared.call.Fault.{Fault}
 use Rattle.rc_model.specs.declared.call.Fault.TheVariants as fault
 use Rattle.rc_world.specs.declared.types.Stop.{Stop}
 use Rattle.rc_world.specs.declared.types.Stop.TheVariants.{NoMemory, Halt}
-use Rattle.rc_world.specs.declared.types.Flow.{Flow}
-use Rattle.rc_world.specs.declared.types.Flow.TheVariants.{Next, Exit}
 
 -- the events of a world so far: None where it does not record them
 abbrev pub Recording : Type 0 → Type 0
@@ -25,6 +23,12 @@ Records events before after call answer = events after ≡ extend (events before
 pub data Left {X : Type 0} (before after : Option (List Event)) (plan : Plan X) : Stop → Type 0 where
   for_memory : (rest : Plan X) → Ran before after plan rest → Left before after plan NoMemory
   by_halt : Halted before after plan → Left before after plan Halt
+
+-- between two records of a world, a plan went on to another one, by the result, or it was left
+abbrev pub GoesOn : {X T : Type 0} → (before after : Option (List Event)) → Plan X → (T → Plan X) →
+    Result T Stop → Type 0
+GoesOn before after plan rest result =
+    MatchResult result (λ v. Ran before after plan (rest v)) (Left before after plan)
 
 -- between two records of a world, code came to the value of a plan, as its result is viewed, or the plan was left
 abbrev pub Comes : {X T : Type 0} → (before after : Option (List Event)) → Plan X →
@@ -50,17 +54,6 @@ abbrev pub Does : {W S A T : Type 0} → Recording W → W → W → (S → Stat
     (T → A) → Result T Stop → Type 0
 Does events before after state_of s t act view result =
     Comes (events before) (events after) (act (state_of s)) (λ v. shell.Next (view v) (state_of t)) result
-
--- how an act of the shell ends: in the next state with a value, or with the shell
-abbrev pub flow_of : {A T : Type 0} → (T → A) → State → Flow T → shell.Result A
-flow_of view s (Next v) = shell.Next (view v) s
-flow_of view s Exit = shell.Exit s []
-
--- an act of the shell, from one state to the next or to the last
-abbrev pub Flows : {W S A T : Type 0} → Recording W → W → W → (S → State) → S → S → Shell A →
-    (T → A) → Result (Flow T) Stop → Type 0
-Flows events before after state_of s t act view result =
-    Comes (events before) (events after) (act (state_of s)) (flow_of view (state_of t)) result
 
 -- ** calls of which only the refusal matters
 

@@ -10,5 +10,5 @@ pub mod world;
 pub use event::{Answer, Call};
 pub use rc_model::{ChildNo, Ending, Fault, Handle, Kind, Mode, PLAIN_SLOTS, Slot, Slots};
 pub use tape::Tape;
-pub use types::{Flow, Launch, Program, Stop};
+pub use types::{Launch, Program, Stop};
 pub use world::World;

@@ -46,15 +46,10 @@ impl Launch {
 /// Why work over a world was given up: nothing is called after it.
 #[derive(Clone, Copy, PartialEq)]
 pub enum Stop {
+    /// A call was not answered, since the world is over.
     Halt,
+    /// Memory was refused.
     NoMemory,
-}
-
-/// How an act of the shell ends: with a value, or with the end of the shell.
-#[derive(Drop)]
-pub enum Flow<T> {
-    Next(T),
-    Exit,
 }
 
 impl From<AllocError> for Stop {

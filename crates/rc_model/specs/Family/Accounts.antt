@@ -37,11 +37,11 @@ pub record Account : Type 0 where
   pub line : ℕ → ℕ
   pub due : Due
 
--- 1 at h
+-- the counts of one number: 1 at h, and 0 elsewhere
 unfoldable pub one : ℕ → ℕ → ℕ
 one h k = if nat_eq h k then 1 else 0
 
--- x at h
+-- a function with x at h, and unchanged elsewhere
 unfoldable pub put : {X : Type 0} → (ℕ → X) → ℕ → X → ℕ → X
 put f h x k = if nat_eq h k then x else f k
 

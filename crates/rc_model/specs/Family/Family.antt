@@ -208,7 +208,7 @@ pub record NoRing (f : Family) : Type 0 where
   pub greatest : (k : ℕ) → ((j : ℕ) → j < f.count → k < j → HasEnded (f.at j)) → (j : ℕ) → WaitsFor f k j →
       HasEnded (f.at j)
 
--- The laws of a family.
+-- ** the laws of a family
 
 -- the processes of a list of origins stand from this number on
 abbrev pub StandFrom : Family → ℕ → List (ℕ × ℕ) → Type 0

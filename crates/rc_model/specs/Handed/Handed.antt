@@ -5,7 +5,7 @@ use Rattle.rc_model.specs.Syntax.Tree.{Node, cmd}
 use Rattle.rc_model.specs.Run.State.{State}
 use Rattle.rc_model.specs.Handed.Image.{is_fit, shell_launch}
 
--- the image of a tree and of a state, which are not too large
+-- a launch hands over a tree and a state, which are not too large
 pub record IsHanded (l : Launch) : Type 0 where
   pub tree : Node cmd
   pub state : State

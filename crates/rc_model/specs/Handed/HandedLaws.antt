@@ -20,7 +20,7 @@ HandedReadsBack = (c : Node cmd) (s : State) (h : List (List ℕ) × List (List 
 abbrev pub ReadsProper : Type 0
 ReadsProper = (own : Bool) (args entries : List (List ℕ)) (s : State) → read_state own args entries ≡ Ok s → IsProper s
 
--- and whatever words, the tree is one that a shell holds
+-- and whatever words are read with them, the tree is one that a shell holds, and the state is proper
 abbrev pub ReadsScripts : Type 0
 ReadsScripts =
     (strict : Bool) (words entries : List (List ℕ)) (x : Node cmd × State) → read_image strict words entries ≡ Ok x →

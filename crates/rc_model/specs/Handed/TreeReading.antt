@@ -141,7 +141,7 @@ item_at c = tagged (item_rows c)
 abbrev pub pair_at : Reader (Node arg) → Reader (Node pair)
 pair_at a = made (λ x. t.Pair x.0 x.1) (both a a)
 
--- a stage, with the descriptor that goes into the pipe before it
+-- a stage: the descriptor that goes into its pipe, and then its command
 abbrev pub stage_at : Reader (Node cmd) → Reader (Node stage)
 stage_at c = made (λ x. t.Stage x.1 x.0) (both output_at c)
 
@@ -217,7 +217,7 @@ arg_rows k c a =
     ∷ (96, made t.Back c)
     ∷ []
 
--- a node with at most a given number of commands and arguments on one way from it
+-- a node with at most a given number of commands and arguments on one path from it
 unfoldable mutual
   -- a command of at most this depth
   pub cmd_at : Bool → ℕ → Reader (Node cmd)

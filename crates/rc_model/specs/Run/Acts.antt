@@ -16,25 +16,38 @@ use Rattle.rc_model.specs.Run.State.{State, value_of, set_value, got, is_readabl
 use Rattle.rc_model.specs.Run.State.{with_status, add_child}
 use Rattle.rc_model.specs.Run.Shell.{Shell, ◌>>=◌, ◌>>◌, pure, call, say, get, change}
 use Rattle.rc_model.specs.Handed.Image.{program_launch, shell_launch, is_fit}
-pub use Rattle.rc_model.specs.Run.Values.{set_status, report, fault, fails, closing, close_end, check, one_name}
+pub use Rattle.rc_model.specs.Run.Values.{set_status, report, fault, fails, bad_name, closing, waiting, close_end}
+pub use Rattle.rc_model.specs.Run.Values.{check, one_name}
 pub use Rattle.rc_model.specs.Run.Values.{variable, value, value_words, count_words, flat_words, selected_words}
 pub use Rattle.rc_model.specs.Run.Values.{joined_lists, concat_words, match_status, define_each}
 use Rattle.rc_model.specs.declared.limits.TheConstants.{LONGEST_OUTPUT, LONGEST_SCRIPT}
 
 -- ** redirections
 
+-- the words of the runtime error that what has this name cannot be opened
+abbrev pub cannot_open : List ℕ → List ℕ
+cannot_open name = codes "cannot open " ++ name
+
+-- the words of the runtime error that the words after a redirection are not one
+abbrev pub not_one_word : List ℕ
+not_one_word = codes "redirection needs one word"
+
+-- what a report calls a here document
+abbrev pub here_name : List ℕ
+here_name = codes "here document"
+
 -- a file that was opened
 abbrev pub opened : Slots → List ℕ → Option ℕ → Shell ℕ
 opened slots name (Some h) = pure h
-opened slots name None = fails slots (codes "cannot open " ++ name)
+opened slots name None = fails slots (cannot_open name)
 
 -- the one file that a list of words names
 abbrev pub open_one : Slots → Mode → List (List ℕ) → Shell ℕ
-open_one slots mode [] = fails slots (codes "redirection needs one word")
+open_one slots mode [] = fails slots not_one_word
 open_one slots mode (name ∷ []) = do
   a ← call (open_file name mode)
   opened slots name (as_file a)
-open_one slots mode (name ∷ other ∷ others) = fails slots (codes "redirection needs one word")
+open_one slots mode (name ∷ other ∷ others) = fails slots not_one_word
 
 -- the text of a here document: a bad name stands for nothing
 abbrev pub here_text : State → Many piece → List ℕ
@@ -47,7 +60,7 @@ abbrev pub open_here : Slots → Many piece → Shell ℕ
 open_here slots pieces = do
   s ← get
   a ← call (here (here_text s pieces))
-  opened slots (codes "here document") (as_file a)
+  opened slots here_name (as_file a)
 
 -- ** programs and children
 
@@ -56,7 +69,7 @@ abbrev pub is_path : List ℕ → Bool
 is_path name =
     starts_with nat_eq name (codes "/") || starts_with nat_eq name (codes "./") || starts_with nat_eq name (codes "../")
 
--- where a program may be
+-- where a program or a file of commands may be
 abbrev pub candidate : List ℕ → List ℕ → List ℕ
 candidate dir name = if (length dir == 0) || bytes_eq dir (codes ".") then codes "./" ++ name else dir ++ 47 ∷ name
 

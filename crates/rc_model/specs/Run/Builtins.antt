@@ -49,15 +49,18 @@ finished m = do
 abbrev pub usage : Shell Called
 usage = finished (set_status (codes "usage"))
 
+-- the tree of a text is run so, unless the text is no script
+abbrev pub unless_no_script : (Node cmd → Called) → Option (Node cmd) → Shell Called
+unless_no_script called (Some c) = pure (called c)
+unless_no_script called None = finished (set_status (codes "syntax error"))
+
 -- a text that is run as a script
 abbrev pub as_body : Option (Node cmd) → Shell Called
-as_body (Some c) = pure (Body c)
-as_body None = finished (set_status (codes "syntax error"))
+as_body c = unless_no_script Body c
 
 -- a text that is run as a script, with `$*` of its own
 abbrev pub as_body_with : List (List ℕ) → Option (Node cmd) → Shell Called
-as_body_with args (Some c) = pure (BodyWith args c)
-as_body_with args None = finished (set_status (codes "syntax error"))
+as_body_with args c = unless_no_script (BodyWith args) c
 
 -- a file that was opened, or else one of the others
 abbrev pub opened_or : Shell (Option ℕ) → Option ℕ → Shell (Option ℕ)

@@ -186,6 +186,6 @@ was_made _ = true
 abbrev pub recorded_by : Call → Answer → List Event
 recorded_by call answer = if was_made answer then event call answer ∷ [] else []
 
--- the events of a world after these: none for a world that records nothing
+-- the record of a world with these events added; a world that records nothing has none
 abbrev pub extend : Option (List Event) → List Event → Option (List Event)
 extend recorded more = option_map (λ before. before ++ more) recorded

@@ -1,17 +1,17 @@
 -- A whole script: by its meaning, by the machine, and what it is for the two to agree.
 use Rattle.std.specs.Prelude.{◌≡◌, ℕ, ◌≤◌, List, [], ◌∷◌, ◌++◌, Option}
-use Rattle.rc_model.specs.Run.Calls.{Call, Answer, refused, Halt, Event, event, calls, answers, extend, wait, plain}
-use Rattle.rc_model.specs.Run.Plans.{Plan, done_with, ask, Played, Ends, Waits, Cut, play, calls_made}
+use Rattle.rc_model.specs.Run.Calls.{Call, Answer, refused, Halt, Event, event, calls, answers, extend, plain}
+use Rattle.rc_model.specs.Run.Acts.{waiting}
+use Rattle.rc_model.specs.Run.Plans.{Plan, done_with, Played, Ends, Waits, Cut, play, calls_made}
 use Rattle.rc_model.specs.Syntax.Tree.{Node, cmd}
 use Rattle.rc_model.specs.Run.State.{State}
 use Rattle.rc_model.specs.Run.Shell.{under}
 use Rattle.rc_model.specs.Run.Meaning.{meaning}
 use Rattle.rc_model.specs.Code.Machine.{exec, begin}
 
--- one wait for each child that is owed
+-- one wait for each child that is owed, and then the end
 abbrev pub waits : State → List ℕ → Plan State
-waits s [] = done_with s
-waits s (n ∷ ns) = ask (wait n) (λ a. waits s ns)
+waits s owed = waiting owed (done_with s)
 
 -- the meaning of a script, with n turns, as a plan
 abbrev pub whole : ℕ → Node cmd → State → Plan State

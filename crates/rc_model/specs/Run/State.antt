@@ -82,7 +82,7 @@ set_value s name value =
     then with_status s (spaced value)
     else record s { variables = put_values s.variables name (value ∷ covered (values_of s name)) }
 
--- the newest local ends; one of the status has no value to uncover
+-- the newest of these locals ends; one of the status has no value to uncover
 abbrev pub end_local : State → List (List ℕ) → State
 end_local s [] = s
 end_local s (name ∷ names) =
@@ -90,7 +90,7 @@ end_local s (name ∷ names) =
     then record s { locals = names }
     else record s { locals = names; variables = put_values s.variables name (covered (values_of s name)) }
 
--- the innermost local is closed
+-- the newest local ends
 abbrev pub pop_local : State → State
 pop_local s = end_local s s.locals
 

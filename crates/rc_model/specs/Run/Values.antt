@@ -7,7 +7,7 @@ use Rattle.rc_model.specs.Syntax.Words.{Word, word_texts, plain_words}
 use Rattle.rc_model.specs.Run.Lists.{ListFault, list_words, concatenated, selected}
 use Rattle.rc_model.specs.Run.Patterns.{matched}
 use Rattle.rc_model.specs.Run.Calls.{Slots}
-use Rattle.rc_model.specs.Run.Calls.{close, write}
+use Rattle.rc_model.specs.Run.Calls.{close, wait, write}
 use Rattle.rc_model.specs.Run.Plans.{Plan, ask, done_with}
 use Rattle.rc_model.specs.Syntax.Tree.{Node, cmd}
 use Rattle.rc_model.specs.Run.State.{is_true, got, is_name, is_readable, is_function_name}
@@ -34,10 +34,19 @@ fails slots text = do
   fault slots text
   exits
 
+-- the words of the runtime error that a name is bad
+abbrev pub bad_name : List ℕ
+bad_name = codes "bad name"
+
 -- an open file that may be held is closed first
 abbrev pub closing : {X : Type 0} → Option ℕ → Plan X → Plan X
 closing None p = p
 closing (Some h) p = ask (close h) (λ a. p)
+
+-- one wait for each child that is owed comes first
+abbrev pub waiting : {X : Type 0} → List ℕ → Plan X → Plan X
+waiting [] p = p
+waiting (n ∷ ns) p = ask (wait n) (λ a. waiting ns p)
 
 -- the end of a pipe that may be held is closed
 abbrev pub close_end : Option ℕ → Shell (Unit {0})
@@ -51,9 +60,9 @@ check = λ s. if s.strict && not (is_true s.status) then exits s else skip s
 
 -- the one name that a list of words is, if it is one
 abbrev pub one_name : Slots → (List ℕ → Bool) → List (List ℕ) → Shell (List ℕ)
-one_name slots fits [] = fails slots (codes "bad name")
-one_name slots fits (x ∷ []) = if fits x then pure x else fails slots (codes "bad name")
-one_name slots fits (x ∷ y ∷ ys) = fails slots (codes "bad name")
+one_name slots fits [] = fails slots bad_name
+one_name slots fits (x ∷ []) = if fits x then pure x else fails slots bad_name
+one_name slots fits (x ∷ y ∷ ys) = fails slots bad_name
 
 -- a name that can be given a value
 abbrev pub variable : Slots → List Word → Shell (List ℕ)

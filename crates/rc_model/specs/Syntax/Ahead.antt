@@ -141,7 +141,8 @@ abbrev pub redirect : Many t.redir → Node t.cmd → Node t.cmd
 redirect none body = body
 redirect (more r rs) body = t.Redirect (more r rs) body
 
--- of a first stage and of those that follow, each with the bar before it: all but the last, each with the bar after it
+-- the stages but the last, each with the bar after it, of a first stage and of those that follow, each with the bar
+-- before it
 abbrev pub stages_of : Node t.cmd → Many t.stage → Many t.stage
 stages_of first none = none
 stages_of first (more (t.Stage second slot) rest) = more (t.Stage first slot) (stages_of second rest)

@@ -74,7 +74,7 @@ after_chars p (c ∷ cs) = after_chars (after_char p c) cs
 abbrev pub token : Lexeme → Place → Place → Token
 token l p q = record { lexeme = l; start = p.byte; stop = q.byte; line = p.line }
 
--- how each operator is written. `<<` has no mark as yet, and each `$` a name
+-- how each operator is written. No `<<` has a mark yet, and each `$` is taken to have a name
 abbrev pub operators : List (List ℕ × Lexeme)
 operators =
     (codes ";", Semicolon) ∷ (codes "&", Ampersand) ∷ (codes "&&", AndAnd) ∷ (codes "||", OrOr)

@@ -115,7 +115,7 @@ abbrev pub tokens_of : Previous → Lexeme → Place → Place → List Token
 tokens_of (previous.Here begin end) l p q = token (as_mark l) begin q ∷ []
 tokens_of prev l p q = caret prev l p ++ token l p q ∷ []
 
--- what it is for what follows
+-- what a lexeme is for what follows it
 abbrev pub after_token : Previous → Lexeme → Previous
 after_token (previous.Here begin end) l = previous.Apart
 after_token previous.Dollar (Quoted text) = previous.Name
@@ -222,7 +222,7 @@ pub data Cuts : Previous → List PendingHereDoc → Place → List ℕ → Outc
       awaits_mark prev ≡ false →
       Run line_goes_on cs rest →
       Cuts previous.Apart due (after_chars p (35 ∷ cs)) rest o → Cuts prev due p (35 ∷ cs ++ rest) o
-  -- a word, a name, an operator
+  -- a word, a quoted word, a name, an operator
   lexeme : (prev : Previous) (due : List PendingHereDoc) (p : Place) (cs rest : List ℕ) (l : Lexeme) (o : Outcome) →
       Spells prev cs rest l →
       Cuts (after_token prev l) (pending_after prev l due) (after_chars p cs) rest o →

@@ -6,7 +6,7 @@ use Rattle.rc_model.specs.Syntax.Tree.{Sort, Node, Many, none, more, count}
 use Rattle.rc_model.specs.Syntax.Tree as t
 use Rattle.rc_model.specs.declared.limits.TheConstants.{MOST_LEVELS, MOST_STAGES}
 
--- the greatest number of commands and arguments on one way from the root
+-- the greatest number of commands and arguments on one path from the root
 abbrev mutual
   -- the number at a node
   pub depth : {s : Sort} → Node s → ℕ
