@@ -3,7 +3,7 @@
 //! as it is started where a shell starts itself.
 #![tactic(auto)]
 
-mod children;
+mod rows;
 mod runs;
 
 use anyhow::Result;

@@ -1,0 +1,71 @@
+//! The rows of `runs.rows`.
+
+use anyhow::{Result, bail};
+use std::alloc::{AllocError, Global};
+
+/// A run: what it shows, and what the shell is given.
+#[derive(Drop)]
+pub struct Row {
+    pub name: String,
+    /// The arguments of the shell.
+    pub words: Vec<String>,
+    /// The text by which /bin/sh starts the shell, if it does.
+    pub starter: Option<String>,
+    /// The file that the shell reads, if it reads no script.
+    pub input: Option<String>,
+    pub script: String,
+}
+
+/// A word, in which `\n` stands for a newline.
+fn word(alloc: Global, written: &str) -> Result<String, AllocError> {
+    let mut word = String::new(alloc);
+    for (at, part) in written.split("\\n").enumerate() {
+        if at > 0 {
+            word.push('\n')?;
+        }
+        word.push_str(part)?;
+    }
+    Ok(word)
+}
+
+/// So many copies of a text.
+fn repeated(alloc: Global, text: &str, times: u32) -> Result<String, AllocError> {
+    let mut whole = String::new(alloc);
+    for _ in 0..times {
+        whole.push_str(text)?;
+    }
+    Ok(whole)
+}
+
+impl Row {
+    /// The row that is written so.
+    pub fn read(alloc: Global, written: &str) -> Result<Row> {
+        let (head, script) = written.split_once("script:\n").unwrap_or((written, ""));
+        let (name, options) = head.split_once('\n').unwrap_or((head, ""));
+        let mut row = Row {
+            name: String::from_str(alloc, name)?,
+            words: Vec::new(alloc),
+            starter: None,
+            input: None,
+            script: String::from_str(alloc, script)?,
+        };
+        for option in options.lines() {
+            row.take(alloc, option)?;
+        }
+        Ok(row)
+    }
+
+    /// Takes a line of the head.
+    fn take(&mut self, alloc: Global, option: &str) -> Result<()> {
+        let (kind, text) = option.split_once(' ').unwrap_or((option, ""));
+        match kind {
+            "word" => self.words.push(word(alloc, text)?)?,
+            "sh" => self.starter = Some(String::from_str(alloc, text)?),
+            "input" => self.input = Some(String::from_str(alloc, text)?),
+            "times" => self.script = repeated(alloc, self.script.as_str(), text.parse()?)?,
+            "spaces" => self.script = repeated(alloc, " ", text.parse()?)?,
+            _ => bail!("no row has such a line"),
+        }
+        Ok(())
+    }
+}
