@@ -5,7 +5,7 @@ ghost use Rattle.rc_model.specs.Run.Calls.{Answer};
 ghost use Rattle.rc_model.specs.Run.Script.{Agrees};
 ghost use Rattle.rc_model.specs.Run.State.{State};
 ghost use Rattle.rc_model.specs.Syntax.Tree.{Node, cmd};
-ghost use Rattle.law_machine.specs.Limits.{LimitsEnd};
+ghost use Rattle.law_machine.specs.Limits.{EnoughIsNoLimit, LimitsEnd, SomeAreEnough};
 ghost use Rattle.std.specs.Prelude.{List};
 
 /// The code of a script does what the script means, for all answers.
@@ -16,4 +16,14 @@ pub fn machine_agrees()
 /// Where the meaning ends or waits, limits that are high enough are not met.
 pub fn limits_end()
     ensures { LimitsEnd }
+{}
+
+/// Where the meaning ends or waits, some number of instructions is enough.
+pub fn some_are_enough()
+    ensures { SomeAreEnough }
+{}
+
+/// A limit that is enough for the answers of a tape is not met there.
+pub fn enough_is_no_limit()
+    ensures { EnoughIsNoLimit }
 {}
