@@ -1,0 +1,19 @@
+//! The laws of tapes: a tape records what its answers say.
+#![tactic(auto)]
+
+ghost use Rattle.law_tapes.specs.Tapes.{CallsAreOnTape, NewTapesHaveAll, TapesRecord};
+
+/// What a tape records, as far as its first halt, it records by the answers that it had left.
+pub fn tapes_record()
+    ensures { TapesRecord }
+{}
+
+/// The same of one call.
+pub fn calls_are_on_tape()
+    ensures { CallsAreOnTape }
+{}
+
+/// A tape that has recorded nothing has all its answers left.
+pub fn new_tapes_have_all()
+    ensures { NewTapesHaveAll }
+{}
