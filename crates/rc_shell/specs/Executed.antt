@@ -1,8 +1,9 @@
 -- How the run of a script ends, by the instructions that it may take and by what the script means.
-use Rattle.std.specs.Prelude.{◌≡◌, ℕ, List, [], Bool, Option, Result, Ok, Err, String, map, string_bytes}
+use Rattle.std.specs.Prelude.{◌≡◌, ◌≢◌, ℕ, ◌≤◌, List, [], Bool, Option, Result, Ok, Err, String, map, string_bytes}
 use Rattle.std.specs.declared.alloc.AllocError.{AllocError}
 use Rattle.std.specs.declared.alloc.Global.{Global}
-use Rattle.rc_model.specs.Run.Calls.{Event, calls, answers}
+use Rattle.law_machine.specs.Limits.{IsEnough, IsOnTape}
+use Rattle.rc_model.specs.Run.Calls.{Answer, Event, calls, answers}
 use Rattle.rc_model.specs.Run.Plans.{Ends, Waits, calls_made}
 use Rattle.rc_model.specs.Run.Script.{Recorded, run, IsPrefix, EndsAsMeant, HaltsAsMeant, IsBegunAsMeant, StopsAtLimit}
 use Rattle.rc_model.specs.Run.State as model
@@ -47,6 +48,12 @@ RunsAsMeant limit t s trace (Err NoMemory) = IsBegunWithin limit t s trace
 RunsAsMeant limit t s trace (Err (Syntax fault)) = ⊥
 RunsAsMeant limit t s trace (Err (Image fault)) = ⊥
 
+-- on a tape of answers for which the limit is enough, the run isn't cut short by it
+abbrev pub IsNotCutShort : (limit : ℕ) → Node cmd → model.State → List Event → Result Ran ShellFault → Type 0
+IsNotCutShort limit t s trace result =
+    (given : List Answer) (count : ℕ) → IsOnTape given trace → IsEnough count t s given → count ≤ limit →
+    result ≢ Ok Limit
+
 -- the outcome of a script whose machine came so far, with this state
 abbrev pub IsOutcome : Result Progress AllocError → model.State → Result Ran ShellFault → Type 0
 IsOutcome (Ok progress.Ended) s (Ok (Ended end)) = state_of end ≡ s
@@ -77,7 +84,7 @@ IfEnded _ P = Unit {0}
 abbrev pub IfAccepted : List ℕ → Option (List Event) → Option (List Event) → (List Event → Type 0) → Type 0
 IfAccepted script before after P = (t : Node cmd) → IsAccepted script t → Recorded before after P
 
--- a fact for a fault of the script
+-- a fact for a fault of the script, where there is one; a fault of an image never comes
 abbrev pub IfSyntax : ShellFault → (SyntaxFault → Type 0) → Type 0
 IfSyntax (Syntax fault) P = P fault
 IfSyntax (Image fault) P = ⊥
@@ -95,7 +102,7 @@ abbrev pub IfDenoted : Result (Node cmd × model.State) ImageFault → Option (L
     Option (List Event) → (Node cmd → model.State → List Event → Type 0) → Type 0
 IfDenoted read before after P = (t : Node cmd) (s : model.State) → read ≡ Ok (t, s) → Recorded before after (P t s)
 
--- a fact for a fault of what was handed over
+-- a fact for a fault of what was handed over, where there is one; a fault of a script never comes
 abbrev pub IfImage : ShellFault → (ImageFault → Type 0) → Type 0
 IfImage (Syntax fault) P = ⊥
 IfImage (Image fault) P = P fault

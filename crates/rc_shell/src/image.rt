@@ -8,7 +8,7 @@ ghost use Rattle.rc_model.specs.Run.Script.{Agrees};
 ghost use Rattle.rc_model.specs.Run.State as model;
 ghost use Rattle.rc_model.specs.Syntax.Tree.{Node, cmd};
 ghost use Rattle.rc_shell.specs.Executed.{IfDenoted, IfEnded, IfImage, LeavesNothing, LosesNothing, RunsAsMeant};
-ghost use Rattle.rc_shell.specs.Executed.{denoted};
+ghost use Rattle.rc_shell.specs.Executed.{IsNotCutShort, denoted};
 ghost use Rattle.rc_model.specs.declared.fault.ImageFault.{ImageFault};
 
 use crate::run::{Ran, ShellFault, run_tree};
@@ -48,9 +48,14 @@ pub fn execute_image<W: World>(
     ensures handed { IfDenoted (denoted strict words.now entries.now) (W.events world.old) (W.events world.new)
         (λ t s trace. AllReadBack (calls trace)) }
     ensures proper { IfEnded result (λ end. IsProper end) }
+
     // Where the meaning ends or waits, so does the code, from some number of instructions on.
     ensures converse { (t : Node cmd) (s : model.State) → denoted strict words.now entries.now ≡ Ok (t, s) →
         (given : List Answer) → Agrees t s given }
+
+    // On a tape of answers for which the limit is enough, the run is not cut short.
+    ensures limits { IfDenoted (denoted strict words.now entries.now) (W.events world.old) (W.events world.new)
+        (λ t s trace. IsNotCutShort limit t s trace result) }
 {
     match read_image(alloc, strict, words, entries) {
         Ok((cmd, state)) => run_tree(alloc, world, cmd, state, limit),

@@ -8,7 +8,7 @@ ghost use Rattle.rc_model.specs.Run.Script.{Agrees, Recorded};
 ghost use Rattle.rc_model.specs.Syntax.Tree.{Node, cmd};
 ghost use Rattle.rc_scope.specs.States.{state_of};
 ghost use Rattle.rc_shell.specs.Executed.{HandsOver, IfAccepted, IfEnded, IfSyntax, LeavesNothing, LosesNothing};
-ghost use Rattle.rc_shell.specs.Executed.{RunsAsMeant};
+ghost use Rattle.rc_shell.specs.Executed.{IsNotCutShort, RunsAsMeant};
 
 use crate::run::{Ran, ShellFault, run_tree};
 use rc_model::{InputError, SyntaxFault};
@@ -49,6 +49,11 @@ pub fn execute<W: World>(
     // Where the meaning ends or waits, so does the code, from some number of instructions on.
     ensures converse { (t : Node cmd) → IsAccepted script.now t →
         (given : List Answer) → Agrees t (state_of state) given }
+
+    // On a tape of answers for which the limit is enough, the run is not cut short.
+    ensures limits { (t : Node cmd) → IsAccepted script.now t →
+        Recorded (W.events world.old) (W.events world.new)
+        (λ trace. IsNotCutShort limit t (state_of state) trace result) }
 {
     match parse(alloc, script) {
         Ok(cmd) => run_tree(alloc, world, cmd, state, limit),

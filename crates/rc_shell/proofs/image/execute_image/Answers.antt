@@ -1,11 +1,13 @@
-use Rattle.std.specs.Prelude.{map, string_bytes}
+use Rattle.std.specs.Prelude.{Err, map, string_bytes}
 use Rattle.law_image.proofs.ReadProper.{reads_scripts}
 use Rattle.rc_tree_types.specs.View.{cmd_tree}
 use Rattle.rc_scope.specs.States.{state_of}
 use Rattle.rc_shell.specs.Executed.{denoted}
 use Rattle.rc_shell.proofs.Images.{meant_by}
 use Rattle.rc_shell.proofs.Kept.{ended_proper, leaves_nothing, loses_nothing, reads_back}
+use Rattle.rc_shell.proofs.Limits.{not_cut_short}
 use Rattle.rc_shell.proofs.Runs.{recorded_nothing}
+use Rattle.rc_shell.specs.declared.run.ShellFault.TheVariants.{NoMemory}
 use Rattle.rc_shell.proofs.image.execute_image.Goals as goal
 
 pub returns-in-Ok-clause-meant : goal.returns-in-Ok-clause-meant
@@ -36,3 +38,10 @@ returns-in-Ok-clause-proper g c =
 
 pub returns-in-Err-NoMemory-clause-meant : goal.returns-in-Err-NoMemory-clause-meant
 returns-in-Err-NoMemory-clause-meant g c = let before = g.W.World.events c.args.world.now in λ t s e. recorded_nothing c.args.limit t s before before
+
+pub returns-in-Ok-clause-limits : goal.returns-in-Ok-clause-limits
+returns-in-Ok-clause-limits g c =
+    λ t s e. not_cut_short (g.W.World.events c.args.world.now) (g.W.World.events c.run_tree.new.world) c.args.limit t s c.run_tree.result (returns-in-Ok-clause-meant g c t s e)
+
+pub returns-in-Err-NoMemory-clause-limits : goal.returns-in-Err-NoMemory-clause-limits
+returns-in-Err-NoMemory-clause-limits g c = let before = g.W.World.events c.args.world.now in λ t s e. not_cut_short before before c.args.limit t s (Err NoMemory) (returns-in-Err-NoMemory-clause-meant g c t s e)

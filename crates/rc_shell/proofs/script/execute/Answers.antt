@@ -4,6 +4,7 @@ use Rattle.rc_tree_types.specs.View.{cmd_tree}
 use Rattle.rc_scope.specs.States.{state_of}
 use Rattle.rc_shell.specs.declared.run.ShellFault.TheVariants.{NoMemory}
 use Rattle.rc_shell.proofs.Kept.{ends_proper, hands_over, leaves_nothing, loses_nothing}
+use Rattle.rc_shell.proofs.Limits.{not_cut_short}
 use Rattle.rc_shell.proofs.Runs.{recorded_nothing}
 use Rattle.rc_shell.proofs.Scripts.{meant_by, not_refused}
 use Rattle.rc_shell.proofs.script.execute.Goals as goal
@@ -57,3 +58,13 @@ returns-in-Err-Fault-clause-left g c = λ t accepted. not_refused c.args.script.
 
 pub returns-in-Err-Fault-clause-handed : goal.returns-in-Err-Fault-clause-handed
 returns-in-Err-Fault-clause-handed g c = λ t accepted. not_refused c.args.script.now t accepted c.in-Err-Fault.fault (rw c.in-Err-Fault.field-0-is at c.in-Err-Fault.ensures.refused)
+
+pub returns-in-Ok-clause-limits : goal.returns-in-Ok-clause-limits
+returns-in-Ok-clause-limits g c =
+    λ t a. not_cut_short (g.W.World.events c.args.world.now) (g.W.World.events c.run_tree.new.world) c.args.limit t (state_of c.args.state) c.run_tree.result (returns-in-Ok-clause-meant g c t a)
+
+pub returns-clause-limits : goal.returns-clause-limits
+returns-clause-limits g c = let before = g.W.World.events c.args.world.now in λ t a. not_cut_short before before c.args.limit t (state_of c.args.state) (Err NoMemory) (returns-clause-meant g c t a)
+
+pub returns-in-Err-Fault-clause-limits : goal.returns-in-Err-Fault-clause-limits
+returns-in-Err-Fault-clause-limits g c = λ t accepted. not_refused c.args.script.now t accepted c.in-Err-Fault.fault (rw c.in-Err-Fault.field-0-is at c.in-Err-Fault.ensures.refused)
