@@ -1,4 +1,7 @@
 //! Runs a script over a world.
+//!
+//! The language is that of rc, the shell of Plan 9, as the page rc(1) of its manual and Tom Duff's paper "Rc - The Plan 9
+//! Shell" describe it.
 #![tactic(auto)]
 
 mod image;

@@ -30,10 +30,10 @@ pub enum Ran {
 #[derive(Debug, Drop, Error)]
 pub enum ShellFault {
     /// The script is not accepted. No call was made.
-    #[error("not a script")]
+    #[error("not a script: {0}")]
     Syntax(SyntaxFault),
     /// What was handed over doesn't read back. No call was made.
-    #[error("not an image")]
+    #[error("not an image: {0}")]
     Image(ImageFault),
     #[error("out of memory")]
     NoMemory,
