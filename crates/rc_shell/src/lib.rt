@@ -1,7 +1,7 @@
 //! Runs a script over a world.
 //!
-//! The language is that of rc, the shell of Plan 9, as the page rc(1) of its manual and Tom Duff's paper "Rc - The Plan 9
-//! Shell" describe it.
+//! The language is that of rc, the shell of Plan 9. It is described by the page rc(1) of the manual of Plan 9, and by
+//! Tom Duff's paper "Rc - The Plan 9 Shell".
 #![tactic(auto)]
 
 mod image;
