@@ -3,7 +3,7 @@ use Rattle.std.proofs.Common.{◌≡◌, List, [], ◌∷◌, ◌++◌, map, Boo
 use Rattle.rc_model.specs.Run.Calls.{Call, Answer, Event, event, fitting, is_halt, want}
 use Rattle.law_machine.specs.Limits.{IsOnTape, IsRecorded, before_halt}
 use Rattle.law_machine.proofs.Fitting.{is_taken}
-use Rattle.law_tapes.specs.Tapes.{answers_after, left_of, TapesRecord, CallsAreOnTape, NewTapesHaveAll}
+use Rattle.law_tapes.specs.Tapes.{answers_after, TapesRecord, CallsAreOnTape, NewTapesHaveAll}
 use Rattle.rc_world.specs.Tapes.{played, tape_answers}
 use Rattle.rc_world.specs.Views.{call_of}
 
