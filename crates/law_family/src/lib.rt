@@ -9,19 +9,19 @@ ghost use Rattle.rc_model.specs.Run.State.{State};
 ghost use Rattle.rc_model.specs.Syntax.Tree.{Node, cmd};
 ghost use Rattle.std.specs.Prelude.{Bool, List, true, ℕ, ◌<◌, ◌≡◌};
 
-/// An event is added to one trace, and adds at most one process.
+/// A step adds its event to the trace of its process, changes no other process, and adds one process at most.
 pub fn one_at_a_time()
     ensures { (reads : Launch → Node cmd × State) (f : Family) (e : Step) → e.at < f.count → OneAtATime reads f e }
 {}
 
-/// There is one process for each shell that was started, in order, and process 0.
+/// There is process 0, and after it one process for each shell that was started, in the order of the starts.
 pub fn one_per_start()
     ensures { (reads : Launch → Node cmd × State) (c : Node cmd) (s : State) (es : List Step) →
         ArePossible reads (first reads c s) es → OnePerStart reads c s es }
 {}
 
-/// Each process began with what it was handed and loses nothing, the write ends are handed down, and no ring of
-/// waiting shells is closed.
+/// Each process of a family began with what it was handed and loses nothing, each write end is handed to one child at
+/// most, and no processes wait for one another in a ring.
 pub fn family_is_sane()
     ensures { (reads : Launch → Node cmd × State) (c : Node cmd) (s : State) (es : List Step) →
         IsFamily reads c s es → Sane reads c s (family reads (first reads c s) es) }
@@ -33,7 +33,7 @@ pub fn families_read()
     ensures { FamiliesRead }
 {}
 
-/// A shell waits for one call at most, and for none where it has ended.
+/// A process has one pending call at most, and none where it has ended.
 pub fn one_outcome()
     ensures { (p : Process) (c : Call) → IsPending p c → (HasEnded p → ⊥) × ((d : Call) → IsPending p d → c ≡ d) }
 {}
@@ -45,7 +45,7 @@ pub fn one_fault()
         (a b : StepFault) → IsRefused a → IsRefused b → a ≡ b }
 {}
 
-/// A step that can be made is refused at a limit only.
+/// A step that can be made is refused only at a limit.
 pub fn made_or_at_limit()
     ensures { (reads : Launch → Node cmd × State) (hits : Process → Bool) (f next : Family) (k : ℕ) (x : Answer) →
         (c : Call) (a : StepFault) → IsMade reads (λ p. hits p ≡ true) f k x c next →

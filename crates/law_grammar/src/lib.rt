@@ -19,7 +19,7 @@ pub fn has_one_tree()
     ensures { HasOneTree }
 {}
 
-/// Where a token is unexpected there is no tree of any size.
+/// Where a token is unexpected, or an `if not` misplaced, there is no tree of any size.
 pub fn has_no_tree()
     ensures { HasNoTree }
 {}

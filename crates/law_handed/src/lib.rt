@@ -4,27 +4,28 @@
 ghost use Rattle.rc_model.specs.Handed.HandedLaws.{AcceptedAreProper, EndsAreProper, ScriptsReadBack};
 ghost use Rattle.rc_model.specs.Handed.HandedLaws.{TracesEndProper, TracesReadBack};
 
-/// The tree of an accepted text is one that a shell holds.
+/// The tree of an accepted script is proper.
 pub fn accepted_are_scripts()
     ensures { AcceptedAreProper }
 {}
 
-/// Whatever the answers, each shell that a script starts reads back what it is handed.
+/// From a proper tree and a proper state, and whatever the answers, each shell that a script starts reads back what
+/// it was handed.
 pub fn scripts_read_back()
     ensures { ScriptsReadBack }
 {}
 
-/// The state at the end of a script is proper.
+/// The state at the end of a script is proper, if its tree and first state are.
 pub fn ends_are_proper()
     ensures { EndsAreProper }
 {}
 
-/// The same of a trace that is begun as a script means.
+/// In a trace that begins as a script means, each shell that is started reads back what it was handed.
 pub fn traces_read_back()
     ensures { TracesReadBack }
 {}
 
-/// The same of a trace that ends as a script means.
+/// Where a trace ends as a script means, the state at its end is proper.
 pub fn traces_end_proper()
     ensures { TracesEndProper }
 {}

@@ -5,17 +5,17 @@ use Rattle.rc_model.specs.Run.State.{State, new_state, is_name, is_function_name
 use Rattle.rc_model.specs.Run.State.{define, undefine}
 use Rattle.rc_model.specs.Handed.Proper.{IsProper, IsProperTree}
 
--- a variable that is set, or covered by a local, leaves a proper state, where its name is one
+-- setting a variable, or covering it by a local, keeps a state proper if the name is a variable's
 abbrev pub VariablesStayProper : Type 0
 VariablesStayProper = (s : State) (name : List ℕ) (value : List (List ℕ)) → IsTrue (is_name name) → IsProper s →
     IsProper (set_value s name value) × IsProper (push_local s name value)
 
--- a function that is defined leaves a proper state, where its name is one and its body a proper tree
+-- defining a function keeps a state proper if the name is a function's and the body a proper tree
 abbrev pub FunctionsStayProper : Type 0
 FunctionsStayProper = (s : State) (name : List ℕ) (body : Node cmd) → IsTrue (is_function_name name) →
     IsProperTree body → IsProper s → IsProper (define s name body)
 
--- the end of a local leaves a proper state, and so do functions that are taken away
+-- ending a local keeps a state proper, and so does taking functions away
 abbrev pub EndsStayProper : Type 0
 EndsStayProper = (s : State) (names : List (List ℕ)) → IsProper s → IsProper (pop_local s) × IsProper (undefine s names)
 

@@ -7,37 +7,41 @@ ghost use Rattle.rc_model.specs.Handed.WordsLaws.{HasWords, OneListOfWords, OneT
 ghost use Rattle.rc_model.specs.Handed.WordsLaws.{WordsByRule, WordsReadBack};
 ghost use Rattle.law_image.specs.States.{BeginsProper, EndsStayProper, FunctionsStayProper, VariablesStayProper};
 
-/// A tree has one spelling, and a text spells one tree.
+/// A tree has no spelling but the one that is written, and has that one if its numbers are not too great; a text
+/// spells one tree at most.
 pub fn trees_have_one_spelling()
     ensures { OneSpelling × HasSpelling × OneTree }
 {}
 
-/// What is read are the spellings of well formed trees.
+/// A text is read as a tree exactly where it spells that tree and the tree is well formed; so what is written of a
+/// tree reads back.
 pub fn spellings_are_read()
     ensures { ReadsSpellings × TreesReadBack }
 {}
 
-/// A text has one list of pieces and one of words, if any.
+/// The pieces and words computed of a text are those of the rule; there are none where the pieces would be too
+/// many.
 pub fn pieces_are_longest()
     ensures { PiecesByRule × WordsByRule }
 {}
 
-/// A tree has one list of words, if any, and words spell one tree.
+/// A tree has no list of words but the one that is written, if one is; words spell one tree at most.
 pub fn trees_have_one_list_of_words()
     ensures { OneListOfWords × HasWords × OneTreeOfWords }
 {}
 
-/// What is read are the words of well formed trees, whatever follows them.
+/// Words are read as a tree exactly where the first of them spell it and it is well formed; so what is written
+/// reads back, whatever follows.
 pub fn words_are_read()
     ensures { ReadsWords × WordsReadBack }
 {}
 
-/// What a shell hands over reads back.
+/// The arguments and entries that a shell hands over read back as the tree and the state of the subshell.
 pub fn handed_is_read()
     ensures { HandedReadsBack }
 {}
 
-/// Whatever is read, the tree is a script and the state is proper.
+/// Whatever is read, the tree is proper and so is the state.
 pub fn proper_is_read()
     ensures { ReadsProper × ReadsScripts }
 {}

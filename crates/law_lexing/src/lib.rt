@@ -1,4 +1,4 @@
-//! Laws of the syntax. Each function does nothing: its contract is the law.
+//! Laws of tokens. Each function does nothing: its contract is the law.
 #![tactic(auto)]
 
 ghost use Rattle.rc_model.specs.Mirrors.Reading.{ReadingLaw};

@@ -1,4 +1,4 @@
-//! Nothing is lost by the code of a script.
+//! The code of a script loses nothing.
 #![tactic(auto)]
 
 ghost use Rattle.rc_model.specs.Family.Accounts.{IsFresh, NothingLost, NothingLeft};
@@ -9,13 +9,15 @@ ghost use Rattle.rc_model.specs.Run.State.{State};
 ghost use Rattle.rc_model.specs.Syntax.Tree.{Node, cmd};
 ghost use Rattle.std.specs.Prelude.{List, ℕ};
 
-/// Wherever the code of a script is left, over fresh answers, each of its calls named what was held or owed.
+/// Wherever the code of a script stops, over fresh answers nothing is lost: each of its calls named only what was
+/// held or owed.
 pub fn code_loses_nothing()
     ensures { (m : ℕ) (c : Node cmd) (s : State) (trace : List Event) (p : Plan State) →
         Goes (exec m (begin c s)) trace p → IsFresh s trace → NothingLost s trace }
 {}
 
-/// Where the code ends nothing is held, and what is owed stands in the background list.
+/// Where the code ends, over fresh answers, no file is held, and the children that are owed are those of the
+/// background list.
 pub fn code_leaves_nothing()
     ensures { (m : ℕ) (c : Node cmd) (s t : State) (trace : List Event) →
         Goes (exec m (begin c s)) trace (done_with t) → IsFresh s trace → NothingLeft s trace t }

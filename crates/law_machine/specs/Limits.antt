@@ -1,4 +1,4 @@
--- That limits end.
+-- Where a limit isn't met.
 use Rattle.std.specs.Prelude.{◌≡◌, ℕ, ◌≤◌, if◌then◌else◌, false, List, [], ◌∷◌}
 use Rattle.rc_model.specs.Run.Calls.{Answer, Event, fitting, is_halt}
 use Rattle.rc_model.specs.Run.Plans.{Played, Ends, Waits, Cut}
@@ -6,13 +6,14 @@ use Rattle.rc_model.specs.Run.Script.{script, run, StopsAtLimit, Within}
 use Rattle.rc_model.specs.Run.State.{State}
 use Rattle.rc_model.specs.Syntax.Tree.{Node, cmd}
 
--- a plan ended, or waits for an answer
+-- a plan has ended or waits for an answer
 abbrev pub IsOver : {X : Type 0} → Played X → Type 0
 IsOver (Ends calls x left) = Unit {0}
 IsOver (Waits calls) = Unit {0}
 IsOver (Cut calls) = ⊥
 
--- A tape of these answers records this trace: each call takes the next of them as one that fits it.
+-- Each call of this trace was answered by the next of these answers, taken as one that fits the call; none of those is
+-- a halt.
 abbrev pub IsRecorded : List Answer → List Event → Type 0
 IsRecorded given [] = Unit {0}
 IsRecorded [] (e ∷ trace) = ⊥

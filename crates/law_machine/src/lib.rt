@@ -13,7 +13,8 @@ pub fn machine_agrees()
     ensures { (c : Node cmd) (s : State) (given : List Answer) → Agrees c s given }
 {}
 
-/// Where the meaning ends or waits, limits that are high enough are not met.
+/// Where the meaning of a script ends or waits over some answers, a run on a tape of them doesn't stop at a limit
+/// that is high enough.
 pub fn limits_end()
     ensures { LimitsEnd }
 {}

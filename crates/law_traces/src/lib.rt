@@ -1,4 +1,4 @@
-//! Nothing is lost: the laws over the traces of one shell.
+//! The laws of the traces of one shell: nothing is lost.
 #![tactic(auto)]
 
 ghost use Rattle.rc_model.specs.Family.Accounts.{AreFreshAnswers, IsFresh, NothingLost, NothingLeft};
@@ -9,19 +9,21 @@ ghost use Rattle.rc_model.specs.Run.State.{State};
 ghost use Rattle.rc_model.specs.Syntax.Tree.{Node, cmd};
 ghost use Rattle.std.specs.Prelude.{List, ℕ, ◌↔◌};
 
-/// Whatever fresh answers come, each call of a script names what is held or owed.
+/// Over fresh answers a script loses nothing: each call names only what is held or owed, at most one write end is
+/// held at a time, and a child is waited for when no end of its pipeline is held.
 pub fn nothing_is_lost()
     ensures { (c : Node cmd) (s : State) (trace : List Event) →
         IsBegunAsMeant c s trace → IsFresh s trace → NothingLost s trace }
 {}
 
-/// At its end nothing is held, and what is owed stands in the background list.
+/// At the end of a script, over fresh answers, no file is held, and the children that are owed are those of the
+/// background list.
 pub fn nothing_is_left()
     ensures { (c : Node cmd) (s : State) (trace : List Event) (t : State) →
         EndsAsMeant c s trace t → IsFresh s trace → NothingLeft s trace t }
 {}
 
-/// The answers of a trace are fresh exactly where they are fresh for the script.
+/// The answers of a script's trace are fresh for the script exactly where they are fresh by the trace alone.
 pub fn fresh_alike()
     ensures { (n : ℕ) (c : Node cmd) (s : State) (trace : List Event) →
         IsPrefix (calls trace) (calls_made (script n c s (answers trace))) →

@@ -92,7 +92,7 @@ pub fn and_or(
     Ok(Box::new(alloc, Cmd::AndOr(first, links))?)
 }
 
-/// A command turned round.
+/// A command whose status is inverted.
 #[tactic(auto, using(rc_tree_types::specs::View::tree_Not, std::proofs::lemmas::Grind::common_steps))]
 pub fn not(alloc: Global, body: Box<Cmd>) -> Result<Box<Cmd>, AllocError>
     ensures { IfOk result (λ b. cmd_tree b.value ≡ t.Not (cmd_tree body.value)) }
@@ -198,7 +198,7 @@ pub fn defined(alloc: Global, names: Vec<Arg>, body: Box<Cmd>) -> Result<Box<Cmd
     Ok(Box::new(alloc, Cmd::Define(names, body))?)
 }
 
-/// The end of functions.
+/// The removal of functions.
 #[tactic(auto, using(rc_tree_types::specs::View::tree_Undefine, std::proofs::lemmas::Grind::common_steps))]
 pub fn undefined(alloc: Global, names: Vec<Arg>) -> Result<Box<Cmd>, AllocError>
     ensures { IfOk result (λ b. cmd_tree b.value ≡ t.Undefine (args_tree names.items)) }

@@ -199,7 +199,7 @@ pub fn past_newlines(lexemes: &[Lexeme]) -> &[Lexeme]
     rest
 }
 
-/// The same where newlines are blanks, else what stands here.
+/// The lexemes after any newlines here, where newlines are blanks; elsewhere those that stand here.
 pub fn past_blanks(inside: bool, lexemes: &[Lexeme]) -> &[Lexeme]
     ensures { lexemes_of result.now ≡ past_blanks inside (lexemes_of lexemes.now) }
 {

@@ -10,7 +10,7 @@ use rc_model::Mode;
 use rc_tree::{Arg, Redir};
 use std::alloc::{AllocError, Global};
 
-/// A file's redirection.
+/// A redirection that opens a file.
 #[tactic(auto, using(rc_tree_types::specs::View::tree_Open, std::proofs::lemmas::Grind::common_steps))]
 pub fn opening(
     alloc: Global,

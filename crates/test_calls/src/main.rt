@@ -1,6 +1,6 @@
 //! Makes the calls of the files `*.calls` that lie here on Linux, and says which answers differ from what stands after
 //! ` > `. A line `## its_name` begins a row, which has a world of its own; `#` begins a comment.
-//! The lines after `100 times:`, up to an empty one, are made so often.
+//! The lines after `100 times:`, up to an empty one, are made a hundred times.
 #![tactic(auto)]
 
 mod answers;
