@@ -1,10 +1,10 @@
 pub mod Acts
 pub mod Changes
 pub mod Commands
-pub mod Entries
 pub mod Escapes
 pub mod Fits
 pub mod Gathered
+pub mod Handing
 pub mod Insertions
 pub mod Search
 pub mod Written

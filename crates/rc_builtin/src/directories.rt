@@ -8,6 +8,7 @@ ghost use Rattle.rc_world.specs.Comes.{Does};
 ghost use Rattle.rc_scope.specs.States.{state_of};
 
 use crate::programs::is_path;
+use crate::statuses::misuse;
 use rc_scope::State;
 use rc_world::{Stop, World, calls};
 use std::alloc::{AllocError, Global};
@@ -79,7 +80,8 @@ fn first_dir<W: World>(world: &mut W, state: &mut State, dirs: &[String]) -> Res
     Ok(())
 }
 
-/// Changes the directory: to the one that the word names, and without words to the home directory.
+/// Changes the directory: to the one that the word names, and without words to the home directory. The status is null,
+/// or `cannot cd` where no directory could be changed to; with several words it is `usage`.
 #[tactic(auto, using(crate::proofs::Acts::acting))]
 pub fn change_dir<W: World>(
     alloc: Global,
@@ -95,7 +97,7 @@ pub fn change_dir<W: World>(
         [] => home_dirs(alloc, state)?,
         [dir] => dirs_of(alloc, state, dir)?,
         _ => {
-            state.set_status("usage")?;
+            misuse(state)?;
             return Ok(());
         }
     };

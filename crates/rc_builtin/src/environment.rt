@@ -42,7 +42,7 @@ fn push_member(out: &mut String, member: &str) -> Result<(), AllocError>
 
 /// NAME=VALUE.
 #[tactic(auto, using(crate::proofs::Escapes::escapes))]
-pub fn entry(alloc: Global, name: &str, value: &[String]) -> Result<String, AllocError>
+fn entry(alloc: Global, name: &str, value: &[String]) -> Result<String, AllocError>
     ensures { IfOk result (λ text. string_bytes text ≡ entry (name.now, value_text (map string_bytes value.now))) }
 {
     let mut text = String::from_str(alloc, name)?;
@@ -66,7 +66,7 @@ fn is_kept(name: &str) -> bool
 }
 
 /// Whether a variable is handed over.
-#[tactic(auto, using(crate::proofs::Entries::length_texts))]
+#[tactic(auto, using(crate::proofs::Handing::length_texts))]
 fn is_handed(variable: &Binding) -> bool
     ensures { result ≡ is_handed (binding_of variable.now) }
 {

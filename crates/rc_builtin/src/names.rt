@@ -191,7 +191,9 @@ fn write_lines<W: World>(
     Ok(())
 }
 
-/// Shows what each of the names stands for: a variable, and a function, a built-in command or a program.
+/// Shows what each of the names stands for: a variable, and a function, a built-in command or a program. The status is
+/// `cannot write` where the lines could not be written; else it is that of the last name that is `not found`, or whose
+/// function has a `here document` and is not shown, and null where there is none.
 #[tactic(auto, using(crate::proofs::Acts::acting))]
 pub fn whatis<W: World>(
     alloc: Global,

@@ -25,14 +25,8 @@ fn report_line(alloc: Global, text: &str) -> Result<String, AllocError>
 
 /// Writes `rc: TEXT` to descriptor 2.
 #[tactic(auto, using(crate::proofs::Acts::acting))]
-pub fn report<W: World>(
-    alloc: Global,
-    world: &mut W,
-    state: &State,
-    slots: Slots,
-    text: &str,
-) -> Result<(), Stop>
-    ensures { Reads W.events world.old world.new (state_of state.now) (report slots text.now) (λ x. x) result }
+fn report<W: World>(alloc: Global, world: &mut W, slots: Slots, text: &str) -> Result<(), Stop>
+    ensures { (s : model.State) → Reads W.events world.old world.new s (report slots text.now) (λ x. x) result }
 {
     let line = report_line(alloc, text)?;
     calls::write(world, slots.errors, line.as_bytes())?;
@@ -67,11 +61,10 @@ fn is_program(found: Option<Kind>) -> bool
 fn first_program<W: World>(
     alloc: Global,
     world: &mut W,
-    state: &State,
     name: &str,
     dirs: &[String],
 ) -> Result<Option<String>, Stop>
-    ensures { Reads W.events world.old world.new (state_of state.now)
+    ensures { (s : model.State) → Reads W.events world.old world.new s
         (first_program (paths_in name.now dirs.now)) path_of result }
 {
     for dir in dirs {
@@ -99,7 +92,7 @@ pub fn find_program<W: World>(
     if name.is_empty() {
         return Ok(None);
     }
-    first_program(alloc, world, state, name, state.value("path"))
+    first_program(alloc, world, name, state.value("path"))
 }
 
 /// The status by which a child ended; `None` where it could not be waited for.
@@ -135,7 +128,7 @@ fn refuse<W: World>(
     ensures err { OnErr result (state_of state.new ≡ state_of state.old) }
 {
     let text = refusal_text(alloc, name, why)?;
-    report(alloc, world, state, slots, &text)?;
+    report(alloc, world, slots, &text)?;
     state.set_status(why)?;
     Ok(())
 }
@@ -171,7 +164,7 @@ fn is_fit(launch: &Launch) -> bool
 
 /// Starts a child, where its arguments and entries are short enough.
 #[tactic(auto, using(crate::proofs::Acts::acting))]
-pub fn make_started<W: World>(world: &mut W, launch: &Launch) -> Result<Started, Stop>
+pub fn start_child<W: World>(world: &mut W, launch: &Launch) -> Result<Started, Stop>
     ensures { (s : model.State) →
         Reads W.events world.old world.new s (started (launch_of launch.now)) started_of result }
 {
@@ -244,7 +237,7 @@ fn run_at<W: World>(
     ensures err { OnErr result (state_of state.new ≡ state_of state.old) }
 {
     let launch = launch(alloc, state, slots, path, args)?;
-    let child = make_started(world, &launch)?;
+    let child = start_child(world, &launch)?;
     wait_started(alloc, world, state, slots, name, child)
 }
 
@@ -269,7 +262,9 @@ fn run_found<W: World>(
     }
 }
 
-/// Runs a program by its name.
+/// Runs a program by its name, and waits for it. The status is how it ended: null for 0, another number in decimal, or
+/// `signal`. Where it could not be run the status is `not found`, `cannot start` or `too large`, with a report; where
+/// it could not be waited for, `cannot wait`. These are the words that rc(1) lists.
 #[tactic(auto, using(crate::proofs::Acts::acting))]
 pub fn run_program<W: World>(
     alloc: Global,
@@ -300,7 +295,7 @@ pub fn fault<W: World>(
         (fault slots text.now) (λ x. x) result }
     ensures err { OnErr result (state_of state.new ≡ state_of state.old) }
 {
-    report(alloc, world, state, slots, text)?;
+    report(alloc, world, slots, text)?;
     state.set_status("error")?;
     Ok(())
 }

@@ -6,6 +6,7 @@ ghost use Rattle.rc_model.specs.Run.Plans.{done_with};
 ghost use Rattle.rc_model.specs.Run.Shell.{Next};
 ghost use Rattle.rc_scope.specs.States.{state_of};
 
+use crate::statuses::misuse;
 use rc_scope::State;
 use rc_text::number_of;
 use std::alloc::AllocError;
@@ -16,14 +17,15 @@ fn shift_by(state: &mut State, count: Option<u32>) -> Result<(), AllocError>
     ensures err { OnErr result (state_of state.new ≡ state_of state.old) }
 {
     let Some(count) = count else {
-        return state.set_status("usage");
+        return misuse(state);
     };
     state.shift(count as usize)?;
     state.clear_status();
     Ok(())
 }
 
-/// Takes the first members from `$*`: one, or as many as the word says.
+/// Takes the first members from `$*`: one, or as many as the word says. The status is null. With several words, or one
+/// that is no number, it is `usage`, and nothing is taken.
 pub fn shift(state: &mut State, words: &[String]) -> Result<(), AllocError>
     ensures ok { OnOk result (shift (map string_bytes words.now) (state_of state.old)
         ≡ done_with (Next Finished (state_of state.new))) }

@@ -11,7 +11,7 @@ ghost use Rattle.rc_scope.specs.States.{state_of};
 ghost use Rattle.rc_pipes.specs.Launches.{if_fit};
 
 use crate::children::wait_child;
-use rc_builtin::{Started, make_started};
+use rc_builtin::{Started, start_child};
 use rc_image::{Handover, InputError, handed};
 use rc_scope::State;
 use rc_tree_types::Cmd;
@@ -55,7 +55,7 @@ pub fn start_shell<W: World>(
     let Some(launch) = shell_launch(alloc, state, slots, body)? else {
         return Ok(Started::NoChild("too large"));
     };
-    make_started(world, &launch)
+    start_child(world, &launch)
 }
 
 /// A subshell that was started is waited for.

@@ -16,9 +16,9 @@ returns-in_err-dirs-in-empty-clause-does g c = passed_up _ _ _ _ c.from_residual
 pub returns-in_err-dirs-in-len1-clause-does : goal.returns-in_err-dirs-in-len1-clause-does
 returns-in_err-dirs-in-len1-clause-does g c = passed_up _ _ _ _ c.from_residual-in_err-dirs-in-len1.result NoMemory c.from_residual-in_err-dirs-in-len1.ensures.1 (left_here _ _ _ _ (ran_none _ _))
 
-pub returns-in_err-set_status-in_default-clause-does : goal.returns-in_err-set_status-in_default-clause-does
-returns-in_err-set_status-in_default-clause-does g c =
-    passed_up _ _ _ _ c.from_residual-in_err-set_status-in_default.result NoMemory c.from_residual-in_err-set_status-in_default.ensures.1 (left_here _ _ _ _ (ran_none _ _))
+pub returns-in_err-misuse-in_default-clause-does : goal.returns-in_err-misuse-in_default-clause-does
+returns-in_err-misuse-in_default-clause-does g c =
+    passed_up _ _ _ _ c.from_residual-in_err-misuse-in_default.result NoMemory c.from_residual-in_err-misuse-in_default.ensures.1 (left_here _ _ _ _ (ran_none _ _))
 
 pub returns-clause-does : goal.returns-clause-does
 returns-clause-does g c =

@@ -8,7 +8,7 @@ use Rattle.std.specs.String.{string_cmp}
 use Rattle.rc_model.specs.Handed.Image.{entry}
 use Rattle.rc_scope.specs.States.{state_of}
 use Rattle.rc_builtin.specs.Additions.{texts_of, PushesBelow}
-use Rattle.rc_builtin.proofs.Entries.{all_to_come, sorted_on, turn}
+use Rattle.rc_builtin.proofs.Handing.{all_to_come, sorted_on, turn}
 use Rattle.rc_builtin.proofs.environment.entries.Goals as goal
 
 pub loop-name-init : goal.loop-name-init

@@ -2,7 +2,7 @@ use Rattle.std.proofs.Common.{arith, ◌≡◌, refl, sym, ap, [], ◌∷◌, �
 use Rattle.std.proofs.lemmas.Grind.{common_steps}
 use Rattle.std.proofs.lemmas.List.{drop_all}
 use Rattle.rc_builtin.specs.Additions.{handed}
-use Rattle.rc_builtin.proofs.Entries.{ends_all, ends_at, ends_before, keeps_on, left_off, left_on}
+use Rattle.rc_builtin.proofs.Handing.{ends_all, ends_at, ends_before, keeps_on, left_off, left_on}
 use Rattle.rc_builtin.proofs.environment.push_below.Goals as goal
 
 pub loop-place-init : goal.loop-place-init

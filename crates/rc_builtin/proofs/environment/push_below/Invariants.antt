@@ -1,6 +1,6 @@
 use Rattle.std.proofs.Common.{drop, map, string_bytes}
 use Rattle.rc_builtin.specs.Additions.{handed}
-use Rattle.rc_builtin.proofs.Entries.{Keeps}
+use Rattle.rc_builtin.proofs.Handing.{Keeps}
 use Rattle.rc_builtin.proofs.environment.push_below.Given as goal
 
 -- the entries so far are those of the variables before this one

@@ -3,7 +3,7 @@ use Rattle.std.proofs.lemmas.Grind.{common_steps}
 use Rattle.std.proofs.lemmas.List.{append-nil, drop_all}
 use Rattle.rc_model.specs.Handed.Image.{entry}
 use Rattle.rc_builtin.specs.Additions.{handed}
-use Rattle.rc_builtin.proofs.Entries.{entry_on, left_off, left_on}
+use Rattle.rc_builtin.proofs.Handing.{entry_on, left_off, left_on}
 use Rattle.rc_builtin.proofs.environment.push_rest.Goals as goal
 use Rattle.rc_builtin.proofs.environment.push_rest.Goals.{then-is_handed+in_ok-entry+in_ok-push, else-is_handed}
 

@@ -13,15 +13,15 @@ use Rattle.rc_builtin.proofs.programs.fault.Goals as goal
 pub returns-in_err-report-clause-does : goal.returns-in_err-report-clause-does
 returns-in_err-report-clause-does g c =
     passed_up _ _ _ _ c.from_residual.result c.in_err-report.field-0.0 c.from_residual.ensures.1
-    (left_under _ _ _ (report c.args.slots c.args.text.now (state_of c.args.state.now)) (λ x t. done_with (Next tt (with_status t (codes "error")))) leaves c.in_err-report.ensures)
+    (left_under _ _ _ (report c.args.slots c.args.text.now (state_of c.args.state.now)) (λ x t. done_with (Next tt (with_status t (codes "error")))) leaves (c.in_err-report.ensures (state_of c.args.state.now)))
 
 pub returns-in_err-set_status-clause-does : goal.returns-in_err-set_status-clause-does
 returns-in_err-set_status-clause-does g c =
     let s = state_of c.args.state.now in
     passed_up _ _ _ _ c.from_residual-in_err-set_status.result NoMemory c.from_residual-in_err-set_status.ensures.1
-    (left_next _ _ _ _ (report c.args.slots c.args.text.now s) tt s (λ x t. done_with (Next tt (with_status t (codes "error")))) leaves c.in_ok-report.ensures (left_here _ _ _ _ (ran_none _ _)))
+    (left_next _ _ _ _ (report c.args.slots c.args.text.now s) tt s (λ x t. done_with (Next tt (with_status t (codes "error")))) leaves (c.in_ok-report.ensures s) (left_here _ _ _ _ (ran_none _ _)))
 
 pub returns-clause-does : goal.returns-clause-does
 returns-clause-does g c =
     let s = state_of c.args.state.now in
-    ran_next _ _ _ (report c.args.slots c.args.text.now s) tt s (λ x t. done_with (Next tt (with_status t (codes "error")))) leaves _ c.in_ok-report.ensures (rw c.in_ok-set_status.ensures.ok (ran_none _ _))
+    ran_next _ _ _ (report c.args.slots c.args.text.now s) tt s (λ x t. done_with (Next tt (with_status t (codes "error")))) leaves _ (c.in_ok-report.ensures s) (rw c.in_ok-set_status.ensures.ok (ran_none _ _))

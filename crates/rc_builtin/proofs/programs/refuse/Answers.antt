@@ -20,7 +20,7 @@ returns-in_err-report-clause-does g c =
     let s = state_of c.args.state.now in
     passed_up _ _ _ _ c.from_residual-in_err-report.result c.in_err-report.field-0.0 c.from_residual-in_err-report.ensures.1
     (left_under _ _ _ (report c.args.slots (c.args.name.now ++ codes ": " ++ c.args.why.now) s) (λ x t. done_with (Next tt (with_status t c.args.why.now))) leaves
-    (rw text at c.in_err-report.ensures))
+    (rw text at (c.in_err-report.ensures s)))
 
 pub returns-in_err-set_status-clause-does : goal.returns-in_err-set_status-clause-does
 returns-in_err-set_status-clause-does g c =
@@ -28,11 +28,11 @@ returns-in_err-set_status-clause-does g c =
     let s = state_of c.args.state.now in
     passed_up _ _ _ _ c.from_residual-in_err-set_status.result NoMemory c.from_residual-in_err-set_status.ensures.1
     (left_next _ _ _ _ (report c.args.slots (c.args.name.now ++ codes ": " ++ c.args.why.now) s) tt s (λ x t. done_with (Next tt (with_status t c.args.why.now))) leaves
-    (rw text at c.in_ok-report.ensures) (left_here _ _ _ _ (ran_none _ _)))
+    (rw text at (c.in_ok-report.ensures s)) (left_here _ _ _ _ (ran_none _ _)))
 
 pub returns-clause-does : goal.returns-clause-does
 returns-clause-does g c =
     let text : c.deref.result.now ≡ c.args.name.now ++ codes ": " ++ c.args.why.now = search rules in
     let s = state_of c.args.state.now in
     ran_next _ _ _ (report c.args.slots (c.args.name.now ++ codes ": " ++ c.args.why.now) s) tt s (λ x t. done_with (Next tt (with_status t c.args.why.now))) leaves _
-    (rw text at c.in_ok-report.ensures) (rw c.in_ok-set_status.ensures.ok (ran_none _ _))
+    (rw text at (c.in_ok-report.ensures s)) (rw c.in_ok-set_status.ensures.ok (ran_none _ _))

@@ -4,7 +4,7 @@ use Rattle.rc_world.specs.Views.{launch_of}
 use Rattle.rc_builtin.proofs.Fits.{not_fit, fit, begun_by, no_child}
 use Rattle.rc_world.proofs.Joins.{comes_as, passed_up, ran_as}
 use Rattle.law_plans.proofs.Runs.{ran_none}
-use Rattle.rc_builtin.proofs.programs.make_started.Goals as goal
+use Rattle.rc_builtin.proofs.programs.start_child.Goals as goal
 
 pub returns-then-not-is_fit : goal.returns-then-not-is_fit
 returns-then-not-is_fit g c =
