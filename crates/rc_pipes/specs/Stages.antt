@@ -6,7 +6,7 @@ use Rattle.rc_model.specs.Run.Calls.{Event}
 use Rattle.rc_model.specs.Run.Plans.{Plan, done_with, Ran}
 use Rattle.rc_model.specs.Run.Shell as shell
 use Rattle.rc_model.specs.Run.State.{State}
-use Rattle.rc_model.specs.Syntax.Tree.{Many, stage}
+use Rattle.rc_model.specs.Syntax.Tree.{Node, Many, stage, more}
 use Rattle.rc_model.specs.declared.call.Slots.{Slots}
 use Rattle.rc_scope.specs.States.{child_numbers}
 use Rattle.rc_world.specs.Comes.{Left}
@@ -37,3 +37,10 @@ abbrev pub GoesOn : {X T : Type 0} → (before after : Option (List Event)) → 
     Result T Stop → Type 0
 GoesOn before after plan rest result =
     MatchResult result (λ v. Ran before after plan (rest v)) (Left before after plan)
+
+-- the first of any row of stages that reads from an end was started, or was not, beside any children before it
+abbrev pub StartsStage : (before after : Option (List Event)) → Slots → Node stage → Option ℕ → State →
+    Result StageStart Stop → Type 0
+StartsStage before after slots first read s result = (rest : Many stage) (children : List ℕ) →
+    GoesOn before after (acts.stages_from slots (more first rest) read children s)
+    (after_stage slots rest children s) result

@@ -10,8 +10,9 @@ ghost use Rattle.rc_scope.specs.States.{state_of};
 
 use crate::children::wait_child;
 use crate::launches::start_shell;
-use crate::reading::{longest_output, read_all};
+use crate::reading::read_all;
 use rc_builtin::Started;
+use rc_model::limits::LONGEST_OUTPUT;
 use rc_scope::State;
 use rc_text::{Output, into_lossy};
 use rc_tree_types::Cmd;
@@ -39,6 +40,7 @@ fn output_of(alloc: Global, state: &State, bytes: Vec<u8>) -> Result<Output, All
 }
 
 /// What a backquote gives once its shell is started, and the status that it leaves.
+#[tactic(auto, unfolding(rc_model::specs::Run::Acts::longest_output))]
 fn back_child<W: World>(
     alloc: Global,
     world: &mut W,
@@ -60,7 +62,7 @@ fn back_child<W: World>(
             return Ok(Output::empty(alloc));
         }
     };
-    let read = read_all(alloc, world, read_end, longest_output())?;
+    let read = read_all(alloc, world, read_end, LONGEST_OUTPUT)?;
     calls::close(world, read_end)?;
     let status = wait_child(alloc, world, child)?;
     state.set_status(read.why.unwrap_or(&status))?;
@@ -68,7 +70,8 @@ fn back_child<W: World>(
     Ok(output)
 }
 
-/// What a command writes. Its members become words.
+/// What a command writes. Its members become words. The status is how the command ended, or why it could not be run or
+/// read to the end.
 pub fn backquote<W: World>(
     alloc: Global,
     world: &mut W,

@@ -10,8 +10,9 @@ ghost use Rattle.rc_scope.specs.States.{state_of};
 ghost use Rattle.rc_pipes.specs.Readings.{after_file};
 ghost use Rattle.rc_pipes.specs.Stages.{GoesOn};
 
-use crate::reading::{ReadBytes, longest_file, read_all};
+use crate::reading::{ReadBytes, read_all};
 use rc_builtin::{candidate, is_path};
+use rc_model::limits::LONGEST_SCRIPT;
 use rc_scope::State;
 use rc_world::{Handle, Mode, Stop, World, calls};
 use std::alloc::{AllocError, Global};
@@ -56,11 +57,12 @@ fn open_first<W: World>(world: &mut W, paths: &[String]) -> Result<Option<Handle
 }
 
 /// Reads a file of commands, and closes it.
+#[tactic(auto, unfolding(rc_model::specs::Run::Acts::longest_file))]
 fn read_and_close<W: World>(alloc: Global, world: &mut W, file: Handle) -> Result<ReadBytes, Stop>
     ensures { (args : List (List ℕ)) (s : model.State) → GoesOn (W.events world.old) (W.events world.new)
         (run_file args (Some file.0) s) (λ read. after_file args s (Some read)) result }
 {
-    let read = read_all(alloc, world, file, longest_file())?;
+    let read = read_all(alloc, world, file, LONGEST_SCRIPT)?;
     calls::close(world, file)?;
     Ok(read)
 }

@@ -14,9 +14,9 @@ ghost use Rattle.rc_builtin.specs.Starts.{started_of};
 ghost use Rattle.rc_scope.specs.States.{child_numbers, state_of};
 ghost use Rattle.rc_pipes.specs.Jobs.{arguments_of};
 
-use crate::children::wait_child as waited;
+use crate::children::wait_child;
 use crate::launches::start_shell;
-use rc_builtin::Started;
+use rc_builtin::{Started, misuse};
 use rc_scope::State;
 use rc_text::number_of;
 use rc_tree_types::Cmd;
@@ -46,7 +46,7 @@ fn keep_child(alloc: Global, state: &mut State, started: Started) -> Result<(), 
     }
 }
 
-/// Starts a command in the background that reads from this file.
+/// Starts a command in the background that reads from this file, and closes the file.
 #[tactic(auto, using(crate::proofs::Acts::acting))]
 fn background_with<W: World>(
     alloc: Global,
@@ -69,7 +69,8 @@ fn background_with<W: World>(
     Ok(())
 }
 
-/// Starts a command in the background.
+/// Starts a command in the background, which reads nothing. The status stays as it is where the child runs; else it is
+/// `cannot open`, or why the shell was not started.
 #[tactic(auto, using(crate::proofs::Acts::acting))]
 pub fn background<W: World>(
     alloc: Global,
@@ -89,7 +90,7 @@ pub fn background<W: World>(
 }
 
 /// Waits for a child in the background, which is taken out of the list first: the status is how it ended.
-fn wait_child<W: World>(
+fn wait_job<W: World>(
     alloc: Global,
     world: &mut W,
     state: &mut State,
@@ -98,7 +99,7 @@ fn wait_child<W: World>(
     ensures { Does W.events world.old world.new state_of state.old state.new (wait_child child.0) (λ x. x) result }
 {
     state.drop_child(child);
-    let status = waited(alloc, world, child)?;
+    let status = wait_child(alloc, world, child)?;
     state.set_status(&status)?;
     Ok(())
 }
@@ -114,30 +115,16 @@ fn wait_all<W: World>(
         (wait_all (child_numbers children.now)) (λ x. x) result }
 {
     for child in children {
-        wait_child(alloc, world, state, *child)?;
+        wait_job(alloc, world, state, *child)?;
     }
     Ok(())
-}
-
-/// Whether two children have one number.
-fn is_same(other: ChildNo, child: ChildNo) -> bool
-    ensures { result ≡ (other.0 == child.0) }
-{
-    other.0 == child.0
-}
-
-/// Whether a child is one of these.
-fn is_among(children: &[ChildNo], child: ChildNo) -> bool
-    ensures { result ≡ list_any (λ other. other.0 == child.0) children.now }
-{
-    children.iter().any(|other| is_same(*other, child))
 }
 
 /// Whether this child is one of those in the background.
 fn is_in_background(state: &State, child: ChildNo) -> bool
     ensures { result ≡ list_any (λ number. number == child.0) (state_of state.now).background }
 {
-    is_among(state.children(), child)
+    state.children().contains(&child)
 }
 
 /// Waits for this child, where it is one of those in the background.
@@ -151,7 +138,7 @@ fn wait_one<W: World>(
         (wait_one child.0 (state_of state.old)) (λ x. x) result }
 {
     if is_in_background(state, child) {
-        return wait_child(alloc, world, state, child);
+        return wait_job(alloc, world, state, child);
     }
     state.set_status("no such child")?;
     Ok(())
@@ -166,7 +153,9 @@ fn wait_every<W: World>(alloc: Global, world: &mut W, state: &mut State) -> Resu
     wait_all(alloc, world, state, &children)
 }
 
-/// Waits for the child of this number in the background, or for all of them.
+/// Waits for the child of this number in the background, or for all of them. The status is how that child ended, or the
+/// last of all; null where there was none, `usage` where the text is no number, and `no such child` where no child in
+/// the background has that number.
 pub fn wait_for<W: World>(
     alloc: Global,
     world: &mut W,
@@ -180,7 +169,7 @@ pub fn wait_for<W: World>(
         return wait_every(alloc, world, state);
     };
     let Some(number) = number_of(text) else {
-        state.set_status("usage")?;
+        misuse(state)?;
         return Ok(());
     };
     wait_one(alloc, world, state, ChildNo(number))

@@ -10,9 +10,9 @@ mod reading;
 mod stages;
 
 pub use backquotes::backquote;
-pub use children::{end_refused, end_stages, wait_child, wait_stages};
+pub use children::{end_refused, end_stages, wait_stages};
 pub use files::read_file;
 pub use jobs::{background, wait_for};
 pub use launches::subshell;
-pub use reading::{ReadBytes, read_all};
+pub use reading::ReadBytes;
 pub use stages::{StartedStages, start_stages};

@@ -1,12 +1,11 @@
 //! Reading to the end.
 
 ghost use Rattle.std.specs.Prelude.{◌≡◌};
-ghost use Rattle.rc_model.specs.Run.Acts.{read_all, longest_output, longest_file};
+ghost use Rattle.rc_model.specs.Run.Acts.{read_all};
 ghost use Rattle.rc_model.specs.Run.State as model;
 ghost use Rattle.rc_world.specs.Comes.{Reads};
 ghost use Rattle.rc_pipes.specs.Readings.{got_of};
 
-use rc_model::limits;
 use rc_world::{Handle, Stop, World, calls};
 use std::alloc::Global;
 
@@ -15,22 +14,6 @@ use std::alloc::Global;
 pub struct ReadBytes {
     pub bytes: Vec<u8>,
     pub why: Option<&'static str>,
-}
-
-/// The most bytes that a backquote takes.
-#[tactic(auto, unfolding(rc_model::specs::Run::Acts::longest_output))]
-pub fn longest_output() -> usize
-    ensures { result ≡ longest_output }
-{
-    limits::LONGEST_OUTPUT
-}
-
-/// The most bytes that a file of commands has.
-#[tactic(auto, unfolding(rc_model::specs::Run::Acts::longest_file))]
-pub fn longest_file() -> usize
-    ensures { result ≡ longest_file }
-{
-    limits::LONGEST_SCRIPT
 }
 
 /// Reads up to the empty answer, and until there are more than this many bytes.

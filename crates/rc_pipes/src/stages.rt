@@ -1,14 +1,13 @@
 //! The stages of a pipeline but the last: each is started with a pipe to the next.
 
-ghost use Rattle.std.specs.Prelude.{◌≡◌, ℕ, List, option_map};
-ghost use Rattle.rc_model.specs.Run.Acts.{close_end, from_pipe, stages_from, start_stages};
+ghost use Rattle.std.specs.Prelude.{◌≡◌, option_map};
+ghost use Rattle.rc_model.specs.Run.Acts.{close_end, from_pipe, start_stages};
 ghost use Rattle.rc_model.specs.Run.Calls.{with_slot, to_file};
 ghost use Rattle.rc_model.specs.Run.State as model;
-ghost use Rattle.rc_model.specs.Syntax.Tree.{Many, stage, more};
 ghost use Rattle.rc_tree_types.specs.View.{stage_tree, stages_tree};
 ghost use Rattle.rc_world.specs.Comes.{Reads};
 ghost use Rattle.rc_scope.specs.States.{state_of};
-ghost use Rattle.rc_pipes.specs.Stages.{GoesOn, after_stage, after_stages};
+ghost use Rattle.rc_pipes.specs.Stages.{GoesOn, StartsStage, after_stages};
 
 use crate::launches::start_shell;
 use rc_builtin::Started;
@@ -21,7 +20,7 @@ use std::alloc::Global;
 #[derive(Clone, Copy)]
 pub enum StageStart {
     /// It runs as this child, and the next reads from this end.
-    Running(Handle, ChildNo),
+    Running { read_end: Handle, child: ChildNo },
     /// It was not started, and this is why. Nothing is held.
     Refused(&'static str),
 }
@@ -66,8 +65,8 @@ fn close_end<W: World>(world: &mut W, end: Option<Handle>) -> Result<(), Stop>
     Ok(())
 }
 
-/// Starts a stage. Its other descriptors are those of the pipeline, but
-/// for the pipe before it.
+/// Starts a stage. It reads from the pipe before it and writes into one to the next; its other descriptors are those of
+/// the pipeline.
 fn start_stage<W: World>(
     alloc: Global,
     world: &mut W,
@@ -76,11 +75,8 @@ fn start_stage<W: World>(
     before: Option<Handle>,
     next: &Stage,
 ) -> Result<StageStart, Stop>
-    ensures { (rest : Many stage) (children : List ℕ) →
-        let all = more (stage_tree next.now) rest in
-        let stages = stages_from slots all (option_map (λ end. end.0) before) children in
-        GoesOn (W.events world.old) (W.events world.new) (stages (state_of state.now))
-        (after_stage slots rest children (state_of state.now)) result }
+    ensures { StartsStage (W.events world.old) (W.events world.new) slots (stage_tree next.now)
+        (option_map (λ end. end.0) before) (state_of state.now) result }
 {
     let Some((read_end, write_end)) = calls::pipe(world)? else {
         close_end(world, before)?;
@@ -92,7 +88,7 @@ fn start_stage<W: World>(
     match started {
         Started::Child(child) => {
             close_end(world, before)?;
-            Ok(StageStart::Running(read_end, child))
+            Ok(StageStart::Running { read_end, child })
         }
         Started::NoChild(why) => {
             calls::close(world, read_end)?;
@@ -118,7 +114,7 @@ pub fn start_stages<W: World>(
     let mut read = None;
     for stage in stages {
         match start_stage(alloc, world, state, slots, read, stage)? {
-            StageStart::Running(read_end, child) => {
+            StageStart::Running { read_end, child } => {
                 read = Some(read_end);
                 children.push(child)?;
             }

@@ -1,6 +1,6 @@
-use Rattle.std.proofs.Common.{rules, ◌≡◌, string_bytes}
+use Rattle.std.proofs.Common.{◌≡◌, string_bytes}
 use Rattle.rc_builtin.specs.Starts.{started_of}
-use Rattle.rc_model.specs.Run.Acts.{back_status}
+use Rattle.rc_model.specs.Run.Acts.{back_status, longest_output}
 use Rattle.rc_scope.specs.States.{state_of}
 use Rattle.rc_world.specs.declared.types.Stop.TheVariants.{NoMemory}
 use Rattle.rc_world.proofs.Joins.{left_here, passed_up}
@@ -31,50 +31,56 @@ returns-in-NoChild g c =
     (ran_unread c.args.read_end.0 c.args.write_end.0 (state_of c.args.state.now) c.in-NoChild.why.now _ _ _ c.in_ok-close.ensures _ _ c.in_ok-close-in-NoChild.ensures)
 
 pub returns-in_err-read : goal.returns-in_err-read
+unfolding longest_output
 returns-in_err-read g c =
     rw c.in-Child.is
     (passed_up _ _ _ _ c.from_residual-in_err-read.result c.in_err-read.field-0.0 c.from_residual-in_err-read.ensures.1
     (left_reading c.args.read_end.0 c.args.write_end.0 (state_of c.args.state.now) c.in-Child.child.0 _ _ _ c.in_ok-close.ensures _ _
-    (rw c.longest_output.ensures at (c.in_err-read.ensures (state_of c.args.state.now)))))
+    (c.in_err-read.ensures (state_of c.args.state.now))))
 
 pub returns-in_err-close-2 : goal.returns-in_err-close-2
+unfolding longest_output
 returns-in_err-close-2 g c =
     rw c.in-Child.is
     (passed_up _ _ _ _ c.from_residual-in_err-close-2.result c.in_err-close-2.field-0.0 c.from_residual-in_err-close-2.ensures.1
     (left_closing_read c.args.read_end.0 c.args.write_end.0 (state_of c.args.state.now) c.in-Child.child.0 _ _ _ c.in_ok-close.ensures
-    (got_of c.in_ok-read.read) _ (rw c.longest_output.ensures at (c.in_ok-read.ensures (state_of c.args.state.now)))
+    (got_of c.in_ok-read.read) _ (c.in_ok-read.ensures (state_of c.args.state.now))
     _ _ c.in_err-close-2.ensures))
 
 pub returns-in_err-status : goal.returns-in_err-status
+unfolding longest_output
 returns-in_err-status g c =
     rw c.in-Child.is
     (passed_up _ _ _ _ c.from_residual-in_err-status.result c.in_err-status.field-0.0 c.from_residual-in_err-status.ensures.1
     (left_waiting c.args.read_end.0 c.args.write_end.0 (state_of c.args.state.now) c.in-Child.child.0 _ _ _ c.in_ok-close.ensures
-    (got_of c.in_ok-read.read) _ (rw c.longest_output.ensures at (c.in_ok-read.ensures (state_of c.args.state.now)))
+    (got_of c.in_ok-read.read) _ (c.in_ok-read.ensures (state_of c.args.state.now))
     _ _ c.in_ok-close-2.ensures _ _ (c.in_err-status.ensures (state_of c.args.state.now))))
 
 pub returns-in_err-set_status : goal.returns-in_err-set_status
+unfolding longest_output
 returns-in_err-set_status g c =
     rw c.in-Child.is
     (passed_up _ _ _ _ c.from_residual-in_err-set_status.result NoMemory c.from_residual-in_err-set_status.ensures.1
     (left_here _ _ _ _ (ran_finished c.args.read_end.0 c.args.write_end.0 (state_of c.args.state.now) c.in-Child.child.0 _ _ _ c.in_ok-close.ensures
-    (got_of c.in_ok-read.read) _ (rw c.longest_output.ensures at (c.in_ok-read.ensures (state_of c.args.state.now)))
+    (got_of c.in_ok-read.read) _ (c.in_ok-read.ensures (state_of c.args.state.now))
     _ _ c.in_ok-close-2.ensures _ _ (c.in_ok-status.ensures (state_of c.args.state.now)))))
 
 pub returns-in_err-output : goal.returns-in_err-output
+unfolding longest_output
 returns-in_err-output g c =
     rw c.in-Child.is
     (passed_up _ _ _ _ c.from_residual-in_err-output.result NoMemory c.from_residual-in_err-output.ensures.1
     (left_here _ _ _ _ (ran_finished c.args.read_end.0 c.args.write_end.0 (state_of c.args.state.now) c.in-Child.child.0 _ _ _ c.in_ok-close.ensures
-    (got_of c.in_ok-read.read) _ (rw c.longest_output.ensures at (c.in_ok-read.ensures (state_of c.args.state.now)))
+    (got_of c.in_ok-read.read) _ (c.in_ok-read.ensures (state_of c.args.state.now))
     _ _ c.in_ok-close-2.ensures _ _ (c.in_ok-status.ensures (state_of c.args.state.now)))))
 
 pub returns : goal.returns
+unfolding longest_output
 returns g c =
     let out = c.in_ok-read.read in
-    let status : c.deref.result.now ≡ string_bytes c.in_ok-status.status = search rules in
+    let status : c.deref.result.now ≡ string_bytes c.in_ok-status.status = c.deref.ensures in
     let why : c.unwrap_or.result.now ≡ back_status (got_of out).why c.deref.result.now = why_or out.why c.deref.result c.unwrap_or.result c.unwrap_or.ensures in
     rw (c.in-Child.is, c.in_ok-output.ensures, c.in_ok-set_status.ensures.ok, why, status)
     (ran_finished c.args.read_end.0 c.args.write_end.0 (state_of c.args.state.now) c.in-Child.child.0 _ _ _ c.in_ok-close.ensures
-    (got_of out) _ (rw c.longest_output.ensures at (c.in_ok-read.ensures (state_of c.args.state.now)))
+    (got_of out) _ (c.in_ok-read.ensures (state_of c.args.state.now))
     _ _ c.in_ok-close-2.ensures _ _ (c.in_ok-status.ensures (state_of c.args.state.now)))

@@ -5,5 +5,5 @@ use Rattle.rc_pipes.proofs.jobs.is_in_background.Goals as goal
 
 pub returns : goal.returns
 returns c =
-    c.is_among.ensures ∙ any_number c.args.child.0 c.children.result.now
+    c.contains.ensures.value ∙ any_number c.args.child.0 c.children.result.now
     ∙ ap (list_any (λ number. number == c.args.child.0)) c.children.ensures

@@ -9,8 +9,8 @@ use Rattle.rc_pipes.specs.Jobs.{arguments_of}
 use Rattle.rc_pipes.proofs.InOrder.{finishes}
 use Rattle.rc_pipes.proofs.jobs.wait_for.Goals as goal
 
-pub returns-in_err-set_status : goal.returns-in_err-set_status
-returns-in_err-set_status g c =
+pub returns-in_err-misuse : goal.returns-in_err-misuse
+returns-in_err-misuse g c =
     passed_up _ _ _ _ c.from_residual.result NoMemory c.from_residual.ensures.1 (left_here _ _ _ _ (ran_none _ _))
 
 pub returns : goal.returns

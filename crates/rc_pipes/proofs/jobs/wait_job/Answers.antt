@@ -6,7 +6,7 @@ use Rattle.rc_world.specs.declared.types.Stop.TheVariants.{NoMemory}
 use Rattle.rc_world.proofs.Joins.{left_here, passed_up}
 use Rattle.rc_world.proofs.Shells.{left_do, ran_do}
 use Rattle.law_plans.proofs.Runs.{ran_none}
-use Rattle.rc_pipes.proofs.jobs.wait_child.Goals as goal
+use Rattle.rc_pipes.proofs.jobs.wait_job.Goals as goal
 
 pub returns-in_err-status : goal.returns-in_err-status
 returns-in_err-status g c =
