@@ -1,6 +1,8 @@
 -- What a text comes to that is run as a script.
-use Rattle.std.proofs.Common.{◌≡◌, ℕ, List, ◌∷◌, Option, Some, None, Result, Ok, map, string_bytes, refl, ap, sym, subst, ◌∙◌}
-use Rattle.std.specs.Prelude.{Vec, codes}
+use Rattle.std.proofs.Common.{rules, ◌≡◌, ℕ, List, ◌∷◌, Option, Some, None, Result, Ok, Err, map, string_bytes, refl, ap, sym, subst, ◌∙◌}
+use Rattle.std.specs.Prelude.{IfOk, Vec, codes}
+use Rattle.std.specs.Result.{IsOkAnd, MatchResult}
+use Rattle.std.specs.declared.alloc.AllocError.{AllocError}
 use Rattle.std.specs.declared.alloc.Global.{Global}
 use Rattle.std.specs.declared.string.String.{String}
 use Rattle.law_acceptance.proofs.Decided.{never_both}
@@ -37,8 +39,16 @@ no_tree text fault refused (Some d) h = absurd (never_both text fault d refused 
 
 -- a text is compiled, or refused
 module _ (s : State) (text : List ℕ) where
-  pub compiles : (d : Node cmd) (body : Code) → IsAccepted text d → code_of body ≡ code d → Compiles text s s (Some body)
+  compiles : (d : Node cmd) (body : Code) → IsAccepted text d → code_of body ≡ code d → Compiles text s s (Some body)
   compiles d body accepted e = (d, (finds_the_tree text d).1 accepted, e, refl)
+
+  -- its code is handed on
+  pub hands_on : (d : Node cmd) → IsAccepted text d → (made : Result Code AllocError) (handed : Result (Option Code) AllocError) → IfOk made (λ body. code_of body ≡ code d)
+      → MatchResult made (λ body. IsOkAnd handed (λ found. found ≡ Some body)) (λ e. handed ≡ Err e) → IfOk handed (λ found. Compiles text s s found)
+  hands_on d accepted (Ok body) (Ok found) e h = subst (λ x. Compiles text s s x) (sym h) (compiles d body accepted e)
+  hands_on d accepted (Ok body) (Err why) e h = tt
+  hands_on d accepted (Err why) (Err same) e h = tt
+  hands_on d accepted (Err why) (Ok found) e h = absurd (search (rules, h))
 
   pub refuses : (t : State) (fault : SyntaxFault) → IsRefused text fault → t ≡ with_status s (codes "syntax error") → Compiles text s t None
   refuses t fault refused e = (no_tree text fault refused (tree_of text) refl, e)

@@ -1,10 +1,10 @@
 //! The built-in commands, and programs.
 
-ghost use Rattle.std.specs.Prelude.{◌≡◌, ◌≢◌, ◌∷◌, [], IfNone, IfSome, map, string_bytes};
+ghost use Rattle.std.specs.Prelude.{◌≡◌, ◌≢◌, ◌≤◌, ◌∷◌, [], IfNone, IfSome, OnErr, drop, length, map, string_bytes};
 ghost use Rattle.rc_model.specs.Run.Builtins.{Called, Finished, exec, finished, run_builtin, wait_for};
 ghost use Rattle.rc_model.specs.Run.Builtins.{without_functions};
 ghost use Rattle.rc_model.specs.Run.Acts.{run_program};
-ghost use Rattle.rc_model.specs.declared.builtin.Builtin.TheVariants.{BuiltinWord};
+ghost use Rattle.rc_model.specs.declared.builtin.Builtin.TheVariants.{BuiltinWord, Wait};
 ghost use Rattle.rc_model.specs.declared.call.Slots.{Slots};
 ghost use Rattle.rc_model.specs.Run.Shell.{Shell};
 ghost use Rattle.rc_commands.specs.Outcomes.{RunsWords};
@@ -14,7 +14,7 @@ ghost use Rattle.rc_world.specs.Comes.{Does};
 
 use crate::commands::Outcome;
 use crate::scripts::{dot, eval};
-use rc_builtin::{Builtin, change_dir, exit_status, run_program, shift, whatis};
+use rc_builtin::{Builtin, change_dir, exit_status, misuse, run_program, shift, whatis};
 use rc_pipes::wait_for;
 use rc_scope::State;
 use rc_world::{Slots, Stop, World};
@@ -41,18 +41,20 @@ fn exec<W: World>(
     slots: Slots,
     words: Vec<String>,
 ) -> Result<Outcome, Stop>
-    ensures { RunsWords (W.events world.old) (W.events world.new)
+    ensures runs { RunsWords (W.events world.old) (W.events world.new)
         (exec slots (map string_bytes words.items) (state_of state.old)) (state_of state.new) result }
+    ensures err { OnErr result (state_of state.new ≡ state_of state.old) }
 {
     let Some((name, args)) = name_and_args(words) else {
-        state.set_status("usage")?;
+        misuse(state)?;
         return Ok(Outcome::Finished);
     };
     run_program(alloc, world, state, slots, &name, args)?;
     Ok(Outcome::Exit)
 }
 
-/// `wait`: all children in the background are waited for, or that of a number.
+/// `wait`: all children in the background are waited for, or that of a number. An `Err` may leave fewer of them, and
+/// another status, since each is taken out of the list before the call that waits for it.
 fn wait<W: World>(
     alloc: Global,
     world: &mut W,
@@ -66,13 +68,13 @@ fn wait<W: World>(
         [] => wait_for(alloc, world, state, None),
         [number] => wait_for(alloc, world, state, Some(number)),
         _ => {
-            state.set_status("usage")?;
+            misuse(state)?;
             Ok(())
         }
     }
 }
 
-/// Runs a built-in command other than `builtin`.
+/// Runs a built-in command other than `builtin`. An `Err` of any but `wait` leaves the state as it was.
 #[tactic(auto, using(crate::proofs::Left::words_refused))]
 fn run_builtin<W: World>(
     alloc: Global,
@@ -83,9 +85,10 @@ fn run_builtin<W: World>(
     args: Vec<String>,
 ) -> Result<Outcome, Stop>
     requires { builtin ≢ BuiltinWord }
-    ensures { (again : Shell Called) → RunsWords (W.events world.old) (W.events world.new)
+    ensures runs { (again : Shell Called) → RunsWords (W.events world.old) (W.events world.new)
         (run_builtin again slots builtin (map string_bytes args.items) (state_of state.old))
         (state_of state.new) result }
+    ensures err { builtin ≢ Wait → OnErr result (state_of state.new ≡ state_of state.old) }
 {
     match builtin {
         Builtin::Dot => return dot(alloc, world, state, args),
@@ -106,7 +109,7 @@ fn run_builtin<W: World>(
 
 /// Runs a program by its name.
 #[tactic(auto, using(crate::proofs::Left::words_refused))]
-fn run_other<W: World>(
+fn run_as_program<W: World>(
     alloc: Global,
     world: &mut W,
     state: &mut State,
@@ -114,12 +117,30 @@ fn run_other<W: World>(
     name: &str,
     args: Vec<String>,
 ) -> Result<Outcome, Stop>
-    ensures { RunsWords (W.events world.old) (W.events world.new)
+    ensures runs { RunsWords (W.events world.old) (W.events world.new)
         (finished (run_program slots name.now (map string_bytes args.items)) (state_of state.old))
         (state_of state.new) result }
+    ensures err { OnErr result (state_of state.new ≡ state_of state.old) }
 {
     run_program(alloc, world, state, slots, name, args)?;
     Ok(Outcome::Finished)
+}
+
+/// How many words `builtin` these begin with.
+fn leading_builtins(words: &[String]) -> usize
+    ensures within { result ≤ length words.now }
+    ensures same { (slots : Slots) → without_functions slots (map string_bytes words.now)
+        ≡ without_functions slots (map string_bytes (drop result words.now)) }
+    ensures other { BeginsOther (map string_bytes (drop result words.now)) }
+{
+    let mut count = 0;
+    for word in words {
+        if Builtin::named(word) != Some(Builtin::BuiltinWord) {
+            return count;
+        }
+        count += 1;
+    }
+    count
 }
 
 /// The words after each `builtin` that they begin with.
@@ -128,18 +149,15 @@ fn past_builtins(mut words: Vec<String>) -> Vec<String>
         ≡ without_functions slots (map string_bytes result.items) }
     ensures other { BeginsOther (map string_bytes result.items) }
 {
-    while let Some(name) = words.first() {
-        if Builtin::named(name) != Some(Builtin::BuiltinWord) {
-            return words;
-        }
-        words.remove(0);
-    }
+    let count = leading_builtins(&words);
+    words.drain(..count);
     words
 }
 
-/// Runs words for which functions are ignored.
+/// Runs words for which functions are ignored. Of the state after an `Err` nothing is said here, since the words may be
+/// those of `wait`.
 #[tactic(auto, using(crate::proofs::Left::words_refused))]
-pub fn run_unnamed<W: World>(
+pub fn run_without_functions<W: World>(
     alloc: Global,
     world: &mut W,
     state: &mut State,
@@ -150,11 +168,11 @@ pub fn run_unnamed<W: World>(
         (without_functions slots (map string_bytes words.items) (state_of state.old)) (state_of state.new) result }
 {
     let Some((name, args)) = name_and_args(past_builtins(words)) else {
-        state.set_status("usage")?;
+        misuse(state)?;
         return Ok(Outcome::Finished);
     };
     match Builtin::named(&name) {
         Some(builtin) => run_builtin(alloc, world, state, slots, builtin, args),
-        None => run_other(alloc, world, state, slots, &name, args),
+        None => run_as_program(alloc, world, state, slots, &name, args),
     }
 }

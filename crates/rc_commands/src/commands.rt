@@ -5,7 +5,7 @@ ghost use Rattle.rc_model.specs.Run.Builtins.{run_words};
 ghost use Rattle.rc_commands.specs.Outcomes.{RunsWords};
 ghost use Rattle.rc_scope.specs.States.{state_of};
 
-use crate::builtins::run_unnamed;
+use crate::builtins::run_without_functions;
 use rc_builtin::fault;
 use rc_code::Code;
 use rc_scope::State;
@@ -25,7 +25,8 @@ pub enum Outcome {
     Exit,
 }
 
-/// Runs the words of a simple command.
+/// Runs the words of a simple command. Of the state after an `Err` nothing is said here, since the words may be those
+/// of `wait`.
 #[tactic(auto, using(crate::proofs::Left::words_refused))]
 pub fn run_words<W: World>(
     alloc: Global,
@@ -45,5 +46,5 @@ pub fn run_words<W: World>(
         words.remove(0);
         return Ok(Outcome::Call { args: words, body });
     }
-    run_unnamed(alloc, world, state, slots, words)
+    run_without_functions(alloc, world, state, slots, words)
 }

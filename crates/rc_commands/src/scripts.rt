@@ -1,6 +1,6 @@
 //! Texts that are run as scripts: `eval`, and the files of `.`.
 
-ghost use Rattle.std.specs.Prelude.{IfOk, List, Ok, Option, map, string_bytes};
+ghost use Rattle.std.specs.Prelude.{◌≡◌, IfOk, List, Ok, OnErr, Option, map, string_bytes};
 ghost use Rattle.rc_model.specs.Mirrors.TreeOfText.{tree_of};
 ghost use Rattle.rc_model.specs.Run.Builtins.{as_body, as_body_with, dot};
 ghost use Rattle.rc_model.specs.Run.Calls.{Event};
@@ -11,6 +11,7 @@ ghost use Rattle.rc_scope.specs.States.{state_of};
 
 use crate::builtins::name_and_args;
 use crate::commands::Outcome;
+use rc_builtin::misuse;
 use rc_code::{Code, compile};
 use rc_parser::{InputError, parse};
 use rc_pipes::read_file;
@@ -21,10 +22,11 @@ use std::alloc::{AllocError, Global};
 
 /// The code of a text. A text that is refused has none, and the status says so.
 fn compiled(alloc: Global, state: &mut State, text: &[u8]) -> Result<Option<Code>, AllocError>
-    ensures { IfOk result (λ code. Compiles text.now (state_of state.old) (state_of state.new) code) }
+    ensures ok { IfOk result (λ code. Compiles text.now (state_of state.old) (state_of state.new) code) }
+    ensures err { OnErr result (state_of state.new ≡ state_of state.old) }
 {
     match parse(alloc, text) {
-        Ok(cmd) => Ok(Some(compile(alloc, &cmd)?)),
+        Ok(cmd) => compile(alloc, &cmd).map(Some),
         Err(InputError::Fault(_)) => {
             state.set_status("syntax error")?;
             Ok(None)
@@ -35,9 +37,10 @@ fn compiled(alloc: Global, state: &mut State, text: &[u8]) -> Result<Option<Code
 
 /// `eval`: the words, joined by spaces, are a script that is run.
 pub fn eval(alloc: Global, state: &mut State, words: &[String]) -> Result<Outcome, AllocError>
-    ensures { IfOk result (λ outcome. (recorded : Option (List Event)) → RunsWords recorded recorded
+    ensures ok { IfOk result (λ outcome. (recorded : Option (List Event)) → RunsWords recorded recorded
         (as_body (tree_of (spaced (map string_bytes words.now))) (state_of state.old))
         (state_of state.new) (Ok outcome)) }
+    ensures err { OnErr result (state_of state.new ≡ state_of state.old) }
 {
     let text = flat(alloc, words)?;
     match compiled(alloc, state, text.as_bytes())? {
@@ -53,9 +56,10 @@ fn run_text(
     text: &[u8],
     args: Vec<String>,
 ) -> Result<Outcome, AllocError>
-    ensures { IfOk result (λ outcome. (recorded : Option (List Event)) → RunsWords recorded recorded
+    ensures ok { IfOk result (λ outcome. (recorded : Option (List Event)) → RunsWords recorded recorded
         (as_body_with (map string_bytes args.items) (tree_of text.now) (state_of state.old))
         (state_of state.new) (Ok outcome)) }
+    ensures err { OnErr result (state_of state.new ≡ state_of state.old) }
 {
     let Some(body) = compiled(alloc, state, text)? else {
         return Ok(Outcome::Finished);
@@ -71,11 +75,12 @@ pub fn dot<W: World>(
     state: &mut State,
     words: Vec<String>,
 ) -> Result<Outcome, Stop>
-    ensures { RunsWords (W.events world.old) (W.events world.new)
+    ensures runs { RunsWords (W.events world.old) (W.events world.new)
         (dot (map string_bytes words.items) (state_of state.old)) (state_of state.new) result }
+    ensures err { OnErr result (state_of state.new ≡ state_of state.old) }
 {
     let Some((name, args)) = name_and_args(words) else {
-        state.set_status("usage")?;
+        misuse(state)?;
         return Ok(Outcome::Finished);
     };
     let Some(file) = read_file(alloc, world, state, &name)? else {

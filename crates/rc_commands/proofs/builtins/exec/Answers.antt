@@ -9,8 +9,8 @@ use Rattle.rc_scope.specs.States.{state_of}
 use Rattle.rc_commands.proofs.Left.{words_left}
 use Rattle.rc_commands.proofs.builtins.exec.Goals as goal
 
-pub returns-in_err-run_program : goal.returns-in_err-run_program
-returns-in_err-run_program g c =
+pub returns-in_err-run_program-clause-runs : goal.returns-in_err-run_program-clause-runs
+returns-in_err-run_program-clause-runs g c =
     let s = state_of c.args.state.now in
     let name = string_bytes c.in-Some.name in
     let args = map string_bytes c.in-Some.args.items in
@@ -19,8 +19,8 @@ returns-in_err-run_program g c =
     (left_as _ _ _ _ _ (ap (λ ws. exec c.args.slots (map string_bytes ws) s) c.in-Some.ensures.some)
     (left_under _ _ _ (run_program c.args.slots name args s) (λ x. exits) leaves (rw named at c.in_err-run_program.ensures.does)))
 
-pub returns : goal.returns
-returns g c =
+pub returns-clause-runs : goal.returns-clause-runs
+returns-clause-runs g c =
     let s = state_of c.args.state.now in
     let name = string_bytes c.in-Some.name in
     let args = map string_bytes c.in-Some.args.items in

@@ -5,8 +5,8 @@ use Rattle.rc_scope.specs.States.{state_of}
 use Rattle.rc_commands.proofs.Left.{words_as}
 use Rattle.rc_commands.proofs.builtins.run_builtin.Goals as goal
 
-pub returns-in-Eval : goal.returns-in-Eval
-returns-in-Eval g c again =
+pub returns-in-Eval-clause-runs : goal.returns-in-Eval-clause-runs
+returns-in-Eval-clause-runs g c again =
     let s = state_of c.args.state.now in
     let slots = c.args.slots in
     let is : c.args.builtin ≡ Eval = search rules in
@@ -14,4 +14,4 @@ returns-in-Eval g c again =
     let recorded = g.W.World.events c.args.world.now in
     words_as recorded recorded _ _ (state_of c.eval.new.state) (Ok c.in_ok-eval-in-Eval.field-0)
     (ap (λ b. run_builtin again slots b (map string_bytes c.args.args.items) s) is ∙ ap (λ ws. run_builtin again slots Eval (map string_bytes ws) s) (sym lent))
-    (c.in_ok-eval-in-Eval.ensures recorded)
+    (c.in_ok-eval-in-Eval.ensures.ok recorded)

@@ -12,16 +12,35 @@ use Rattle.rc_commands.proofs.Evals.{left_file, not_opened, not_read, runs_file}
 use Rattle.rc_commands.proofs.Left.{words_left}
 use Rattle.rc_commands.proofs.scripts.dot.Goals as goal
 
-pub returns-in_err-file : goal.returns-in_err-file
-returns-in_err-file g c =
+pub returns-in_err-file-clause-runs : goal.returns-in_err-file-clause-runs
+returns-in_err-file-clause-runs g c =
     let s = state_of c.args.state.now in
     let args = map string_bytes c.in-Some.args.items in
     let named : c.deref.result.now ≡ string_bytes c.in-Some.name = search rules in
     words_left _ _ _ _ c.from_residual-in_err-file.result c.in_err-file.field-0.0 c.from_residual-in_err-file.ensures.1
     (left_as _ _ _ _ _ (ap (λ ws. dot (map string_bytes ws) s) c.in-Some.ensures.some) (rw named at (c.in_err-file.ensures args)))
 
-pub returns-in_err-set_status-2 : goal.returns-in_err-set_status-2
-returns-in_err-set_status-2 g c =
+pub returns-in_err-set_status-clause-runs : goal.returns-in_err-set_status-clause-runs
+returns-in_err-set_status-clause-runs g c =
+    let s = state_of c.args.state.now in
+    let args = map string_bytes c.in-Some.args.items in
+    let named : c.deref.result.now ≡ string_bytes c.in-Some.name = search rules in
+    words_left _ _ _ _ c.from_residual-in_err-set_status.result NoMemory c.from_residual-in_err-set_status.ensures.1
+    (left_file _ _ s (map string_bytes c.args.words.items) c.deref.result.now args (ap (map string_bytes) c.in-Some.ensures.some ∙ ap (λ x. x ∷ args) (sym named))
+    c.in_ok-file.field-0 (c.in_ok-file.ensures args))
+
+pub returns-in_default-2-clause-runs : goal.returns-in_default-2-clause-runs
+returns-in_default-2-clause-runs g c =
+    let s = state_of c.args.state.now in
+    let args = map string_bytes c.in-Some.args.items in
+    let named : c.deref.result.now ≡ string_bytes c.in-Some.name = search rules in
+    let none : c.in_ok-file.field-0 ≡ None = search rules in
+    let set : state_of c.set_status.new.self ≡ with_status s (codes "cannot open") = search rules in
+    not_opened _ _ s (map string_bytes c.args.words.items) c.deref.result.now args (ap (map string_bytes) c.in-Some.ensures.some ∙ ap (λ x. x ∷ args) (sym named))
+    c.in_ok-file.field-0 (c.in_ok-file.ensures args) (state_of c.set_status.new.self) none set
+
+pub returns-in_err-set_status-2-clause-runs : goal.returns-in_err-set_status-2-clause-runs
+returns-in_err-set_status-2-clause-runs g c =
     let s = state_of c.args.state.now in
     let args = map string_bytes c.in-Some.args.items in
     let named : c.deref.result.now ≡ string_bytes c.in-Some.name = search rules in
@@ -29,27 +48,8 @@ returns-in_err-set_status-2 g c =
     (left_file _ _ s (map string_bytes c.args.words.items) c.deref.result.now args (ap (map string_bytes) c.in-Some.ensures.some ∙ ap (λ x. x ∷ args) (sym named))
     c.in_ok-file.field-0 (c.in_ok-file.ensures args))
 
-pub returns-in_default-2 : goal.returns-in_default-2
-returns-in_default-2 g c =
-    let s = state_of c.args.state.now in
-    let args = map string_bytes c.in-Some.args.items in
-    let named : c.deref.result.now ≡ string_bytes c.in-Some.name = search rules in
-    let none : c.in_ok-file.field-0 ≡ None = search rules in
-    let set : state_of c.set_status-in_default-2.new.self ≡ with_status s (codes "cannot open") = search rules in
-    not_opened _ _ s (map string_bytes c.args.words.items) c.deref.result.now args (ap (map string_bytes) c.in-Some.ensures.some ∙ ap (λ x. x ∷ args) (sym named))
-    c.in_ok-file.field-0 (c.in_ok-file.ensures args) (state_of c.set_status-in_default-2.new.self) none set
-
-pub returns-in_err-set_status-3 : goal.returns-in_err-set_status-3
-returns-in_err-set_status-3 g c =
-    let s = state_of c.args.state.now in
-    let args = map string_bytes c.in-Some.args.items in
-    let named : c.deref.result.now ≡ string_bytes c.in-Some.name = search rules in
-    words_left _ _ _ _ c.from_residual-in_err-set_status-3.result NoMemory c.from_residual-in_err-set_status-3.ensures.1
-    (left_file _ _ s (map string_bytes c.args.words.items) c.deref.result.now args (ap (map string_bytes) c.in-Some.ensures.some ∙ ap (λ x. x ∷ args) (sym named))
-    c.in_ok-file.field-0 (c.in_ok-file.ensures args))
-
-pub returns-in-Some-why : goal.returns-in-Some-why
-returns-in-Some-why g c =
+pub returns-in-Some-why-clause-runs : goal.returns-in-Some-why-clause-runs
+returns-in-Some-why-clause-runs g c =
     let s = state_of c.args.state.now in
     let args = map string_bytes c.in-Some.args.items in
     let named : c.deref.result.now ≡ string_bytes c.in-Some.name = search rules in
@@ -58,8 +58,8 @@ returns-in-Some-why g c =
     not_read _ _ s (map string_bytes c.args.words.items) c.deref.result.now args (ap (map string_bytes) c.in-Some.ensures.some ∙ ap (λ x. x ∷ args) (sym named))
     c.in_ok-file.field-0 (c.in_ok-file.ensures args) c.in-Some-2.file c.in-Some-2.is c.in-Some-why.why.now (state_of c.set_status-in-Some-why.new.self) because set
 
-pub returns-in_err-run_text : goal.returns-in_err-run_text
-returns-in_err-run_text g c =
+pub returns-in_err-run_text-clause-runs : goal.returns-in_err-run_text-clause-runs
+returns-in_err-run_text-clause-runs g c =
     let s = state_of c.args.state.now in
     let args = map string_bytes c.in-Some.args.items in
     let named : c.deref.result.now ≡ string_bytes c.in-Some.name = search rules in
@@ -67,8 +67,8 @@ returns-in_err-run_text g c =
     (left_file _ _ s (map string_bytes c.args.words.items) c.deref.result.now args (ap (map string_bytes) c.in-Some.ensures.some ∙ ap (λ x. x ∷ args) (sym named))
     c.in_ok-file.field-0 (c.in_ok-file.ensures args))
 
-pub returns : goal.returns
-returns g c =
+pub returns-clause-runs : goal.returns-clause-runs
+returns-clause-runs g c =
     let s = state_of c.args.state.now in
     let args = map string_bytes c.in-Some.args.items in
     let named : c.deref.result.now ≡ string_bytes c.in-Some.name = search rules in
@@ -78,4 +78,4 @@ returns g c =
     let t = state_of c.run_text.new.state in
     runs_file _ _ s (map string_bytes c.args.words.items) c.deref.result.now args (ap (map string_bytes) c.in-Some.ensures.some ∙ ap (λ x. x ∷ args) (sym named))
     c.in_ok-file.field-0 (c.in_ok-file.ensures args) c.in-Some-2.file c.in-Some-2.is after t (Ok c.in_ok-run_text.field-0) none
-    (subst (λ x. RunsWords after after (as_body_with args (tree_of x) s) t (Ok c.in_ok-run_text.field-0)) text (c.in_ok-run_text.ensures after))
+    (subst (λ x. RunsWords after after (as_body_with args (tree_of x) s) t (Ok c.in_ok-run_text.field-0)) text (c.in_ok-run_text.ensures.ok after))

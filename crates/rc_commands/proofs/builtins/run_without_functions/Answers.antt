@@ -3,7 +3,7 @@ use Rattle.rc_model.specs.Run.Builtins.{builtin_named, without_functions}
 use Rattle.rc_scope.specs.States.{state_of}
 use Rattle.rc_commands.specs.Words.{BeginsOther}
 use Rattle.rc_commands.proofs.Left.{unnamed_past, words_as}
-use Rattle.rc_commands.proofs.builtins.run_unnamed.Goals as goal
+use Rattle.rc_commands.proofs.builtins.run_without_functions.Goals as goal
 
 pub run_builtin-requires : goal.run_builtin-requires
 run_builtin-requires g c =
@@ -21,7 +21,7 @@ returns-in-Some-named g c =
     let builtin : builtin_named name ≡ Some c.in-Some-named.builtin = search rules in
     words_as _ _ _ _ _ _
     (ap (λ m. m s) (unnamed_past slots words left name args _ (c.past_builtins.ensures.same slots) (ap (map string_bytes) c.in-Some.ensures.some) builtin))
-    (c.run_builtin.ensures (without_functions slots args))
+    (c.run_builtin.ensures.runs (without_functions slots args))
 
 pub returns : goal.returns
 returns g c =
@@ -35,4 +35,4 @@ returns g c =
     let other : builtin_named name ≡ None = search rules in
     words_as _ _ _ _ _ _
     (ap (λ m. m s) (unnamed_past slots words left name args None (c.past_builtins.ensures.same slots) (ap (map string_bytes) c.in-Some.ensures.some) other))
-    (rw named at c.run_other.ensures)
+    (rw named at c.run_as_program.ensures.runs)
