@@ -1,6 +1,5 @@
 -- How the definitions see this crate's tokens. A token's text is the slice of the script at its span.
 use Rattle.std.specs.Prelude.{ℕ, List, map, slice_range}
-use Rattle.rc_model.specs.declared.call.Mode.TheVariants as mode
 use Rattle.rc_model.specs.Syntax.Tokens as model
 use Rattle.rc_model.specs.Syntax.Tokens.{unquoted_text}
 use Rattle.rc_lexer.specs.declared.Span.{Span}
@@ -8,7 +7,7 @@ use Rattle.rc_lexer.specs.declared.TokenKind.{TokenKind}
 use Rattle.rc_lexer.specs.declared.TokenKind.TheVariants.{Word, Quoted, Semicolon, Ampersand, Newline, AndAnd, OrOr}
 use Rattle.rc_lexer.specs.declared.TokenKind.TheVariants.{Bar, Caret, FreeCaret, Equals}
 use Rattle.rc_lexer.specs.declared.TokenKind.TheVariants.{LeftParen, RightParen}
-use Rattle.rc_lexer.specs.declared.TokenKind.TheVariants.{LeftBrace, RightBrace, Backquote, Input, Output, Append}
+use Rattle.rc_lexer.specs.declared.TokenKind.TheVariants.{LeftBrace, RightBrace, Backquote, Redirection}
 use Rattle.rc_lexer.specs.declared.TokenKind.TheVariants.{CopyTo, HereDoc, Dollar}
 use Rattle.rc_lexer.specs.declared.TokenKind.TheVariants.{DollarCount, DollarFlat, Name, Subscript, BareDollar}
 use Rattle.rc_lexer.specs.declared.TokenKind.TheVariants.{BareHere}
@@ -36,9 +35,7 @@ lexeme_of script RightParen text = model.RightParen
 lexeme_of script LeftBrace text = model.LeftBrace
 lexeme_of script RightBrace text = model.RightBrace
 lexeme_of script Backquote text = model.Backquote
-lexeme_of script Input text = model.Redirection mode.Read 0
-lexeme_of script (Output slot) text = model.Redirection mode.Write slot
-lexeme_of script (Append slot) text = model.Redirection mode.Append slot
+lexeme_of script (Redirection mode slot) text = model.Redirection mode slot
 lexeme_of script (CopyTo to from) text = model.CopyTo to from
 lexeme_of script (HereDoc is_quoted body) text = model.HereDoc is_quoted (slice_at script body)
 lexeme_of script Dollar text = model.Dollar

@@ -18,13 +18,16 @@ fn with_body(token: Token, bodies: &[Span]) -> (Token, &[Span])
         model.filled (token_of script token ∷ ts) (map (slice_at script) bodies.now)
         ≡ token_of script result.0 ∷ model.filled ts (map (slice_at script) result.1.now) }
 {
-    let TokenKind::HereDoc(quoted, _) = token.kind else {
+    let TokenKind::HereDoc { is_quoted, .. } = token.kind else {
         return (token, bodies);
     };
     let Some((body, rest)) = bodies.split_first() else {
         return (token, bodies);
     };
-    let kind = TokenKind::HereDoc(quoted, *body);
+    let kind = TokenKind::HereDoc {
+        is_quoted,
+        body: *body,
+    };
     let token = Token {
         kind,
         span: token.span,

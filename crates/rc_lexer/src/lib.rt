@@ -21,7 +21,7 @@ mod words;
 
 use classes::class_of;
 use rc_characters::first_char;
-use rc_model::{FaultKind, InputError, Place, Previous, SyntaxFault};
+use rc_model::{FaultKind, InputError, Mode, Place, Previous, SyntaxFault};
 use state::{CurrentChar, Lexer, State};
 use std::alloc::Global;
 
@@ -33,7 +33,7 @@ pub struct Span {
 }
 
 /// What a token is. Its text is the slice of the script at its span.
-#[derive(Clone, Copy, Debug, PartialEq)]
+#[derive(Clone, Copy, PartialEq)]
 pub enum TokenKind {
     Word,
     Quoted,
@@ -53,12 +53,10 @@ pub enum TokenKind {
     LeftBrace,
     RightBrace,
     Backquote,
-    Input,
-    Output(u8),
-    Append(u8),
-    CopyTo(u8, u8),
+    Redirection(Mode, u8),
+    CopyTo { to: u8, from: u8 },
     /// `<<` with its mark, whether that is quoted, and where the body stands.
-    HereDoc(bool, Span),
+    HereDoc { is_quoted: bool, body: Span },
     Dollar,
     DollarCount,
     DollarFlat,
@@ -71,7 +69,7 @@ pub enum TokenKind {
 }
 
 /// A token, with the line where it begins. Lines count from 1.
-#[derive(Clone, Copy, Debug, PartialEq)]
+#[derive(Clone, Copy, PartialEq)]
 pub struct Token {
     pub kind: TokenKind,
     pub span: Span,

@@ -12,7 +12,7 @@ use crate::previous::{after_token, meaning_after};
 use crate::state::{CurrentChar, Lexer, State, TokenStart};
 use crate::tokens::token_between;
 use crate::{LexError, TokenKind, fault};
-use rc_model::{FaultKind, Place, Previous};
+use rc_model::{FaultKind, Mode, Place, Previous};
 
 /// How each operator is written.
 const OPERATORS: [(&str, TokenKind); 29] = [
@@ -30,16 +30,16 @@ const OPERATORS: [(&str, TokenKind); 29] = [
     ("{", TokenKind::LeftBrace),
     ("}", TokenKind::RightBrace),
     ("`", TokenKind::Backquote),
-    (">", TokenKind::Output(1)),
-    (">[1]", TokenKind::Output(1)),
-    (">[2]", TokenKind::Output(2)),
-    (">>", TokenKind::Append(1)),
-    (">>[1]", TokenKind::Append(1)),
-    (">>[2]", TokenKind::Append(2)),
-    ("<", TokenKind::Input),
-    ("<[0]", TokenKind::Input),
-    (">[1=2]", TokenKind::CopyTo(1, 2)),
-    (">[2=1]", TokenKind::CopyTo(2, 1)),
+    (">", TokenKind::Redirection(Mode::Write, 1)),
+    (">[1]", TokenKind::Redirection(Mode::Write, 1)),
+    (">[2]", TokenKind::Redirection(Mode::Write, 2)),
+    (">>", TokenKind::Redirection(Mode::Append, 1)),
+    (">>[1]", TokenKind::Redirection(Mode::Append, 1)),
+    (">>[2]", TokenKind::Redirection(Mode::Append, 2)),
+    ("<", TokenKind::Redirection(Mode::Read, 0)),
+    ("<[0]", TokenKind::Redirection(Mode::Read, 0)),
+    (">[1=2]", TokenKind::CopyTo { to: 1, from: 2 }),
+    (">[2=1]", TokenKind::CopyTo { to: 2, from: 1 }),
     ("<<", TokenKind::BareHere),
     ("<<[0]", TokenKind::BareHere),
     ("$", TokenKind::Dollar),

@@ -65,19 +65,20 @@ impl Lexer {
     /// A `<<` with its mark, whose body is still to come.
     fn push_here_doc(
         &mut self,
-        quoted: bool,
+        is_quoted: bool,
         mark: Vec<u8>,
         start: Place,
         stop: Place,
     ) -> Result<(), AllocError>
-        ensures { OnOk result (PushedHereDoc quoted mark.items start stop self.old self.new) }
+        ensures { OnOk result (PushedHereDoc is_quoted mark.items start stop self.old self.new) }
     {
         let body = Span { start: 0, stop: 0 };
         self.pending.push_back(PendingHereDoc {
             mark,
             line: start.line,
         })?;
-        self.tokens.push(token_between(TokenKind::HereDoc(quoted, body), start, stop))?;
+        let kind = TokenKind::HereDoc { is_quoted, body };
+        self.tokens.push(token_between(kind, start, stop))?;
         Ok(())
     }
 

@@ -11,7 +11,6 @@ ghost use Rattle.rc_lexemes.specs.Lexemes.{lexeme_of, lexemes_of};
 use rc_characters::unquote;
 use rc_descent::Lexeme;
 use rc_lexer::{Span, Token, TokenKind};
-use rc_model::Mode;
 use std::alloc::{AllocError, Global};
 use std::str;
 
@@ -49,11 +48,9 @@ fn lexeme(alloc: Global, script: &[u8], token: Token) -> Result<Lexeme, AllocErr
         TokenKind::LeftBrace => Lexeme::LeftBrace,
         TokenKind::RightBrace => Lexeme::RightBrace,
         TokenKind::Backquote => Lexeme::Backquote,
-        TokenKind::Input => Lexeme::Redirection(Mode::Read, 0),
-        TokenKind::Output(slot) => Lexeme::Redirection(Mode::Write, slot),
-        TokenKind::Append(slot) => Lexeme::Redirection(Mode::Append, slot),
-        TokenKind::CopyTo(to, from) => Lexeme::CopyTo(to, from),
-        TokenKind::HereDoc(is_quoted, body) => {
+        TokenKind::Redirection(mode, slot) => Lexeme::Redirection(mode, slot),
+        TokenKind::CopyTo { to, from } => Lexeme::CopyTo(to, from),
+        TokenKind::HereDoc { is_quoted, body } => {
             Lexeme::HereDoc(is_quoted, text(alloc, part(script, body))?)
         }
         TokenKind::Dollar => Lexeme::Dollar,

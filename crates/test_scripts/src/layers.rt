@@ -1,8 +1,9 @@
 //! What comes of a script: its tokens, its tree, the text of that, or its fault.
 
 use crate::dump::dump;
+use crate::tokens::tokens_shown;
 use crate::trees::{fault_line, refused, tree_of};
-use rc_lexer::{Token, lex};
+use rc_lexer::lex;
 use rc_parser::InputError;
 use rc_tree::{Cmd, clone_tree, print};
 use std::alloc::{AllocError, Global};
@@ -38,27 +39,6 @@ fn tokens(alloc: Global, script: &[u8]) -> Result<String, AllocError> {
         Ok(tokens) => tokens_shown(alloc, &tokens),
         Err(fault) => fault_line(alloc, fault),
     }
-}
-
-fn tokens_shown(alloc: Global, tokens: &[Token]) -> Result<String, AllocError> {
-    let mut out = String::new(alloc);
-    for token in tokens {
-        if !out.is_empty() {
-            out.push(' ')?;
-        }
-        add_token(&mut out, token)?;
-    }
-    Ok(out)
-}
-
-/// Adds a token with its place. A line other than the first stands after a slash.
-fn add_token(out: &mut String, token: &Token) -> Result<(), AllocError> {
-    let span = token.span;
-    write!(out, "{:?}@{}..{}", token.kind, span.start, span.stop)?;
-    if token.line != 1 {
-        write!(out, "/{}", token.line)?;
-    }
-    Ok(())
 }
 
 /// The fault of a script with its line.

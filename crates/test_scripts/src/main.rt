@@ -5,6 +5,7 @@ mod dump;
 mod examples;
 mod layers;
 mod rows;
+mod tokens;
 mod trees;
 
 use anyhow::Result;
