@@ -4,7 +4,7 @@ use Rattle.std.specs.Prelude.{Result, Ok, Err, slice_range}
 use Rattle.rc_model.specs.Syntax.Tokens as model
 use Rattle.rc_model.specs.Mirrors.Reading as reading
 use Rattle.rc_model.specs.Mirrors.Reading.{Step}
-use Rattle.rc_lexer.specs.Answers.{LexError}
+use Rattle.rc_lexer.specs.Answers.{ScriptError}
 use Rattle.rc_model.specs.declared.fault.InputError.TheVariants.{Fault, NoMemory}
 use Rattle.rc_model.specs.declared.syntax.Class.{Class}
 use Rattle.rc_model.specs.declared.syntax.Class.TheVariants as class
@@ -14,7 +14,7 @@ use Rattle.rc_lexer.specs.declared.state.State.{State}
 use Rattle.rc_lexer.specs.declared.state.Lexer.{Lexer}
 use Rattle.rc_lexer.specs.Views.{slice_at}
 use Rattle.rc_model.specs.declared.syntax.Previous.TheVariants as previous
-use Rattle.rc_lexer.specs.Machine.{pending_of, pending_in, tokens_in, dollars_in, bodies_in, after_step, Does}
+use Rattle.rc_lexer.specs.Machine.{pending_of, pending_in, tokens_in, dollars_in, bodies_in, after_step, TakesStep}
 use Rattle.rc_lexer.specs.Machine.{Pushed, Keeps, PushedDollars}
 use Rattle.std.proofs.lemmas.Bool.{eqb-true}
 use Rattle.std.specs.Char.{encode_utf8}
@@ -24,24 +24,24 @@ after_emit ts us bodies (Ok x) = ap (λ z. Ok (z, bodies ++ x.1, x.2, x.3)) (sym
 after_emit ts us bodies (Err f) = refl
 
 -- the tokens of a step come after those so far
-pub emits : (script : List ℕ) (end : ℕ) (us : List model.Token) (x : Step) (old mid new : Lexer) (r : Result State LexError) →
+pub emits : (script : List ℕ) (end : ℕ) (us : List model.Token) (x : Step) (old mid new : Lexer) (r : Result State ScriptError) →
     tokens_in script mid ≡ tokens_in script old ++ us →
-    mid.bodies.items ≡ old.bodies.items → Does script end mid new r x → Does script end old new r (reading.emit us x)
+    mid.bodies.items ≡ old.bodies.items → TakesStep script end mid new r x → TakesStep script end old new r (reading.emit us x)
 emits script end us x old mid new (Ok s) t b d =
     after_emit (tokens_in script old) us (bodies_in script old) x
     ∙ ap (λ z. after_step z (bodies_in script old) x) (sym t) ∙ ap (λ z. after_step (tokens_in script mid) (map (slice_at script) z) x) (sym b) ∙ d
 emits script end us x old mid new (Err (Fault f)) t b d = ap (reading.emit us) d
 emits script end us x old mid new (Err NoMemory) t b d = d
 
-pub along : (script : List ℕ) (end : ℕ) (old new : Lexer) (r : Result State LexError) (x y : Step) → x ≡ y → Does script end old new r x →
-    Does script end old new r y
-along script end old new r x y e d = subst (λ z. Does script end old new r z) e d
+pub along : (script : List ℕ) (end : ℕ) (old new : Lexer) (r : Result State ScriptError) (x y : Step) → x ≡ y → TakesStep script end old new r x →
+    TakesStep script end old new r y
+along script end old new r x y e d = subst (λ z. TakesStep script end old new r z) e d
 
 -- a lexeme ends, and the character begins something
 pub ends_does : (script : List ℕ) (end : ℕ) (previous after : Previous) (l : model.Lexeme) (start place : Place) (c : ℕ) (k : Class)
-    (old mid new : Lexer) (r : Result State LexError) →
-    Pushed script previous after l start place old mid → Does script end mid new r (reading.begin after (pending_in mid) place c k) →
-    Does script end old new r (reading.ends previous l start (pending_in old) place c k)
+    (old mid new : Lexer) (r : Result State ScriptError) →
+    Pushed script previous after l start place old mid → TakesStep script end mid new r (reading.begin after (pending_in mid) place c k) →
+    TakesStep script end old new r (reading.ends previous l start (pending_in old) place c k)
 ends_does script end previous after l start place c k old mid new r s d =
     emits script end (model.tokens_of previous l start place)
     (reading.begin (model.after_token previous l) (model.pending_after previous l (pending_in old)) place c k)
@@ -58,11 +58,11 @@ in_word_other prev q text pending p c class.Backslash h j = absurd (j refl)
 in_word_other prev q text pending p c k h j = refl
 
 pub word_does : (script : List ℕ) (end : ℕ) (previous after : Previous) (text : List ℕ) (start place : Place) (c : ℕ) (k : Class) (old mid new : Lexer)
-    (r : Result State LexError) →
+    (r : Result State ScriptError) →
     k ≢ class.Ordinary → k ≢ class.Backslash →
     Pushed script previous after (model.Word text) start place old mid →
-    Does script end mid new r (reading.begin after (pending_in mid) place c k) →
-    Does script end old new r (reading.in_word previous start text (pending_in old) place c k)
+    TakesStep script end mid new r (reading.begin after (pending_in mid) place c k) →
+    TakesStep script end old new r (reading.in_word previous start text (pending_in old) place c k)
 word_does script end previous after text start place c k old mid new r h j s d =
     along script end old new r _ _ (in_word_other previous start text (pending_in old) place c k h j)
     (ends_does script end previous after (model.Word text) start place c k old mid new r s d)
@@ -73,12 +73,12 @@ pub caret_is : (b : Bool) (prev : Previous) (p : Place) → model.wants_caret pr
 caret_is b prev p h = ap (λ v. cond v (model.token model.FreeCaret p p ∷ []) []) h
 
 -- a name ends, and the character begins something
-pub name_does : (script : List ℕ) (end : ℕ) (text : List ℕ) (start place : Place) (c : ℕ) (k : Class) (old mid new : Lexer) (r : Result State LexError) →
+pub name_does : (script : List ℕ) (end : ℕ) (text : List ℕ) (start place : Place) (c : ℕ) (k : Class) (old mid new : Lexer) (r : Result State ScriptError) →
     model.is_name_char c ≡ false → text ≡ slice_range script start.byte place.byte →
     ((script' : List ℕ) → tokens_in script' mid ≡ tokens_in script' old
     ++ model.token (model.Name (slice_range script' start.byte place.byte)) start place ∷ []) → Keeps old mid →
-    Does script end mid new r (reading.begin previous.Name (pending_in mid) place c k) →
-    Does script end old new r (reading.step (reading.Name start text) (pending_in old) place c k)
+    TakesStep script end mid new r (reading.begin previous.Name (pending_in mid) place c k) →
+    TakesStep script end old new r (reading.step (reading.Name start text) (pending_in old) place c k)
 name_does script end text start place c k old mid new r h e t kept d =
     let text' = slice_range script start.byte place.byte in
     along script end old new r _ _
@@ -95,19 +95,19 @@ dollars_step a b dollars pending p c k =
     (cond b (reading.goes [] (reading.Operator previous.Dollar dollars p (c ∷ [])) pending)
     (reading.emit (reading.bare dollars) (reading.begin previous.Apart pending p c k)))
 
-pub named_does : (script : List ℕ) (end : ℕ) (place : Place) (c : ℕ) (k : Class) (old mid new : Lexer) (r : Result State LexError) →
+pub named_does : (script : List ℕ) (end : ℕ) (place : Place) (c : ℕ) (k : Class) (old mid new : Lexer) (r : Result State ScriptError) →
     (model.is_name_char c || (c == 39)) ≡ true → PushedDollars (λ dollars. dollars) old mid →
-    Does script end mid new r (reading.begin previous.Dollar (pending_in mid) place c k) →
-    Does script end old new r (reading.after_dollars (dollars_in script old) (pending_in old) place c k)
+    TakesStep script end mid new r (reading.begin previous.Dollar (pending_in mid) place c k) →
+    TakesStep script end old new r (reading.after_dollars (dollars_in script old) (pending_in old) place c k)
 named_does script end place c k old mid new r h s d =
     along script end old new r _ _ (sym (ap (λ v. dollars_step v (c == 36) (dollars_in script old) (pending_in old) place c k) h))
     (emits script end (dollars_in script old) (reading.begin previous.Dollar (pending_in old) place c k) old mid new r (s.tokens script) s.bodies
     (along script end mid new r _ _ (ap (λ q. reading.begin previous.Dollar (map pending_of q) place c k) s.pending) d))
 
-pub bare_does : (script : List ℕ) (end : ℕ) (place : Place) (c : ℕ) (k : Class) (old mid new : Lexer) (r : Result State LexError) →
+pub bare_does : (script : List ℕ) (end : ℕ) (place : Place) (c : ℕ) (k : Class) (old mid new : Lexer) (r : Result State ScriptError) →
     (model.is_name_char c || (c == 39)) ≡ false → c ≢ 36 → PushedDollars reading.bare old mid →
-    Does script end mid new r (reading.begin previous.Apart (pending_in mid) place c k) →
-    Does script end old new r (reading.after_dollars (dollars_in script old) (pending_in old) place c k)
+    TakesStep script end mid new r (reading.begin previous.Apart (pending_in mid) place c k) →
+    TakesStep script end old new r (reading.after_dollars (dollars_in script old) (pending_in old) place c k)
 bare_does script end place c k old mid new r h n s d =
     along script end old new r _ _
     (sym (ap (λ v. dollars_step v (c == 36) (dollars_in script old) (pending_in old) place c k) h

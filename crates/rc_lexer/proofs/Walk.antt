@@ -14,7 +14,7 @@ use Rattle.rc_model.specs.Mirrors.Reading as reading
 use Rattle.rc_model.specs.Mirrors.Reading.{Step}
 use Rattle.law_lexing.proofs.Steps.{join_join}
 use Rattle.law_lexing.proofs.Lexing.{law}
-use Rattle.rc_lexer.specs.Answers.{LexError}
+use Rattle.rc_lexer.specs.Answers.{ScriptError}
 use Rattle.rc_model.specs.declared.fault.InputError.TheVariants.{Fault, NoMemory}
 use Rattle.rc_model.specs.declared.syntax.Class.{Class}
 use Rattle.rc_model.specs.declared.syntax.Place.{Place}
@@ -24,9 +24,9 @@ use Rattle.rc_lexer.specs.declared.Token.{Token}
 use Rattle.rc_model.specs.declared.fault.FaultKind.TheVariants.{ZeroByte}
 use Rattle.rc_model.specs.Syntax.Faults.{fault}
 use Rattle.std.specs.Prelude.{Vec}
-use Rattle.rc_lexer.specs.Answers.{Reads}
+use Rattle.rc_lexer.specs.Answers.{IsLexed}
 use Rattle.rc_lexer.specs.Lexed.{ReadTo}
-use Rattle.rc_lexer.specs.Machine.{tokens_in, bodies_in, state_in, pending_left, after_step, IsCurrent, Does}
+use Rattle.rc_lexer.specs.Machine.{tokens_in, bodies_in, state_in, pending_left, after_step, IsCurrent, TakesStep}
 use Rattle.rc_model.specs.declared.syntax.Previous.TheVariants as previous
 
 -- no zero at a character, and one
@@ -79,14 +79,14 @@ join_follow ts bodies (Err e) f = refl
 pub step_reads : (script bs : List ℕ) (rest more : List ℕ) (c : ℕ) (class : Class) (place next : Place) (old new : Lexer) (s s' : State)
     (whole : model.Outcome) → bs ≡ script →
     chars rest ≡ c ∷ chars more → next ≡ model.after_char place c → class ≡ model.class_of c →
-    Does bs next.byte old new (Ok s') (reading.step (state_in bs place.byte old s) (pending_left old s) place c class) →
+    TakesStep bs next.byte old new (Ok s') (reading.step (state_in bs place.byte old s) (pending_left old s) place c class) →
     model.join (tokens_in script old) (bodies_in script old)
     (reading.run (state_in script place.byte old s) (pending_left old s) place (chars rest)) ≡ whole →
     model.join (tokens_in script new) (bodies_in script new)
     (reading.run (state_in script next.byte new s') (pending_left new s') next (chars more)) ≡ whole
 step_reads script bs rest more c class place next old new s s' whole b e n k d w =
-    let d' : Does script next.byte old new (Ok s') (reading.step (state_in script place.byte old s) (pending_left old s) place c class) =
-    subst (λ z. Does z next.byte old new (Ok s') (reading.step (state_in z place.byte old s) (pending_left old s) place c class)) b d in
+    let d' : TakesStep script next.byte old new (Ok s') (reading.step (state_in script place.byte old s) (pending_left old s) place c class) =
+    subst (λ z. TakesStep z next.byte old new (Ok s') (reading.step (state_in z place.byte old s) (pending_left old s) place c class)) b d in
     let go : reading.State → List model.PendingHereDoc → model.Outcome = λ t pending. reading.run t pending next (chars more) in
     let st = state_in script place.byte old s in
     sym (ap (λ z. reading.follow z go) d')
@@ -138,16 +138,16 @@ pub char_within : (script rest more : List ℕ) (c : ℕ) (place next : Place) �
 char_within script rest more c place next h e f n = let fits = char_fits script more place.byte c h (e ∙ f) in omega (arith, ap (λ z. z.byte) n)
 
 -- the error of a reading
-pub error_is : {Z : Type 0} (script : List ℕ) (r : Result (Vec Token Z) LexError) (e e' : LexError) → reading.zero_line 1 (chars script) ≡ None →
+pub error_is : {Z : Type 0} (script : List ℕ) (r : Result (Vec Token Z) ScriptError) (e e' : ScriptError) → reading.zero_line 1 (chars script) ≡ None →
     r ≡ Err e' → e' ≡ e →
-    ReadTo script (Err e) (reading.run (reading.Between previous.Apart) [] model.first_place (chars script)) → Reads script r
-error_is {Z} script r e e' z p q h = subst (λ x. Reads {Z = Z} script x) (sym (p ∙ ap (λ x. Err x) q)) (by e h)
+    ReadTo script (Err e) (reading.run (reading.Between previous.Apart) [] model.first_place (chars script)) → IsLexed script r
+error_is {Z} script r e e' z p q h = subst (λ x. IsLexed {Z = Z} script x) (sym (p ∙ ap (λ x. Err x) q)) (by e h)
   where
-    by : (d : LexError) → ReadTo script (Err d) (reading.run (reading.Between previous.Apart) [] model.first_place (chars script)) → Reads {Z = Z} script (Err d)
+    by : (d : ScriptError) → ReadTo script (Err d) (reading.run (reading.Between previous.Apart) [] model.first_place (chars script)) → IsLexed {Z = Z} script (Err d)
     by (Fault f) k = fault_is script f z k
     by NoMemory k = k
 
-pub zero_error : {Z : Type 0} (script : List ℕ) (r : Result (Vec Token Z) LexError) (e : LexError) (line : ℕ) → r ≡ Err e →
+pub zero_error : {Z : Type 0} (script : List ℕ) (r : Result (Vec Token Z) ScriptError) (e : ScriptError) (line : ℕ) → r ≡ Err e →
     e ≡ Fault (record { kind = ZeroByte; line = line }) →
-    reading.zero_line 1 (chars script) ≡ Some line → Reads script r
-zero_error {Z} script r e line p q h = subst (λ x. Reads {Z = Z} script x) (sym (p ∙ ap (λ x. Err x) q)) (zero_is script line h)
+    reading.zero_line 1 (chars script) ≡ Some line → IsLexed script r
+zero_error {Z} script r e line p q h = subst (λ x. IsLexed {Z = Z} script x) (sym (p ∙ ap (λ x. Err x) q)) (zero_is script line h)

@@ -7,12 +7,12 @@ use Rattle.rc_model.specs.declared.fault.InputError.TheVariants.{Fault, NoMemory
 use Rattle.rc_lexer.specs.declared.Token.{Token}
 use Rattle.rc_lexer.specs.Views.{tokens_of}
 
--- why there are no tokens
-abbrev pub LexError : Type 0
-LexError = InputError SyntaxFault
+-- why a script has no tokens, or no tree
+abbrev pub ScriptError : Type 0
+ScriptError = InputError SyntaxFault
 
 -- the tokens are those of the script, or the fault is its first one, or memory ran out
-abbrev pub Reads : {Z : Type 0} → List ℕ → Result (Vec Token Z) LexError → Type 0
-Reads script (Ok tokens) = IsCut script (Ok (tokens_of script tokens.items))
-Reads script (Err (Fault f)) = IsCut script (Err f)
-Reads script (Err NoMemory) = Unit {0}
+abbrev pub IsLexed : {Z : Type 0} → List ℕ → Result (Vec Token Z) ScriptError → Type 0
+IsLexed script (Ok tokens) = IsCut script (Ok (tokens_of script tokens.items))
+IsLexed script (Err (Fault f)) = IsCut script (Err f)
+IsLexed script (Err NoMemory) = Unit {0}

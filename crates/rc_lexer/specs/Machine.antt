@@ -6,7 +6,7 @@ use Rattle.rc_model.specs.Syntax.Tokens.{Outcome}
 use Rattle.rc_model.specs.Mirrors.Reading as reading
 use Rattle.rc_model.specs.Mirrors.Reading.{Step}
 use Rattle.rc_lexer.specs.declared.TokenKind.{TokenKind}
-use Rattle.rc_lexer.specs.Answers.{LexError}
+use Rattle.rc_lexer.specs.Answers.{ScriptError}
 use Rattle.rc_model.specs.declared.fault.InputError.TheVariants.{Fault, NoMemory}
 use Rattle.rc_model.specs.declared.syntax.Place.{Place}
 use Rattle.rc_model.specs.declared.syntax.Previous.{Previous}
@@ -113,12 +113,12 @@ after_step ts bodies (Ok x) = Ok (ts ++ x.0, bodies ++ x.1, x.2, x.3)
 after_step ts bodies (Err f) = Err f
 
 -- the lexer does this step of the machine, or memory ran out
-abbrev pub Does : List ℕ → ℕ → Lexer → Lexer → Result State LexError → Step → Type 0
-Does script end old new (Ok s) x =
+abbrev pub TakesStep : List ℕ → ℕ → Lexer → Lexer → Result State ScriptError → Step → Type 0
+TakesStep script end old new (Ok s) x =
     after_step (tokens_in script old) (bodies_in script old) x
     ≡ Ok (tokens_in script new, bodies_in script new, state_in script end new s, pending_left new s)
-Does script end old new (Err (Fault f)) x = x ≡ Err f
-Does script end old new (Err NoMemory) x = Unit {0}
+TakesStep script end old new (Err (Fault f)) x = x ≡ Err f
+TakesStep script end old new (Err NoMemory) x = Unit {0}
 
 -- the lexer has put a lexeme between two places after its tokens, and this stands after it
 pub record Pushed (script : List ℕ) (previous after : Previous) (l : model.Lexeme) (p q : Place)
@@ -131,14 +131,14 @@ pub record Pushed (script : List ℕ) (previous after : Previous) (l : model.Lex
   pub bodies : new.bodies.items ≡ old.bodies.items
 
 -- the lexer has put this lexeme there, unless memory ran out
-abbrev pub IfPushed : List ℕ → Previous → model.Lexeme → Place → Place → Lexer → Lexer → Result Previous LexError →
+abbrev pub IfPushed : List ℕ → Previous → model.Lexeme → Place → Place → Lexer → Lexer → Result Previous ScriptError →
     Type 0
 IfPushed script previous l p q old new (Ok after) = Pushed script previous after l p q old new
 IfPushed script previous l p q old new (Err (Fault f)) = ⊥
 IfPushed script previous l p q old new (Err NoMemory) = Unit {0}
 
 -- the lexer is at the end
-abbrev pub Ends : List ℕ → Lexer → Lexer → Result (Unit {0}) LexError → Outcome → Type 0
+abbrev pub Ends : List ℕ → Lexer → Lexer → Result (Unit {0}) ScriptError → Outcome → Type 0
 Ends script old new (Ok u) o =
     model.join (tokens_in script old) (bodies_in script old) o ≡ Ok (tokens_in script new, bodies_in script new)
 Ends script old new (Err (Fault f)) o = o ≡ Err f
@@ -177,7 +177,7 @@ pub record PushedDollars (seen : List model.Token → List model.Token) (old new
   pub pending : new.pending.items ≡ old.pending.items
 
 -- no here document is pending, or the first pending one is open
-abbrev pub IsClosed : List model.PendingHereDoc → Result (Unit {0}) LexError → Type 0
+abbrev pub IsClosed : List model.PendingHereDoc → Result (Unit {0}) ScriptError → Type 0
 IsClosed pending (Ok u) = reading.closed [] [] pending ≡ Ok ([], [])
 IsClosed pending (Err (Fault f)) = reading.closed [] [] pending ≡ Err f
 IsClosed pending (Err NoMemory) = ⊥

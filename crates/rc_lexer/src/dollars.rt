@@ -4,13 +4,13 @@ ghost use Rattle.std.specs.Prelude.{◌||◌, ◌==◌, ◌≡◌, ℕ, List, �
 ghost use Rattle.rc_model.specs.Syntax.Tokens as model;
 ghost use Rattle.rc_model.specs.Mirrors.Reading as reading;
 ghost use Rattle.rc_lexer.specs.Views.{tokens_of};
-ghost use Rattle.rc_lexer.specs.Machine.{Does, IsCurrent, Keeps, PushedDollars, Stands};
+ghost use Rattle.rc_lexer.specs.Machine.{TakesStep, IsCurrent, Keeps, PushedDollars, Stands};
 ghost use Rattle.rc_lexer.specs.Machine.{dollars_in, pending_in, tokens_in};
 
 use crate::previous::wants_caret;
 use crate::state::{CurrentChar, Lexer, State, TokenStart};
 use crate::tokens::token_between;
-use crate::{LexError, Token, TokenKind};
+use crate::{ScriptError, Token, TokenKind};
 use rc_characters::is_name_char;
 use rc_model::{Place, Previous};
 use std::alloc::AllocError;
@@ -78,9 +78,9 @@ impl Lexer {
         &mut self,
         script: &[u8],
         current: CurrentChar,
-    ) -> Result<State, LexError>
+    ) -> Result<State, ScriptError>
         requires { IsCurrent script.now current }
-        ensures does { Does script.now current.next.byte self.old self.new result
+        ensures does { TakesStep script.now current.next.byte self.old self.new result
             (reading.after_dollars (dollars_in script.now self.old) (pending_in self.old) current.place
             current.c current.class) }
         ensures stands { IfOk result (λ s. Stands script.now current.next.byte s) }

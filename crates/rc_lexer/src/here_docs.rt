@@ -5,11 +5,11 @@ ghost use Rattle.rc_model.specs.Syntax.Tokens as model;
 ghost use Rattle.rc_model.specs.Mirrors.Reading as reading;
 ghost use Rattle.rc_model.specs.declared.syntax.Place.{Place};
 ghost use Rattle.rc_lexer.specs.Views.{slice_at, token_of, tokens_of};
-ghost use Rattle.rc_lexer.specs.Machine.{Does, Ends, IsClosed, IsCurrent, Stands};
+ghost use Rattle.rc_lexer.specs.Machine.{TakesStep, Ends, IsClosed, IsCurrent, Stands};
 ghost use Rattle.rc_lexer.specs.Machine.{bodies_in, line_of, pending_in, pending_left, state_in, tokens_in};
 
 use crate::state::{CurrentChar, Lexer, State};
-use crate::{LexError, Span, Token, TokenKind, fault};
+use crate::{ScriptError, Span, Token, TokenKind, fault};
 use rc_model::{Class, FaultKind, Previous};
 
 /// The token with the next body, if it is a here document, and the bodies after that.
@@ -68,11 +68,11 @@ impl Lexer {
         body: usize,
         line: usize,
         current: CurrentChar,
-    ) -> Result<State, LexError>
+    ) -> Result<State, ScriptError>
         requires current { IsCurrent script.now current }
         requires order { body ≤ line }
         requires within { line ≤ current.place.byte }
-        ensures does { Does script.now current.next.byte self.old self.new result
+        ensures does { TakesStep script.now current.next.byte self.old self.new result
             (reading.step (state_in script.now current.place.byte self.old (State.Body body line))
             (pending_left self.old (State.Body body line)) current.place current.c current.class) }
         ensures stands { IfOk result (λ s. Stands script.now current.next.byte s) }
@@ -103,7 +103,7 @@ impl Lexer {
         body: usize,
         line: usize,
         end: usize,
-    ) -> Result<(), LexError>
+    ) -> Result<(), ScriptError>
         requires order { body ≤ line }
         requires until { line ≤ end }
         requires within { end ≤ length script.now }
@@ -127,7 +127,7 @@ impl Lexer {
     }
 
     /// No here document waits for its body.
-    pub(crate) fn expect_none_pending(&self) -> Result<(), LexError>
+    pub(crate) fn expect_none_pending(&self) -> Result<(), ScriptError>
         ensures { IsClosed (pending_in self.now) result }
     {
         match self.pending.front() {

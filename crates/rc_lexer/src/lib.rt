@@ -5,7 +5,7 @@ ghost use Rattle.std.specs.Prelude.{◌≡◌, ◌≤◌, ◌<◌, ◌+◌, ◌^
 ghost use Rattle.std.specs.Str.{chars};
 ghost use Rattle.rc_model.specs.Syntax.Tokens as model;
 ghost use Rattle.rc_model.specs.Mirrors.Reading as reading;
-ghost use Rattle.rc_lexer.specs.Answers.{Reads};
+ghost use Rattle.rc_lexer.specs.Answers.{IsLexed};
 ghost use Rattle.rc_lexer.specs.Lexed.{ReadTo};
 ghost use Rattle.rc_model.specs.declared.syntax.Previous.TheVariants as previous;
 
@@ -76,11 +76,11 @@ pub struct Token {
     pub line: usize,
 }
 
-/// Why there are no tokens: the script's first fault, or memory was refused.
-pub type LexError = InputError<SyntaxFault>;
+/// Why a script has no tokens, or no tree: its first fault, or memory was refused.
+pub type ScriptError = InputError<SyntaxFault>;
 
 /// The fault of this kind at this line.
-fn fault(kind: FaultKind, line: usize) -> LexError
+fn fault(kind: FaultKind, line: usize) -> ScriptError
     ensures { result ≡ InputError.Fault (record { kind = kind; line = line }) }
 {
     InputError::Fault(SyntaxFault { kind, line })
@@ -90,8 +90,8 @@ fn fault(kind: FaultKind, line: usize) -> LexError
 const LONGEST: usize = isize::MAX as usize;
 
 /// The tokens of the script, or its first fault. A byte 0 is looked for first.
-pub fn lex(alloc: Global, script: &str) -> Result<Vec<Token>, LexError>
-    ensures { Reads script.now result }
+pub fn lex(alloc: Global, script: &str) -> Result<Vec<Token>, ScriptError>
+    ensures { IsLexed script.now result }
 {
     // No longer text fits in memory. Shorter ones have fewer lines than a `usize` counts.
     if script.len() > LONGEST {
@@ -139,7 +139,7 @@ fn after_char(place: Place, c: char) -> Place
 }
 
 /// Reads the whole script.
-fn read(alloc: Global, script: &str) -> Result<Lexer, LexError>
+fn read(alloc: Global, script: &str) -> Result<Lexer, ScriptError>
     requires { length script.now < 2 ^ 63 }
     ensures { ReadTo script.now result (reading.run (reading.Between previous.Apart) [] model.first_place
         (chars script.now)) }

@@ -2,10 +2,10 @@
 
 ghost use Rattle.std.specs.Prelude.{◌≤◌, length, IfOk};
 ghost use Rattle.rc_model.specs.Mirrors.Reading as reading;
-ghost use Rattle.rc_lexer.specs.Machine.{Does, Ends, IsCurrent, Stands, pending_left, state_in};
+ghost use Rattle.rc_lexer.specs.Machine.{TakesStep, Ends, IsCurrent, Stands, pending_left, state_in};
 
 use crate::state::{CurrentChar, Lexer, State};
-use crate::{LexError, TokenKind, fault};
+use crate::{ScriptError, TokenKind, fault};
 use rc_model::{Class, FaultKind, Place, Previous};
 
 impl Lexer {
@@ -15,10 +15,10 @@ impl Lexer {
         script: &[u8],
         state: State,
         current: CurrentChar,
-    ) -> Result<State, LexError>
+    ) -> Result<State, ScriptError>
         requires current { IsCurrent script.now current }
         requires stands { Stands script.now current.place.byte state }
-        ensures does { Does script.now current.next.byte self.old self.new result
+        ensures does { TakesStep script.now current.next.byte self.old self.new result
             (reading.step (state_in script.now current.place.byte self.old state) (pending_left self.old state)
             current.place current.c current.class) }
         ensures stands { IfOk result (λ s. Stands script.now current.next.byte s) }
@@ -54,7 +54,7 @@ impl Lexer {
         script: &[u8],
         state: State,
         place: Place,
-    ) -> Result<(), LexError>
+    ) -> Result<(), ScriptError>
         requires stands { Stands script.now place.byte state }
         requires within { place.byte ≤ length script.now }
         ensures { Ends script.now self.old self.new result

@@ -5,13 +5,13 @@ ghost use Rattle.rc_model.specs.Syntax.Tokens.{begins_operator, operator};
 ghost use Rattle.rc_model.specs.Syntax.Tokens as model;
 ghost use Rattle.rc_model.specs.Mirrors.Reading as reading;
 ghost use Rattle.rc_lexer.specs.Views.{lexeme_of};
-ghost use Rattle.rc_lexer.specs.Machine.{Does, Ends, IsCurrent, Stands};
+ghost use Rattle.rc_lexer.specs.Machine.{TakesStep, Ends, IsCurrent, Stands};
 ghost use Rattle.rc_lexer.specs.Machine.{dollars_in, pending_in};
 
 use crate::previous::{after_token, meaning_after};
 use crate::state::{CurrentChar, Lexer, State, TokenStart};
 use crate::tokens::token_between;
-use crate::{LexError, TokenKind, fault};
+use crate::{ScriptError, TokenKind, fault};
 use rc_model::{FaultKind, Mode, Place, Previous};
 
 /// How each operator is written.
@@ -79,10 +79,10 @@ impl Lexer {
         script: &[u8],
         start: TokenStart,
         current: CurrentChar,
-    ) -> Result<State, LexError>
+    ) -> Result<State, ScriptError>
         requires current { IsCurrent script.now current }
         requires stands { Stands script.now current.place.byte (State.Operator start) }
-        ensures does { Does script.now current.next.byte self.old self.new result
+        ensures does { TakesStep script.now current.next.byte self.old self.new result
             (reading.step (reading.Operator start.previous (dollars_in script.now self.old)
             start.place (slice_range script.now start.place.byte current.place.byte))
             (pending_in self.old) current.place current.c current.class) }
@@ -100,10 +100,10 @@ impl Lexer {
         script: &[u8],
         start: TokenStart,
         current: CurrentChar,
-    ) -> Result<State, LexError>
+    ) -> Result<State, ScriptError>
         requires current { IsCurrent script.now current }
         requires stands { Stands script.now current.place.byte (State.Operator start) }
-        ensures does { Does script.now current.next.byte self.old self.new result
+        ensures does { TakesStep script.now current.next.byte self.old self.new result
             (reading.end_operator start.previous (dollars_in script.now self.old) start.place
             (model.operator (slice_range script.now start.place.byte current.place.byte)) (pending_in self.old)
             current.place current.c current.class) }
@@ -141,7 +141,7 @@ impl Lexer {
         script: &[u8],
         start: TokenStart,
         place: Place,
-    ) -> Result<(), LexError>
+    ) -> Result<(), ScriptError>
         requires order { start.place.byte ≤ place.byte }
         requires within { place.byte ≤ length script.now }
         requires apart { model.awaits_mark start.previous ≡ false }

@@ -8,7 +8,7 @@ ghost use Rattle.rc_lexer.specs.Machine.{lexeme_tokens, tokens_in};
 
 use crate::previous::{after_token, wants_caret};
 use crate::state::{Lexer, PendingHereDoc, TokenStart};
-use crate::{LexError, Span, Token, TokenKind};
+use crate::{ScriptError, Span, Token, TokenKind};
 use rc_characters::unquote;
 use rc_model::{Place, Previous};
 use std::alloc::AllocError;
@@ -88,7 +88,7 @@ impl Lexer {
         script: &[u8],
         start: TokenStart,
         stop: Place,
-    ) -> Result<Previous, LexError>
+    ) -> Result<Previous, ScriptError>
         requires order { start.place.byte ≤ stop.byte }
         requires within { stop.byte ≤ length script.now }
         ensures { IfPushed script.now start.previous
@@ -110,7 +110,7 @@ impl Lexer {
         script: &[u8],
         start: TokenStart,
         stop: Place,
-    ) -> Result<Previous, LexError>
+    ) -> Result<Previous, ScriptError>
         requires order { start.place.byte ≤ stop.byte }
         requires within { stop.byte ≤ length script.now }
         ensures { IfPushed script.now start.previous

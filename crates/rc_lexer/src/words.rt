@@ -3,13 +3,13 @@
 ghost use Rattle.std.specs.Prelude.{◌≤◌, length, slice_range, IfOk};
 ghost use Rattle.rc_model.specs.Syntax.Tokens as model;
 ghost use Rattle.rc_model.specs.Mirrors.Reading as reading;
-ghost use Rattle.rc_lexer.specs.Machine.{Does, Ends, IsCurrent, Stands};
+ghost use Rattle.rc_lexer.specs.Machine.{TakesStep, Ends, IsCurrent, Stands};
 ghost use Rattle.rc_lexer.specs.Machine.{pending_in, pending_left, state_in};
 
 use crate::previous::{after_blank, begins_name, without_here};
 use crate::state::{CurrentChar, Lexer, State, TokenStart};
 use crate::tokens::token_between;
-use crate::{LexError, TokenKind};
+use crate::{ScriptError, TokenKind};
 use rc_characters::is_name_char;
 use rc_model::{Class, Place, Previous};
 
@@ -20,9 +20,9 @@ impl Lexer {
         script: &[u8],
         previous: Previous,
         current: CurrentChar,
-    ) -> Result<State, LexError>
+    ) -> Result<State, ScriptError>
         requires { IsCurrent script.now current }
-        ensures does { Does script.now current.next.byte self.old self.new result
+        ensures does { TakesStep script.now current.next.byte self.old self.new result
             (reading.begin previous (pending_in self.old) current.place current.c current.class) }
         ensures stands { IfOk result (λ s. Stands script.now current.next.byte s) }
     {
@@ -58,10 +58,10 @@ impl Lexer {
         script: &[u8],
         start: TokenStart,
         current: CurrentChar,
-    ) -> Result<State, LexError>
+    ) -> Result<State, ScriptError>
         requires current { IsCurrent script.now current }
         requires stands { Stands script.now current.place.byte (State.Backslash start) }
-        ensures does { Does script.now current.next.byte self.old self.new result
+        ensures does { TakesStep script.now current.next.byte self.old self.new result
             (reading.step (state_in script.now current.place.byte self.old (State.Backslash start))
             (pending_left self.old (State.Backslash start)) current.place current.c current.class) }
         ensures stands { IfOk result (λ s. Stands script.now current.next.byte s) }
@@ -79,10 +79,10 @@ impl Lexer {
         start: TokenStart,
         stop: Place,
         current: CurrentChar,
-    ) -> Result<State, LexError>
+    ) -> Result<State, ScriptError>
         requires current { IsCurrent script.now current }
         requires stands { Stands script.now current.place.byte (State.WordBackslash start stop) }
-        ensures does { Does script.now current.next.byte self.old self.new result
+        ensures does { TakesStep script.now current.next.byte self.old self.new result
             (reading.step (state_in script.now current.place.byte self.old (State.WordBackslash start stop))
             (pending_left self.old (State.WordBackslash start stop)) current.place current.c current.class) }
         ensures stands { IfOk result (λ s. Stands script.now current.next.byte s) }
@@ -102,10 +102,10 @@ impl Lexer {
         script: &[u8],
         start: TokenStart,
         current: CurrentChar,
-    ) -> Result<State, LexError>
+    ) -> Result<State, ScriptError>
         requires current { IsCurrent script.now current }
         requires order { start.place.byte ≤ current.place.byte }
-        ensures does { Does script.now current.next.byte self.old self.new result
+        ensures does { TakesStep script.now current.next.byte self.old self.new result
             (reading.in_word start.previous start.place
             (slice_range script.now start.place.byte current.place.byte) (pending_in self.old)
             current.place current.c current.class) }
@@ -127,10 +127,10 @@ impl Lexer {
         script: &[u8],
         start: Place,
         current: CurrentChar,
-    ) -> Result<State, LexError>
+    ) -> Result<State, ScriptError>
         requires current { IsCurrent script.now current }
         requires order { start.byte ≤ current.place.byte }
-        ensures does { Does script.now current.next.byte self.old self.new result
+        ensures does { TakesStep script.now current.next.byte self.old self.new result
             (reading.step (reading.Name start (slice_range script.now start.byte current.place.byte))
             (pending_in self.old) current.place current.c current.class) }
         ensures stands { IfOk result (λ s. Stands script.now current.next.byte s) }
@@ -148,10 +148,10 @@ impl Lexer {
         script: &[u8],
         start: TokenStart,
         current: CurrentChar,
-    ) -> Result<State, LexError>
+    ) -> Result<State, ScriptError>
         requires current { IsCurrent script.now current }
         requires order { start.place.byte ≤ current.place.byte }
-        ensures does { Does script.now current.next.byte self.old self.new result
+        ensures does { TakesStep script.now current.next.byte self.old self.new result
             (reading.ends start.previous
             (model.Quoted (model.unquoted_text (slice_range script.now start.place.byte current.place.byte)))
             start.place (pending_in self.old) current.place current.c current.class) }
@@ -167,7 +167,7 @@ impl Lexer {
         script: &[u8],
         start: TokenStart,
         place: Place,
-    ) -> Result<(), LexError>
+    ) -> Result<(), ScriptError>
         requires order { start.place.byte ≤ place.byte }
         requires within { place.byte ≤ length script.now }
         ensures { Ends script.now self.old self.new result

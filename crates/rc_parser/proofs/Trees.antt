@@ -15,7 +15,7 @@ use Rattle.law_acceptance.proofs.Decided.{same_tokens}
 use Rattle.rc_model.specs.declared.fault.SyntaxFault.{SyntaxFault}
 use Rattle.rc_model.specs.declared.fault.InputError.TheVariants as error
 use Rattle.rc_lexer.specs.declared.Token as lexer
-use Rattle.rc_lexer.specs.Answers.{LexError, Reads}
+use Rattle.rc_lexer.specs.Answers.{ScriptError, IsLexed}
 use Rattle.rc_lexer.specs.Views.{tokens_of}
 use Rattle.rc_model.specs.declared.fault.DescentFault.{DescentFault}
 use Rattle.rc_model.specs.declared.fault.DescentFault.TheVariants as descent
@@ -37,12 +37,12 @@ has_fault : (bytes text : List ℕ) (fault : SyntaxFault) → text ≡ bytes →
 has_fault bytes text fault e short utf8 read =
     script.no_tokens fault short (subst (λ z. is_utf8 z ≡ true) e (is_utf8-from_IsUtf8 text utf8)) (subst (λ z. Lexes z (Err fault)) e read)
 
-pub tokens_cut : {Z : Type 0} (bytes text : List ℕ) (r : Result (Vec lexer.Token Z) LexError) → text ≡ bytes → length bytes ≤ longest_script → IsUtf8 text → Reads text r →
+pub tokens_cut : {Z : Type 0} (bytes text : List ℕ) (r : Result (Vec lexer.Token Z) ScriptError) → text ≡ bytes → length bytes ≤ longest_script → IsUtf8 text → IsLexed text r →
     IfOk r (λ v. HasTokens bytes (tokens_of bytes v.items))
 tokens_cut bytes text (Ok v) e short utf8 read = has_tokens bytes text v.items e short utf8 read.found
 tokens_cut bytes text (Err f) e short utf8 read = tt
 
-pub tokens_refused : {Z : Type 0} (bytes text : List ℕ) (r : Result (Vec lexer.Token Z) LexError) → text ≡ bytes → length bytes ≤ longest_script → IsUtf8 text → Reads text r →
+pub tokens_refused : {Z : Type 0} (bytes text : List ℕ) (r : Result (Vec lexer.Token Z) ScriptError) → text ≡ bytes → length bytes ≤ longest_script → IsUtf8 text → IsLexed text r →
     IfErr r (λ f. Refuses f bytes)
 tokens_refused bytes text (Ok v) e short utf8 read = tt
 tokens_refused bytes text (Err (error.Fault f)) e short utf8 read = has_fault bytes text f e short utf8 read.found

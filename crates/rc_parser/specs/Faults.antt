@@ -2,7 +2,7 @@
 use Rattle.std.specs.Prelude.{◌≡◌, ℕ, List}
 use Rattle.rc_model.specs.declared.fault.FaultKind.TheVariants.{Unexpected, IfNot, TooDeep, TooManyStages}
 use Rattle.rc_model.specs.declared.fault.SyntaxFault.{SyntaxFault}
-use Rattle.rc_model.specs.declared.fault.InputError.{InputError}
+use Rattle.rc_lexer.specs.Answers.{ScriptError}
 use Rattle.rc_model.specs.declared.fault.InputError.TheVariants as error
 use Rattle.rc_model.specs.Syntax.Faults.{fault}
 use Rattle.rc_model.specs.Syntax.Accepted.{IsRefused, IsLineOf}
@@ -10,12 +10,8 @@ use Rattle.rc_model.specs.Syntax.Tokens.{Token}
 use Rattle.rc_model.specs.declared.fault.DescentFault.{DescentFault}
 use Rattle.rc_model.specs.declared.fault.DescentFault.TheVariants as descent
 
--- why there is no tree
-abbrev pub ParseError : Type 0
-ParseError = InputError SyntaxFault
-
 -- a fault is the script's own; where memory ran out nothing is said of the script
-abbrev pub Refuses : ParseError → List ℕ → Type 0
+abbrev pub Refuses : ScriptError → List ℕ → Type 0
 Refuses (error.Fault f) script = IsRefused script f
 Refuses error.NoMemory script = Unit {0}
 

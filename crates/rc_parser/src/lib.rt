@@ -12,16 +12,14 @@ mod fault;
 mod lexemes;
 mod text;
 
+pub use rc_lexer::ScriptError;
 use rc_lexer::Token;
 pub use rc_model::{FaultKind, InputError, SyntaxFault};
 use rc_tree::Cmd;
 use std::alloc::Global;
 
-/// Why there is no tree: the script's first fault, or memory was refused.
-pub type ParseError = InputError<SyntaxFault>;
-
 /// The tree of a script, or its first fault.
-pub fn parse(alloc: Global, script: &[u8]) -> Result<Cmd, ParseError>
+pub fn parse(alloc: Global, script: &[u8]) -> Result<Cmd, ScriptError>
     ensures accepted { IfOk result (λ c. IsAccepted script.now (cmd_tree c)) }
     // It has no other tree.
     ensures only { IfOk result (λ c. (other : Node cmd) → IsAccepted script.now other → other ≡ cmd_tree c) }
@@ -39,7 +37,7 @@ pub fn parse(alloc: Global, script: &[u8]) -> Result<Cmd, ParseError>
 }
 
 /// The tokens of a script.
-fn tokens(alloc: Global, script: &[u8]) -> Result<Vec<Token>, ParseError>
+fn tokens(alloc: Global, script: &[u8]) -> Result<Vec<Token>, ScriptError>
     ensures cut { IfOk result (λ v. HasTokens script.now (tokens_of script.now v.items)) }
     ensures refused { IfErr result (λ e. Refuses e script.now) }
 {

@@ -1,16 +1,16 @@
 //! The tree of a script, and why there is none.
 
-use rc_parser::{InputError, ParseError, parse};
+use rc_parser::{InputError, ScriptError, parse};
 use rc_tree::Cmd;
 use std::alloc::{AllocError, Global};
 
 /// The tree of a script, in a box: each place that may drop a tree takes long to prove.
-pub fn tree_of(alloc: Global, script: &[u8]) -> Result<Box<Cmd>, ParseError> {
+pub fn tree_of(alloc: Global, script: &[u8]) -> Result<Box<Cmd>, ScriptError> {
     Ok(Box::new(alloc, parse(alloc, script)?)?)
 }
 
 /// The fault of a script with its line.
-pub fn fault_line(alloc: Global, fault: ParseError) -> Result<String, AllocError> {
+pub fn fault_line(alloc: Global, fault: ScriptError) -> Result<String, AllocError> {
     match fault {
         InputError::Fault(fault) => format!(in alloc; "{fault}"),
         InputError::NoMemory => Err(AllocError),
@@ -18,7 +18,7 @@ pub fn fault_line(alloc: Global, fault: ParseError) -> Result<String, AllocError
 }
 
 /// What is shown of a script that is not accepted, where its fault is not.
-pub fn refused(alloc: Global, fault: ParseError) -> Result<String, AllocError> {
+pub fn refused(alloc: Global, fault: ScriptError) -> Result<String, AllocError> {
     match fault {
         InputError::Fault(_) => String::from_str(alloc, "refused"),
         InputError::NoMemory => Err(AllocError),

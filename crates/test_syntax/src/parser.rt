@@ -1,6 +1,6 @@
 //! The tree of a script where memory is refused.
 
-use rc_parser::{ParseError, parse};
+use rc_parser::{ScriptError, parse};
 use std::alloc::AllocError;
 use std::test::Fail;
 
@@ -9,7 +9,7 @@ fn out_of_memory_is_reported(rt: HostRuntime) -> Result<(), Fail> {
     let script = b"x=$y^'z' a | {b >f `{c} <<E}\n$w\nE\n";
     match parse(rt.alloc(), script.as_slice()) {
         Ok(_) => Ok(()),
-        Err(ParseError::NoMemory) => Err(Fail::from(AllocError)),
-        Err(ParseError::Fault(_)) => Err(Fail::new("a script was refused")),
+        Err(ScriptError::NoMemory) => Err(Fail::from(AllocError)),
+        Err(ScriptError::Fault(_)) => Err(Fail::new("a script was refused")),
     }
 }

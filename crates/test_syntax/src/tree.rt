@@ -1,6 +1,6 @@
 //! The bounds of a well formed tree, and the text of a copy where memory is refused.
 
-use rc_parser::{ParseError, parse};
+use rc_parser::{ScriptError, parse};
 use rc_tree::{Cmd, InputError, PrintFault, Stage, clone_tree, print, well_formed};
 use std::alloc::{AllocError, Global};
 use std::test::Fail;
@@ -9,8 +9,8 @@ use std::test::Fail;
 fn tree(alloc: Global, script: &str) -> Result<Box<Cmd>, Fail> {
     match parse(alloc, script.as_bytes()) {
         Ok(tree) => Ok(Box::new(alloc, tree)?),
-        Err(ParseError::NoMemory) => Err(Fail::from(AllocError)),
-        Err(ParseError::Fault(_)) => Err(Fail::new("a script was refused")),
+        Err(ScriptError::NoMemory) => Err(Fail::from(AllocError)),
+        Err(ScriptError::Fault(_)) => Err(Fail::new("a script was refused")),
     }
 }
 

@@ -8,7 +8,7 @@ use rc_cli::run_rc;
 use rc_code::{Code, compile};
 use rc_image::{ImageError, read_image};
 use rc_machine::{Machine, Progress};
-use rc_parser::{ParseError, parse};
+use rc_parser::{ScriptError, parse};
 use rc_scope::State;
 use rc_shell::{Ran, ShellFault, execute, execute_image};
 use rc_tree_types::Cmd;
@@ -73,7 +73,7 @@ fn run_program(alloc: Global, row: &Row<'_>, tape: &mut Tape) -> Result<Story, R
 }
 
 /// The tree of a script, in a box: each place that may drop a tree takes long to prove.
-fn tree_of(alloc: Global, script: &[u8]) -> Result<Box<Cmd>, ParseError> {
+fn tree_of(alloc: Global, script: &[u8]) -> Result<Box<Cmd>, ScriptError> {
     Ok(Box::new(alloc, parse(alloc, script)?)?)
 }
 
