@@ -58,11 +58,11 @@ slice_grows script more a at c next h k e n =
 pub current_is : (script bs rest more : List ℕ) (c : ℕ) (class : Class) (place next : Place) → bs ≡ script → place.byte ≤ length script →
     drop place.byte script ≡ rest → rest ≡ encode_utf8 c ++ more →
     next ≡ model.after_char place c → class ≡ model.class_of c →
-    IsCurrent bs (record { c = c; class = class; place = place; next = next })
+    IsCurrent bs (record { character = c; class = class; place = place; next = next })
 current_is script bs rest more c class place next b h e f n k =
     let byte : next.byte ≡ place.byte + len_utf8 c = ap (λ z. z.byte) n in
     let d : drop place.byte script ≡ encode_utf8 c ++ more = e ∙ f in
-    subst (λ z. IsCurrent z (record { c = c; class = class; place = place; next = next })) (sym b)
+    subst (λ z. IsCurrent z (record { character = c; class = class; place = place; next = next })) (sym b)
     (record {
       next = n;
       reads = λ a j. slice_grows script more a place.byte c next.byte j h d byte;

@@ -101,10 +101,10 @@ Stands script end s = Unit {0}
 
 -- the current character stands in the script between its places
 pub record IsCurrent (script : List ℕ) (current : CurrentChar) : Type 0 where
-  pub next : current.next ≡ model.after_char current.place current.c
+  pub next : current.next ≡ model.after_char current.place current.character
   pub reads : (a : ℕ) → a ≤ current.place.byte →
-      slice_range script a current.next.byte ≡ slice_range script a current.place.byte ++ encode_utf8 current.c
-  pub class : current.class ≡ model.class_of current.c
+      slice_range script a current.next.byte ≡ slice_range script a current.place.byte ++ encode_utf8 current.character
+  pub class : current.class ≡ model.class_of current.character
   pub within : current.next.byte ≤ length script
 
 -- a step, with tokens and bodies before it

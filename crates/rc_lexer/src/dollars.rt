@@ -4,7 +4,7 @@ ghost use Rattle.std.specs.Prelude.{◌||◌, ◌==◌, ◌≡◌, ℕ, List, �
 ghost use Rattle.rc_model.specs.Syntax.Tokens as model;
 ghost use Rattle.rc_model.specs.Mirrors.Reading as reading;
 ghost use Rattle.rc_lexer.specs.Views.{tokens_of};
-ghost use Rattle.rc_lexer.specs.Machine.{TakesStep, IsCurrent, Keeps, PushedDollars, Stands};
+ghost use Rattle.rc_lexer.specs.Machine.{IsCurrent, Keeps, PushedDollars, Stands, TakesStep};
 ghost use Rattle.rc_lexer.specs.Machine.{dollars_in, pending_in, tokens_in};
 
 use crate::previous::wants_caret;
@@ -82,14 +82,14 @@ impl Lexer {
         requires { IsCurrent script.now current }
         ensures does { TakesStep script.now current.next.byte self.old self.new result
             (reading.after_dollars (dollars_in script.now self.old) (pending_in self.old) current.place
-            current.c current.class) }
+            current.character current.class) }
         ensures stands { IfOk result (λ s. Stands script.now current.next.byte s) }
     {
-        if begins_dollar_name(current.c) {
+        if begins_dollar_name(current.character) {
             self.push_named_dollars()?;
             return self.begin_token(script, Previous::Dollar, current);
         }
-        if current.c == '$' {
+        if current.character == '$' {
             return Ok(State::Operator(TokenStart {
                 previous: Previous::Dollar,
                 place: current.place,

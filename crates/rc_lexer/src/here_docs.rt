@@ -5,7 +5,7 @@ ghost use Rattle.rc_model.specs.Syntax.Tokens as model;
 ghost use Rattle.rc_model.specs.Mirrors.Reading as reading;
 ghost use Rattle.rc_model.specs.declared.syntax.Place.{Place};
 ghost use Rattle.rc_lexer.specs.Views.{slice_at, token_of, tokens_of};
-ghost use Rattle.rc_lexer.specs.Machine.{TakesStep, Ends, IsClosed, IsCurrent, Stands};
+ghost use Rattle.rc_lexer.specs.Machine.{Ends, IsClosed, IsCurrent, Stands, TakesStep};
 ghost use Rattle.rc_lexer.specs.Machine.{bodies_in, line_of, pending_in, pending_left, state_in, tokens_in};
 
 use crate::state::{CurrentChar, Lexer, State};
@@ -57,7 +57,10 @@ impl Lexer {
         if self.pending.is_empty() {
             State::Between(Previous::Apart)
         } else {
-            State::Body(at, at)
+            State::Body {
+                start: at,
+                line: at,
+            }
         }
     }
 
@@ -74,7 +77,7 @@ impl Lexer {
         requires within { line ≤ current.place.byte }
         ensures does { TakesStep script.now current.next.byte self.old self.new result
             (reading.step (state_in script.now current.place.byte self.old (State.Body body line))
-            (pending_left self.old (State.Body body line)) current.place current.c current.class) }
+            (pending_left self.old (State.Body body line)) current.place current.character current.class) }
         ensures stands { IfOk result (λ s. Stands script.now current.next.byte s) }
     {
         let Some(first) = self.pending.front() else {
@@ -83,7 +86,10 @@ impl Lexer {
         match current.class {
             Class::LineEnd => {
                 if &script[line..current.place.byte] != first.mark.as_slice() {
-                    return Ok(State::Body(body, current.next.byte));
+                    return Ok(State::Body {
+                        start: body,
+                        line: current.next.byte,
+                    });
                 }
                 self.bodies.push(Span {
                     start: body,
@@ -92,7 +98,7 @@ impl Lexer {
                 let _ = self.pending.pop_front();
                 Ok(self.begin_line(current.next.byte))
             }
-            _ => Ok(State::Body(body, line)),
+            _ => Ok(State::Body { start: body, line }),
         }
     }
 

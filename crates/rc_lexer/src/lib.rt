@@ -1,4 +1,5 @@
-//! The tokens of a script.
+//! The tokens of a script. What they are follows rc(1), the manual page of Plan 9's shell, and Tom Duff's paper
+//! "Rc - The Plan 9 Shell".
 #![tactic(auto)]
 
 ghost use Rattle.std.specs.Prelude.{◌≡◌, ◌≤◌, ◌<◌, ◌+◌, ◌^◌, MatchOption, Some, None, [], length};
@@ -150,7 +151,7 @@ fn read(alloc: Global, script: &str) -> Result<Lexer, ScriptError>
     let mut rest = script;
     while let Some((c, more)) = first_char(rest) {
         let current = CurrentChar {
-            c,
+            character: c,
             class: class_of(c),
             place,
             next: after_char(place, c),

@@ -2,7 +2,7 @@
 
 ghost use Rattle.std.specs.Prelude.{◌≤◌, length, IfOk};
 ghost use Rattle.rc_model.specs.Mirrors.Reading as reading;
-ghost use Rattle.rc_lexer.specs.Machine.{TakesStep, Ends, IsCurrent, Stands, pending_left, state_in};
+ghost use Rattle.rc_lexer.specs.Machine.{Ends, IsCurrent, Stands, TakesStep, pending_left, state_in};
 
 use crate::state::{CurrentChar, Lexer, State};
 use crate::{ScriptError, TokenKind, fault};
@@ -20,7 +20,7 @@ impl Lexer {
         requires stands { Stands script.now current.place.byte state }
         ensures does { TakesStep script.now current.next.byte self.old self.new result
             (reading.step (state_in script.now current.place.byte self.old state) (pending_left self.old state)
-            current.place current.c current.class) }
+            current.place current.character current.class) }
         ensures stands { IfOk result (λ s. Stands script.now current.next.byte s) }
     {
         match state {
@@ -44,7 +44,7 @@ impl Lexer {
                 _ => self.end_quoted(script, start, current),
             },
             State::Operator(start) => self.continue_operator(script, start, current),
-            State::Body(body, line) => self.continue_body(script, body, line, current),
+            State::Body { start, line } => self.continue_body(script, start, line, current),
         }
     }
 
@@ -79,7 +79,7 @@ impl Lexer {
                 self.expect_none_pending()
             }
             State::Operator(start) => self.finish_operator(script, start, place),
-            State::Body(body, line) => self.finish_body(script, body, line, place.byte),
+            State::Body { start, line } => self.finish_body(script, start, line, place.byte),
         }
     }
 }

@@ -5,7 +5,7 @@ ghost use Rattle.rc_model.specs.Syntax.Tokens.{begins_operator, operator};
 ghost use Rattle.rc_model.specs.Syntax.Tokens as model;
 ghost use Rattle.rc_model.specs.Mirrors.Reading as reading;
 ghost use Rattle.rc_lexer.specs.Views.{lexeme_of};
-ghost use Rattle.rc_lexer.specs.Machine.{TakesStep, Ends, IsCurrent, Stands};
+ghost use Rattle.rc_lexer.specs.Machine.{Ends, IsCurrent, Stands, TakesStep};
 ghost use Rattle.rc_lexer.specs.Machine.{dollars_in, pending_in};
 
 use crate::previous::{after_token, meaning_after};
@@ -85,7 +85,7 @@ impl Lexer {
         ensures does { TakesStep script.now current.next.byte self.old self.new result
             (reading.step (reading.Operator start.previous (dollars_in script.now self.old)
             start.place (slice_range script.now start.place.byte current.place.byte))
-            (pending_in self.old) current.place current.c current.class) }
+            (pending_in self.old) current.place current.character current.class) }
         ensures stands { IfOk result (λ s. Stands script.now current.next.byte s) }
     {
         if begins_operator(&script[start.place.byte..current.next.byte]) {
@@ -106,7 +106,7 @@ impl Lexer {
         ensures does { TakesStep script.now current.next.byte self.old self.new result
             (reading.end_operator start.previous (dollars_in script.now self.old) start.place
             (model.operator (slice_range script.now start.place.byte current.place.byte)) (pending_in self.old)
-            current.place current.c current.class) }
+            current.place current.character current.class) }
         ensures stands { IfOk result (λ s. Stands script.now current.next.byte s) }
     {
         let TokenStart { previous, place } = start;

@@ -76,7 +76,7 @@ pub fn after_token(previous: Previous, kind: TokenKind) -> Previous
     }
 }
 
-/// What the operator means here, where no name follows.
+/// What the operator means here, where no name follows: what the definitions call `meant`.
 pub fn meaning_after(previous: Previous, kind: TokenKind) -> TokenKind
     ensures { (script text : List ℕ) → lexeme_of script result text
         ≡ model.meant previous [] (lexeme_of script kind text) }

@@ -30,13 +30,13 @@ pub enum State {
     Closed(TokenStart),
     Operator(TokenStart),
     /// The body of the first pending here document: where it begins, and where the line begins.
-    Body(usize, usize),
+    Body { start: usize, line: usize },
 }
 
 /// The character that is read now, with the places before and after it.
 #[derive(Clone, Copy)]
 pub struct CurrentChar {
-    pub c: char,
+    pub character: char,
     pub class: Class,
     pub place: Place,
     pub next: Place,

@@ -3,7 +3,7 @@
 ghost use Rattle.std.specs.Prelude.{◌≤◌, length, slice_range, IfOk};
 ghost use Rattle.rc_model.specs.Syntax.Tokens as model;
 ghost use Rattle.rc_model.specs.Mirrors.Reading as reading;
-ghost use Rattle.rc_lexer.specs.Machine.{TakesStep, Ends, IsCurrent, Stands};
+ghost use Rattle.rc_lexer.specs.Machine.{Ends, IsCurrent, Stands, TakesStep};
 ghost use Rattle.rc_lexer.specs.Machine.{pending_in, pending_left, state_in};
 
 use crate::previous::{after_blank, begins_name, without_here};
@@ -23,7 +23,7 @@ impl Lexer {
     ) -> Result<State, ScriptError>
         requires { IsCurrent script.now current }
         ensures does { TakesStep script.now current.next.byte self.old self.new result
-            (reading.begin previous (pending_in self.old) current.place current.c current.class) }
+            (reading.begin previous (pending_in self.old) current.place current.character current.class) }
         ensures stands { IfOk result (λ s. Stands script.now current.next.byte s) }
     {
         let place = current.place;
@@ -31,7 +31,7 @@ impl Lexer {
             Class::Blank => Ok(State::Between(after_blank(previous))),
             Class::Quote => Ok(State::Quoted(TokenStart { previous, place })),
             Class::Backslash => Ok(State::Backslash(TokenStart { previous, place })),
-            Class::Ordinary if begins_name(previous, current.c) => Ok(State::Name(place)),
+            Class::Ordinary if begins_name(previous, current.character) => Ok(State::Name(place)),
             Class::Ordinary => Ok(State::Word(TokenStart { previous, place })),
             Class::Hash => {
                 self.push_bare_here(previous)?;
@@ -63,7 +63,7 @@ impl Lexer {
         requires stands { Stands script.now current.place.byte (State.Backslash start) }
         ensures does { TakesStep script.now current.next.byte self.old self.new result
             (reading.step (state_in script.now current.place.byte self.old (State.Backslash start))
-            (pending_left self.old (State.Backslash start)) current.place current.c current.class) }
+            (pending_left self.old (State.Backslash start)) current.place current.character current.class) }
         ensures stands { IfOk result (λ s. Stands script.now current.next.byte s) }
     {
         match current.class {
@@ -84,7 +84,7 @@ impl Lexer {
         requires stands { Stands script.now current.place.byte (State.WordBackslash start stop) }
         ensures does { TakesStep script.now current.next.byte self.old self.new result
             (reading.step (state_in script.now current.place.byte self.old (State.WordBackslash start stop))
-            (pending_left self.old (State.WordBackslash start stop)) current.place current.c current.class) }
+            (pending_left self.old (State.WordBackslash start stop)) current.place current.character current.class) }
         ensures stands { IfOk result (λ s. Stands script.now current.next.byte s) }
     {
         match current.class {
@@ -108,7 +108,7 @@ impl Lexer {
         ensures does { TakesStep script.now current.next.byte self.old self.new result
             (reading.in_word start.previous start.place
             (slice_range script.now start.place.byte current.place.byte) (pending_in self.old)
-            current.place current.c current.class) }
+            current.place current.character current.class) }
         ensures stands { IfOk result (λ s. Stands script.now current.next.byte s) }
     {
         match current.class {
@@ -132,10 +132,10 @@ impl Lexer {
         requires order { start.byte ≤ current.place.byte }
         ensures does { TakesStep script.now current.next.byte self.old self.new result
             (reading.step (reading.Name start (slice_range script.now start.byte current.place.byte))
-            (pending_in self.old) current.place current.c current.class) }
+            (pending_in self.old) current.place current.character current.class) }
         ensures stands { IfOk result (λ s. Stands script.now current.next.byte s) }
     {
-        if is_name_char(current.c) {
+        if is_name_char(current.character) {
             return Ok(State::Name(start));
         }
         self.push_token(Previous::Dollar, TokenKind::Name, start, current.place)?;
@@ -154,7 +154,7 @@ impl Lexer {
         ensures does { TakesStep script.now current.next.byte self.old self.new result
             (reading.ends start.previous
             (model.Quoted (model.unquoted_text (slice_range script.now start.place.byte current.place.byte)))
-            start.place (pending_in self.old) current.place current.c current.class) }
+            start.place (pending_in self.old) current.place current.character current.class) }
         ensures stands { IfOk result (λ s. Stands script.now current.next.byte s) }
     {
         let after = self.push_quoted(script, start, current.place)?;

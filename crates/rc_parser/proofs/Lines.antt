@@ -1,14 +1,11 @@
 -- The lines of tokens.
 use Rattle.std.proofs.Common.{◌≡◌, ℕ, zero, suc, ◌<◌, Bool, true, false, ◌||◌, List, [], ◌∷◌, length, refl, sym, ap, ◌∙◌, arith}
+use Rattle.std.proofs.Math.Bool.{or-true}
 use Rattle.std.proofs.lemmas.Bool.Decides.{nat_tests}
 use Rattle.std.specs.List.{list_any}
 use Rattle.std.specs.Prelude.{◌==◌, slice_index_or}
 use Rattle.rc_lexer.specs.declared.Token.{Token}
 use Rattle.rc_lexer.specs.Views.{tokens_of}
-
-or_true : (b : Bool) → (b || true) ≡ true
-or_true true = refl
-or_true false = refl
 
 same : (n : ℕ) → (n == n) ≡ true
 same n = grind (arith, nat_tests)
@@ -20,4 +17,4 @@ line_of_token script [] i x h e = absurd (omega arith)
 line_of_token script (t ∷ ts) zero x h e =
     ap (λ b. b || list_any (λ u. u.line == x.line) (tokens_of script ts)) (ap (λ y. y.line == x.line) (sym (e x)) ∙ same x.line)
 line_of_token script (t ∷ ts) (suc i) x h e =
-    ap (λ b. (t.line == x.line) || b) (line_of_token script ts i x (omega arith) e) ∙ or_true (t.line == x.line)
+    ap (λ b. (t.line == x.line) || b) (line_of_token script ts i x (omega arith) e) ∙ or-true (t.line == x.line)

@@ -1,8 +1,8 @@
 -- The lexemes of tokens, one after the other.
 use Rattle.std.proofs.Common.{◌≡◌, ℕ, List, [], ◌∷◌, ◌++◌, refl, sym, ap, subst, ◌∙◌, append_assoc}
-use Rattle.std.proofs.Common.{◌<◌, true, arith}
+use Rattle.std.proofs.Common.{true}
 use Rattle.std.proofs.lemmas.Bool.{and_parts}
-use Rattle.std.proofs.lemmas.Bool.Decides.{nat_tests}
+use Rattle.law_lexing.proofs.Texts.{name_char_low}
 use Rattle.std.proofs.lemmas.Str.{IsUtf8-from_ascii}
 use Rattle.std.proofs.lemmas.Str.Ascii.{IsAscii-nil, IsAscii-cons}
 use Rattle.std.specs.List.{list_all}
@@ -17,12 +17,9 @@ use Rattle.rc_lexemes.specs.declared.lexeme.Lexeme.{Lexeme}
 use Rattle.rc_lexemes.specs.Lexemes.{lexeme_of, lexemes_of}
 
 -- a name is ASCII
-name_low : (b : ℕ) → is_name_char b ≡ true → b < 128
-name_low b e = grind (arith, nat_tests)
-
 low : (text : List ℕ) → list_all is_name_char text ≡ true → IsAscii text
 low [] e = IsAscii-nil
-low (b ∷ bs) e = let p = and_parts (is_name_char b) (list_all is_name_char bs) e in IsAscii-cons b bs (name_low b p.0) (low bs p.1)
+low (b ∷ bs) e = let p = and_parts (is_name_char b) (list_all is_name_char bs) e in IsAscii-cons b bs (name_char_low b p.0) (low bs p.1)
 
 pub name_is_text : (text : List ℕ) → list_all is_name_char text ≡ true → IsUtf8 text
 name_is_text text e = IsUtf8-from_ascii text (low text e)

@@ -1,4 +1,5 @@
-//! The parser: a script's tree, or why it has none.
+//! The parser: a script's tree, or why it has none. The grammar follows rc(1), the manual page of Plan 9's shell, and
+//! Tom Duff's paper "Rc - The Plan 9 Shell".
 #![tactic(auto)]
 
 ghost use Rattle.std.specs.Prelude.{◌≡◌, IfOk, IfErr};
@@ -18,7 +19,9 @@ pub use rc_model::{FaultKind, InputError, SyntaxFault};
 use rc_tree::Cmd;
 use std::alloc::Global;
 
-/// The tree of a script, or its first fault.
+/// The tree of a script, or its first fault. The faults come in this order: it is too long, it is not UTF-8, it has a
+/// zero byte; an open quote or a bad descriptor, whichever is read first; an open here document; what the grammar
+/// refuses.
 pub fn parse(alloc: Global, script: &[u8]) -> Result<Cmd, ScriptError>
     ensures accepted { IfOk result (λ c. IsAccepted script.now (cmd_tree c)) }
     // It has no other tree.

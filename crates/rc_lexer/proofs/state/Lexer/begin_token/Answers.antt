@@ -11,9 +11,9 @@ returns-in_ok-push-in-LineEnd-clause-does c =
     let script = c.args.script.now in
     let old = c.args.self.now in
     let current = c.args.current in
-    let nl = model.token model.Newline current.place (model.after_char current.place current.c) in
+    let nl = model.token model.Newline current.place (model.after_char current.place current.character) in
     ap (λ k. after_step (tokens_in script old) (bodies_in script old)
-    (reading.begin c.args.previous (pending_in old) current.place current.c k)) c.in-LineEnd.is
+    (reading.begin c.args.previous (pending_in old) current.place current.character k)) c.in-LineEnd.is
     ∙ newline_step script current.next.byte current.next.byte _ old.pending.items _ _ (tokens_in script old)
     (reading.bare_here c.args.previous) _ _ nl (bodies_in script old) _
     refl c.in_ok-push_bare_here-in-LineEnd.ensures.rest.pending c.begin_line.ensures (c.in_ok-push_bare_here-in-LineEnd.ensures.tokens script)
