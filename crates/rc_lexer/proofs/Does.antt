@@ -67,10 +67,10 @@ word_does script end previous after text start place c k old mid new r h j s d =
     along script end old new r _ _ (in_word_other previous start text (pending_in old) place c k h j)
     (ends_does script end previous after (model.Word text) start place c k old mid new r s d)
 
--- a `^` before a `$`
-pub caret_is : (b : Bool) (prev : Previous) (p : Place) → model.wants_caret prev model.Dollar ≡ b →
-    model.caret prev model.Dollar p ≡ cond b (model.token model.FreeCaret p p ∷ []) []
-caret_is b prev p h = ap (λ v. cond v (model.token model.FreeCaret p p ∷ []) []) h
+-- a `^` before a lexeme
+pub caret_is : (b : Bool) (prev : Previous) (l : model.Lexeme) (p : Place) → model.wants_caret prev l ≡ b →
+    model.caret prev l p ≡ cond b (model.token model.FreeCaret p p ∷ []) []
+caret_is b prev l p h = ap (λ v. cond v (model.token model.FreeCaret p p ∷ []) []) h
 
 -- a name ends, and the character begins something
 pub name_does : (script : List ℕ) (end : ℕ) (text : List ℕ) (start place : Place) (c : ℕ) (k : Class) (old mid new : Lexer) (r : Result State ScriptError) →

@@ -4,15 +4,13 @@ ghost use Rattle.std.specs.Prelude.{◌||◌, ◌==◌, ◌≡◌, ℕ, List, �
 ghost use Rattle.rc_model.specs.Syntax.Tokens as model;
 ghost use Rattle.rc_model.specs.Mirrors.Reading as reading;
 ghost use Rattle.rc_lexer.specs.Views.{tokens_of};
-ghost use Rattle.rc_lexer.specs.Machine.{IsCurrent, Keeps, PushedDollars, Stands, TakesStep};
-ghost use Rattle.rc_lexer.specs.Machine.{dollars_in, pending_in, tokens_in};
+ghost use Rattle.rc_lexer.specs.Machine.{IsCurrent, PushedDollars, Stands, TakesStep};
+ghost use Rattle.rc_lexer.specs.Machine.{dollars_in, pending_in};
 
-use crate::previous::wants_caret;
 use crate::state::{CurrentChar, Lexer, State, TokenStart};
-use crate::tokens::token_between;
 use crate::{ScriptError, Token, TokenKind};
 use rc_characters::is_name_char;
-use rc_model::{Place, Previous};
+use rc_model::Previous;
 use std::alloc::AllocError;
 
 /// Whether the name of `$`s begins with the character, quoted or not.
@@ -38,23 +36,6 @@ fn push_as_bare(tokens: &mut Vec<Token>, dollars: &[Token]) -> Result<(), AllocE
 }
 
 impl Lexer {
-    /// A `^` before a `$` that wants one.
-    pub(crate) fn push_dollar_caret(
-        &mut self,
-        previous: Previous,
-        start: Place,
-    ) -> Result<(), AllocError>
-        ensures tokens { OnOk result ((script : List ℕ) → tokens_in script self.new
-            ≡ tokens_in script self.old ++ model.caret previous model.Dollar start) }
-        ensures rest { OnOk result (Keeps self.old self.new) }
-    {
-        if wants_caret(previous, TokenKind::Dollar) {
-            self.tokens
-                .push(token_between(TokenKind::FreeCaret, start, start))?;
-        }
-        Ok(())
-    }
-
     /// The `$`s have no name.
     pub(crate) fn push_bare_dollars(&mut self) -> Result<(), AllocError>
         ensures { OnOk result (PushedDollars reading.bare self.old self.new) }

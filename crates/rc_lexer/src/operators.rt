@@ -117,12 +117,12 @@ impl Lexer {
         match kind {
             TokenKind::BareHere => self.begin_token(script, Previous::Here(place, stop), current),
             TokenKind::Dollar => {
-                self.push_dollar_caret(previous, place)?;
+                self.push_caret(previous, TokenKind::Dollar, place)?;
                 self.dollars.push(token_between(kind, place, stop))?;
                 self.continue_dollars(script, current)
             }
             TokenKind::DollarCount | TokenKind::DollarFlat => {
-                self.push_dollar_caret(previous, place)?;
+                self.push_caret(previous, TokenKind::Dollar, place)?;
                 self.push_bare_dollars()?;
                 self.dollars.push(token_between(kind, place, stop))?;
                 self.continue_dollars(script, current)

@@ -3,6 +3,7 @@
 ghost use Rattle.std.specs.Prelude.{◌≡◌, ℕ, ◌≤◌, List, [], ◌++◌, length, slice_range, OnOk};
 ghost use Rattle.rc_model.specs.Syntax.Tokens as model;
 ghost use Rattle.rc_model.specs.Mirrors.Reading as reading;
+ghost use Rattle.rc_lexer.specs.Views.{lexeme_of};
 ghost use Rattle.rc_lexer.specs.Machine.{IfPushed, Keeps, PushedHereDoc};
 ghost use Rattle.rc_lexer.specs.Machine.{lexeme_tokens, tokens_in};
 
@@ -42,6 +43,24 @@ impl Lexer {
         Ok(())
     }
 
+    /// A `^` before a token of this kind that wants one.
+    pub(crate) fn push_caret(
+        &mut self,
+        previous: Previous,
+        kind: TokenKind,
+        start: Place,
+    ) -> Result<(), AllocError>
+        ensures tokens { OnOk result ((script text : List ℕ) → tokens_in script self.new
+            ≡ tokens_in script self.old ++ model.caret previous (lexeme_of script kind text) start) }
+        ensures rest { OnOk result (Keeps self.old self.new) }
+    {
+        if wants_caret(previous, kind) {
+            self.tokens
+                .push(token_between(TokenKind::FreeCaret, start, start))?;
+        }
+        Ok(())
+    }
+
     /// A token between two places, with a `^` where it wants one.
     pub(crate) fn push_token(
         &mut self,
@@ -54,10 +73,7 @@ impl Lexer {
             ≡ tokens_in script self.old ++ lexeme_tokens script previous kind start stop) }
         ensures rest { OnOk result (Keeps self.old self.new) }
     {
-        if wants_caret(previous, kind) {
-            self.tokens
-                .push(token_between(TokenKind::FreeCaret, start, start))?;
-        }
+        self.push_caret(previous, kind, start)?;
         self.tokens.push(token_between(kind, start, stop))?;
         Ok(())
     }

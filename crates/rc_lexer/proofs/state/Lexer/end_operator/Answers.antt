@@ -1,4 +1,4 @@
-use Rattle.std.proofs.Common.{refl, ap, ◌∙◌}
+use Rattle.std.proofs.Common.{refl, ap, ◌∙◌, []}
 use Rattle.std.specs.Prelude.{slice_range}
 use Rattle.rc_model.specs.Syntax.Tokens as model
 use Rattle.rc_lexer.specs.Views.{token_of, lexeme_of}
@@ -12,8 +12,8 @@ returns-in-BareHere-clause-does c =
 pub returns-in_ok-push-in-Dollar-clause-does : goal.returns-in_ok-push-in-Dollar-clause-does
 returns-in_ok-push-in-Dollar-clause-does c =
     dollar_does c.args.script.now _ _ c.args.start.place c.args.current.place c.in-Some.kind _ _ _ c.token_between.result c.args.self.now
-    c.push_dollar_caret.new.self (record c.push_dollar_caret.new.self { dollars = c.push.new.self }) c.continue_dollars.new.self _
-    c.in-Some.ensures c.in-Dollar.is c.in_ok-push_dollar_caret-in-Dollar.ensures.tokens c.in_ok-push_dollar_caret-in-Dollar.ensures.rest refl
+    c.push_caret.new.self (record c.push_caret.new.self { dollars = c.push.new.self }) c.continue_dollars.new.self _
+    c.in-Some.ensures c.in-Dollar.is (λ s. c.in_ok-push_caret-in-Dollar.ensures.tokens s []) c.in_ok-push_caret-in-Dollar.ensures.rest refl
     c.in_ok-push-in-Dollar.ensures.items refl refl
     (ap (token_of c.args.script.now) c.token_between.ensures
     ∙ ap (λ k. model.token (lexeme_of c.args.script.now k (slice_range c.args.script.now c.args.start.place.byte c.args.current.place.byte))
@@ -24,9 +24,9 @@ pub returns-in_ok-push-in-DollarCount-clause-does : goal.returns-in_ok-push-in-D
 returns-in_ok-push-in-DollarCount-clause-does c =
     sigil_does c.args.script.now _ _ c.args.start.place c.args.current.place c.in-Some.kind _ _ _ c.token_between-in-DollarCount.result
     (slice_range c.args.script.now c.args.start.place.byte c.args.current.place.byte) c.args.self.now
-    c.push_dollar_caret-in-DollarCount.new.self c.push_bare_dollars.new.self
+    c.push_caret-in-DollarCount.new.self c.push_bare_dollars.new.self
     (record c.push_bare_dollars.new.self { dollars = c.push-in-DollarCount.new.self }) c.continue_dollars-in-DollarCount.new.self _
-    c.in-Some.ensures c.in-DollarCount.is c.in_ok-push_dollar_caret-in-DollarCount.ensures.tokens c.in_ok-push_dollar_caret-in-DollarCount.ensures.rest
+    c.in-Some.ensures c.in-DollarCount.is (λ s. c.in_ok-push_caret-in-DollarCount.ensures.tokens s []) c.in_ok-push_caret-in-DollarCount.ensures.rest
     c.in_ok-push_bare_dollars-in-DollarCount.ensures
     refl c.in_ok-push-in-DollarCount.ensures.items refl refl (ap (token_of c.args.script.now) c.token_between-in-DollarCount.ensures)
     c.continue_dollars-in-DollarCount.ensures.does
