@@ -1,5 +1,6 @@
 -- How the levels of a node are those of its parts.
-use Rattle.std.proofs.Common.{◌≡◌, refl, ap, ◌∙◌, ℕ, suc, ◌-◌, max, Bool, true, false, ◌&&◌, nat_lt, nat_le, List, arith}
+use Rattle.std.proofs.Common.{◌≡◌, refl, ap, ◌∙◌, ℕ, ◌-◌, max, Bool, true, false, ◌&&◌, nat_lt, nat_le, List, arith}
+use Rattle.std.proofs.Math.Dec.{leb-zero}
 use Rattle.std.proofs.lemmas.Bool.Decides.{nat_tests}
 use Rattle.std.proofs.lemmas.Grind.{common_steps}
 use Rattle.rc_model.specs.declared.call.Mode.{Mode}
@@ -8,20 +9,11 @@ use Rattle.rc_model.specs.Syntax.Tree.{Sort, Node, Many, none, more}
 use Rattle.rc_model.specs.Syntax.Tree as t
 use Rattle.rc_model.specs.Syntax.WellFormed.{depth, depths}
 use Rattle.rc_tree_types.specs.View.{tree_nodes}
+use Rattle.rc_tree_types.proofs.Numbers.{le_suc, le_max}
 use Rattle.rc_depth.specs.Levels.{within, within_all}
-
--- one level is taken, and what is left is for the parts
-le_suc : (a d : ℕ) → nat_le (suc a) d ≡ (nat_lt 0 d && nat_le a (d - 1))
-le_suc a d = grind (arith, nat_tests)
-
-le_max : (a b d : ℕ) → nat_le (max a b) d ≡ (nat_le a d && nat_le b d)
-le_max a b d = grind (arith, nat_tests)
 
 le_one : (d : ℕ) → nat_le 1 d ≡ nat_lt 0 d
 le_one d = grind (arith, nat_tests)
-
-le_zero : (d : ℕ) → nat_le 0 d ≡ true
-le_zero d = grind (arith, nat_tests)
 
 -- the levels of each node
 pub within_Empty : (d : ℕ) → within t.Empty d ≡ nat_lt 0 d
@@ -171,15 +163,15 @@ within_Open mode slot x d = refl
 
 pub within_Copy : (to : ℕ) (from : ℕ) (d : ℕ) → within (t.Copy to from) d ≡ true
 unfolding within within_all
-within_Copy to from d = le_zero d
+within_Copy to from d = leb-zero d
 
 pub within_Here : (xs : Many t.piece) (d : ℕ) → within (t.Here xs) d ≡ true
 unfolding within within_all
-within_Here xs d = le_zero d
+within_Here xs d = leb-zero d
 
 pub within_none : (s : Sort) (d : ℕ) → within_all (none {s = s}) d ≡ true
 unfolding within_all
-within_none s d = le_zero d
+within_none s d = leb-zero d
 
 pub within_more : {s : Sort} (n : Node s) (ns : Many s) (d : ℕ) → within_all (more n ns) d ≡ (within n d && within_all ns d)
 unfolding within within_all

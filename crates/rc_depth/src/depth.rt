@@ -30,24 +30,27 @@ fn within_cmd(cmd: &Cmd, left: usize) -> bool
     let left = left - 1;
     match cmd {
         Cmd::Empty => true,
-        Cmd::Seq(xs) => within_items(xs, left),
-        Cmd::Simple(xs) => within_args(xs, left),
-        Cmd::Assign(xs, c) => within_pairs(xs, left) && within_cmd(c, left),
-        Cmd::Redirect(xs, c) => within_redirs(xs, left) && within_cmd(c, left),
-        Cmd::Pipeline(xs, c) => within_stages(xs, left) && within_cmd(c, left),
-        Cmd::AndOr(c, xs) => within_cmd(c, left) && within_links(xs, left),
-        Cmd::Not(c) => within_cmd(c, left),
-        Cmd::Subshell(c) => within_cmd(c, left),
-        Cmd::If(a, b) => within_cmd(a, left) && within_cmd(b, left),
-        Cmd::IfNot(c) => within_cmd(c, left),
-        Cmd::While(a, b) => within_cmd(a, left) && within_cmd(b, left),
-        Cmd::ForAll(n, c) => within_arg(n, left) && within_cmd(c, left),
-        Cmd::For(n, xs, c) => within_arg(n, left) && within_args(xs, left) && within_cmd(c, left),
-        Cmd::Switch(n, xs) => within_arg(n, left) && within_branches(xs, left),
-        Cmd::Match(n, xs) => within_arg(n, left) && within_args(xs, left),
-        Cmd::Define(xs, c) => within_args(xs, left) && within_cmd(c, left),
-        Cmd::Undefine(xs) => within_args(xs, left),
-        Cmd::Brace(c) => within_cmd(c, left),
+        Cmd::Seq(items) => within_items(items, left),
+        Cmd::Simple(words) => within_args(words, left),
+        Cmd::Assign(pairs, body) => within_pairs(pairs, left) && within_cmd(body, left),
+        Cmd::Redirect(redirs, body) => within_redirs(redirs, left) && within_cmd(body, left),
+        Cmd::Pipeline(stages, last) => within_stages(stages, left) && within_cmd(last, left),
+        Cmd::AndOr(first, links) => within_cmd(first, left) && within_links(links, left),
+        Cmd::Not(body) => within_cmd(body, left),
+        Cmd::Subshell(body) => within_cmd(body, left),
+        Cmd::If(condition, body) => within_cmd(condition, left) && within_cmd(body, left),
+        Cmd::IfNot(body) => within_cmd(body, left),
+        Cmd::While(condition, body) => within_cmd(condition, left) && within_cmd(body, left),
+        Cmd::ForAll(name, body) => within_arg(name, left) && within_cmd(body, left),
+        Cmd::For(name, words, body) => within_arg(name, left)
+            && within_args(words, left)
+            && within_cmd(body, left),
+        Cmd::Switch(subject, branches) => within_arg(subject, left)
+            && within_branches(branches, left),
+        Cmd::Match(subject, patterns) => within_arg(subject, left) && within_args(patterns, left),
+        Cmd::Define(names, body) => within_args(names, left) && within_cmd(body, left),
+        Cmd::Undefine(names) => within_args(names, left),
+        Cmd::Brace(body) => within_cmd(body, left),
     }
 }
 
@@ -62,13 +65,13 @@ fn within_arg(arg: &Arg, left: usize) -> bool
     let left = left - 1;
     match arg {
         Arg::Lit { .. } => true,
-        Arg::Concat(xs) => within_args(xs, left),
-        Arg::Paren(xs) => within_args(xs, left),
-        Arg::Var(x) => within_arg(x, left),
-        Arg::Count(x) => within_arg(x, left),
-        Arg::Flat(x) => within_arg(x, left),
-        Arg::Sub(x, xs) => within_arg(x, left) && within_args(xs, left),
-        Arg::Back(c) => within_cmd(c, left),
+        Arg::Concat(parts) => within_args(parts, left),
+        Arg::Paren(words) => within_args(words, left),
+        Arg::Var(name) => within_arg(name, left),
+        Arg::Count(name) => within_arg(name, left),
+        Arg::Flat(name) => within_arg(name, left),
+        Arg::Sub(name, subscripts) => within_arg(name, left) && within_args(subscripts, left),
+        Arg::Back(body) => within_cmd(body, left),
     }
 }
 
@@ -85,11 +88,11 @@ fn within_redir(redir: &Redir, left: usize) -> bool
 
 #[cycle(within)]
 #[tactic(auto, using(crate::proofs::Levels::levels))]
-fn within_args(xs: &[Arg], left: usize) -> bool
-    ensures { result ≡ within_all (args_tree xs.now) left }
+fn within_args(args: &[Arg], left: usize) -> bool
+    ensures { result ≡ within_all (args_tree args.now) left }
 {
-    for x in xs {
-        if !within_arg(x, left) {
+    for arg in args {
+        if !within_arg(arg, left) {
             return false;
         }
     }
@@ -98,11 +101,11 @@ fn within_args(xs: &[Arg], left: usize) -> bool
 
 #[cycle(within)]
 #[tactic(auto, using(crate::proofs::Levels::levels))]
-fn within_items(xs: &[Item], left: usize) -> bool
-    ensures { result ≡ within_all (items_tree xs.now) left }
+fn within_items(items: &[Item], left: usize) -> bool
+    ensures { result ≡ within_all (items_tree items.now) left }
 {
-    for x in xs {
-        if !within_cmd(&x.cmd, left) {
+    for item in items {
+        if !within_cmd(&item.cmd, left) {
             return false;
         }
     }
@@ -111,11 +114,11 @@ fn within_items(xs: &[Item], left: usize) -> bool
 
 #[cycle(within)]
 #[tactic(auto, using(crate::proofs::Levels::levels))]
-fn within_pairs(xs: &[(Arg, Arg)], left: usize) -> bool
-    ensures { result ≡ within_all (pairs_tree xs.now) left }
+fn within_pairs(pairs: &[(Arg, Arg)], left: usize) -> bool
+    ensures { result ≡ within_all (pairs_tree pairs.now) left }
 {
-    for x in xs {
-        if !(within_arg(&x.0, left) && within_arg(&x.1, left)) {
+    for pair in pairs {
+        if !(within_arg(&pair.0, left) && within_arg(&pair.1, left)) {
             return false;
         }
     }
@@ -124,11 +127,11 @@ fn within_pairs(xs: &[(Arg, Arg)], left: usize) -> bool
 
 #[cycle(within)]
 #[tactic(auto, using(crate::proofs::Levels::levels))]
-fn within_redirs(xs: &[Redir], left: usize) -> bool
-    ensures { result ≡ within_all (redirs_tree xs.now) left }
+fn within_redirs(redirs: &[Redir], left: usize) -> bool
+    ensures { result ≡ within_all (redirs_tree redirs.now) left }
 {
-    for x in xs {
-        if !within_redir(x, left) {
+    for redir in redirs {
+        if !within_redir(redir, left) {
             return false;
         }
     }
@@ -137,11 +140,11 @@ fn within_redirs(xs: &[Redir], left: usize) -> bool
 
 #[cycle(within)]
 #[tactic(auto, using(crate::proofs::Levels::levels))]
-fn within_stages(xs: &[Stage], left: usize) -> bool
-    ensures { result ≡ within_all (stages_tree xs.now) left }
+fn within_stages(stages: &[Stage], left: usize) -> bool
+    ensures { result ≡ within_all (stages_tree stages.now) left }
 {
-    for x in xs {
-        if !within_cmd(&x.cmd, left) {
+    for stage in stages {
+        if !within_cmd(&stage.cmd, left) {
             return false;
         }
     }
@@ -150,11 +153,11 @@ fn within_stages(xs: &[Stage], left: usize) -> bool
 
 #[cycle(within)]
 #[tactic(auto, using(crate::proofs::Levels::levels))]
-fn within_links(xs: &[(Logic, Cmd)], left: usize) -> bool
-    ensures { result ≡ within_all (links_tree xs.now) left }
+fn within_links(links: &[(Logic, Cmd)], left: usize) -> bool
+    ensures { result ≡ within_all (links_tree links.now) left }
 {
-    for x in xs {
-        if !within_cmd(&x.1, left) {
+    for link in links {
+        if !within_cmd(&link.1, left) {
             return false;
         }
     }
@@ -163,11 +166,11 @@ fn within_links(xs: &[(Logic, Cmd)], left: usize) -> bool
 
 #[cycle(within)]
 #[tactic(auto, using(crate::proofs::Levels::levels))]
-fn within_branches(xs: &[Branch], left: usize) -> bool
-    ensures { result ≡ within_all (branches_tree xs.now) left }
+fn within_branches(branches: &[Branch], left: usize) -> bool
+    ensures { result ≡ within_all (branches_tree branches.now) left }
 {
-    for x in xs {
-        if !(within_args(&x.patterns, left) && within_cmd(&x.body, left)) {
+    for branch in branches {
+        if !(within_args(&branch.patterns, left) && within_cmd(&branch.body, left)) {
             return false;
         }
     }

@@ -3,23 +3,23 @@ use Rattle.rc_tree_types.specs.View.{args_tree, items_tree, pairs_tree, redirs_t
 use Rattle.rc_depth.specs.Levels.{within_all}
 use Rattle.rc_depth.proofs.depth.+within.Given as goal
 
-abbrev pub invariant-within_args-loop-x : goal.invariant-within_args-loop-x
-invariant-within_args-loop-x l = within_all (args_tree (drop l.x-index l.xs)) l.left ≡ within_all (args_tree l.xs) l.left
+abbrev pub invariant-within_args-loop-arg : goal.invariant-within_args-loop-arg
+invariant-within_args-loop-arg l = within_all (args_tree (drop l.arg-index l.args)) l.left ≡ within_all (args_tree l.args) l.left
 
-abbrev pub invariant-within_items-loop-x : goal.invariant-within_items-loop-x
-invariant-within_items-loop-x l = within_all (items_tree (drop l.x-index l.xs)) l.left ≡ within_all (items_tree l.xs) l.left
+abbrev pub invariant-within_items-loop-item : goal.invariant-within_items-loop-item
+invariant-within_items-loop-item l = within_all (items_tree (drop l.item-index l.items)) l.left ≡ within_all (items_tree l.items) l.left
 
-abbrev pub invariant-within_pairs-loop-x : goal.invariant-within_pairs-loop-x
-invariant-within_pairs-loop-x l = within_all (pairs_tree (drop l.x-index l.xs)) l.left ≡ within_all (pairs_tree l.xs) l.left
+abbrev pub invariant-within_pairs-loop-pair : goal.invariant-within_pairs-loop-pair
+invariant-within_pairs-loop-pair l = within_all (pairs_tree (drop l.pair-index l.pairs)) l.left ≡ within_all (pairs_tree l.pairs) l.left
 
-abbrev pub invariant-within_redirs-loop-x : goal.invariant-within_redirs-loop-x
-invariant-within_redirs-loop-x l = within_all (redirs_tree (drop l.x-index l.xs)) l.left ≡ within_all (redirs_tree l.xs) l.left
+abbrev pub invariant-within_redirs-loop-redir : goal.invariant-within_redirs-loop-redir
+invariant-within_redirs-loop-redir l = within_all (redirs_tree (drop l.redir-index l.redirs)) l.left ≡ within_all (redirs_tree l.redirs) l.left
 
-abbrev pub invariant-within_stages-loop-x : goal.invariant-within_stages-loop-x
-invariant-within_stages-loop-x l = within_all (stages_tree (drop l.x-index l.xs)) l.left ≡ within_all (stages_tree l.xs) l.left
+abbrev pub invariant-within_stages-loop-stage : goal.invariant-within_stages-loop-stage
+invariant-within_stages-loop-stage l = within_all (stages_tree (drop l.stage-index l.stages)) l.left ≡ within_all (stages_tree l.stages) l.left
 
-abbrev pub invariant-within_links-loop-x : goal.invariant-within_links-loop-x
-invariant-within_links-loop-x l = within_all (links_tree (drop l.x-index l.xs)) l.left ≡ within_all (links_tree l.xs) l.left
+abbrev pub invariant-within_links-loop-link : goal.invariant-within_links-loop-link
+invariant-within_links-loop-link l = within_all (links_tree (drop l.link-index l.links)) l.left ≡ within_all (links_tree l.links) l.left
 
-abbrev pub invariant-within_branches-loop-x : goal.invariant-within_branches-loop-x
-invariant-within_branches-loop-x l = within_all (branches_tree (drop l.x-index l.xs)) l.left ≡ within_all (branches_tree l.xs) l.left
+abbrev pub invariant-within_branches-loop-branch : goal.invariant-within_branches-loop-branch
+invariant-within_branches-loop-branch l = within_all (branches_tree (drop l.branch-index l.branches)) l.left ≡ within_all (branches_tree l.branches) l.left
