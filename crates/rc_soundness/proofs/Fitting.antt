@@ -1,24 +1,19 @@
 -- What a walk asks of each node, so that the tree is well formed within a number of levels.
 use Rattle.std.specs.List.{list_any}
 use Rattle.std.proofs.Common.{◌≡◌, refl, ap, ◌∙◌, ℕ, suc, ◌-◌, max, Bool, true, false, ◌&&◌, ◌||◌, not, nat_lt, nat_le, ◌==◌, List, [], ◌∷◌, length, arith}
+use Rattle.std.proofs.Math.Dec.{leb-zero}
 use Rattle.std.proofs.lemmas.Bool.Decides.{nat_tests}
 use Rattle.std.proofs.lemmas.Grind.{common_steps}
 use Rattle.rc_model.specs.declared.call.Mode.{Mode}
 use Rattle.rc_model.specs.declared.syntax.Logic.{Logic}
 use Rattle.rc_model.specs.Syntax.Text.{without_zero}
-use Rattle.rc_model.specs.Syntax.Tree.{Sort, Node, Many, none, more, count, nodes}
+use Rattle.rc_model.specs.Syntax.Tree.{Sort, Node, Many, none, more}
 use Rattle.rc_model.specs.Syntax.Tree as t
 use Rattle.rc_model.specs.Syntax.WellFormed.{depth, depths, is_sound, are_sound, has_some, has_several, has_stages}
 use Rattle.rc_model.specs.Syntax.WellFormed.{is_output, opens, copies, has_text}
 use Rattle.rc_tree_types.specs.View.{tree_nodes}
+use Rattle.rc_tree_types.proofs.Numbers.{count_nodes, le_suc, le_max}
 use Rattle.rc_soundness.specs.Fits.{fits, all_fit}
-
--- one level is taken, and what is left is for the children
-le_suc : (a d : ℕ) → nat_le (suc a) d ≡ (nat_lt 0 d && nat_le a (d - 1))
-le_suc a d = grind (arith, nat_tests)
-
-le_max : (a b d : ℕ) → nat_le (max a b) d ≡ (nat_le a d && nat_le b d)
-le_max a b d = grind (arith, nat_tests)
 
 -- a level below, with a condition of the node itself; without one
 deeper : (h s : Bool) (a d : ℕ) → ((h && s) && nat_le (suc a) d) ≡ (nat_lt 0 d && (h && (s && nat_le a (d - 1))))
@@ -48,11 +43,8 @@ and_true : (b : Bool) → (b && true) ≡ b
 and_true false = refl
 and_true true = refl
 
-le_zero : (d : ℕ) → nat_le 0 d ≡ true
-le_zero d = grind (arith, nat_tests)
-
 and_zero : (b : Bool) (d : ℕ) → (b && nat_le 0 d) ≡ b
-and_zero b d = ap (λ v. b && v) (le_zero d) ∙ and_true b
+and_zero b d = ap (λ v. b && v) (leb-zero d) ∙ and_true b
 
 and_assoc : (p q r : Bool) → ((p && q) && r) ≡ (p && (q && r))
 and_assoc false q r = refl
@@ -218,7 +210,7 @@ fits_Here xs d = and_zero (are_sound xs) d
 
 pub fits_none : (s : Sort) (d : ℕ) → all_fit (none {s = s}) d ≡ true
 unfolding fits all_fit
-fits_none s d = le_zero d
+fits_none s d = leb-zero d
 
 pub fits_more : {s : Sort} (n : Node s) (ns : Many s) (d : ℕ) → all_fit (more n ns) d ≡ (fits n d && all_fit ns d)
 unfolding fits all_fit
@@ -259,10 +251,6 @@ no_levels_arg (t.Sub x y) = fits_Sub x y 0
 no_levels_arg (t.Back x) = fits_Back x 0
 
 -- the tests that the program makes of lists and texts
-pub counted : {X : Type 0} {s : Sort} (f : X → Node s) (xs : List X) → count (nodes f xs) ≡ length xs
-counted f [] = refl
-counted f (x ∷ xs) = ap suc (counted f xs)
-
 pub has_text_counted : (text : List ℕ) → has_text text ≡ not (length text == 0)
 has_text_counted [] = refl
 has_text_counted (b ∷ bs) = grind (arith, nat_tests)
@@ -315,7 +303,7 @@ pub ruleset fitting = (
   fits_more,
   no_levels_cmd,
   no_levels_arg,
-  counted,
+  count_nodes,
   has_text_counted,
   zero_sought,
   tree_nodes,

@@ -32,26 +32,39 @@ fn fit_cmd(cmd: &Cmd, left: usize) -> bool
     let left = left - 1;
     match cmd {
         Cmd::Empty => true,
-        Cmd::Seq(xs) => fit_items(xs, left),
-        Cmd::Simple(xs) => !xs.is_empty() && fit_args(xs, left),
-        Cmd::Assign(xs, c) => !xs.is_empty() && fit_pairs(xs, left) && fit_cmd(c, left),
-        Cmd::Redirect(xs, c) => !xs.is_empty() && fit_redirs(xs, left) && fit_cmd(c, left),
-        Cmd::Pipeline(xs, c) => {
-            !xs.is_empty() && xs.len() < MOST_STAGES && fit_stages(xs, left) && fit_cmd(c, left)
+        Cmd::Seq(items) => fit_items(items, left),
+        Cmd::Simple(words) => !words.is_empty() && fit_args(words, left),
+        Cmd::Assign(pairs, body) => !pairs.is_empty()
+            && fit_pairs(pairs, left)
+            && fit_cmd(body, left),
+        Cmd::Redirect(redirs, body) => !redirs.is_empty()
+            && fit_redirs(redirs, left)
+            && fit_cmd(body, left),
+        Cmd::Pipeline(stages, last) => {
+            !stages.is_empty()
+                && stages.len() < MOST_STAGES
+                && fit_stages(stages, left)
+                && fit_cmd(last, left)
         }
-        Cmd::AndOr(c, xs) => !xs.is_empty() && fit_cmd(c, left) && fit_links(xs, left),
-        Cmd::Not(c) => fit_cmd(c, left),
-        Cmd::Subshell(c) => fit_cmd(c, left),
-        Cmd::If(a, b) => fit_cmd(a, left) && fit_cmd(b, left),
-        Cmd::IfNot(c) => fit_cmd(c, left),
-        Cmd::While(a, b) => fit_cmd(a, left) && fit_cmd(b, left),
-        Cmd::ForAll(n, c) => fit_arg(n, left) && fit_cmd(c, left),
-        Cmd::For(n, xs, c) => fit_arg(n, left) && fit_args(xs, left) && fit_cmd(c, left),
-        Cmd::Switch(n, xs) => fit_arg(n, left) && fit_branches(xs, left),
-        Cmd::Match(n, xs) => fit_arg(n, left) && fit_args(xs, left),
-        Cmd::Define(xs, c) => !xs.is_empty() && fit_args(xs, left) && fit_cmd(c, left),
-        Cmd::Undefine(xs) => !xs.is_empty() && fit_args(xs, left),
-        Cmd::Brace(c) => fit_cmd(c, left),
+        Cmd::AndOr(first, links) => !links.is_empty()
+            && fit_cmd(first, left)
+            && fit_links(links, left),
+        Cmd::Not(body) => fit_cmd(body, left),
+        Cmd::Subshell(body) => fit_cmd(body, left),
+        Cmd::If(condition, body) => fit_cmd(condition, left) && fit_cmd(body, left),
+        Cmd::IfNot(body) => fit_cmd(body, left),
+        Cmd::While(condition, body) => fit_cmd(condition, left) && fit_cmd(body, left),
+        Cmd::ForAll(name, body) => fit_arg(name, left) && fit_cmd(body, left),
+        Cmd::For(name, words, body) => fit_arg(name, left)
+            && fit_args(words, left)
+            && fit_cmd(body, left),
+        Cmd::Switch(subject, branches) => fit_arg(subject, left) && fit_branches(branches, left),
+        Cmd::Match(subject, patterns) => fit_arg(subject, left) && fit_args(patterns, left),
+        Cmd::Define(names, body) => !names.is_empty()
+            && fit_args(names, left)
+            && fit_cmd(body, left),
+        Cmd::Undefine(names) => !names.is_empty() && fit_args(names, left),
+        Cmd::Brace(body) => fit_cmd(body, left),
     }
 }
 
@@ -66,13 +79,13 @@ fn fit_arg(arg: &Arg, left: usize) -> bool
     let left = left - 1;
     match arg {
         Arg::Lit { text, quoted } => (*quoted || !text.is_empty()) && without_zero(text),
-        Arg::Concat(xs) => xs.len() > 1 && fit_args(xs, left),
-        Arg::Paren(xs) => fit_args(xs, left),
-        Arg::Var(x) => fit_arg(x, left),
-        Arg::Count(x) => fit_arg(x, left),
-        Arg::Flat(x) => fit_arg(x, left),
-        Arg::Sub(x, xs) => fit_arg(x, left) && fit_args(xs, left),
-        Arg::Back(c) => fit_cmd(c, left),
+        Arg::Concat(parts) => parts.len() > 1 && fit_args(parts, left),
+        Arg::Paren(words) => fit_args(words, left),
+        Arg::Var(name) => fit_arg(name, left),
+        Arg::Count(name) => fit_arg(name, left),
+        Arg::Flat(name) => fit_arg(name, left),
+        Arg::Sub(name, subscripts) => fit_arg(name, left) && fit_args(subscripts, left),
+        Arg::Back(body) => fit_cmd(body, left),
     }
 }
 
@@ -84,17 +97,17 @@ fn fit_redir(redir: &Redir, left: usize) -> bool
     match redir {
         Redir::Open { mode, slot, file } => opens(*mode, *slot) && fit_arg(file, left),
         Redir::Copy { to, from } => copies(*to, *from),
-        Redir::Here(xs) => fit_pieces(xs),
+        Redir::Here(pieces) => fit_pieces(pieces),
     }
 }
 
 #[cycle(fit)]
 #[tactic(auto, using(crate::proofs::Fitting::fitting))]
-fn fit_args(xs: &[Arg], left: usize) -> bool
-    ensures { result ≡ all_fit (args_tree xs.now) left }
+fn fit_args(args: &[Arg], left: usize) -> bool
+    ensures { result ≡ all_fit (args_tree args.now) left }
 {
-    for x in xs {
-        if !fit_arg(x, left) {
+    for arg in args {
+        if !fit_arg(arg, left) {
             return false;
         }
     }
@@ -103,11 +116,11 @@ fn fit_args(xs: &[Arg], left: usize) -> bool
 
 #[cycle(fit)]
 #[tactic(auto, using(crate::proofs::Fitting::fitting))]
-fn fit_items(xs: &[Item], left: usize) -> bool
-    ensures { result ≡ all_fit (items_tree xs.now) left }
+fn fit_items(items: &[Item], left: usize) -> bool
+    ensures { result ≡ all_fit (items_tree items.now) left }
 {
-    for x in xs {
-        if !fit_cmd(&x.cmd, left) {
+    for item in items {
+        if !fit_cmd(&item.cmd, left) {
             return false;
         }
     }
@@ -116,11 +129,11 @@ fn fit_items(xs: &[Item], left: usize) -> bool
 
 #[cycle(fit)]
 #[tactic(auto, using(crate::proofs::Fitting::fitting))]
-fn fit_pairs(xs: &[(Arg, Arg)], left: usize) -> bool
-    ensures { result ≡ all_fit (pairs_tree xs.now) left }
+fn fit_pairs(pairs: &[(Arg, Arg)], left: usize) -> bool
+    ensures { result ≡ all_fit (pairs_tree pairs.now) left }
 {
-    for x in xs {
-        if !(fit_arg(&x.0, left) && fit_arg(&x.1, left)) {
+    for pair in pairs {
+        if !(fit_arg(&pair.0, left) && fit_arg(&pair.1, left)) {
             return false;
         }
     }
@@ -129,11 +142,11 @@ fn fit_pairs(xs: &[(Arg, Arg)], left: usize) -> bool
 
 #[cycle(fit)]
 #[tactic(auto, using(crate::proofs::Fitting::fitting))]
-fn fit_redirs(xs: &[Redir], left: usize) -> bool
-    ensures { result ≡ all_fit (redirs_tree xs.now) left }
+fn fit_redirs(redirs: &[Redir], left: usize) -> bool
+    ensures { result ≡ all_fit (redirs_tree redirs.now) left }
 {
-    for x in xs {
-        if !fit_redir(x, left) {
+    for redir in redirs {
+        if !fit_redir(redir, left) {
             return false;
         }
     }
@@ -142,11 +155,11 @@ fn fit_redirs(xs: &[Redir], left: usize) -> bool
 
 #[cycle(fit)]
 #[tactic(auto, using(crate::proofs::Fitting::fitting))]
-fn fit_stages(xs: &[Stage], left: usize) -> bool
-    ensures { result ≡ all_fit (stages_tree xs.now) left }
+fn fit_stages(stages: &[Stage], left: usize) -> bool
+    ensures { result ≡ all_fit (stages_tree stages.now) left }
 {
-    for x in xs {
-        if !(is_output(x.slot) && fit_cmd(&x.cmd, left)) {
+    for stage in stages {
+        if !(is_output(stage.slot) && fit_cmd(&stage.cmd, left)) {
             return false;
         }
     }
@@ -155,11 +168,11 @@ fn fit_stages(xs: &[Stage], left: usize) -> bool
 
 #[cycle(fit)]
 #[tactic(auto, using(crate::proofs::Fitting::fitting))]
-fn fit_links(xs: &[(Logic, Cmd)], left: usize) -> bool
-    ensures { result ≡ all_fit (links_tree xs.now) left }
+fn fit_links(links: &[(Logic, Cmd)], left: usize) -> bool
+    ensures { result ≡ all_fit (links_tree links.now) left }
 {
-    for x in xs {
-        if !fit_cmd(&x.1, left) {
+    for link in links {
+        if !fit_cmd(&link.1, left) {
             return false;
         }
     }
@@ -168,11 +181,11 @@ fn fit_links(xs: &[(Logic, Cmd)], left: usize) -> bool
 
 #[cycle(fit)]
 #[tactic(auto, using(crate::proofs::Fitting::fitting))]
-fn fit_branches(xs: &[Branch], left: usize) -> bool
-    ensures { result ≡ all_fit (branches_tree xs.now) left }
+fn fit_branches(branches: &[Branch], left: usize) -> bool
+    ensures { result ≡ all_fit (branches_tree branches.now) left }
 {
-    for x in xs {
-        if !(fit_args(&x.patterns, left) && fit_cmd(&x.body, left)) {
+    for branch in branches {
+        if !(fit_args(&branch.patterns, left) && fit_cmd(&branch.body, left)) {
             return false;
         }
     }
@@ -180,11 +193,11 @@ fn fit_branches(xs: &[Branch], left: usize) -> bool
 }
 
 #[tactic(auto, using(crate::proofs::Fitting::fitting))]
-fn fit_pieces(xs: &[Piece]) -> bool
-    ensures { result ≡ are_sound (pieces_tree xs.now) }
+fn fit_pieces(pieces: &[Piece]) -> bool
+    ensures { result ≡ are_sound (pieces_tree pieces.now) }
 {
-    for x in xs {
-        let (Piece::Text(text) | Piece::Name(text)) = x;
+    for piece in pieces {
+        let (Piece::Text(text) | Piece::Name(text)) = piece;
         if !without_zero(text) {
             return false;
         }
