@@ -15,7 +15,7 @@ use std::alloc::{AllocError, Global};
 #[cycle(clone)]
 #[tactic(auto, using(rc_tree_types::specs::View::tree_nodes))]
 pub fn clone_tree(alloc: Global, cmd: &Cmd) -> Result<Cmd, AllocError>
-    ensures { IfOk result (λ x. cmd_tree x ≡ cmd_tree cmd.now) }
+    ensures { IfOk result (λ copy. cmd_tree copy ≡ cmd_tree cmd.now) }
 {
     match cmd {
         Cmd::Empty => Ok(Cmd::Empty),
@@ -42,7 +42,7 @@ pub fn clone_tree(alloc: Global, cmd: &Cmd) -> Result<Cmd, AllocError>
 
 #[cycle(clone)]
 fn clone_box(alloc: Global, cmd: &Box<Cmd>) -> Result<Box<Cmd>, AllocError>
-    ensures { IfOk result (λ x. cmd_tree x.value ≡ cmd_tree cmd.now.value) }
+    ensures { IfOk result (λ copy. cmd_tree copy.value ≡ cmd_tree cmd.now.value) }
 {
     Ok(Box::new(alloc, clone_tree(alloc, cmd)?)?)
 }
@@ -50,7 +50,7 @@ fn clone_box(alloc: Global, cmd: &Box<Cmd>) -> Result<Box<Cmd>, AllocError>
 #[cycle(clone)]
 #[tactic(auto, using(rc_tree_types::specs::View::tree_Assign))]
 fn clone_assign(alloc: Global, pairs: &[(Arg, Arg)], body: &Box<Cmd>) -> Result<Cmd, AllocError>
-    ensures { IfOk result (λ x. cmd_tree x ≡ t.Assign (pairs_tree pairs.now) (cmd_tree body.now.value)) }
+    ensures { IfOk result (λ copy. cmd_tree copy ≡ t.Assign (pairs_tree pairs.now) (cmd_tree body.now.value)) }
 {
     Ok(Cmd::Assign(clone_pairs(alloc, pairs)?, clone_box(alloc, body)?))
 }
@@ -58,7 +58,7 @@ fn clone_assign(alloc: Global, pairs: &[(Arg, Arg)], body: &Box<Cmd>) -> Result<
 #[cycle(clone)]
 #[tactic(auto, using(rc_tree_types::specs::View::tree_Redirect))]
 fn clone_redirect(alloc: Global, redirs: &[Redir], body: &Box<Cmd>) -> Result<Cmd, AllocError>
-    ensures { IfOk result (λ x. cmd_tree x ≡ t.Redirect (redirs_tree redirs.now) (cmd_tree body.now.value)) }
+    ensures { IfOk result (λ copy. cmd_tree copy ≡ t.Redirect (redirs_tree redirs.now) (cmd_tree body.now.value)) }
 {
     Ok(Cmd::Redirect(clone_redirs(alloc, redirs)?, clone_box(alloc, body)?))
 }
@@ -66,7 +66,7 @@ fn clone_redirect(alloc: Global, redirs: &[Redir], body: &Box<Cmd>) -> Result<Cm
 #[cycle(clone)]
 #[tactic(auto, using(rc_tree_types::specs::View::tree_Pipeline))]
 fn clone_pipeline(alloc: Global, stages: &[Stage], last: &Box<Cmd>) -> Result<Cmd, AllocError>
-    ensures { IfOk result (λ x. cmd_tree x ≡ t.Pipeline (stages_tree stages.now) (cmd_tree last.now.value)) }
+    ensures { IfOk result (λ copy. cmd_tree copy ≡ t.Pipeline (stages_tree stages.now) (cmd_tree last.now.value)) }
 {
     Ok(Cmd::Pipeline(clone_stages(alloc, stages)?, clone_box(alloc, last)?))
 }
@@ -74,7 +74,7 @@ fn clone_pipeline(alloc: Global, stages: &[Stage], last: &Box<Cmd>) -> Result<Cm
 #[cycle(clone)]
 #[tactic(auto, using(rc_tree_types::specs::View::tree_AndOr))]
 fn clone_and_or(alloc: Global, links: &[(Logic, Cmd)], first: &Box<Cmd>) -> Result<Cmd, AllocError>
-    ensures { IfOk result (λ x. cmd_tree x ≡ t.AndOr (cmd_tree first.now.value) (links_tree links.now)) }
+    ensures { IfOk result (λ copy. cmd_tree copy ≡ t.AndOr (cmd_tree first.now.value) (links_tree links.now)) }
 {
     Ok(Cmd::AndOr(clone_box(alloc, first)?, clone_links(alloc, links)?))
 }
@@ -82,7 +82,7 @@ fn clone_and_or(alloc: Global, links: &[(Logic, Cmd)], first: &Box<Cmd>) -> Resu
 #[cycle(clone)]
 #[tactic(auto, using(rc_tree_types::specs::View::tree_If))]
 fn clone_if(alloc: Global, condition: &Box<Cmd>, body: &Box<Cmd>) -> Result<Cmd, AllocError>
-    ensures { IfOk result (λ x. cmd_tree x ≡ t.If (cmd_tree condition.now.value) (cmd_tree body.now.value)) }
+    ensures { IfOk result (λ copy. cmd_tree copy ≡ t.If (cmd_tree condition.now.value) (cmd_tree body.now.value)) }
 {
     Ok(Cmd::If(clone_box(alloc, condition)?, clone_box(alloc, body)?))
 }
@@ -90,7 +90,7 @@ fn clone_if(alloc: Global, condition: &Box<Cmd>, body: &Box<Cmd>) -> Result<Cmd,
 #[cycle(clone)]
 #[tactic(auto, using(rc_tree_types::specs::View::tree_While))]
 fn clone_while(alloc: Global, condition: &Box<Cmd>, body: &Box<Cmd>) -> Result<Cmd, AllocError>
-    ensures { IfOk result (λ x. cmd_tree x ≡ t.While (cmd_tree condition.now.value) (cmd_tree body.now.value)) }
+    ensures { IfOk result (λ copy. cmd_tree copy ≡ t.While (cmd_tree condition.now.value) (cmd_tree body.now.value)) }
 {
     Ok(Cmd::While(clone_box(alloc, condition)?, clone_box(alloc, body)?))
 }
@@ -98,44 +98,45 @@ fn clone_while(alloc: Global, condition: &Box<Cmd>, body: &Box<Cmd>) -> Result<C
 #[cycle(clone)]
 #[tactic(auto, using(rc_tree_types::specs::View::tree_ForAll))]
 fn clone_for_all(alloc: Global, name: &Arg, body: &Box<Cmd>) -> Result<Cmd, AllocError>
-    ensures { IfOk result (λ x. cmd_tree x ≡ t.ForAll (arg_tree name.now) (cmd_tree body.now.value)) }
+    ensures { IfOk result (λ copy. cmd_tree copy ≡ t.ForAll (arg_tree name.now) (cmd_tree body.now.value)) }
 {
-    Ok(Cmd::ForAll(clone_arg(alloc, name)?, clone_box(alloc, body)?))
+    let body = clone_box(alloc, body)?;
+    Ok(Cmd::ForAll(clone_arg(alloc, name)?, body))
 }
 
 #[cycle(clone)]
 #[tactic(auto, using(rc_tree_types::specs::View::tree_For))]
 fn clone_for(alloc: Global, words: &[Arg], name: &Arg, body: &Box<Cmd>) -> Result<Cmd, AllocError>
-    ensures { IfOk result (λ x. cmd_tree x
+    ensures { IfOk result (λ copy. cmd_tree copy
         ≡ t.For (arg_tree name.now) (args_tree words.now) (cmd_tree body.now.value)) }
 {
-    Ok(Cmd::For(
-        clone_arg(alloc, name)?,
-        clone_args(alloc, words)?,
-        clone_box(alloc, body)?,
-    ))
+    let words = clone_args(alloc, words)?;
+    let body = clone_box(alloc, body)?;
+    Ok(Cmd::For(clone_arg(alloc, name)?, words, body))
 }
 
 #[cycle(clone)]
 #[tactic(auto, using(rc_tree_types::specs::View::tree_Switch))]
 fn clone_switch(alloc: Global, branches: &[Branch], subject: &Arg) -> Result<Cmd, AllocError>
-    ensures { IfOk result (λ x. cmd_tree x ≡ t.Switch (arg_tree subject.now) (branches_tree branches.now)) }
+    ensures { IfOk result (λ copy. cmd_tree copy ≡ t.Switch (arg_tree subject.now) (branches_tree branches.now)) }
 {
-    Ok(Cmd::Switch(clone_arg(alloc, subject)?, clone_branches(alloc, branches)?))
+    let branches = clone_branches(alloc, branches)?;
+    Ok(Cmd::Switch(clone_arg(alloc, subject)?, branches))
 }
 
 #[cycle(clone)]
 #[tactic(auto, using(rc_tree_types::specs::View::tree_Match))]
 fn clone_match(alloc: Global, patterns: &[Arg], subject: &Arg) -> Result<Cmd, AllocError>
-    ensures { IfOk result (λ x. cmd_tree x ≡ t.Match (arg_tree subject.now) (args_tree patterns.now)) }
+    ensures { IfOk result (λ copy. cmd_tree copy ≡ t.Match (arg_tree subject.now) (args_tree patterns.now)) }
 {
-    Ok(Cmd::Match(clone_arg(alloc, subject)?, clone_args(alloc, patterns)?))
+    let patterns = clone_args(alloc, patterns)?;
+    Ok(Cmd::Match(clone_arg(alloc, subject)?, patterns))
 }
 
 #[cycle(clone)]
 #[tactic(auto, using(rc_tree_types::specs::View::tree_Define))]
 fn clone_define(alloc: Global, names: &[Arg], body: &Box<Cmd>) -> Result<Cmd, AllocError>
-    ensures { IfOk result (λ x. cmd_tree x ≡ t.Define (args_tree names.now) (cmd_tree body.now.value)) }
+    ensures { IfOk result (λ copy. cmd_tree copy ≡ t.Define (args_tree names.now) (cmd_tree body.now.value)) }
 {
     Ok(Cmd::Define(clone_args(alloc, names)?, clone_box(alloc, body)?))
 }
@@ -143,26 +144,29 @@ fn clone_define(alloc: Global, names: &[Arg], body: &Box<Cmd>) -> Result<Cmd, Al
 #[cycle(clone)]
 #[tactic(auto, using(rc_tree_types::specs::View::tree_nodes))]
 fn clone_arg(alloc: Global, arg: &Arg) -> Result<Arg, AllocError>
-    ensures { IfOk result (λ x. arg_tree x ≡ arg_tree arg.now) }
+    ensures { IfOk result (λ copy. arg_tree copy ≡ arg_tree arg.now) }
 {
     match arg {
         Arg::Lit { text, quoted } => Ok(Arg::Lit {
             text: text.clone()?,
             quoted: *quoted,
         }),
-        Arg::Concat(xs) => Ok(Arg::Concat(clone_args(alloc, xs)?)),
-        Arg::Paren(xs) => Ok(Arg::Paren(clone_args(alloc, xs)?)),
-        Arg::Var(x) => Ok(Arg::Var(clone_boxed_arg(alloc, x)?)),
-        Arg::Count(x) => Ok(Arg::Count(clone_boxed_arg(alloc, x)?)),
-        Arg::Flat(x) => Ok(Arg::Flat(clone_boxed_arg(alloc, x)?)),
-        Arg::Sub(x, xs) => Ok(Arg::Sub(clone_boxed_arg(alloc, x)?, clone_args(alloc, xs)?)),
-        Arg::Back(c) => Ok(Arg::Back(clone_box(alloc, c)?)),
+        Arg::Concat(parts) => Ok(Arg::Concat(clone_args(alloc, parts)?)),
+        Arg::Paren(words) => Ok(Arg::Paren(clone_args(alloc, words)?)),
+        Arg::Var(name) => Ok(Arg::Var(clone_boxed_arg(alloc, name)?)),
+        Arg::Count(name) => Ok(Arg::Count(clone_boxed_arg(alloc, name)?)),
+        Arg::Flat(name) => Ok(Arg::Flat(clone_boxed_arg(alloc, name)?)),
+        Arg::Sub(name, subscripts) => Ok(Arg::Sub(
+            clone_boxed_arg(alloc, name)?,
+            clone_args(alloc, subscripts)?,
+        )),
+        Arg::Back(body) => Ok(Arg::Back(clone_box(alloc, body)?)),
     }
 }
 
 #[cycle(clone)]
 fn clone_boxed_arg(alloc: Global, arg: &Box<Arg>) -> Result<Box<Arg>, AllocError>
-    ensures { IfOk result (λ x. arg_tree x.value ≡ arg_tree arg.now.value) }
+    ensures { IfOk result (λ copy. arg_tree copy.value ≡ arg_tree arg.now.value) }
 {
     Ok(Box::new(alloc, clone_arg(alloc, arg)?)?)
 }
@@ -170,7 +174,7 @@ fn clone_boxed_arg(alloc: Global, arg: &Box<Arg>) -> Result<Box<Arg>, AllocError
 #[cycle(clone)]
 #[tactic(auto, using(rc_tree_types::specs::View::tree_nodes))]
 fn clone_redir(alloc: Global, redir: &Redir) -> Result<Redir, AllocError>
-    ensures { IfOk result (λ x. redir_tree x ≡ redir_tree redir.now) }
+    ensures { IfOk result (λ copy. redir_tree copy ≡ redir_tree redir.now) }
 {
     match redir {
         Redir::Open { mode, slot, file } => Ok(Redir::Open {
@@ -182,113 +186,115 @@ fn clone_redir(alloc: Global, redir: &Redir) -> Result<Redir, AllocError>
             to: *to,
             from: *from,
         }),
-        Redir::Here(xs) => Ok(Redir::Here(clone_pieces(alloc, xs)?)),
+        Redir::Here(pieces) => Ok(Redir::Here(clone_pieces(alloc, pieces)?)),
     }
 }
 
 #[cycle(clone)]
 #[tactic(auto, using(rc_tree_types::specs::View::tree_lists))]
-fn clone_args(alloc: Global, xs: &[Arg]) -> Result<Vec<Arg>, AllocError>
-    ensures { IfOk result (λ v. args_tree v.items ≡ args_tree xs.now) }
+fn clone_args(alloc: Global, args: &[Arg]) -> Result<Vec<Arg>, AllocError>
+    ensures { IfOk result (λ copies. args_tree copies.items ≡ args_tree args.now) }
 {
-    let mut out = Vec::new(alloc);
-    for x in xs {
-        out.push(clone_arg(alloc, x)?)?;
+    let mut copies = Vec::new(alloc);
+    for arg in args {
+        copies.push(clone_arg(alloc, arg)?)?;
     }
-    Ok(out)
+    Ok(copies)
 }
 
 #[cycle(clone)]
 #[tactic(auto, using(rc_tree_types::specs::View::tree_lists))]
-fn clone_items(alloc: Global, xs: &[Item]) -> Result<Vec<Item>, AllocError>
-    ensures { IfOk result (λ v. items_tree v.items ≡ items_tree xs.now) }
+fn clone_items(alloc: Global, items: &[Item]) -> Result<Vec<Item>, AllocError>
+    ensures { IfOk result (λ copies. items_tree copies.items ≡ items_tree items.now) }
 {
-    let mut out = Vec::new(alloc);
-    for x in xs {
-        out.push(Item {
-            cmd: clone_tree(alloc, &x.cmd)?,
-            background: x.background,
+    let mut copies = Vec::new(alloc);
+    for item in items {
+        copies.push(Item {
+            cmd: clone_tree(alloc, &item.cmd)?,
+            background: item.background,
         })?;
     }
-    Ok(out)
+    Ok(copies)
 }
 
 #[cycle(clone)]
 #[tactic(auto, using(rc_tree_types::specs::View::tree_lists))]
-fn clone_pairs(alloc: Global, xs: &[(Arg, Arg)]) -> Result<Vec<(Arg, Arg)>, AllocError>
-    ensures { IfOk result (λ v. pairs_tree v.items ≡ pairs_tree xs.now) }
+fn clone_pairs(alloc: Global, pairs: &[(Arg, Arg)]) -> Result<Vec<(Arg, Arg)>, AllocError>
+    ensures { IfOk result (λ copies. pairs_tree copies.items ≡ pairs_tree pairs.now) }
 {
-    let mut out = Vec::new(alloc);
-    for x in xs {
-        out.push((clone_arg(alloc, &x.0)?, clone_arg(alloc, &x.1)?))?;
+    let mut copies = Vec::new(alloc);
+    for pair in pairs {
+        let name = Box::new(alloc, clone_arg(alloc, &pair.0)?)?;
+        let value = clone_arg(alloc, &pair.1)?;
+        copies.push((Box::into_inner(name), value))?;
     }
-    Ok(out)
+    Ok(copies)
 }
 
 #[cycle(clone)]
 #[tactic(auto, using(rc_tree_types::specs::View::tree_lists))]
-fn clone_redirs(alloc: Global, xs: &[Redir]) -> Result<Vec<Redir>, AllocError>
-    ensures { IfOk result (λ v. redirs_tree v.items ≡ redirs_tree xs.now) }
+fn clone_redirs(alloc: Global, redirs: &[Redir]) -> Result<Vec<Redir>, AllocError>
+    ensures { IfOk result (λ copies. redirs_tree copies.items ≡ redirs_tree redirs.now) }
 {
-    let mut out = Vec::new(alloc);
-    for x in xs {
-        out.push(clone_redir(alloc, x)?)?;
+    let mut copies = Vec::new(alloc);
+    for redir in redirs {
+        copies.push(clone_redir(alloc, redir)?)?;
     }
-    Ok(out)
+    Ok(copies)
 }
 
 #[cycle(clone)]
 #[tactic(auto, using(rc_tree_types::specs::View::tree_lists))]
-fn clone_stages(alloc: Global, xs: &[Stage]) -> Result<Vec<Stage>, AllocError>
-    ensures { IfOk result (λ v. stages_tree v.items ≡ stages_tree xs.now) }
+fn clone_stages(alloc: Global, stages: &[Stage]) -> Result<Vec<Stage>, AllocError>
+    ensures { IfOk result (λ copies. stages_tree copies.items ≡ stages_tree stages.now) }
 {
-    let mut out = Vec::new(alloc);
-    for x in xs {
-        out.push(Stage {
-            cmd: clone_tree(alloc, &x.cmd)?,
-            slot: x.slot,
+    let mut copies = Vec::new(alloc);
+    for stage in stages {
+        copies.push(Stage {
+            cmd: clone_tree(alloc, &stage.cmd)?,
+            slot: stage.slot,
         })?;
     }
-    Ok(out)
+    Ok(copies)
 }
 
 #[cycle(clone)]
 #[tactic(auto, using(rc_tree_types::specs::View::tree_lists))]
-fn clone_links(alloc: Global, xs: &[(Logic, Cmd)]) -> Result<Vec<(Logic, Cmd)>, AllocError>
-    ensures { IfOk result (λ v. links_tree v.items ≡ links_tree xs.now) }
+fn clone_links(alloc: Global, links: &[(Logic, Cmd)]) -> Result<Vec<(Logic, Cmd)>, AllocError>
+    ensures { IfOk result (λ copies. links_tree copies.items ≡ links_tree links.now) }
 {
-    let mut out = Vec::new(alloc);
-    for x in xs {
-        out.push((x.0, clone_tree(alloc, &x.1)?))?;
+    let mut copies = Vec::new(alloc);
+    for link in links {
+        copies.push((link.0, clone_tree(alloc, &link.1)?))?;
     }
-    Ok(out)
+    Ok(copies)
 }
 
 #[cycle(clone)]
 #[tactic(auto, using(rc_tree_types::specs::View::tree_lists))]
-fn clone_branches(alloc: Global, xs: &[Branch]) -> Result<Vec<Branch>, AllocError>
-    ensures { IfOk result (λ v. branches_tree v.items ≡ branches_tree xs.now) }
+fn clone_branches(alloc: Global, branches: &[Branch]) -> Result<Vec<Branch>, AllocError>
+    ensures { IfOk result (λ copies. branches_tree copies.items ≡ branches_tree branches.now) }
 {
-    let mut out = Vec::new(alloc);
-    for x in xs {
-        out.push(Branch {
-            patterns: clone_args(alloc, &x.patterns)?,
-            body: clone_box(alloc, &x.body)?,
+    let mut copies = Vec::new(alloc);
+    for branch in branches {
+        copies.push(Branch {
+            patterns: clone_args(alloc, &branch.patterns)?,
+            body: clone_box(alloc, &branch.body)?,
         })?;
     }
-    Ok(out)
+    Ok(copies)
 }
 
 #[tactic(auto, using(rc_tree_types::specs::View::tree_lists))]
-fn clone_pieces(alloc: Global, xs: &[Piece]) -> Result<Vec<Piece>, AllocError>
-    ensures { IfOk result (λ v. pieces_tree v.items ≡ pieces_tree xs.now) }
+fn clone_pieces(alloc: Global, pieces: &[Piece]) -> Result<Vec<Piece>, AllocError>
+    ensures { IfOk result (λ copies. pieces_tree copies.items ≡ pieces_tree pieces.now) }
 {
-    let mut out = Vec::new(alloc);
-    for x in xs {
-        out.push(match x {
-            Piece::Text(t) => Piece::Text(t.clone()?),
-            Piece::Name(t) => Piece::Name(t.clone()?),
+    let mut copies = Vec::new(alloc);
+    for piece in pieces {
+        copies.push(match piece {
+            Piece::Text(text) => Piece::Text(text.clone()?),
+            Piece::Name(name) => Piece::Name(name.clone()?),
         })?;
     }
-    Ok(out)
+    Ok(copies)
 }

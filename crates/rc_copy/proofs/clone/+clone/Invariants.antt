@@ -4,26 +4,26 @@ use Rattle.rc_tree_types.proofs.Cmd.TheLaws as command
 use Rattle.rc_tree_types.proofs.Arg.TheLaws as argument
 use Rattle.rc_copy.proofs.clone.+clone.Given as goal
 
-abbrev pub invariant-clone_args-loop-x : goal.invariant-clone_args-loop-x
-invariant-clone_args-loop-x l = args_tree l.out.items ≡ args_tree (take l.x-index l.xs)
+abbrev pub invariant-clone_args-loop-arg : goal.invariant-clone_args-loop-arg
+invariant-clone_args-loop-arg l = args_tree l.copies.items ≡ args_tree (take l.arg-index l.args)
 
-abbrev pub invariant-clone_items-loop-x : goal.invariant-clone_items-loop-x
-invariant-clone_items-loop-x l = items_tree l.out.items ≡ items_tree (take l.x-index l.xs)
+abbrev pub invariant-clone_items-loop-item : goal.invariant-clone_items-loop-item
+invariant-clone_items-loop-item l = items_tree l.copies.items ≡ items_tree (take l.item-index l.items)
 
-abbrev pub invariant-clone_pairs-loop-x : goal.invariant-clone_pairs-loop-x
-invariant-clone_pairs-loop-x l = pairs_tree l.out.items ≡ pairs_tree (take l.x-index l.xs)
+abbrev pub invariant-clone_pairs-loop-pair : goal.invariant-clone_pairs-loop-pair
+invariant-clone_pairs-loop-pair l = pairs_tree l.copies.items ≡ pairs_tree (take l.pair-index l.pairs)
 
-abbrev pub invariant-clone_redirs-loop-x : goal.invariant-clone_redirs-loop-x
-invariant-clone_redirs-loop-x l = redirs_tree l.out.items ≡ redirs_tree (take l.x-index l.xs)
+abbrev pub invariant-clone_redirs-loop-redir : goal.invariant-clone_redirs-loop-redir
+invariant-clone_redirs-loop-redir l = redirs_tree l.copies.items ≡ redirs_tree (take l.redir-index l.redirs)
 
-abbrev pub invariant-clone_stages-loop-x : goal.invariant-clone_stages-loop-x
-invariant-clone_stages-loop-x l = stages_tree l.out.items ≡ stages_tree (take l.x-index l.xs)
+abbrev pub invariant-clone_stages-loop-stage : goal.invariant-clone_stages-loop-stage
+invariant-clone_stages-loop-stage l = stages_tree l.copies.items ≡ stages_tree (take l.stage-index l.stages)
 
-abbrev pub invariant-clone_links-loop-x : goal.invariant-clone_links-loop-x
-invariant-clone_links-loop-x l = links_tree l.out.items ≡ links_tree (take l.x-index l.xs)
+abbrev pub invariant-clone_links-loop-link : goal.invariant-clone_links-loop-link
+invariant-clone_links-loop-link l = links_tree l.copies.items ≡ links_tree (take l.link-index l.links)
 
-abbrev pub invariant-clone_branches-loop-x : goal.invariant-clone_branches-loop-x
-invariant-clone_branches-loop-x l = branches_tree l.out.items ≡ branches_tree (take l.x-index l.xs)
+abbrev pub invariant-clone_branches-loop-branch : goal.invariant-clone_branches-loop-branch
+invariant-clone_branches-loop-branch l = branches_tree l.copies.items ≡ branches_tree (take l.branch-index l.branches)
 
 abbrev pub decreases-clone_assign : goal.decreases-clone_assign
 decreases-clone_assign l = 3 * (max (goal.size-clone_assign l) (command.the_size l.body.now.value)) + 2

@@ -2,5 +2,5 @@ use Rattle.std.proofs.Common.{◌≡◌, take}
 use Rattle.rc_tree_types.specs.View.{pieces_tree}
 use Rattle.rc_copy.proofs.clone.clone_pieces.Given as goal
 
-abbrev pub invariant-loop-x : goal.invariant-loop-x
-invariant-loop-x l = pieces_tree l.out.items ≡ pieces_tree (take l.x-index l.xs)
+abbrev pub invariant-loop-piece : goal.invariant-loop-piece
+invariant-loop-piece l = pieces_tree l.copies.items ≡ pieces_tree (take l.piece-index l.pieces)
