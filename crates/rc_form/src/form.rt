@@ -1,6 +1,6 @@
 //! What the text of a command depends on besides the texts of its parts.
 
-ghost use Rattle.std.specs.Prelude.{◌≡◌, ◌++◌, OnOk, string_bytes, codes, if◌then◌else◌};
+ghost use Rattle.std.specs.Prelude.{◌≡◌, ◌++◌, OnErr, OnOk, string_bytes, codes, if◌then◌else◌};
 ghost use Rattle.rc_model.specs.Syntax.Printing.{stands_first, begins_with_case, begin_with_case, literal, bar, sign};
 ghost use Rattle.rc_model.specs.Syntax.Printing.{opening, copying};
 ghost use Rattle.rc_model.specs.Syntax.Tree.{is_empty};
@@ -55,7 +55,7 @@ fn begin_with_case(words: &[Arg]) -> bool
 }
 
 /// What stands between an item and the next one.
-pub fn parting(background: bool) -> &'static str
+pub fn separator(background: bool) -> &'static str
     ensures { result.now ≡ (if background then codes " " else codes "; ") }
 {
     if background { " " } else { "; " }
@@ -100,7 +100,8 @@ pub fn copying(to: u8, from: u8) -> &'static str
 
 /// Writes a word as it is written in a script.
 pub fn print_literal(out: &mut String, text: &str, quoted: bool) -> Result<(), AllocError>
-    ensures { OnOk result (string_bytes out.new ≡ string_bytes out.old ++ literal text.now quoted) }
+    ensures ok { OnOk result (string_bytes out.new ≡ string_bytes out.old ++ literal text.now quoted) }
+    ensures err { OnErr result (string_bytes out.new ≡ string_bytes out.old) }
 {
     if quoted {
         push_quoted(out, text)

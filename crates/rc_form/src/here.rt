@@ -17,24 +17,26 @@ pub fn has_here(cmd: &Cmd) -> bool
 {
     match cmd {
         Cmd::Empty => false,
-        Cmd::Seq(xs) => have_here_items(xs),
-        Cmd::Simple(xs) => have_here_args(xs),
-        Cmd::Assign(xs, c) => have_here_pairs(xs) || has_here(c),
-        Cmd::Redirect(xs, c) => have_here_redirs(xs) || has_here(c),
-        Cmd::Pipeline(xs, c) => have_here_stages(xs) || has_here(c),
-        Cmd::AndOr(c, xs) => has_here(c) || have_here_links(xs),
-        Cmd::Not(c) => has_here(c),
-        Cmd::Subshell(c) => has_here(c),
-        Cmd::If(a, b) => has_here(a) || has_here(b),
-        Cmd::IfNot(c) => has_here(c),
-        Cmd::While(a, b) => has_here(a) || has_here(b),
-        Cmd::ForAll(n, c) => has_here_arg(n) || has_here(c),
-        Cmd::For(n, xs, c) => has_here_arg(n) || have_here_args(xs) || has_here(c),
-        Cmd::Switch(n, xs) => has_here_arg(n) || have_here_branches(xs),
-        Cmd::Match(n, xs) => has_here_arg(n) || have_here_args(xs),
-        Cmd::Define(xs, c) => have_here_args(xs) || has_here(c),
-        Cmd::Undefine(xs) => have_here_args(xs),
-        Cmd::Brace(c) => has_here(c),
+        Cmd::Seq(items) => have_here_items(items),
+        Cmd::Simple(words) => have_here_args(words),
+        Cmd::Assign(pairs, body) => have_here_pairs(pairs) || has_here(body),
+        Cmd::Redirect(redirs, body) => have_here_redirs(redirs) || has_here(body),
+        Cmd::Pipeline(stages, last) => have_here_stages(stages) || has_here(last),
+        Cmd::AndOr(first, links) => has_here(first) || have_here_links(links),
+        Cmd::Not(body) => has_here(body),
+        Cmd::Subshell(body) => has_here(body),
+        Cmd::If(condition, body) => has_here(condition) || has_here(body),
+        Cmd::IfNot(body) => has_here(body),
+        Cmd::While(condition, body) => has_here(condition) || has_here(body),
+        Cmd::ForAll(name, body) => has_here_arg(name) || has_here(body),
+        Cmd::For(name, words, body) => has_here_arg(name)
+            || have_here_args(words)
+            || has_here(body),
+        Cmd::Switch(subject, branches) => has_here_arg(subject) || have_here_branches(branches),
+        Cmd::Match(subject, patterns) => has_here_arg(subject) || have_here_args(patterns),
+        Cmd::Define(names, body) => have_here_args(names) || has_here(body),
+        Cmd::Undefine(names) => have_here_args(names),
+        Cmd::Brace(body) => has_here(body),
     }
 }
 
@@ -45,13 +47,13 @@ fn has_here_arg(arg: &Arg) -> bool
 {
     match arg {
         Arg::Lit { .. } => false,
-        Arg::Concat(xs) => have_here_args(xs),
-        Arg::Paren(xs) => have_here_args(xs),
-        Arg::Var(x) => has_here_arg(x),
-        Arg::Count(x) => has_here_arg(x),
-        Arg::Flat(x) => has_here_arg(x),
-        Arg::Sub(x, xs) => has_here_arg(x) || have_here_args(xs),
-        Arg::Back(c) => has_here(c),
+        Arg::Concat(parts) => have_here_args(parts),
+        Arg::Paren(words) => have_here_args(words),
+        Arg::Var(name) => has_here_arg(name),
+        Arg::Count(name) => has_here_arg(name),
+        Arg::Flat(name) => has_here_arg(name),
+        Arg::Sub(name, subscripts) => has_here_arg(name) || have_here_args(subscripts),
+        Arg::Back(body) => has_here(body),
     }
 }
 
@@ -69,11 +71,11 @@ fn has_here_redir(redir: &Redir) -> bool
 
 #[cycle(here)]
 #[tactic(auto, using(rc_tree_types::specs::View::tree_walks))]
-fn have_here_args(xs: &[Arg]) -> bool
-    ensures { result ≡ have_here (args_tree xs.now) }
+fn have_here_args(args: &[Arg]) -> bool
+    ensures { result ≡ have_here (args_tree args.now) }
 {
-    for x in xs {
-        if has_here_arg(x) {
+    for arg in args {
+        if has_here_arg(arg) {
             return true;
         }
     }
@@ -82,11 +84,11 @@ fn have_here_args(xs: &[Arg]) -> bool
 
 #[cycle(here)]
 #[tactic(auto, using(rc_tree_types::specs::View::tree_walks))]
-fn have_here_items(xs: &[Item]) -> bool
-    ensures { result ≡ have_here (items_tree xs.now) }
+fn have_here_items(items: &[Item]) -> bool
+    ensures { result ≡ have_here (items_tree items.now) }
 {
-    for x in xs {
-        if has_here(&x.cmd) {
+    for item in items {
+        if has_here(&item.cmd) {
             return true;
         }
     }
@@ -95,11 +97,11 @@ fn have_here_items(xs: &[Item]) -> bool
 
 #[cycle(here)]
 #[tactic(auto, using(rc_tree_types::specs::View::tree_walks))]
-fn have_here_pairs(xs: &[(Arg, Arg)]) -> bool
-    ensures { result ≡ have_here (pairs_tree xs.now) }
+fn have_here_pairs(pairs: &[(Arg, Arg)]) -> bool
+    ensures { result ≡ have_here (pairs_tree pairs.now) }
 {
-    for x in xs {
-        if has_here_arg(&x.0) || has_here_arg(&x.1) {
+    for pair in pairs {
+        if has_here_arg(&pair.0) || has_here_arg(&pair.1) {
             return true;
         }
     }
@@ -108,11 +110,11 @@ fn have_here_pairs(xs: &[(Arg, Arg)]) -> bool
 
 #[cycle(here)]
 #[tactic(auto, using(rc_tree_types::specs::View::tree_walks))]
-fn have_here_redirs(xs: &[Redir]) -> bool
-    ensures { result ≡ have_here (redirs_tree xs.now) }
+fn have_here_redirs(redirs: &[Redir]) -> bool
+    ensures { result ≡ have_here (redirs_tree redirs.now) }
 {
-    for x in xs {
-        if has_here_redir(x) {
+    for redir in redirs {
+        if has_here_redir(redir) {
             return true;
         }
     }
@@ -121,11 +123,11 @@ fn have_here_redirs(xs: &[Redir]) -> bool
 
 #[cycle(here)]
 #[tactic(auto, using(rc_tree_types::specs::View::tree_walks))]
-fn have_here_stages(xs: &[Stage]) -> bool
-    ensures { result ≡ have_here (stages_tree xs.now) }
+fn have_here_stages(stages: &[Stage]) -> bool
+    ensures { result ≡ have_here (stages_tree stages.now) }
 {
-    for x in xs {
-        if has_here(&x.cmd) {
+    for stage in stages {
+        if has_here(&stage.cmd) {
             return true;
         }
     }
@@ -134,11 +136,11 @@ fn have_here_stages(xs: &[Stage]) -> bool
 
 #[cycle(here)]
 #[tactic(auto, using(rc_tree_types::specs::View::tree_walks))]
-fn have_here_links(xs: &[(Logic, Cmd)]) -> bool
-    ensures { result ≡ have_here (links_tree xs.now) }
+fn have_here_links(links: &[(Logic, Cmd)]) -> bool
+    ensures { result ≡ have_here (links_tree links.now) }
 {
-    for x in xs {
-        if has_here(&x.1) {
+    for link in links {
+        if has_here(&link.1) {
             return true;
         }
     }
@@ -147,11 +149,11 @@ fn have_here_links(xs: &[(Logic, Cmd)]) -> bool
 
 #[cycle(here)]
 #[tactic(auto, using(rc_tree_types::specs::View::tree_walks))]
-fn have_here_branches(xs: &[Branch]) -> bool
-    ensures { result ≡ have_here (branches_tree xs.now) }
+fn have_here_branches(branches: &[Branch]) -> bool
+    ensures { result ≡ have_here (branches_tree branches.now) }
 {
-    for x in xs {
-        if have_here_args(&x.patterns) || has_here(&x.body) {
+    for branch in branches {
+        if have_here_args(&branch.patterns) || has_here(&branch.body) {
             return true;
         }
     }

@@ -4,5 +4,5 @@
 mod form;
 mod here;
 
-pub use form::{bar, copying, is_empty, opening, parting, print_literal, sign, stands_first};
+pub use form::{bar, copying, is_empty, opening, print_literal, separator, sign, stands_first};
 pub use here::has_here;

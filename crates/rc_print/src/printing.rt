@@ -11,7 +11,7 @@ ghost use Rattle.rc_tree_types.specs.View.{args_tree, items_tree, pairs_tree, re
 ghost use Rattle.rc_tree_types.specs.View.{branches_tree};
 
 use rc_form::{
-    bar, copying, has_here, is_empty, opening, parting, print_literal, sign, stands_first,
+    bar, copying, has_here, is_empty, opening, print_literal, separator, sign, stands_first,
 };
 use rc_model::{InputError, Logic};
 use rc_tree_types::{Arg, Branch, Cmd, Item, Redir, Stage};
@@ -186,7 +186,7 @@ fn print_redir(out: &mut String, redir: &Redir) -> Result<(), AllocError>
     match redir {
         Redir::Open { mode, slot, file } => print_arg_after(out, opening(*mode, *slot), file),
         Redir::Copy { to, from } => out.push_str(copying(*to, *from)),
-        // no tree that is written has one
+        // No tree that is written has one.
         Redir::Here(_) => Ok(()),
     }
 }
@@ -199,9 +199,9 @@ fn print_args(out: &mut String, args: &[Arg], between: &str, mark: &str) -> Resu
         (string_bytes out.new ≡ string_bytes out.old ++ led between.now mark.now (arg_texts (args_tree args.now))) }
 {
     let mut between = between;
-    for x in args {
+    for arg in args {
         out.push_str(between)?;
-        print_arg(out, x)?;
+        print_arg(out, arg)?;
         between = mark;
     }
     Ok(())
@@ -214,9 +214,9 @@ fn print_pairs(out: &mut String, pairs: &[(Arg, Arg)]) -> Result<(), AllocError>
         (string_bytes out.new ≡ string_bytes out.old ++ led [] (codes " ") (pair_texts (pairs_tree pairs.now))) }
 {
     let mut between = "";
-    for x in pairs {
-        print_arg_after(out, between, &x.0)?;
-        print_arg_after(out, "=", &x.1)?;
+    for pair in pairs {
+        print_arg_after(out, between, &pair.0)?;
+        print_arg_after(out, "=", &pair.1)?;
         between = " ";
     }
     Ok(())
@@ -230,9 +230,9 @@ fn print_redirs(out: &mut String, redirs: &[Redir], between: &str) -> Result<(),
         ≡ string_bytes out.old ++ led between.now (codes " ") (redir_texts (redirs_tree redirs.now))) }
 {
     let mut between = between;
-    for x in redirs {
+    for redir in redirs {
         out.push_str(between)?;
-        print_redir(out, x)?;
+        print_redir(out, redir)?;
         between = " ";
     }
     Ok(())
@@ -244,8 +244,8 @@ fn print_redirs_before(out: &mut String, redirs: &[Redir]) -> Result<(), AllocEr
     ensures { OnOk result (string_bytes out.new
         ≡ string_bytes out.old ++ trailed (redir_texts (redirs_tree redirs.now))) }
 {
-    for x in redirs {
-        print_redir(out, x)?;
+    for redir in redirs {
+        print_redir(out, redir)?;
         out.push_str(" ")?;
     }
     Ok(())
@@ -257,9 +257,9 @@ fn print_stages(out: &mut String, stages: &[Stage], begins: bool) -> Result<(), 
     ensures { OnOk result (string_bytes out.new ≡ string_bytes out.old ++ stages_text (stages_tree stages.now) begins) }
 {
     let mut begins = begins;
-    for x in stages {
-        print_cmd(out, &x.cmd, begins)?;
-        out.push_str(bar(x.slot))?;
+    for stage in stages {
+        print_cmd(out, &stage.cmd, begins)?;
+        out.push_str(bar(stage.slot))?;
         begins = false;
     }
     Ok(())
@@ -270,8 +270,8 @@ fn print_stages(out: &mut String, stages: &[Stage], begins: bool) -> Result<(), 
 fn print_links(out: &mut String, links: &[(Logic, Cmd)]) -> Result<(), AllocError>
     ensures { OnOk result (string_bytes out.new ≡ string_bytes out.old ++ links_text (links_tree links.now)) }
 {
-    for x in links {
-        print_after(out, sign(x.0), &x.1)?;
+    for link in links {
+        print_after(out, sign(link.0), &link.1)?;
     }
     Ok(())
 }
@@ -295,13 +295,13 @@ fn print_items<'a>(
 {
     let mut between = between;
     let mut begins = begins;
-    for x in items {
+    for item in items {
         out.push_str(between)?;
-        print_cmd(out, &x.cmd, begins)?;
-        if x.background {
+        print_cmd(out, &item.cmd, begins)?;
+        if item.background {
             out.push_str(" &")?;
         }
-        between = parting(x.background);
+        between = separator(item.background);
         begins = others;
     }
     Ok(between)
@@ -314,11 +314,11 @@ fn print_branches(out: &mut String, branches: &[Branch]) -> Result<(), AllocErro
         (string_bytes out.new ≡ string_bytes out.old ++ lines_after [] (branch_lines (branches_tree branches.now))) }
 {
     let mut between = "";
-    for x in branches {
+    for branch in branches {
         out.push_str(between)?;
         out.push_str("case")?;
-        print_args(out, &x.patterns, " ", " ")?;
-        between = print_body(out, &x.body)?;
+        print_args(out, &branch.patterns, " ", " ")?;
+        between = print_body(out, &branch.body)?;
     }
     Ok(())
 }

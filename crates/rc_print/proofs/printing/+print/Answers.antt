@@ -14,8 +14,8 @@ print_body-returns-in_ok-print_cmd-in_default t c =
     let lines = not_listed c.args.body.now (branch_items (cmd_tree c.args.body.now)) (cmd_text (cmd_tree c.args.body.now) true) c.in_default.not-Seq in
     rw lines (record { written = grind (arith, common_steps); after = refl })
 
-pub print_pairs-loop-x-preserved : goal.print_pairs-loop-x-preserved
-print_pairs-loop-x-preserved t c = (space_is_text, grind (arith, writing))
+pub print_pairs-loop-pair-preserved : goal.print_pairs-loop-pair-preserved
+print_pairs-loop-pair-preserved t c = (space_is_text, grind (arith, writing))
 
-pub print_redirs-loop-x-preserved : goal.print_redirs-loop-x-preserved
-print_redirs-loop-x-preserved t c = (space_is_text, grind (arith, writing))
+pub print_redirs-loop-redir-preserved : goal.print_redirs-loop-redir-preserved
+print_redirs-loop-redir-preserved t c = (space_is_text, grind (arith, writing))
