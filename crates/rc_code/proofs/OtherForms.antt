@@ -2,7 +2,7 @@
 use Rattle.std.specs.declared.alloc.Global.{Global}
 use Rattle.std.specs.declared.vec.Vec.{Vec}
 use Rattle.std.proofs.Common.{◌≡◌, ◌==◌, refl, sym, ◌∙◌, true, false, not, List, [], ◌∷◌, length, arith}
-use Rattle.rc_model.specs.Syntax.Tree.{Node, item, link, nodes, is_empty, has_no_items, guards}
+use Rattle.rc_model.specs.Syntax.Tree.{Node, item, link, nodes, has_no_items, guards}
 use Rattle.rc_model.specs.Syntax.Tree as tree
 use Rattle.std.proofs.lemmas.Grind.{common_steps}
 use Rattle.std.proofs.lemmas.Bool.Decides.{nat_tests}
@@ -12,11 +12,6 @@ use Rattle.rc_tree_types.specs.declared.Item.{Item}
 use Rattle.rc_tree_types.specs.View.{cmd_tree}
 use Rattle.rc_tree_types.specs.declared.Arg.TheBlock as rows
 use Rattle.rc_tree_types.specs.declared.Arg.TheViews as views
-
-pub not_empty : (x : Cmd) → (x ≡ c.Empty → ⊥) → is_empty (cmd_tree x) ≡ false
-unfolding cmd_tree
-not_empty c.Empty h = absurd (h refl)
-not_empty _ h = refl
 
 pub not_listed : (x : Cmd) → ((v : Vec Item Global) → x ≡ c.Seq v → ⊥) → has_no_items (cmd_tree x) ≡ false
 unfolding cmd_tree views.out-Cmd views.roll-Cmd denote.Hole.Carrier.out

@@ -1,11 +1,12 @@
 -- How the writing of parts joins.
-use Rattle.std.proofs.Common.{◌≡◌, ◌+◌, ◌<◌, ℕ, suc, Bool, false, List, [], ◌∷◌, ◌++◌, length, refl, sym, ap, ◌∙◌, arith, append_assoc, length-append, append-nil}
+use Rattle.std.proofs.Common.{◌≡◌, ◌+◌, ◌<◌, ℕ, Bool, false, [], ◌∷◌, ◌++◌, length, refl, sym, ap, ◌∙◌, arith, append_assoc, length-append, append-nil}
 use Rattle.std.proofs.Math.Seq.{set-append_seam}
 use Rattle.std.proofs.lemmas.Grind.{common_steps}
-use Rattle.rc_model.specs.Syntax.Tree.{Sort, Node, Many, cmd, arg, Pair, pair, redir, none, more, count, nodes}
+use Rattle.rc_model.specs.Syntax.Tree.{Node, Many, cmd, arg, Pair, pair, redir, none, more}
 use Rattle.rc_model.specs.Syntax.Tree as tree
 use Rattle.rc_model.specs.Code.Layout.{Op, Kept, Code, Part, Nothing, Do, Keep, Past, PastKeep, Loop, ◌⨾◌, ops_of, kept_of, Jump, Return, code, cmd_code, pairs_code, redirs_code}
 use Rattle.rc_tree_types.specs.View.{tree_nodes}
+use Rattle.rc_tree_types.proofs.Numbers.{count_nodes}
 use Rattle.rc_code.specs.Emission.{with_part, with_kept, patched, pairs_alone, redirs_alone, members_code, turns_code}
 
 pub same_code : (a b : Code) → a.ops ≡ b.ops → a.kept ≡ b.kept → a ≡ b
@@ -119,10 +120,6 @@ whole_code a b c t empty written ended =
     ended ∙ (ap (λ d. with_part d (Do Return)) written
     ∙ (sym (with_part-then a (cmd_code t false) (Do Return))
     ∙ (ap (λ d. with_part d (cmd_code t false ⨾ Do Return)) empty ∙ with_part-alone (cmd_code t false ⨾ Do Return))))
-
-pub count_nodes : {X : Type 0} {s : Sort} (f : X → Node s) (xs : List X) → count (nodes f xs) ≡ length xs
-count_nodes f [] = refl
-count_nodes f (x ∷ xs) = ap suc (count_nodes f xs)
 
 -- what the writing of a form needs
 pub ruleset emitting =

@@ -18,53 +18,81 @@ pub enum Op {
     Nil,
     /// Pushes a list of one word.
     Word(Rc<Literal>),
+    /// Pops two lists and pushes the first followed by the second.
     Join,
+    /// Pops two lists and pushes their concatenation, which is made word by word.
     Concat,
+    /// Pops the name of a variable and pushes its members.
     Value,
+    /// Pops the name of a variable and pushes how many members it has.
     Count,
+    /// Pops the name of a variable and pushes its members as one word.
     Flat,
+    /// Pops the name of a variable and a list of subscripts, and pushes the members that these select.
     Select,
+    /// Pops a list and pushes its words, with file names in the place of patterns.
     Glob,
-    /// The output of the tree of this number.
+    /// Pushes the output of the tree of this number.
     Back(usize),
-    /// Runs a simple command.
+    /// Pops a list and runs it as a simple command.
     Run,
     /// Ends a strict shell after a simple command that failed.
     Check,
+    /// Pops a list and pushes its members as the one word that patterns are held against.
     Subject,
+    /// Pops a list.
     Drop,
-    /// Goes to the place where the patterns don't match.
+    /// Pops the patterns of a case, and jumps to this place where none of them matches the subject, which stays.
     Case(usize),
+    /// Pops a subject and its patterns, and sets the status by whether one of them matches.
     Match,
+    /// Jumps to this place.
     Jump(usize),
+    /// Jumps to this place where the status is true.
     IfTrue(usize),
+    /// Jumps to this place where the status is not true.
     IfFalse(usize),
+    /// Sets the status to null, which is true.
     SetNull,
+    /// Turns a true status into `false`, and any other into null.
     Invert,
+    /// Where the status is not true, sets the flag of `if not` and jumps to this place.
     If(usize),
+    /// Clears the flag of `if not`.
     WasTrue,
+    /// Jumps to this place where the flag of `if not` is clear.
     IfNot(usize),
+    /// Pops a list and a name, and begins a loop in which the name stands for each member.
     For,
-    /// The next turn of a loop, or its end and a jump to the place.
+    /// Begins the next turn of a loop, or ends the loop and jumps to this place.
     Next(usize),
+    /// Pops a name and a list, which becomes the value of the variable.
     Assign,
+    /// Pops a name and a list, which is the value of the variable until the local ends.
     Local,
     /// Ends this many locals.
     Unlocal(usize),
-    /// Defines functions with the tree of this number.
+    /// Pops a list of names, and defines each as a function with the tree of this number.
     Define(usize),
+    /// Pops a list of names, which stand for no function then.
     Undefine,
+    /// Pops the name of a file, and opens it in the place of this descriptor.
     Open { mode: Mode, slot: u8 },
+    /// Makes one descriptor a copy of the other.
     Copy { to: u8, from: u8 },
-    /// Hands over the here document of this number.
+    /// Hands over the here document of this number as the input.
     Here(usize),
     /// Ends this many redirections.
     Unredir(usize),
-    /// Starts the stages of this number, or goes to the place where one is refused.
+    /// Starts the stages of this number, or jumps to the place `end` where one is refused.
     Stages { stages: usize, end: usize },
+    /// Ends a pipeline: waits for its stages, and sets the status by theirs.
     EndPipe,
+    /// Runs the tree of this number in a subshell and waits for it.
     Subshell(usize),
+    /// Starts the tree of this number in the background.
     Background(usize),
+    /// Ends a body, and goes on where it was called, or ends the script.
     Return,
 }
 

@@ -9,13 +9,14 @@ ghost use Rattle.rc_code.specs.Emission.{branch_to};
 
 use crate::args::emit_list;
 use crate::code::Op;
-use crate::forms::{guards, has_no_items, is_empty, skip};
+use crate::forms::{guards, has_no_items, skip};
 use crate::kept::{kept_stages, kept_tree};
 use crate::listing::Listing;
 use crate::plain::{
     emit_define, emit_match, emit_members, emit_pairs, emit_redirs, emit_simple, emit_star,
     emit_subject, emit_subshell, emit_undefine, emit_unlocal,
 };
+use rc_form::is_empty;
 use rc_tree::{Branch, Cmd, Item, Logic};
 use std::alloc::{AllocError, Global};
 
@@ -57,14 +58,14 @@ pub fn emit_cmd(
             code.put(Op::Invert)
         }
         Cmd::Subshell(body) => emit_subshell(alloc, code, body),
-        Cmd::If(test, body) => {
-            emit_cmd(alloc, code, test, true)?;
+        Cmd::If(condition, body) => {
+            emit_cmd(alloc, code, condition, true)?;
             emit_if_body(alloc, code, body, guarded)
         }
         Cmd::IfNot(body) => emit_if_not(alloc, code, body, guarded),
-        Cmd::While(test, body) => {
+        Cmd::While(condition, body) => {
             let start = code.end();
-            emit_condition(alloc, code, test)?;
+            emit_condition(alloc, code, condition)?;
             emit_while_body(alloc, code, start, body, guarded)
         }
         Cmd::ForAll(name, body) => {
@@ -75,12 +76,12 @@ pub fn emit_cmd(
             emit_members(alloc, code, words, name)?;
             emit_turns(alloc, code, body, guarded)
         }
-        Cmd::Switch(word, branches) => {
-            emit_subject(alloc, code, word)?;
+        Cmd::Switch(subject, branches) => {
+            emit_subject(alloc, code, subject)?;
             emit_branches(alloc, code, branches, guarded)?;
             code.put(Op::Drop)
         }
-        Cmd::Match(word, patterns) => emit_match(alloc, code, word, patterns),
+        Cmd::Match(subject, patterns) => emit_match(alloc, code, subject, patterns),
         Cmd::Define(names, body) => emit_define(alloc, code, names, body),
         Cmd::Undefine(names) => emit_undefine(alloc, code, names),
         Cmd::Brace(body) => emit_cmd(alloc, code, body, guarded),
@@ -140,9 +141,9 @@ fn emit_links(
 ) -> Result<(), AllocError>
     ensures { OnOk result (Writes code.old code.new (links_code (links_tree links.now) guarded)) }
 {
-    for (i, link) in links.iter().enumerate() {
+    for (index, link) in links.iter().enumerate() {
         let place = code.put_later()?;
-        emit_cmd(alloc, code, &link.1, guards(&links[i + 1..], guarded))?;
+        emit_cmd(alloc, code, &link.1, guards(&links[index + 1..], guarded))?;
         let end = code.end();
         code.patch(place, skip(link.0, end));
     }
@@ -186,13 +187,13 @@ fn emit_if_not(
 
 #[cycle(emit)]
 #[tactic(auto, using(crate::proofs::Parts::emitting))]
-fn emit_condition(alloc: Global, code: &mut Listing, test: &Cmd) -> Result<(), AllocError>
-    ensures { OnOk result (Writes code.old code.new (test_code (cmd_tree test.now))) }
+fn emit_condition(alloc: Global, code: &mut Listing, condition: &Cmd) -> Result<(), AllocError>
+    ensures { OnOk result (Writes code.old code.new (test_code (cmd_tree condition.now))) }
 {
-    if has_no_items(test) {
+    if has_no_items(condition) {
         code.put(Op::SetNull)
     } else {
-        emit_cmd(alloc, code, test, true)
+        emit_cmd(alloc, code, condition, true)
     }
 }
 

@@ -1,7 +1,7 @@
 //! What the code of a command depends on besides the code of its parts.
 
 ghost use Rattle.std.specs.Prelude.{◌≡◌};
-ghost use Rattle.rc_model.specs.Syntax.Tree.{is_empty, has_no_items, guards};
+ghost use Rattle.rc_model.specs.Syntax.Tree.{has_no_items, guards};
 ghost use Rattle.rc_model.specs.Code.Layout.{skip_by};
 ghost use Rattle.rc_tree_types.specs.View.{cmd_tree, links_tree};
 ghost use Rattle.rc_code.specs.Views.{op_of};
@@ -25,14 +25,6 @@ pub fn guards(links: &[(Logic, Cmd)], guarded: bool) -> bool
     ensures { result ≡ guards (links_tree links.now) guarded }
 {
     guarded || !links.is_empty()
-}
-
-/// Whether it is the empty command.
-#[tactic(auto, using(rc_tree_types::specs::View::tree_walks))]
-pub fn is_empty(cmd: &Cmd) -> bool
-    ensures { result ≡ is_empty (cmd_tree cmd.now) }
-{
-    matches!(cmd, Cmd::Empty)
 }
 
 /// Whether it is a sequence with no items.

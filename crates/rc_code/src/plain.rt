@@ -121,10 +121,10 @@ pub fn emit_unlocal(code: &mut Listing, bare: bool, count: usize) -> Result<(), 
 }
 
 #[tactic(auto, using(crate::proofs::Parts::emitting))]
-pub fn emit_subject(alloc: Global, code: &mut Listing, word: &Arg) -> Result<(), AllocError>
-    ensures { OnOk result (Writes code.old code.new (subject_code (arg_tree word.now))) }
+pub fn emit_subject(alloc: Global, code: &mut Listing, subject: &Arg) -> Result<(), AllocError>
+    ensures { OnOk result (Writes code.old code.new (subject_code (arg_tree subject.now))) }
 {
-    emit_arg(alloc, code, word)?;
+    emit_arg(alloc, code, subject)?;
     code.put(Op::Subject)
 }
 
@@ -132,12 +132,12 @@ pub fn emit_subject(alloc: Global, code: &mut Listing, word: &Arg) -> Result<(),
 pub fn emit_match(
     alloc: Global,
     code: &mut Listing,
-    word: &Arg,
+    subject: &Arg,
     patterns: &[Arg],
 ) -> Result<(), AllocError>
-    ensures { OnOk result (Writes code.old code.new (match_code (arg_tree word.now) (args_tree patterns.now))) }
+    ensures { OnOk result (Writes code.old code.new (match_code (arg_tree subject.now) (args_tree patterns.now))) }
 {
-    emit_subject(alloc, code, word)?;
+    emit_subject(alloc, code, subject)?;
     emit_list(alloc, code, patterns)?;
     code.put(Op::Match)
 }

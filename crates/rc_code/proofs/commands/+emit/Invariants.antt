@@ -11,9 +11,9 @@ abbrev pub invariant-emit_items-loop-item : goal.invariant-emit_items-loop-item
 invariant-emit_items-loop-item l =
     with_part (listing_of l.code) (items_code (items_tree (drop l.item-index l.items)) l.guarded) ≡ with_part (listing_of l.fn.code) (items_code (items_tree l.items) l.guarded)
 
-abbrev pub invariant-emit_links-loop-i : goal.invariant-emit_links-loop-i
-invariant-emit_links-loop-i l =
-    with_part (listing_of l.code) (links_code (links_tree (drop l.i l.links)) l.guarded) ≡ with_part (listing_of l.fn.code) (links_code (links_tree l.links) l.guarded)
+abbrev pub invariant-emit_links-loop-index : goal.invariant-emit_links-loop-index
+invariant-emit_links-loop-index l =
+    with_part (listing_of l.code) (links_code (links_tree (drop l.index l.links)) l.guarded) ≡ with_part (listing_of l.fn.code) (links_code (links_tree l.links) l.guarded)
 
 abbrev pub invariant-emit_branches-loop-branch : goal.invariant-emit_branches-loop-branch
 invariant-emit_branches-loop-branch l =
