@@ -1,13 +1,14 @@
 -- How each node is spelled, as the program writes it.
-use Rattle.std.proofs.Common.{◌≡◌, refl, ap, ℕ, suc, Bool, List, [], ◌∷◌, ◌++◌, codes, length}
+use Rattle.std.proofs.Common.{◌≡◌, refl, ℕ, Bool, List, [], ◌++◌, codes}
 use Rattle.std.proofs.lemmas.Grind.{common_steps}
 use Rattle.std.specs.Fmt.{decimal}
 use Rattle.rc_model.specs.declared.call.Mode.{Mode}
 use Rattle.rc_model.specs.declared.syntax.Logic.{Logic}
-use Rattle.rc_model.specs.Syntax.Tree.{Sort, Node, Many, none, more, count, nodes}
+use Rattle.rc_model.specs.Syntax.Tree.{Sort, Node, Many, none, more, count}
 use Rattle.rc_model.specs.Syntax.Tree as t
 use Rattle.rc_model.specs.Handed.Image.{node_image, many_image, list_image, text_image, literal_mark, item_mark, logic_mark, opening_mark}
 use Rattle.rc_tree_types.specs.View.{tree_nodes}
+use Rattle.rc_tree_types.proofs.Numbers.{count_nodes}
 
 pub image_Empty : node_image t.Empty ≡ codes "e"
 unfolding node_image
@@ -164,11 +165,6 @@ image_none s = refl
 pub image_more : {s : Sort} (n : Node s) (ns : Many s) → many_image (more n ns) ≡ node_image n ++ many_image ns
 unfolding many_image
 image_more n ns = refl
-
--- as many nodes as there are elements
-pub count_nodes : {X : Type 0} {s : Sort} (f : X → Node s) (xs : List X) → count (nodes f xs) ≡ length xs
-count_nodes f [] = refl
-count_nodes f (x ∷ xs) = ap suc (count_nodes f xs)
 
 pub ruleset spelling = (
   image_Empty,

@@ -38,20 +38,21 @@ fn push_count(out: &mut String, count: usize) -> Result<(), AllocError>
     out.push_str(",")
 }
 
-/// How a word is written.
+/// The mark of a word: a quoted one has another.
 fn literal_mark(quoted: bool) -> &'static str
     ensures { result.now ≡ literal_mark quoted }
 {
     if quoted { "q" } else { "w" }
 }
 
-/// Whether an item runs in the background.
+/// The mark of an item: one that runs in the background has another.
 fn item_mark(background: bool) -> &'static str
     ensures { result.now ≡ item_mark background }
 {
     if background { "&" } else { ";" }
 }
 
+/// The mark of `&&` and that of `||`.
 fn logic_mark(logic: Logic) -> &'static str
     ensures { result.now ≡ logic_mark logic }
 {
@@ -101,13 +102,14 @@ fn push_pieces(out: &mut String, pieces: &[Piece]) -> Result<(), AllocError>
         ++ list_image (count (pieces_tree pieces.now)) (many_image (pieces_tree pieces.now))) }
 {
     push_count(out, pieces.len())?;
-    for x in pieces {
-        push_piece(out, x)?;
+    for piece in pieces {
+        push_piece(out, piece)?;
     }
     Ok(())
 }
 
-/// Writes the spelling of a command after what stands there.
+/// Writes the spelling of a command after what stands there. After an error the text holds part of a spelling, and is
+/// only fit to be dropped.
 #[cycle(spell)]
 #[tactic(auto, using(crate::proofs::Spelling::spelling))]
 pub fn push_spelling(out: &mut String, cmd: &Cmd) -> Result<(), AllocError>
@@ -260,8 +262,8 @@ fn push_args(out: &mut String, args: &[Arg]) -> Result<(), AllocError>
         ++ list_image (count (args_tree args.now)) (many_image (args_tree args.now))) }
 {
     push_count(out, args.len())?;
-    for x in args {
-        push_arg(out, x)?;
+    for arg in args {
+        push_arg(out, arg)?;
     }
     Ok(())
 }
@@ -273,9 +275,9 @@ fn push_items(out: &mut String, items: &[Item]) -> Result<(), AllocError>
         ++ list_image (count (items_tree items.now)) (many_image (items_tree items.now))) }
 {
     push_count(out, items.len())?;
-    for x in items {
-        out.push_str(item_mark(x.background))?;
-        push_spelling(out, &x.cmd)?;
+    for item in items {
+        out.push_str(item_mark(item.background))?;
+        push_spelling(out, &item.cmd)?;
     }
     Ok(())
 }
@@ -287,9 +289,9 @@ fn push_pairs(out: &mut String, pairs: &[(Arg, Arg)]) -> Result<(), AllocError>
         ++ list_image (count (pairs_tree pairs.now)) (many_image (pairs_tree pairs.now))) }
 {
     push_count(out, pairs.len())?;
-    for x in pairs {
-        push_arg(out, &x.0)?;
-        push_arg(out, &x.1)?;
+    for pair in pairs {
+        push_arg(out, &pair.0)?;
+        push_arg(out, &pair.1)?;
     }
     Ok(())
 }
@@ -301,8 +303,8 @@ fn push_redirs(out: &mut String, redirs: &[Redir]) -> Result<(), AllocError>
         ++ list_image (count (redirs_tree redirs.now)) (many_image (redirs_tree redirs.now))) }
 {
     push_count(out, redirs.len())?;
-    for x in redirs {
-        push_redir(out, x)?;
+    for redir in redirs {
+        push_redir(out, redir)?;
     }
     Ok(())
 }
@@ -314,9 +316,9 @@ fn push_stages(out: &mut String, stages: &[Stage]) -> Result<(), AllocError>
         ++ list_image (count (stages_tree stages.now)) (many_image (stages_tree stages.now))) }
 {
     push_count(out, stages.len())?;
-    for x in stages {
-        push_number(out, x.slot as usize)?;
-        push_spelling(out, &x.cmd)?;
+    for stage in stages {
+        push_number(out, stage.slot as usize)?;
+        push_spelling(out, &stage.cmd)?;
     }
     Ok(())
 }
@@ -328,9 +330,9 @@ fn push_links(out: &mut String, links: &[(Logic, Cmd)]) -> Result<(), AllocError
         ++ list_image (count (links_tree links.now)) (many_image (links_tree links.now))) }
 {
     push_count(out, links.len())?;
-    for x in links {
-        out.push_str(logic_mark(x.0))?;
-        push_spelling(out, &x.1)?;
+    for link in links {
+        out.push_str(logic_mark(link.0))?;
+        push_spelling(out, &link.1)?;
     }
     Ok(())
 }
@@ -342,9 +344,9 @@ fn push_branches(out: &mut String, branches: &[Branch]) -> Result<(), AllocError
         ++ list_image (count (branches_tree branches.now)) (many_image (branches_tree branches.now))) }
 {
     push_count(out, branches.len())?;
-    for x in branches {
-        push_args(out, &x.patterns)?;
-        push_spelling(out, &x.body)?;
+    for branch in branches {
+        push_args(out, &branch.patterns)?;
+        push_spelling(out, &branch.body)?;
     }
     Ok(())
 }
