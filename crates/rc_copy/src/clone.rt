@@ -24,16 +24,16 @@ pub fn clone_tree(alloc: Global, cmd: &Cmd) -> Result<Cmd, AllocError>
         Cmd::Assign(pairs, body) => clone_assign(alloc, pairs, body),
         Cmd::Redirect(redirs, body) => clone_redirect(alloc, redirs, body),
         Cmd::Pipeline(stages, last) => clone_pipeline(alloc, stages, last),
-        Cmd::AndOr(first, links) => clone_and_or(alloc, links, first),
+        Cmd::AndOr(first, links) => clone_and_or(alloc, first, links),
         Cmd::Not(body) => Ok(Cmd::Not(clone_box(alloc, body)?)),
         Cmd::Subshell(body) => Ok(Cmd::Subshell(clone_box(alloc, body)?)),
         Cmd::If(condition, body) => clone_if(alloc, condition, body),
         Cmd::IfNot(body) => Ok(Cmd::IfNot(clone_box(alloc, body)?)),
         Cmd::While(condition, body) => clone_while(alloc, condition, body),
         Cmd::ForAll(name, body) => clone_for_all(alloc, name, body),
-        Cmd::For(name, words, body) => clone_for(alloc, words, name, body),
-        Cmd::Switch(subject, branches) => clone_switch(alloc, branches, subject),
-        Cmd::Match(subject, patterns) => clone_match(alloc, patterns, subject),
+        Cmd::For(name, words, body) => clone_for(alloc, name, words, body),
+        Cmd::Switch(subject, branches) => clone_switch(alloc, subject, branches),
+        Cmd::Match(subject, patterns) => clone_match(alloc, subject, patterns),
         Cmd::Define(names, body) => clone_define(alloc, names, body),
         Cmd::Undefine(names) => Ok(Cmd::Undefine(clone_args(alloc, names)?)),
         Cmd::Brace(body) => Ok(Cmd::Brace(clone_box(alloc, body)?)),
@@ -73,7 +73,7 @@ fn clone_pipeline(alloc: Global, stages: &[Stage], last: &Box<Cmd>) -> Result<Cm
 
 #[cycle(clone)]
 #[tactic(auto, using(rc_tree_types::specs::View::tree_AndOr))]
-fn clone_and_or(alloc: Global, links: &[(Logic, Cmd)], first: &Box<Cmd>) -> Result<Cmd, AllocError>
+fn clone_and_or(alloc: Global, first: &Box<Cmd>, links: &[(Logic, Cmd)]) -> Result<Cmd, AllocError>
     ensures { IfOk result (λ copy. cmd_tree copy ≡ t.AndOr (cmd_tree first.now.value) (links_tree links.now)) }
 {
     Ok(Cmd::AndOr(clone_box(alloc, first)?, clone_links(alloc, links)?))
@@ -106,7 +106,7 @@ fn clone_for_all(alloc: Global, name: &Arg, body: &Box<Cmd>) -> Result<Cmd, Allo
 
 #[cycle(clone)]
 #[tactic(auto, using(rc_tree_types::specs::View::tree_For))]
-fn clone_for(alloc: Global, words: &[Arg], name: &Arg, body: &Box<Cmd>) -> Result<Cmd, AllocError>
+fn clone_for(alloc: Global, name: &Arg, words: &[Arg], body: &Box<Cmd>) -> Result<Cmd, AllocError>
     ensures { IfOk result (λ copy. cmd_tree copy
         ≡ t.For (arg_tree name.now) (args_tree words.now) (cmd_tree body.now.value)) }
 {
@@ -117,7 +117,7 @@ fn clone_for(alloc: Global, words: &[Arg], name: &Arg, body: &Box<Cmd>) -> Resul
 
 #[cycle(clone)]
 #[tactic(auto, using(rc_tree_types::specs::View::tree_Switch))]
-fn clone_switch(alloc: Global, branches: &[Branch], subject: &Arg) -> Result<Cmd, AllocError>
+fn clone_switch(alloc: Global, subject: &Arg, branches: &[Branch]) -> Result<Cmd, AllocError>
     ensures { IfOk result (λ copy. cmd_tree copy ≡ t.Switch (arg_tree subject.now) (branches_tree branches.now)) }
 {
     let branches = clone_branches(alloc, branches)?;
@@ -126,7 +126,7 @@ fn clone_switch(alloc: Global, branches: &[Branch], subject: &Arg) -> Result<Cmd
 
 #[cycle(clone)]
 #[tactic(auto, using(rc_tree_types::specs::View::tree_Match))]
-fn clone_match(alloc: Global, patterns: &[Arg], subject: &Arg) -> Result<Cmd, AllocError>
+fn clone_match(alloc: Global, subject: &Arg, patterns: &[Arg]) -> Result<Cmd, AllocError>
     ensures { IfOk result (λ copy. cmd_tree copy ≡ t.Match (arg_tree subject.now) (args_tree patterns.now)) }
 {
     let patterns = clone_args(alloc, patterns)?;

@@ -1,7 +1,9 @@
 use Rattle.std.proofs.Common.{◌≡◌, ◌+◌, ◌*◌, max, take}
+use denote.Param.Weighed.{most}
 use Rattle.rc_tree_types.specs.View.{args_tree, items_tree, pairs_tree, redirs_tree, stages_tree, links_tree, branches_tree}
 use Rattle.rc_tree_types.proofs.Cmd.TheLaws as command
 use Rattle.rc_tree_types.proofs.Arg.TheLaws as argument
+use Rattle.rc_tree_types.proofs.Branch.TheLaws as branch
 use Rattle.rc_copy.proofs.clone.+clone.Given as goal
 
 abbrev pub invariant-clone_args-loop-arg : goal.invariant-clone_args-loop-arg
@@ -35,7 +37,7 @@ abbrev pub decreases-clone_pipeline : goal.decreases-clone_pipeline
 decreases-clone_pipeline l = 3 * (max (goal.size-clone_pipeline l) (command.the_size l.last.now.value)) + 2
 
 abbrev pub decreases-clone_and_or : goal.decreases-clone_and_or
-decreases-clone_and_or l = 3 * (max (goal.size-clone_and_or l) (command.the_size l.first.now.value)) + 2
+decreases-clone_and_or l = 3 * (max (goal.size-clone_and_or l) (most (λ link. max 0 (command.the_size link.1)) l.links.now)) + 2
 
 abbrev pub decreases-clone_if : goal.decreases-clone_if
 decreases-clone_if l = 3 * (max (goal.size-clone_if l) (command.the_size l.body.now.value)) + 2
@@ -48,13 +50,13 @@ decreases-clone_for_all l = 3 * (max (goal.size-clone_for_all l) (command.the_si
 
 abbrev pub decreases-clone_for : goal.decreases-clone_for
 decreases-clone_for l =
-    3 * (max (max (goal.size-clone_for l) (argument.the_size l.name.now)) (command.the_size l.body.now.value)) + 2
+    3 * (max (max (goal.size-clone_for l) (most argument.the_size l.words.now)) (command.the_size l.body.now.value)) + 2
 
 abbrev pub decreases-clone_switch : goal.decreases-clone_switch
-decreases-clone_switch l = 3 * (max (goal.size-clone_switch l) (argument.the_size l.subject.now)) + 2
+decreases-clone_switch l = 3 * (max (goal.size-clone_switch l) (most branch.the_size l.branches.now)) + 2
 
 abbrev pub decreases-clone_match : goal.decreases-clone_match
-decreases-clone_match l = 3 * (max (goal.size-clone_match l) (argument.the_size l.subject.now)) + 2
+decreases-clone_match l = 3 * (max (goal.size-clone_match l) (most argument.the_size l.patterns.now)) + 2
 
 abbrev pub decreases-clone_define : goal.decreases-clone_define
 decreases-clone_define l = 3 * (max (goal.size-clone_define l) (command.the_size l.body.now.value)) + 2
