@@ -19,6 +19,11 @@ marks_of b (c ∷ cs) = ap (λ ms. (c, b) ∷ ms) (marks_of b cs)
 pub marks_added : (b : Bool) (old new : List Ch) (cs : List ℕ) → new ≡ old ++ map (marked_by b) cs → marks new ≡ marks old ++ map (λ c. (c, b)) cs
 marks_added b old new cs h = ap marks h ∙ map-append mark_of old (map (marked_by b) cs) ∙ ap (λ ms. marks old ++ ms) (marks_of b cs)
 
+-- a test of the characters with their marks
+pub list_any_marks : (p : ℕ × Bool → Bool) (chs : List Ch) → list_any p (marks chs) ≡ list_any (λ ch. p (mark_of ch)) chs
+list_any_marks p [] = refl
+list_any_marks p (ch ∷ chs) = ap (λ b. p (mark_of ch) || b) (list_any_marks p chs)
+
 -- what holds of a call that went well
 pub at_ok : {E P : Type 0} {r : Result (Unit {0}) E} {u : Unit {0}} → r ≡ Ok u → OnOk r P → P
 at_ok {P = P} e h = subst (λ r. OnOk r P) e h

@@ -50,10 +50,17 @@ fn has_pattern_char(text: &str) -> bool
 }
 
 /// Whether a character is a marked `*`, `?` or `[`.
-pub fn is_pattern(ch: Ch) -> bool
+fn is_pattern(ch: Ch) -> bool
     ensures { result ≡ is_pattern (mark_of ch) }
 {
     ch.pat && is_pattern_char(ch.c)
+}
+
+/// Whether a marked `*`, `?` or `[` is among the characters.
+pub fn any_pattern(chars: &[Ch]) -> bool
+    ensures { result ≡ has_pattern (marks chars.now) }
+{
+    chars.iter().any(|ch| is_pattern(*ch))
 }
 
 /// Adds the characters of the text, all marked or none.

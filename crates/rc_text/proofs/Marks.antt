@@ -21,10 +21,6 @@ use Rattle.rc_text.specs.declared.words.Letters.TheVariants.{Plain, Marked, Mixe
 use Rattle.rc_text.specs.declared.words.MixedText.{MixedText}
 use Rattle.rc_text.specs.Views.{word_of, AreMarked, HaveMark}
 
-pub list_any_marks : (p : ℕ × Bool → Bool) (chs : List Ch) → list_any p (marks chs) ≡ list_any (λ ch. p (mark_of ch)) chs
-list_any_marks p [] = refl
-list_any_marks p (ch ∷ chs) = ap (λ b. p (mark_of ch) || b) (list_any_marks p chs)
-
 -- what was pushed is there where memory was
 pub pushed : {E A : Type 0} (r : Result (Unit {0}) E) (new more old : A) → new ≡ (if is_ok r then more else old) → OnOk r (new ≡ more)
 pushed (Ok u) new more old h = h

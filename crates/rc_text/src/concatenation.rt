@@ -16,7 +16,7 @@ pub fn concat(alloc: Global, left: &List, right: &List) -> Result<List, InputErr
     concat_words(alloc, left.words(), right.words())
 }
 
-/// The same of the words of two lists.
+/// Words of equal number are joined pairwise. Otherwise the one word of a side goes to each word of the other.
 pub fn concat_words(
     alloc: Global,
     left: &[Word],

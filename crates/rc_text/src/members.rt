@@ -41,7 +41,7 @@ impl<'a> Members<'a> {
 
     /// The next member, which is taken out.
     pub fn next(&mut self) -> Option<&'a str>
-        ensures { MatchOption result (self.old ≡ []) (λ member. self.old ≡ member.now ∷ self.new) }
+        ensures { MatchOption result ((self.old ≡ []) × (self.new ≡ [])) (λ member. self.old ≡ member.now ∷ self.new) }
     {
         let (member, rest) = first_member(self.rest, &self.separators)?;
         self.rest = rest;

@@ -22,7 +22,8 @@ pub fn lossy(alloc: Global, bytes: &[u8]) -> Result<String, AllocError>
     Ok(text)
 }
 
-/// The same, where the bytes are not needed any more: they are not copied where they are a text without a byte 0.
+/// The bytes but those that are 0 as text, with U+FFFD for what is no UTF-8. The bytes are used up: where they are a
+/// text without a byte 0, none is copied.
 #[tactic(auto, using(crate::proofs::Decoding::whole_text))]
 pub fn into_lossy(alloc: Global, bytes: Vec<u8>) -> Result<String, AllocError>
     ensures { IfOk result (λ text. string_bytes text ≡ text_of bytes.items) }

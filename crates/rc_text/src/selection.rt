@@ -52,7 +52,7 @@ fn up_to(value: &[String], last: Option<u32>) -> &[String]
     ensures { map string_bytes result.now ≡ up_to (map string_bytes value.now) last }
 {
     match last {
-        Some(n) if (n as usize) < value.len() => &value[..n as usize],
+        Some(place) if (place as usize) < value.len() => &value[..place as usize],
         Some(_) => value,
         None => &value[..0],
     }
@@ -63,7 +63,7 @@ fn from_place(value: &[String], first: Option<u32>) -> &[String]
     ensures { map string_bytes result.now ≡ from_place (map string_bytes value.now) first }
 {
     match first {
-        Some(n) if 0 < n && n as usize <= value.len() => &value[n as usize - 1..],
+        Some(place) if 0 < place && place as usize <= value.len() => &value[place as usize - 1..],
         _ => &value[..0],
     }
 }

@@ -5,7 +5,7 @@ ghost use Rattle.rc_model.specs.Syntax.Words.{has_pattern, unmarked, word_text, 
 ghost use Rattle.rc_literal.specs.Views.{marks};
 ghost use Rattle.rc_text.specs.Views.{word_of, AreMarked, HaveMark};
 
-use rc_literal::{Ch, Literal, is_pattern, push_text};
+use rc_literal::{Ch, Literal, any_pattern, push_text};
 use std::alloc::{AllocError, Global};
 use std::default::MadeWith;
 use std::marker::Model;
@@ -48,18 +48,17 @@ impl Model for Word {
 }
 
 impl MadeWith<Global> for Word {
+    ghost use Rattle.std.specs.Prelude.{◌≡◌, []};
+
+    ghost is_made_with = { λ w. w ≡ [] };
+
     fn made_with(alloc: Global) -> Word {
         Word::new(alloc)
     }
 }
 
-fn any_pattern(chars: &[Ch]) -> bool
-    ensures { result ≡ has_pattern (marks chars.now) }
-{
-    chars.iter().any(|ch| is_pattern(*ch))
-}
-
-fn joined_text(alloc: Global, left: &str, right: &str) -> Result<String, AllocError>
+/// One text after the other.
+pub fn joined_text(alloc: Global, left: &str, right: &str) -> Result<String, AllocError>
     ensures { IfOk result (λ text. string_bytes text ≡ left.now ++ right.now) }
 {
     let size = left.len().saturating_add(right.len());

@@ -4,8 +4,8 @@ use Rattle.std.proofs.lemmas.Iterator.Search.{any_from_yields_List}
 use borrow.Author.Tests.{tests}
 use Rattle.rc_model.specs.Syntax.Words.{is_pattern}
 use Rattle.rc_literal.specs.Views.{mark_of}
-use Rattle.rc_text.proofs.Marks.{list_any_marks}
-use Rattle.rc_text.proofs.words.any_pattern.Goals as goal
+use Rattle.rc_literal.proofs.Marks.{list_any_marks}
+use Rattle.rc_literal.proofs.any_pattern.Goals as goal
 
 pub returns : goal.returns
 returns c =
