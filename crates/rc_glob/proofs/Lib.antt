@@ -1,4 +1,5 @@
 pub mod Cuts
+pub mod Dots
 pub mod Members
 pub mod Moves
 pub mod Plain

@@ -17,12 +17,12 @@ pub(crate) fn is_marked(ch: Ch, c: char) -> bool
 pub(crate) fn class_end(word: &[Ch]) -> Option<(&[Ch], &[Ch])>
     ensures { parts_of result ≡ class_end (marks word.now) }
 {
-    let mut i = 0;
-    while i < word.len() {
-        if is_marked(word[i], ']') {
-            return Some((&word[..i], &word[i + 1..]));
+    let mut place = 0;
+    while place < word.len() {
+        if is_marked(word[place], ']') {
+            return Some((&word[..place], &word[place + 1..]));
         }
-        i += 1;
+        place += 1;
     }
     None
 }

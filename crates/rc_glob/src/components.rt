@@ -5,7 +5,7 @@ ghost use Rattle.rc_model.specs.Run.FileNames.{components, directory, listed, wa
 ghost use Rattle.rc_literal.specs.Views.{marks};
 ghost use Rattle.rc_glob.specs.Paths.{components_of, paths_from};
 
-use crate::matching::has_pattern;
+use rc_literal::any_pattern;
 use rc_text::Ch;
 use std::alloc::{AllocError, Global};
 
@@ -14,12 +14,12 @@ fn first_component(word: &[Ch]) -> (&[Ch], Option<&[Ch]>)
     ensures cut { components (marks word.now) ≡ marks result.0.now ∷ components_of result.1 }
     ensures shorter { IfSome result.1 (λ rest. length rest.now < length word.now) }
 {
-    let mut i = 0;
-    while i < word.len() {
-        if word[i].c == '/' {
-            return (&word[..i], Some(&word[i + 1..]));
+    let mut place = 0;
+    while place < word.len() {
+        if word[place].c == '/' {
+            return (&word[..place], Some(&word[place + 1..]));
         }
-        i += 1;
+        place += 1;
     }
     (word, None)
 }
@@ -48,7 +48,7 @@ pub(crate) fn advance<'a>(
     let mut rest = word;
     loop {
         let (component, after) = first_component(rest);
-        if has_pattern(component) {
+        if any_pattern(component) {
             return Ok((component, after));
         }
         let Some(more) = after else {
@@ -65,16 +65,6 @@ pub(crate) fn directory(path: &str) -> &str
     ensures { result.now ≡ directory path.now }
 {
     if path.is_empty() { "." } else { path }
-}
-
-pub(crate) fn joined(alloc: Global, path: &str, name: &str) -> Result<String, AllocError>
-    ensures { IfOk result (λ whole. string_bytes whole ≡ path.now ++ name.now) }
-{
-    let size = path.len().saturating_add(name.len());
-    let mut whole = String::with_capacity(alloc, size)?;
-    whole.push_str(path)?;
-    whole.push_str(name)?;
-    Ok(whole)
 }
 
 /// The paths of the names in the directory with this path.

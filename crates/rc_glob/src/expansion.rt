@@ -11,10 +11,10 @@ ghost use Rattle.rc_literal.specs.Views.{marks};
 ghost use Rattle.rc_world.specs.Comes.{Asks, Comes};
 ghost use Rattle.rc_glob.specs.Paths.{expanded_texts, paths_from};
 
-use crate::components::{advance, directory, joined, only, paths_in, push_text};
-use crate::matching::has_pattern;
+use crate::components::{advance, directory, only, paths_in, push_text};
 use crate::names::{fitting_names, ordered};
-use rc_text::{Ch, List, Word};
+use rc_literal::any_pattern;
+use rc_text::{Ch, List, Word, joined_text};
 use rc_world::{Stop, World, calls};
 use std::alloc::Global;
 
@@ -67,7 +67,7 @@ fn walk<W: World>(
     };
     let mut found = Vec::new(alloc);
     for name in &names {
-        let whole = joined(alloc, &path, name)?;
+        let whole = joined_text(alloc, &path, name)?;
         let mut below = walk_on(alloc, world, whole, rest)?;
         found.append(&mut below)?;
     }
@@ -87,7 +87,7 @@ fn walk_on<W: World>(
         (λ paths. Next (map string_bytes paths.items) s) result }
 {
     path.push('/')?;
-    if has_pattern(rest) {
+    if any_pattern(rest) {
         return walk(alloc, world, path, rest);
     }
     push_text(&mut path, rest)?;

@@ -4,12 +4,12 @@ ghost use Rattle.std.specs.List.{list_all, list_any};
 ghost use Rattle.std.specs.Str.{chars};
 ghost use Rattle.rc_model.specs.Run.Patterns.{is_dots, matched, matches, Outside, parts_from, parts_match, stands_for};
 ghost use Rattle.rc_model.specs.Mirrors.Greedy.{after_one, after_star, move};
-ghost use Rattle.rc_model.specs.Syntax.Words.{has_pattern, is_pattern};
-ghost use Rattle.rc_literal.specs.Views.{mark_of, marks};
+ghost use Rattle.rc_literal.specs.Views.{marks};
 ghost use Rattle.rc_glob.specs.Moves.{move_of, LeavesLess};
 ghost use Rattle.rc_glob.specs.Subjects.{is_met};
 
 use crate::classes::{class_end, class_holds};
+use rc_literal::any_pattern;
 use rc_text::{Ch, Word, first_char};
 
 /// What comes next in a match.
@@ -137,38 +137,11 @@ fn fits(whole: &[Ch], text: &str, explicit: bool) -> bool
     }
 }
 
+#[tactic(auto, using(crate::proofs::Dots::dots))]
 fn is_dots(text: &str) -> bool
     ensures { result ≡ is_dots (chars text.now) }
 {
-    let Some((a, one)) = first_char(text) else {
-        return false;
-    };
-    let Some((b, two)) = first_char(one) else {
-        return a == '.';
-    };
-    if first_char(two).is_some() {
-        return false;
-    }
-    a == '.' && b == '.'
-}
-
-fn is_pattern(ch: Ch) -> bool
-    ensures { result ≡ is_pattern (mark_of ch) }
-{
-    ch.pat && matches!(ch.c, '*' | '?' | '[')
-}
-
-fn any_pattern(word: &[Ch]) -> bool
-    ensures { result ≡ list_any (λ ch. is_pattern (mark_of ch)) word.now }
-{
-    word.iter().any(|ch| is_pattern(*ch))
-}
-
-/// Whether a marked `*`, `?` or `[` is among the characters.
-pub(crate) fn has_pattern(word: &[Ch]) -> bool
-    ensures { result ≡ has_pattern (marks word.now) }
-{
-    any_pattern(word)
+    text == "." || text == ".."
 }
 
 /// Whether the characters of a word match the whole text.
@@ -176,7 +149,7 @@ pub(crate) fn has_pattern(word: &[Ch]) -> bool
 pub(crate) fn is_match(word: &[Ch], text: &str, explicit: bool) -> bool
     ensures { result ≡ matches (marks word.now) (chars text.now) explicit }
 {
-    if explicit && has_pattern(word) && is_dots(text) {
+    if explicit && any_pattern(word) && is_dots(text) {
         return false;
     }
     fits(word, text, explicit)

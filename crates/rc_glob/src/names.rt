@@ -1,9 +1,10 @@
 //! The names that a component stands for.
-ghost use Rattle.std.specs.Prelude.{◌≡◌, ◌==◌, ◌||◌, filter, map, string_bytes};
+ghost use Rattle.std.specs.Prelude.{◌≡◌, ◌==◌, ◌||◌, ◌&&◌, not, true, map, string_bytes, Some};
 ghost use Rattle.std.specs.List.{list_any};
-ghost use Rattle.rc_model.specs.Run.FileNames.{is_no_name, ordered};
+ghost use Rattle.std.specs.Str.{chars};
+ghost use Rattle.rc_model.specs.Run.Patterns.{matches};
+ghost use Rattle.rc_model.specs.Run.FileNames.{fitting_names, is_no_name, ordered};
 ghost use Rattle.rc_literal.specs.Views.{marks};
-ghost use Rattle.rc_glob.specs.Names.{is_fitting};
 
 use crate::matching::is_match;
 use rc_text::Ch;
@@ -22,7 +23,7 @@ fn is_no_name(name: &str) -> bool
 }
 
 fn is_fitting(component: &[Ch], name: &str) -> bool
-    ensures { result ≡ is_fitting (marks component.now) name.now }
+    ensures { result ≡ (not (is_no_name name.now) && matches (marks component.now) (chars name.now) true) }
 {
     !is_no_name(name) && is_match(component, name, true)
 }
@@ -30,7 +31,7 @@ fn is_fitting(component: &[Ch], name: &str) -> bool
 /// The names that the component stands for, in byte order and each once.
 pub(crate) fn fitting_names(component: &[Ch], mut names: Vec<String>) -> Vec<String>
     ensures { map string_bytes result.items
-        ≡ ordered (filter (is_fitting (marks component.now)) (map string_bytes names.items)) }
+        ≡ fitting_names (marks component.now) (Some (map string_bytes names.items)) }
 {
     names.retain(|name| is_fitting(component, name));
     ordered(names)

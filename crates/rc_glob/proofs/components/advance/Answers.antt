@@ -4,16 +4,16 @@ use Rattle.rc_glob.specs.Paths.{components_of}
 use Rattle.rc_glob.proofs.Cuts.{further, further_has, here, nowhere, shorter_at, with_slash}
 use Rattle.rc_glob.proofs.components.advance.Goals as goal
 
-pub returns-then-has_pattern-clause-goes_on : goal.returns-then-has_pattern-clause-goes_on
-returns-then-has_pattern-clause-goes_on c =
+pub returns-then-any_pattern-clause-goes_on : goal.returns-then-any_pattern-clause-goes_on
+returns-then-any_pattern-clause-goes_on c =
     c.loop-after.invariant.same
-    ∙ here (marks c.loop-after.rest.now) (marks c.first_component.result.0.now) (components_of c.first_component.result.1) (string_bytes c.loop-after.path) c.has_pattern.result
-    c.first_component.ensures.cut c.has_pattern.ensures c.if-has_pattern.true
+    ∙ here (marks c.loop-after.rest.now) (marks c.first_component.result.0.now) (components_of c.first_component.result.1) (string_bytes c.loop-after.path) c.any_pattern.result
+    c.first_component.ensures.cut c.any_pattern.ensures c.if-any_pattern.true
 
 pub returns-in_default-clause-goes_on : goal.returns-in_default-clause-goes_on
 returns-in_default-clause-goes_on c =
-    nowhere (marks c.loop-after.rest.now) (marks c.first_component.result.0.now) (components_of c.first_component.result.1) c.has_pattern.result
-    c.first_component.ensures.cut (ap components_of c.in_default.is) c.has_pattern.ensures c.if-has_pattern.false c.loop-after.invariant.pattern
+    nowhere (marks c.loop-after.rest.now) (marks c.first_component.result.0.now) (components_of c.first_component.result.1) c.any_pattern.result
+    c.first_component.ensures.cut (ap components_of c.in_default.is) c.any_pattern.ensures c.if-any_pattern.false c.loop-after.invariant.pattern
 
 pub loop-after-preserved : goal.loop-after-preserved
 loop-after-preserved c =
@@ -22,11 +22,11 @@ loop-after-preserved c =
       same =
           c.loop-after.invariant.same
           ∙ further (marks c.loop-after.rest.now) (marks c.first_component.result.0.now) (components_of c.first_component.result.1) (marks c.in-Some.more.now) (string_bytes c.loop-after.path)
-          (string_bytes c.push_text.new.path) (string_bytes c.push.new.self) c.has_pattern.result
-          c.first_component.ensures.cut (ap components_of c.in-Some.is) c.has_pattern.ensures c.if-has_pattern.false c.loop-after.invariant.pattern
+          (string_bytes c.push_text.new.path) (string_bytes c.push.new.self) c.any_pattern.result
+          c.first_component.ensures.cut (ap components_of c.in-Some.is) c.any_pattern.ensures c.if-any_pattern.false c.loop-after.invariant.pattern
           c.in_ok-push_text.ensures (with_slash _ _ c.in_ok-push.ensures.bytes);
       pattern =
-          further_has (marks c.loop-after.rest.now) (marks c.first_component.result.0.now) (components_of c.first_component.result.1) (marks c.in-Some.more.now) c.has_pattern.result
-          c.first_component.ensures.cut (ap components_of c.in-Some.is) c.has_pattern.ensures c.if-has_pattern.false c.loop-after.invariant.pattern;
+          further_has (marks c.loop-after.rest.now) (marks c.first_component.result.0.now) (components_of c.first_component.result.1) (marks c.in-Some.more.now) c.any_pattern.result
+          c.first_component.ensures.cut (ap components_of c.in-Some.is) c.any_pattern.ensures c.if-any_pattern.false c.loop-after.invariant.pattern;
       shorter = omega arith;
     }

@@ -72,10 +72,10 @@ walk-returns g t c = λ s.
 pub walk_on-returns-in_err-push : goal.walk_on-returns-in_err-push
 walk_on-returns-in_err-push g t c = λ s. passed_up _ _ _ _ c.from_residual.result NoMemory c.from_residual.ensures.1 (left_memory _ _)
 
-pub walk_on-returns-then-has_pattern : goal.walk_on-returns-then-has_pattern
-walk_on-returns-then-has_pattern g t c = λ s.
+pub walk_on-returns-then-any_pattern : goal.walk_on-returns-then-any_pattern
+walk_on-returns-then-any_pattern g t c = λ s.
     comes_as _ _ _ _ _ _
-    (ap (λ m. m s) (on_pattern (marks c.args.rest.now) (string_bytes c.args.path) (string_bytes c.push.new.self) c.has_pattern.result c.has_pattern.ensures c.if-has_pattern.true
+    (ap (λ m. m s) (on_pattern (marks c.args.rest.now) (string_bytes c.args.path) (string_bytes c.push.new.self) c.any_pattern.result c.any_pattern.ensures c.if-any_pattern.true
     (with_slash _ _ c.in_ok-push.ensures.bytes))) (c.walk.ensures s)
 
 pub walk_on-returns-in_err-push_text : goal.walk_on-returns-in_err-push_text
@@ -84,5 +84,5 @@ walk_on-returns-in_err-push_text g t c = λ s. passed_up _ _ _ _ c.from_residual
 pub walk_on-returns : goal.walk_on-returns
 walk_on-returns g t c = λ s.
     comes_as _ _ _ _ _ _
-    (ap (λ m. m s) (on_plain (marks c.args.rest.now) (string_bytes c.args.path) (string_bytes c.push.new.self) (string_bytes c.push_text.new.path) c.has_pattern.result c.has_pattern.ensures c.if-has_pattern.false
+    (ap (λ m. m s) (on_plain (marks c.args.rest.now) (string_bytes c.args.path) (string_bytes c.push.new.self) (string_bytes c.push_text.new.path) c.any_pattern.result c.any_pattern.ensures c.if-any_pattern.false
     (with_slash _ _ c.in_ok-push.ensures.bytes) c.in_ok-push_text.ensures)) (c.if_there.ensures s)
