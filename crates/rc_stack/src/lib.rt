@@ -40,7 +40,8 @@ impl<T: Drop> Stack<T> {
 
     /// The empty list comes on top.
     pub fn begin(&mut self) -> Result<(), AllocError>
-        ensures { OnOk result (self.new ≡ [] ∷ self.old) }
+        ensures ok { OnOk result (self.new ≡ [] ∷ self.old) }
+        ensures err { OnErr result (self.new ≡ self.old) }
     {
         self.starts.push(self.items.len())?;
         Ok(())
@@ -48,7 +49,8 @@ impl<T: Drop> Stack<T> {
 
     /// Adds an element to the list on top, where there is one.
     pub fn push(&mut self, item: T) -> Result<(), AllocError>
-        ensures { OnOk result (Extends self.old self.new (item ∷ [])) }
+        ensures ok { OnOk result (Extends self.old self.new (item ∷ [])) }
+        ensures err { OnErr result (self.new ≡ self.old) }
     {
         self.items.push(item)?;
         Ok(())
@@ -63,11 +65,15 @@ impl<T: Drop> Stack<T> {
 
     /// A list comes on top.
     pub fn put(&mut self, mut list: Vec<T>) -> Result<(), AllocError>
-        ensures { OnOk result (self.new ≡ list.items ∷ self.old) }
+        ensures ok { OnOk result (self.new ≡ list.items ∷ self.old) }
+        ensures err { OnErr result (self.new ≡ self.old) }
     {
         let start = self.items.len();
+        // Room comes first, so that the stack is unchanged where memory is refused.
+        self.starts.reserve(1)?;
+        self.items.append(&mut list)?;
         self.starts.push(start)?;
-        self.items.append(&mut list)
+        Ok(())
     }
 
     /// Adds the two lists on top to one, and says whether there were two.
