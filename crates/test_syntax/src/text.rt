@@ -1,6 +1,6 @@
-//! A text in quotes, and lists that are joined, where memory is refused.
+//! A text in quotes, lists that are joined, and texts that are split, where memory is refused.
 
-use rc_text::{InputError, List, Word, concat, count, quote};
+use rc_text::{InputError, List, Word, concat, count, quote, split};
 use std::alloc::{AllocError, Global};
 use std::test::Fail;
 
@@ -43,5 +43,22 @@ fn out_of_memory_among_lists_is_reported(rt: HostRuntime) -> Result<(), Fail> {
     let (number, last) = joined(alloc, &List::new(alloc), &List::new(alloc))?;
     assert_eq!(rt; number, 0);
     assert_eq!(rt; last.as_str(), "");
+    Ok(())
+}
+
+#[test]
+fn texts_are_split_at_separators(rt: HostRuntime) -> Result<(), Fail> {
+    let alloc = rt.alloc();
+    let members = split(alloc, "\ta b\n", " \t\n")?;
+    let [first, second] = members.as_slice() else {
+        return Err(Fail::from("two members"));
+    };
+    assert_eq!(rt; first.as_str(), "a");
+    assert_eq!(rt; second.as_str(), "b");
+    let members = split(alloc, "a b", "")?;
+    let [only] = members.as_slice() else {
+        return Err(Fail::from("one member"));
+    };
+    assert_eq!(rt; only.as_str(), "a b");
     Ok(())
 }
