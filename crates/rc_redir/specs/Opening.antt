@@ -1,5 +1,5 @@
 -- How a redirection that opens a file ends.
-use Rattle.std.specs.Prelude.{◌≡◌, ℕ, List, ◌++◌, Option, Some, Result, Ok, Err, codes, string_bytes}
+use Rattle.std.specs.Prelude.{◌≡◌, ◌⊎◌, ℕ, List, ◌++◌, Option, Some, Result, Ok, Err, codes, string_bytes}
 use Rattle.rc_model.specs.Run.Calls.{Call, Event, here, as_file, to_file, with_slot}
 use Rattle.rc_model.specs.declared.call.Slots.{Slots}
 use Rattle.rc_model.specs.Run.Plans.{done_with, Ran}
@@ -10,6 +10,7 @@ use Rattle.rc_world.specs.Comes.{Left}
 use Rattle.rc_redir.specs.Redirections.{Redirections, redirected}
 use Rattle.rc_redir.specs.declared.RedirError.{RedirError}
 use Rattle.rc_redir.specs.declared.RedirError.TheVariants.{NotOneWord, CannotOpen, Stopped}
+use Rattle.rc_world.specs.declared.types.Stop.TheVariants.{NoMemory}
 
 -- a call that opens what has this name
 abbrev pub open_by : Call → Slots → (name : List ℕ) → Shell ℕ
@@ -36,3 +37,11 @@ Opens before after old new slot act (Err NotOneWord) =
 Opens before after old new slot act (Err (CannotOpen name)) =
     (s : State) → Ran before after (act s) (fails old.slots (codes "cannot open " ++ string_bytes name) s)
 Opens before after old new slot act (Err (Stopped stop)) = (s : State) → Left before after (act s) stop
+
+-- where memory was refused, no file is held: no call was made, or the act came to a runtime error,
+-- so that its call was refused
+abbrev pub HoldsNothing : (before after : Option (List Event)) → Slots → Shell ℕ →
+    Result (Unit {0}) RedirError → Type 0
+HoldsNothing before after slots act (Err (Stopped NoMemory)) =
+    (after ≡ before) ⊎ ((text : List ℕ) × ((s : State) → Ran before after (act s) (fails slots text s)))
+HoldsNothing before after slots act _ = Unit {0}

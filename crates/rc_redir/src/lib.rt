@@ -7,9 +7,9 @@ ghost use Rattle.std.specs.Option.{MatchOption};
 ghost use Rattle.rc_model.specs.Run.Calls.{slot_of, with_slot, to_file};
 ghost use Rattle.rc_model.specs.Run.Plans.{done_with};
 ghost use Rattle.rc_model.specs.Run.Acts.{open_one, closing, from_pipe};
-ghost use Rattle.rc_world.specs.Comes.{Comes};
+ghost use Rattle.rc_world.specs.Comes.{Comes, unless_refused};
 
-use rc_world::{Handle, Mode, Slot, Slots, Stop, World, calls};
+use rc_world::{Fault, Handle, Mode, Slot, Slots, Stop, World, calls};
 use std::alloc::{AllocError, Global};
 use std::marker::Model;
 
@@ -100,6 +100,19 @@ fn slot_of(slots: Slots, number: u8) -> Slot
     }
 }
 
+/// The file that a call gave, and `None` where the call was refused. Unlike those of `calls`, the answer tells that no
+/// call was made where memory was refused.
+fn unless_refused(answer: Result<Handle, Fault>) -> Result<Option<Handle>, Stop>
+    ensures { result ≡ unless_refused answer }
+{
+    match answer {
+        Ok(file) => Ok(Some(file)),
+        Err(Fault::Halt) => Err(Stop::Halt),
+        Err(Fault::NoMemory) => Err(Stop::NoMemory),
+        Err(_) => Ok(None),
+    }
+}
+
 /// Adds a redirection, for which there is room.
 fn push_within(redirections: &mut Vec<Redirection>, redirection: Redirection)
     requires { vec_len redirections.old < vec_capacity redirections.old }
@@ -133,7 +146,7 @@ fn close_file<W: World>(world: &mut W, file: Option<Handle>) -> Result<(), Stop>
 
 impl RedirStack {
     ghost use Rattle.rc_redir.specs.Redirections.{unredirected, redirected, newest_file, without_newest};
-    ghost use Rattle.rc_redir.specs.Opening.{Opens, open_text};
+    ghost use Rattle.rc_redir.specs.Opening.{HoldsNothing, Opens, open_text};
 
     /// These descriptors, and no redirections.
     pub fn new(alloc: Global, slots: Slots) -> RedirStack
@@ -164,13 +177,15 @@ impl RedirStack {
         ensures opened { let names = map string_bytes words.now in
             Opens (W.events world.old) (W.events world.new) self.old self.new slot
             (open_one self.old.slots mode names) result }
+        ensures held { HoldsNothing (W.events world.old) (W.events world.new) self.old.slots
+            (open_one self.old.slots mode (map string_bytes words.now)) result }
         ensures err { OnErr result (self.new ≡ self.old) }
     {
         let [name] = words else {
             return Err(RedirError::NotOneWord);
         };
         self.redirections.try_reserve(1)?;
-        let Some(file) = calls::open(world, name, mode)? else {
+        let Some(file) = unless_refused(world.open(name, mode))? else {
             return Err(RedirError::CannotOpen(name.clone()?));
         };
         let redirection = Redirection {
@@ -186,10 +201,12 @@ impl RedirStack {
     pub fn push_here<W: World>(&mut self, world: &mut W, text: &str) -> Result<(), RedirError>
         ensures opened { Opens (W.events world.old) (W.events world.new) self.old self.new 0
             (open_text self.old.slots text.now) result }
+        ensures held { HoldsNothing (W.events world.old) (W.events world.new) self.old.slots
+            (open_text self.old.slots text.now) result }
         ensures err { OnErr result (self.new ≡ self.old) }
     {
         self.redirections.try_reserve(1)?;
-        let Some(file) = calls::here(world, text)? else {
+        let Some(file) = unless_refused(world.here(text))? else {
             let name = String::from_str(*self.redirections.allocator(), "here document")?;
             return Err(RedirError::CannotOpen(name));
         };
