@@ -53,10 +53,6 @@ pub remove_function : (q : List ℕ) (es : List (String Global × Function)) →
 remove_function q [] = refl
 remove_function q (e ∷ es) = if_removed _ _ e es _ _ (is_eq-slice_cmp q (string_bytes e.0)) (remove_function q es)
 
-pub length_functions : (es : List (String Global × Function)) → length (map function_of es) ≡ length es
-length_functions [] = refl
-length_functions (e ∷ es) = ap suc (length_functions es)
-
 -- one name more
 pub name_on : (w all : List (List ℕ)) (e : String Global × Function) (es : List (String Global × Function)) → w ++ map (λ f. f.0) (functions_of (e ∷ es)) ≡ all → (w ++ string_bytes e.0 ∷ []) ++ map (λ f. f.0) (functions_of es) ≡ all
 name_on w all e es h = append_assoc w (string_bytes e.0 ∷ []) (map (λ f. f.0) (functions_of es)) ∙ h

@@ -1,4 +1,4 @@
-//! The names of variables.
+//! The names of variables and of functions.
 
 ghost use Rattle.std.specs.Prelude.{◌≡◌};
 ghost use Rattle.std.specs.List.{list_all, list_any};
@@ -40,7 +40,7 @@ pub fn has_digits(text: &str) -> bool
     text.as_bytes().iter().all(|byte| byte.is_ascii_digit())
 }
 
-/// Whether the text names a variable.
+/// Whether the text can be the name of a variable.
 pub fn is_name(text: &str) -> bool
     ensures { result ≡ is_name text.now }
 {
@@ -48,23 +48,24 @@ pub fn is_name(text: &str) -> bool
 }
 
 /// Whether a byte can't stand in the name of a function.
-fn is_sign(byte: u8) -> bool
+fn is_forbidden(byte: u8) -> bool
     ensures { result ≡ ((byte == 61) || (byte == 0)) }
 {
     byte == b'=' || byte == 0
 }
 
-fn has_sign(text: &str) -> bool
+/// Whether the text has such a byte.
+fn has_forbidden(text: &str) -> bool
     ensures { result ≡ list_any (λ c. (c == 61) || (c == 0)) text.now }
 {
-    text.as_bytes().iter().any(|byte| is_sign(*byte))
+    text.as_bytes().iter().any(|byte| is_forbidden(*byte))
 }
 
-/// Whether the text names a function.
+/// Whether the text can be the name of a function.
 pub fn is_function_name(text: &str) -> bool
     ensures { result ≡ is_function_name text.now }
 {
-    !text.is_empty() && !has_sign(text)
+    !text.is_empty() && !has_forbidden(text)
 }
 
 /// Whether the name is that of the status, which is no variable.

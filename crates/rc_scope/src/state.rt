@@ -1,6 +1,6 @@
 //! The state of a shell.
 
-ghost use Rattle.std.specs.Prelude.{◌≡◌, ◌↔◌, ◌∷◌, [], IfOk, OnOk, OnErr, false, not, length, ◌==◌, map};
+ghost use Rattle.std.specs.Prelude.{◌≡◌, ◌↔◌, ◌∷◌, [], IfOk, OnOk, OnErr, false, map};
 ghost use Rattle.std.specs.Prelude.{string_bytes, option_map, codes, drop};
 ghost use Rattle.std.specs.Option.{option_copied};
 ghost use Rattle.std.specs.Result.{IsErrOf};
@@ -260,14 +260,6 @@ impl State {
         ensures { IfOk result (λ names. map string_bytes names.items ≡ map (λ f. f.0) (state_of self.now).functions) }
     {
         names(*self.status.allocator(), &self.functions)
-    }
-
-    /// Whether there are functions.
-    #[tactic(auto, using(crate::proofs::Bodies::length_functions), unfolding(crate::specs::States::state_of))]
-    pub fn has_functions(&self) -> bool
-        ensures { result ≡ not (length (state_of self.now).functions == 0) }
-    {
-        !self.functions.is_empty()
     }
 
     /// What the last command left: empty for the null status.

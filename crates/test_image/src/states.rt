@@ -39,9 +39,6 @@ fn add_values(out: &mut String, state: &State) -> Result<(), AllocError> {
 /// Adds a state.
 fn add_state(alloc: Global, out: &mut String, state: &State) -> Result<(), RowError> {
     add_values(out, state)?;
-    if !state.has_functions() {
-        return Ok(());
-    }
     for name in &state.functions()? {
         if let Some(body) = state.function(name) {
             add_tree(alloc, out, name, body)?;
