@@ -14,7 +14,8 @@ ghost use Rattle.rc_configuration.specs.Outcomes.{Leads, Steps};
 use crate::scopes::end_local;
 use rc_code::Code;
 use rc_configuration::{Configuration, Frame, Move, Scope, texts};
-use rc_scope::{SetError, State};
+use rc_model::InputError;
+use rc_scope::{NameFault, State};
 use rc_tree_types::Cmd;
 use rc_world::{Stop, World};
 use std::alloc::{AllocError, Global};
@@ -29,8 +30,8 @@ fn define_each(state: &mut State, names: &[String], body: &Rc<Cmd>) -> Result<bo
     for name in names {
         match state.define_shared(name, body) {
             Ok(()) => {}
-            Err(SetError::BadName) => return Ok(false),
-            Err(SetError::NoMemory) => return Err(AllocError),
+            Err(InputError::Fault(NameFault::BadName)) => return Ok(false),
+            Err(InputError::NoMemory) => return Err(AllocError),
         }
     }
     Ok(true)

@@ -10,7 +10,8 @@ ghost use Rattle.rc_image.specs.Entries.{function_in, is_ignored, values_state, 
 
 use crate::entries::{cut_entry, function_entry, members};
 use crate::{ImageError, read_tree};
-use rc_scope::{SetError, State};
+use rc_model::InputError;
+use rc_scope::{NameFault, State};
 use rc_tree::Cmd;
 use std::alloc::{AllocError, Global};
 
@@ -29,8 +30,8 @@ pub fn set_value(state: &mut State, name: &str, value: Vec<String>) -> Result<()
         else state_of state.old)) }
 {
     match state.set(name, value) {
-        Err(SetError::NoMemory) => Err(AllocError),
-        Ok(()) | Err(SetError::BadName) => Ok(()),
+        Err(InputError::NoMemory) => Err(AllocError),
+        Ok(()) | Err(InputError::Fault(NameFault::BadName)) => Ok(()),
     }
 }
 
@@ -68,8 +69,8 @@ fn define(state: &mut State, name: &str, body: Cmd) -> Result<(), AllocError>
         else state_of state.old)) }
 {
     match state.define(name, body) {
-        Err(SetError::NoMemory) => Err(AllocError),
-        Ok(()) | Err(SetError::BadName) => Ok(()),
+        Err(InputError::NoMemory) => Err(AllocError),
+        Ok(()) | Err(InputError::Fault(NameFault::BadName)) => Ok(()),
     }
 }
 

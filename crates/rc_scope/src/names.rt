@@ -1,12 +1,43 @@
 //! The names of variables and of functions.
 
-ghost use Rattle.std.specs.Prelude.{◌≡◌};
+ghost use Rattle.std.specs.Prelude.{◌≡◌, Some, codes};
 ghost use Rattle.std.specs.List.{list_all, list_any};
 ghost use Rattle.rc_model.specs.Run.Numbers.{is_digit};
 ghost use Rattle.rc_model.specs.Run.State.{is_name, is_readable, is_function_name, status_name};
 ghost use Rattle.std.specs.Str.{bytes_eq};
 ghost use Rattle.std.specs.Prelude.{◌||◌, ◌==◌};
 ghost use Rattle.rc_model.specs.Syntax.Tokens.{is_name_char};
+
+use std::{error, fmt};
+
+/// What is wrong with a name.
+#[derive(Clone, Copy, Debug)]
+pub enum NameFault {
+    /// A variable's name is not empty, of ASCII letters, digits, `_` and `*`, and not all digits. A function's is not
+    /// empty, without `=` and byte 0.
+    BadName,
+}
+
+impl NameFault {
+    /// The fault in words, as a shell reports it.
+    pub fn words(self) -> &'static str
+        ensures { result.now ≡ codes "bad name" }
+    {
+        match self {
+            NameFault::BadName => "bad name",
+        }
+    }
+}
+
+impl fmt::Display for NameFault {
+    ghost output = { λ _. Some (codes "bad name") };
+
+    fn fmt<W: fmt::Write>(&self, f: &mut fmt::Formatter<W>) -> fmt::Result {
+        f.write_str(self.words())
+    }
+}
+
+impl error::Error for NameFault {}
 
 /// Whether the byte is a letter, a digit, `_` or `*`.
 fn is_name_byte(byte: u8) -> bool

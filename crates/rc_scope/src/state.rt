@@ -15,48 +15,16 @@ ghost use Rattle.rc_scope.specs.States.{child_numbers};
 
 use crate::children::place_of;
 use crate::functions::{Function, names};
-use crate::names::{is_function_name, is_name, is_status};
+use crate::names::{NameFault, is_function_name, is_name, is_status};
 use crate::texts::{copy_texts, join};
 use crate::variables::{Binding, Variables};
 use rc_code::Code;
-use rc_model::ChildNo;
+use rc_model::{ChildNo, InputError};
 use rc_tree_types::Cmd;
-use std::alloc::{AllocError, AllocFailed, Global};
+use std::alloc::{AllocError, Global};
 use std::collections::BTreeMap;
 use std::rc::Rc;
 use std::slice::from_ref;
-use thiserror::Error;
-
-/// Why an assignment or a definition was refused.
-#[derive(Debug, Drop, Error)]
-pub enum SetError {
-    /// A variable's name is not empty, of ASCII letters, digits, `_` and `*`, and not all digits. A function's is not
-    /// empty, without `=` and byte 0.
-    #[error("bad name")]
-    BadName,
-    #[error("no memory")]
-    NoMemory,
-}
-
-impl From<AllocError> for SetError {
-    ghost use Rattle.rc_scope.specs.declared.state.SetError.TheVariants.{NoMemory};
-
-    ghost from_gives = { λ _ e. e ≡ NoMemory };
-
-    fn from(_: AllocError) -> Self {
-        SetError::NoMemory
-    }
-}
-
-impl<T: Drop> From<AllocFailed<T>> for SetError {
-    ghost use Rattle.rc_scope.specs.declared.state.SetError.TheVariants.{NoMemory};
-
-    ghost from_gives = { λ _ e. e ≡ NoMemory };
-
-    fn from(_: AllocFailed<T>) -> Self {
-        SetError::NoMemory
-    }
-}
 
 /// The variables of a shell with its open locals, its functions, its status and its children in the background.
 #[derive(Drop)]
@@ -107,14 +75,14 @@ impl State {
 
     /// Assigns to a variable. An `Err` changes nothing.
     #[tactic(auto, unfolding(crate::specs::States::state_of))]
-    pub fn set(&mut self, name: &str, value: Vec<String>) -> Result<(), SetError>
+    pub fn set(&mut self, name: &str, value: Vec<String>) -> Result<(), InputError<NameFault>>
         ensures ok { OnOk result (state_of self.new
             ≡ set_value (state_of self.old) name.now (map string_bytes value.items)) }
-        ensures bad_name { IsErrOf result SetError.BadName ↔ (is_name name.now ≡ false) }
+        ensures bad_name { IsErrOf result (InputError.Fault NameFault.BadName) ↔ (is_name name.now ≡ false) }
         ensures err { OnErr result (state_of self.new ≡ state_of self.old) }
     {
         if !is_name(name) {
-            return Err(SetError::BadName);
+            return Err(InputError::Fault(NameFault::BadName));
         }
         let alloc = *self.status.allocator();
         if is_status(name) {
@@ -138,14 +106,18 @@ impl State {
 
     /// Opens a local with this value; one of the status sets it. An `Err` changes nothing.
     #[tactic(auto, unfolding(crate::specs::States::state_of))]
-    pub fn push_local(&mut self, name: &str, value: Vec<String>) -> Result<(), SetError>
+    pub fn push_local(
+        &mut self,
+        name: &str,
+        value: Vec<String>,
+    ) -> Result<(), InputError<NameFault>>
         ensures ok { OnOk result (state_of self.new
             ≡ push_local (state_of self.old) name.now (map string_bytes value.items)) }
-        ensures bad_name { IsErrOf result SetError.BadName ↔ (is_name name.now ≡ false) }
+        ensures bad_name { IsErrOf result (InputError.Fault NameFault.BadName) ↔ (is_name name.now ≡ false) }
         ensures err { OnErr result (state_of self.new ≡ state_of self.old) }
     {
         if !is_name(name) {
-            return Err(SetError::BadName);
+            return Err(InputError::Fault(NameFault::BadName));
         }
         let alloc = *self.status.allocator();
         if is_status(name) {
@@ -184,13 +156,13 @@ impl State {
 
     /// Defines a function. An `Err` changes nothing.
     #[tactic(auto, using(crate::proofs::Bodies::bodies), unfolding(crate::specs::States::state_of))]
-    pub fn define(&mut self, name: &str, body: Cmd) -> Result<(), SetError>
+    pub fn define(&mut self, name: &str, body: Cmd) -> Result<(), InputError<NameFault>>
         ensures ok { OnOk result (state_of self.new ≡ define (state_of self.old) name.now (cmd_tree body)) }
-        ensures bad_name { IsErrOf result SetError.BadName ↔ (is_function_name name.now ≡ false) }
+        ensures bad_name { IsErrOf result (InputError.Fault NameFault.BadName) ↔ (is_function_name name.now ≡ false) }
         ensures err { OnErr result (state_of self.new ≡ state_of self.old) }
     {
         if !is_function_name(name) {
-            return Err(SetError::BadName);
+            return Err(InputError::Fault(NameFault::BadName));
         }
         let body = Rc::new(*self.status.allocator(), body)?;
         self.insert_function(name, body)?;
@@ -199,13 +171,13 @@ impl State {
 
     /// Defines a function by a body that others have, too. An `Err` changes nothing.
     #[tactic(auto, using(crate::proofs::Bodies::bodies), unfolding(crate::specs::States::state_of))]
-    pub fn define_shared(&mut self, name: &str, body: &Rc<Cmd>) -> Result<(), SetError>
+    pub fn define_shared(&mut self, name: &str, body: &Rc<Cmd>) -> Result<(), InputError<NameFault>>
         ensures ok { OnOk result (state_of self.new ≡ define (state_of self.old) name.now (cmd_tree body.now.value)) }
-        ensures bad_name { IsErrOf result SetError.BadName ↔ (is_function_name name.now ≡ false) }
+        ensures bad_name { IsErrOf result (InputError.Fault NameFault.BadName) ↔ (is_function_name name.now ≡ false) }
         ensures err { OnErr result (state_of self.new ≡ state_of self.old) }
     {
         if !is_function_name(name) {
-            return Err(SetError::BadName);
+            return Err(InputError::Fault(NameFault::BadName));
         }
         self.insert_function(name, body.clone()?)?;
         Ok(())

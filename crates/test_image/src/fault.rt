@@ -1,7 +1,7 @@
 //! Why nothing comes of a row.
 
 use rc_image::{ImageError, ImageFault, InputError};
-use rc_scope::SetError;
+use rc_scope::NameFault;
 use std::alloc::{AllocError, AllocFailed};
 
 /// Why nothing comes of a row.
@@ -34,11 +34,11 @@ impl<T: Drop> From<AllocFailed<T>> for RowError {
     }
 }
 
-impl From<SetError> for RowError {
-    fn from(error: SetError) -> Self {
+impl From<InputError<NameFault>> for RowError {
+    fn from(error: InputError<NameFault>) -> Self {
         match error {
-            SetError::BadName => RowError::BadRow,
-            SetError::NoMemory => RowError::NoMemory,
+            InputError::Fault(NameFault::BadName) => RowError::BadRow,
+            InputError::NoMemory => RowError::NoMemory,
         }
     }
 }

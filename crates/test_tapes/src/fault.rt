@@ -1,7 +1,7 @@
 //! Why nothing comes of a row.
 
-use rc_model::InputError;
-use rc_scope::SetError;
+use rc_model::{ImageFault, InputError, SyntaxFault};
+use rc_scope::NameFault;
 use std::alloc::{AllocError, AllocFailed};
 use std::num::ParseIntError;
 
@@ -33,17 +33,26 @@ impl From<ParseIntError> for RowError {
     }
 }
 
-impl From<SetError> for RowError {
-    fn from(error: SetError) -> Self {
+impl From<InputError<NameFault>> for RowError {
+    fn from(error: InputError<NameFault>) -> Self {
         match error {
-            SetError::BadName => RowError::BadRow,
-            SetError::NoMemory => RowError::NoMemory,
+            InputError::Fault(NameFault::BadName) => RowError::BadRow,
+            InputError::NoMemory => RowError::NoMemory,
         }
     }
 }
 
-impl<F: Drop> From<InputError<F>> for RowError {
-    fn from(error: InputError<F>) -> Self {
+impl From<InputError<SyntaxFault>> for RowError {
+    fn from(error: InputError<SyntaxFault>) -> Self {
+        match error {
+            InputError::Fault(_) => RowError::Refused,
+            InputError::NoMemory => RowError::NoMemory,
+        }
+    }
+}
+
+impl From<InputError<ImageFault>> for RowError {
+    fn from(error: InputError<ImageFault>) -> Self {
         match error {
             InputError::Fault(_) => RowError::Refused,
             InputError::NoMemory => RowError::NoMemory,
