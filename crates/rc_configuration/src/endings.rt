@@ -1,6 +1,6 @@
 //! The end of the shell.
 
-ghost use Rattle.std.specs.Prelude.{◌≡◌, ◌<◌, ◌∷◌, [], Some};
+ghost use Rattle.std.specs.Prelude.{◌≡◌, ◌<◌, ◌∷◌, [], Some, codes};
 ghost use Rattle.rc_model.specs.Code.Machine.{Over, end_waits, unwind};
 ghost use Rattle.rc_model.specs.Run.State as model;
 ghost use Rattle.rc_configuration.specs.Configs.{scopes_of};
@@ -10,6 +10,7 @@ ghost use Rattle.rc_world.specs.Comes.{Comes};
 use crate::configuration::{Configuration, Move};
 use crate::parts::Scope;
 use rc_builtin::fault;
+use rc_scope::NameFault;
 use rc_world::{ChildNo, Stop, World, calls};
 use std::alloc::Global;
 
@@ -75,7 +76,7 @@ impl Configuration {
         Ok(Move::Ended)
     }
 
-    /// A runtime error ends the shell.
+    /// A runtime error ends the shell: it is reported to descriptor 2, the status is `error`, and what is open ends.
     pub fn fail<W: World>(&mut self, alloc: Global, world: &mut W, text: &str) -> Result<Move, Stop>
         ensures { Steps (W.events world.old) (W.events world.new)
             (failed (config_of self.old) text.now) (config_of self.new) result }
@@ -83,5 +84,14 @@ impl Configuration {
         let slots = self.redirs.slots();
         fault(alloc, world, &mut self.state, slots, text)?;
         self.unwind(alloc, world)
+    }
+
+    /// A name that can't be used ends the shell: it is reported to descriptor 2, the status is `error`, and what is
+    /// open ends.
+    pub fn fail_bad_name<W: World>(&mut self, alloc: Global, world: &mut W) -> Result<Move, Stop>
+        ensures { Steps (W.events world.old) (W.events world.new)
+            (failed (config_of self.old) (codes "bad name")) (config_of self.new) result }
+    {
+        self.fail(alloc, world, NameFault::BadName.words())
     }
 }

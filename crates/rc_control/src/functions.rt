@@ -114,7 +114,7 @@ pub fn define<W: World>(
     };
     let names = texts(alloc, words)?;
     if !define_each(&mut machine.state, &names, body)? {
-        return machine.fail(alloc, world, "bad name");
+        return machine.fail_bad_name(alloc, world);
     }
     machine.words.drop_top();
     machine.place += 1;

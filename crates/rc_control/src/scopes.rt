@@ -59,7 +59,7 @@ pub fn begin_loop<W: World>(
         return Ok(Move::Ended);
     };
     let Some(name) = variable_name(words) else {
-        return machine.fail(alloc, world, "bad name");
+        return machine.fail_bad_name(alloc, world);
     };
     let name = String::from_str(alloc, name)?;
     machine.words.drop_top();

@@ -27,7 +27,7 @@ pub fn value<W: World>(
         return Ok(Move::Ended);
     };
     let Some(value) = read(&machine.state, words) else {
-        return machine.fail(alloc, world, "bad name");
+        return machine.fail_bad_name(alloc, world);
     };
     machine.words.drop_top();
     put_value(&mut machine.words, value)?;
@@ -50,7 +50,7 @@ pub fn count<W: World>(
         return Ok(Move::Ended);
     };
     let Some(value) = read(&machine.state, words) else {
-        return machine.fail(alloc, world, "bad name");
+        return machine.fail_bad_name(alloc, world);
     };
     let count = value.len().to_string(alloc)?;
     machine.words.drop_top();
@@ -74,7 +74,7 @@ pub fn flat<W: World>(
         return Ok(Move::Ended);
     };
     let Some(value) = read(&machine.state, words) else {
-        return machine.fail(alloc, world, "bad name");
+        return machine.fail_bad_name(alloc, world);
     };
     let text = rc_text::flat(alloc, value)?;
     machine.words.drop_top();
@@ -98,7 +98,7 @@ pub fn select<W: World>(
         return Ok(Move::Ended);
     };
     let Some(value) = read(&machine.state, words) else {
-        return machine.fail(alloc, world, "bad name");
+        return machine.fail_bad_name(alloc, world);
     };
     let subscripts = take_texts(alloc, &mut machine.words)?;
     let members = rc_text::select(alloc, value, &subscripts)?;
@@ -123,7 +123,7 @@ pub fn assign<W: World>(
         return Ok(Move::Ended);
     };
     let Some(_) = variable_name(words) else {
-        return machine.fail(alloc, world, "bad name");
+        return machine.fail_bad_name(alloc, world);
     };
     let value = take_texts(alloc, &mut machine.words)?;
     let Some(words) = machine.words.top() else {
@@ -153,7 +153,7 @@ pub fn local<W: World>(
         return Ok(Move::Ended);
     };
     let Some(_) = variable_name(words) else {
-        return machine.fail(alloc, world, "bad name");
+        return machine.fail_bad_name(alloc, world);
     };
     let value = take_texts(alloc, &mut machine.words)?;
     let Some(words) = machine.words.top() else {

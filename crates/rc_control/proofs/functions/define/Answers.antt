@@ -20,4 +20,4 @@ returns-then-not-branch g c =
     let tree : tree_at (config_of m).code c.args.number ≡ Some body = search rules in
     let after = state_of c.define_each.new.state in
     let refused : Defines (word_texts v) body (state_of m.state) after false = search rules in
-    steps_as _ _ _ _ _ _ (defines_no_name (config_of m) c.args.number v _ body after (topped m.words v top) tree refused) c.fail.ensures
+    steps_as _ _ _ _ _ _ (defines_no_name (config_of m) c.args.number v _ body after (topped m.words v top) tree refused) c.fail_bad_name.ensures

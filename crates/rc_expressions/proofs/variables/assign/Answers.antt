@@ -16,4 +16,4 @@ returns-in_default-variable_name g c =
     let b = c.in-Some.field-0-1.now in
     let two : two_of m.words ≡ Some (a, b) = search rules in
     let none : the_name is_name (word_texts a) ≡ None = search rules in
-    steps_as _ _ _ _ _ _ (assigns_no_name (config_of m) a b (below_two m.words) (two_topped m.words a b two) none) c.fail.ensures
+    steps_as _ _ _ _ _ _ (assigns_no_name (config_of m) a b (below_two m.words) (two_topped m.words a b two) none) c.fail_bad_name.ensures

@@ -16,4 +16,4 @@ returns-in_default-read g c =
     let v = c.in-Some.words.now in
     let top : top_of m.words ≡ Some v = search rules in
     let none : read (state_of m.state) (word_texts v) ≡ None = search rules in
-    steps_as _ _ _ _ _ _ (reads_no_name (λ z. decimal (length z) ∷ []) (config_of m) v (drop 1 m.words) (topped m.words v top) none) c.fail.ensures
+    steps_as _ _ _ _ _ _ (reads_no_name (λ z. decimal (length z) ∷ []) (config_of m) v (drop 1 m.words) (topped m.words v top) none) c.fail_bad_name.ensures
