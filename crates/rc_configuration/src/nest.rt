@@ -1,11 +1,11 @@
-//! What is open, each within the one before it.
+//! Stacks: of what is open, each within the one before it, and of the members that a loop has still to take.
 
 ghost use Rattle.std.specs.Prelude.{◌≡◌, [], ◌∷◌, drop, OnOk, MatchOption};
 
 use std::alloc::{AllocError, Global};
 use std::marker::Model;
 
-/// What is open, the innermost first.
+/// A stack, its top first: what is open, the innermost first, or the members that a loop has still to take.
 #[derive(Drop)]
 pub struct Nest<T> {
     items: Vec<T>,
