@@ -1,14 +1,20 @@
 //! Instructions that read and assign variables.
 
-ghost use Rattle.std.specs.Prelude.{◌≡◌, ◌<◌, ◌^◌, Some};
+ghost use Rattle.std.specs.Prelude.{◌≡◌, ◌<◌, ◌^◌, Some, option_map};
 ghost use Rattle.rc_model.specs.Code.Machine.{act};
 ghost use Rattle.rc_model.specs.Code.Layout as op;
 ghost use Rattle.rc_configuration.specs.Configs.{config_of};
+ghost use Rattle.rc_configuration.specs.Names.{the_name};
 ghost use Rattle.rc_configuration.specs.Outcomes.{Steps};
+ghost use Rattle.rc_configuration.specs.Tops.{uppermost};
+ghost use Rattle.rc_model.specs.Run.State.{is_name};
+ghost use Rattle.rc_model.specs.Syntax.Words.{word_texts};
 
 use rc_configuration::{
     Configuration, Move, Scope, put_text, put_texts, put_value, read, take_texts, variable_name,
 };
+use rc_stack::Stack;
+use rc_text::Word;
 use rc_world::{Stop, World};
 use std::alloc::Global;
 
@@ -108,6 +114,13 @@ pub fn select<W: World>(
     Ok(Move::On)
 }
 
+/// The name of a variable that the list on top is.
+fn name_on_top(words: &Stack<Word>) -> Option<&str>
+    ensures { option_map (λ name. name.now) result ≡ the_name is_name (word_texts (uppermost words.now)) }
+{
+    variable_name(words.top()?)
+}
+
 /// `x=..`.
 #[tactic(auto, using(rc_configuration::proofs::Left::step_refused))]
 pub fn assign<W: World>(
@@ -126,10 +139,7 @@ pub fn assign<W: World>(
         return machine.fail_bad_name(alloc, world);
     };
     let value = take_texts(alloc, &mut machine.words)?;
-    let Some(words) = machine.words.top() else {
-        return Ok(Move::Ended);
-    };
-    let Some(name) = variable_name(words) else {
+    let Some(name) = name_on_top(&machine.words) else {
         return Ok(Move::Ended);
     };
     machine.state.set(name, value).map_err(|_| Stop::NoMemory)?;
@@ -156,10 +166,7 @@ pub fn local<W: World>(
         return machine.fail_bad_name(alloc, world);
     };
     let value = take_texts(alloc, &mut machine.words)?;
-    let Some(words) = machine.words.top() else {
-        return Ok(Move::Ended);
-    };
-    let Some(name) = variable_name(words) else {
+    let Some(name) = name_on_top(&machine.words) else {
         return Ok(Move::Ended);
     };
     machine
