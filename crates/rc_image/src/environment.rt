@@ -14,6 +14,7 @@ use rc_model::InputError;
 use rc_scope::{NameFault, State};
 use rc_tree::Cmd;
 use std::alloc::{AllocError, Global};
+use std::rc::Rc;
 
 /// Whether a name is never read as that of a variable. The status comes only from a shell of the same kind.
 fn is_ignored(name: &str, own: bool) -> bool
@@ -62,13 +63,13 @@ fn read_values(alloc: Global, entries: &[String], own: bool) -> Result<State, Al
 }
 
 /// Defines a function. One with a bad name is ignored.
-fn define(state: &mut State, name: &str, body: Cmd) -> Result<(), AllocError>
+fn define(state: &mut State, name: &str, body: &Rc<Cmd>) -> Result<(), AllocError>
     ensures { OnOk result (state_of state.new
         ≡ (if is_function_name name.now
-        then define (state_of state.old) name.now (cmd_tree body)
+        then define (state_of state.old) name.now (cmd_tree body.now.value)
         else state_of state.old)) }
 {
-    match state.define(name, body) {
+    match state.define_shared(name, body) {
         Err(InputError::NoMemory) => Err(AllocError),
         Ok(()) | Err(InputError::Fault(NameFault::BadName)) => Ok(()),
     }
@@ -86,7 +87,8 @@ fn define_entry(alloc: Global, state: &mut State, entry: &str) -> Result<(), Ima
         return Ok(());
     }
     let body = read_tree(alloc, image)?;
-    Ok(define(state, name, body)?)
+    let shared = Rc::new(alloc, body)?;
+    Ok(define(state, name, &shared)?)
 }
 
 /// Defines the functions of these entries. The first entry of a name counts.
