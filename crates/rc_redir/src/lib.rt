@@ -16,11 +16,11 @@ use std::marker::Model;
 /// Why a redirection is refused.
 #[derive(Drop)]
 pub enum RedirError {
-    /// Its words are not one.
+    /// The name of a file is no word, or several.
     NotOneWord,
-    /// What it names can't be opened.
+    /// The world does not open what has this name.
     CannotOpen(String),
-    /// The work was given up.
+    /// The work was given up: the world halted, or memory was refused and no file is held.
     Stopped(Stop),
 }
 
@@ -100,8 +100,8 @@ fn slot_of(slots: Slots, number: u8) -> Slot
     }
 }
 
-/// The file that a call gave, and `None` where the call was refused. Unlike those of `calls`, the answer tells that no
-/// call was made where memory was refused.
+/// The file that a call gave, and `None` where it was refused. Out of memory says that the call was
+/// not made, which the functions of `calls` do not tell.
 fn unless_refused(answer: Result<Handle, Fault>) -> Result<Option<Handle>, Stop>
     ensures { result ≡ unless_refused answer }
 {
@@ -165,8 +165,8 @@ impl RedirStack {
         self.slots
     }
 
-    /// Opens the file that the one word names, in the place of a descriptor. The error is not
-    /// reported yet.
+    /// Opens the file that the one word names, in the place of a descriptor. That the descriptor is
+    /// 0, 1 or 2 is left to the caller. The error is not reported yet.
     pub fn push_open<W: World>(
         &mut self,
         world: &mut W,
@@ -184,6 +184,7 @@ impl RedirStack {
         let [name] = words else {
             return Err(RedirError::NotOneWord);
         };
+        // Where there is no room, no file is opened.
         self.redirections.try_reserve(1)?;
         let Some(file) = unless_refused(world.open(name, mode))? else {
             return Err(RedirError::CannotOpen(name.clone()?));
@@ -205,6 +206,7 @@ impl RedirStack {
             (open_text self.old.slots text.now) result }
         ensures err { OnErr result (self.new ≡ self.old) }
     {
+        // Where there is no room, no text is handed over.
         self.redirections.try_reserve(1)?;
         let Some(file) = unless_refused(world.here(text))? else {
             let name = String::from_str(*self.redirections.allocator(), "here document")?;
@@ -219,7 +221,7 @@ impl RedirStack {
         Ok(())
     }
 
-    /// One descriptor becomes what another is now.
+    /// One descriptor becomes what another is now. That both are 0, 1 or 2 is left to the caller.
     pub fn push_copy(&mut self, to: u8, from: u8) -> Result<(), AllocError>
         ensures ok { let slots = with_slot self.old.slots to (slot_of self.old.slots from) in
             OnOk result (self.new ≡ redirected self.old None slots) }
