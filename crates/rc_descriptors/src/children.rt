@@ -1,11 +1,11 @@
 //! Instructions that start shells of their own and wait for them.
 
-ghost use Rattle.std.specs.Prelude.{◌≡◌, ◌<◌, ◌^◌, ◌∷◌, OnOk, Some, option_map};
-ghost use Rattle.rc_model.specs.Code.Machine.{InPipeline, act, next};
+ghost use Rattle.std.specs.Prelude.{◌≡◌, ◌<◌, ◌^◌, OnOk, Some, option_map};
+ghost use Rattle.rc_model.specs.Code.Machine.{act};
 ghost use Rattle.rc_model.specs.Code.Layout as op;
-ghost use Rattle.rc_model.specs.Run.Acts.{from_pipe};
 ghost use Rattle.rc_configuration.specs.Configs.{config_of};
 ghost use Rattle.rc_configuration.specs.Outcomes.{Steps};
+ghost use Rattle.rc_descriptors.specs.Pipelines.{last_begun};
 ghost use Rattle.rc_scope.specs.States.{child_numbers};
 
 use rc_configuration::{Configuration, Move, Scope, put_members};
@@ -84,13 +84,8 @@ fn begin_last(
     children: Vec<ChildNo>,
 ) -> Result<(), AllocError>
     requires { machine.old.place < 2 ^ 63 }
-    ensures { let before = config_of machine.old in
-        let read = option_map (λ end. end.0) read_end in
-        let scope = InPipeline read (child_numbers children.items) before.slots in
-        OnOk result (config_of machine.new ≡ record (next before before.words before.state) {
-          scopes = scope ∷ before.scopes;
-          slots = from_pipe read before.slots;
-        }) }
+    ensures { let read = option_map (λ end. end.0) read_end in
+        OnOk result (config_of machine.new ≡ last_begun (config_of machine.old) read (child_numbers children.items)) }
 {
     match read_end {
         Some(read_end) => machine.redirs.push_end(read_end)?,

@@ -51,13 +51,6 @@ fn here_text(alloc: Global, state: &State, pieces: &[Piece]) -> Result<String, A
     Ok(text)
 }
 
-/// The report on a file that can't be opened.
-fn refusal_text(alloc: Global, name: &str) -> Result<String, AllocError>
-    ensures { IfOk result (λ text. string_bytes text ≡ codes "cannot open " ++ name.now) }
-{
-    format!(in alloc; "cannot open {name}")
-}
-
 /// A redirection that was refused ends the shell.
 fn refuse<W: World>(
     machine: &mut Configuration,
@@ -69,9 +62,8 @@ fn refuse<W: World>(
         (config_of machine.old) (config_of machine.new) result }
 {
     match error {
-        RedirError::NotOneWord => machine.fail(alloc, world, "redirection needs one word"),
-        RedirError::CannotOpen(name) => {
-            let text = refusal_text(alloc, &name)?;
+        RedirError::Fault(fault) => {
+            let text = fault.to_string(alloc)?;
             machine.fail(alloc, world, &text)
         }
         RedirError::Stopped(stop) => Err(stop),

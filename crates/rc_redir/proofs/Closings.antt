@@ -8,7 +8,8 @@ use Rattle.rc_world.specs.declared.types.Stop.{Stop}
 use Rattle.rc_world.proofs.Joins.{ran_answered, left_asked, left_bind}
 use Rattle.law_plans.proofs.Runs.{ran_none, ran_then}
 
-abbrev nothing : Plan (Unit {0})
+-- nothing follows
+abbrev pub nothing : Plan (Unit {0})
 nothing = done_with tt
 
 -- the answer does not matter

@@ -15,7 +15,8 @@ use Rattle.rc_world.proofs.Joins.{left_memory, left_asked, left_answered, ran_an
 use Rattle.rc_redir.specs.Redirections.{Redirections}
 use Rattle.rc_redir.specs.Opening.{HoldsNothing, Opens, open_by, with_file}
 use Rattle.rc_redir.specs.declared.RedirError.{RedirError}
-use Rattle.rc_redir.specs.declared.RedirError.TheVariants.{CannotOpen, Stopped}
+use Rattle.rc_redir.specs.declared.RedirError.TheVariants.{Fault, Stopped}
+use Rattle.rc_redir.specs.declared.RedirFault.TheVariants.{CannotOpen}
 
 -- why it was given up is handed on
 stopped : (a b : Option (List Event)) (old new : Redirections) (slot : ℕ) (act : Shell ℕ) (result : Result (Unit {0}) RedirError) (stop : Stop) →
@@ -45,7 +46,7 @@ module _ (a b : Option (List Event)) (old new : Redirections) (slot : ℕ) (c : 
   refused f s = ran_answered a b b c as_file None (λ file. opened old.slots name file s) _ f (ran_none b _)
 
   pub refused_by : (text : String Global) → string_bytes text ≡ name → Ran a b (asks c as_file) (done_with None) →
-      Opens a b old new slot (open_by c old.slots name) (Err (CannotOpen text))
+      Opens a b old new slot (open_by c old.slots name) (Err (Fault (CannotOpen text)))
   refused_by text e f s =
       let P : List ℕ → Type 0 = λ n. Ran a b (open_by c old.slots name s) (fails old.slots (codes "cannot open " ++ n) s) in
       subst P (sym e) (refused f s)

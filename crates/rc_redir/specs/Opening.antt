@@ -8,8 +8,10 @@ use Rattle.rc_model.specs.Run.Shell.{Shell, Next, ◌>>=◌, call}
 use Rattle.rc_model.specs.Run.Acts.{fails, opened}
 use Rattle.rc_world.specs.Comes.{Left}
 use Rattle.rc_redir.specs.Redirections.{Redirections, redirected}
+use Rattle.rc_redir.specs.declared.RedirFault.{RedirFault}
+use Rattle.rc_redir.specs.declared.RedirFault.TheVariants.{NotOneWord, CannotOpen}
 use Rattle.rc_redir.specs.declared.RedirError.{RedirError}
-use Rattle.rc_redir.specs.declared.RedirError.TheVariants.{NotOneWord, CannotOpen, Stopped}
+use Rattle.rc_redir.specs.declared.RedirError.TheVariants.{Fault, Stopped}
 use Rattle.rc_world.specs.declared.types.Stop.TheVariants.{NoMemory}
 
 -- a call that opens what has this name
@@ -26,16 +28,19 @@ open_text slots text = open_by (here text) slots (codes "here document")
 abbrev pub with_file : Redirections → (slot file : ℕ) → Redirections
 with_file r slot file = redirected r (Some file) (with_slot r.slots slot (to_file file))
 
+-- the fault in words, as a shell reports it
+abbrev pub redir_words : RedirFault → List ℕ
+redir_words NotOneWord = codes "redirection needs one word"
+redir_words (CannotOpen name) = codes "cannot open " ++ string_bytes name
+
 -- in each state, an act that opens a file came to that file, which stands in the place of the descriptor now;
 -- or it came to a runtime error, of which nothing was reported yet; or it was left
 abbrev pub Opens : (before after : Option (List Event)) → (old new : Redirections) → (slot : ℕ) → Shell ℕ →
     Result (Unit {0}) RedirError → Type 0
 Opens before after old new slot act (Ok x) =
     (file : ℕ) × (new ≡ with_file old slot file) × ((s : State) → Ran before after (act s) (done_with (Next file s)))
-Opens before after old new slot act (Err NotOneWord) =
-    (s : State) → Ran before after (act s) (fails old.slots (codes "redirection needs one word") s)
-Opens before after old new slot act (Err (CannotOpen name)) =
-    (s : State) → Ran before after (act s) (fails old.slots (codes "cannot open " ++ string_bytes name) s)
+Opens before after old new slot act (Err (Fault fault)) =
+    (s : State) → Ran before after (act s) (fails old.slots (redir_words fault) s)
 Opens before after old new slot act (Err (Stopped stop)) = (s : State) → Left before after (act s) stop
 
 -- where memory was refused, no file is held: no call was made, or the act came to a runtime error,

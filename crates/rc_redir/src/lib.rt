@@ -11,15 +11,36 @@ ghost use Rattle.rc_world.specs.Comes.{Comes, unless_refused};
 
 use rc_world::{Fault, Handle, Mode, Slot, Slots, Stop, World, calls};
 use std::alloc::{AllocError, Global};
+use std::fmt;
 use std::marker::Model;
 
 /// Why a redirection is refused.
 #[derive(Drop)]
-pub enum RedirError {
+pub enum RedirFault {
     /// The name of a file is no word, or several.
     NotOneWord,
     /// The world does not open what has this name.
     CannotOpen(String),
+}
+
+impl fmt::Display for RedirFault {
+    ghost use Rattle.rc_redir.specs.Opening.{redir_words};
+
+    ghost output = { λ fault. Some (redir_words fault) };
+
+    fn fmt<W: fmt::Write>(&self, f: &mut fmt::Formatter<W>) -> fmt::Result {
+        match self {
+            RedirFault::NotOneWord => f.write_str("redirection needs one word"),
+            RedirFault::CannotOpen(name) => write!(f, "cannot open {name}"),
+        }
+    }
+}
+
+/// Why no redirection was added.
+#[derive(Drop)]
+pub enum RedirError {
+    /// It is refused, which is not reported yet.
+    Fault(RedirFault),
     /// The work was given up: the world halted, or memory was refused and no file is held.
     Stopped(Stop),
 }
@@ -166,7 +187,7 @@ impl RedirStack {
     }
 
     /// Opens the file that the one word names, in the place of a descriptor. That the descriptor is
-    /// 0, 1 or 2 is left to the caller. The error is not reported yet.
+    /// 0, 1 or 2 is left to the caller.
     pub fn push_open<W: World>(
         &mut self,
         world: &mut W,
@@ -182,12 +203,12 @@ impl RedirStack {
         ensures err { OnErr result (self.new ≡ self.old) }
     {
         let [name] = words else {
-            return Err(RedirError::NotOneWord);
+            return Err(RedirError::Fault(RedirFault::NotOneWord));
         };
         // Where there is no room, no file is opened.
         self.redirections.try_reserve(1)?;
         let Some(file) = unless_refused(world.open(name, mode))? else {
-            return Err(RedirError::CannotOpen(name.clone()?));
+            return Err(RedirError::Fault(RedirFault::CannotOpen(name.clone()?)));
         };
         let redirection = Redirection {
             file: Some(file),
@@ -198,7 +219,7 @@ impl RedirStack {
         Ok(())
     }
 
-    /// Opens a here document of this text as descriptor 0. The error is not reported yet.
+    /// Opens a here document of this text as descriptor 0.
     pub fn push_here<W: World>(&mut self, world: &mut W, text: &str) -> Result<(), RedirError>
         ensures opened { Opens (W.events world.old) (W.events world.new) self.old self.new 0
             (open_text self.old.slots text.now) result }
@@ -210,7 +231,7 @@ impl RedirStack {
         self.redirections.try_reserve(1)?;
         let Some(file) = unless_refused(world.here(text))? else {
             let name = String::from_str(*self.redirections.allocator(), "here document")?;
-            return Err(RedirError::CannotOpen(name));
+            return Err(RedirError::Fault(RedirFault::CannotOpen(name)));
         };
         let redirection = Redirection {
             file: Some(file),

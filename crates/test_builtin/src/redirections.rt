@@ -1,7 +1,7 @@
 //! Redirections: where memory is refused, nothing is opened or ended, and the descriptors stay.
 
 use crate::support::list;
-use rc_redir::{RedirError, RedirStack};
+use rc_redir::{RedirError, RedirFault, RedirStack};
 use rc_world::{Answer, Fault, Handle, Mode, PLAIN_SLOTS, Slot, Stop, Tape};
 use std::alloc::AllocError;
 use std::test::Fail;
@@ -37,7 +37,7 @@ fn out_of_memory_after_a_refused_open_changes_nothing(rt: HostRuntime) -> Result
     let opened = stack.push_open(&mut tape, Mode::Write, 1, &names);
     assert!(rt; stack.slots() == PLAIN_SLOTS);
     match opened {
-        Err(RedirError::CannotOpen(name)) => {
+        Err(RedirError::Fault(RedirFault::CannotOpen(name))) => {
             assert_eq!(rt; name.as_str(), "f");
             Ok(())
         }
@@ -69,7 +69,7 @@ fn out_of_memory_after_a_refused_document_changes_nothing(rt: HostRuntime) -> Re
     let opened = stack.push_here(&mut tape, "a\n");
     assert!(rt; stack.slots() == PLAIN_SLOTS);
     match opened {
-        Err(RedirError::CannotOpen(name)) => {
+        Err(RedirError::Fault(RedirFault::CannotOpen(name))) => {
             assert_eq!(rt; name.as_str(), "here document");
             Ok(())
         }
