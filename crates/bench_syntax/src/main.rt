@@ -56,7 +56,9 @@ fn time(rt: &impl CpuClock, alloc: Global, what: &str, text: &str) -> anyhow::Re
             let _ = lex(alloc, text).is_ok();
         }
         "parse" => {
-            parse(alloc, text.as_bytes()).ok().context("not accepted")?;
+            if parse(alloc, text.as_bytes()).is_err() {
+                bail!("not accepted");
+            }
         }
         _ => bail!("neither lex nor parse"),
     }

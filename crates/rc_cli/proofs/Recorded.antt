@@ -36,7 +36,7 @@ module _ (before after : Option (List Event)) (p : Program) where
   OfEach r = (t : Node cmd) (s : State) → IsRun p t s → Recorded before after (λ trace. executed.RunsAsMeant most_instructions t s trace r)
 
   pub answered : (r : Result Ran ShellFault) (result : Result ℕ RunError) → Answers r result → OnOk r HasTree → IfErr r (IsReason p) → OfEach r →
-      ((fault : RunError) → IsNotRun p fault → after ≡ before) → RunsAsMeant before after p result
+      ((error : RunError) → IsNotRun p error → after ≡ before) → RunsAsMeant before after p result
   answered (Ok (ran.Ended end)) result a h w each silent =
       let k = each h.0 h.1 h.2 in
       rw a.1 (h.0, h.1, h.2, (k.0, k.1, (state_of end, k.2, a.2)))
@@ -63,7 +63,7 @@ script_tree script start (Ok x) h = (h.0, start, (h.1, refl))
 script_tree script start (Err e) h = h
 
 script_silent : (before after : Option (List Event)) (script : List ℕ) (start : State) → ((fault : SyntaxFault) → IsRefused script fault → after ≡ before) →
-    (fault : RunError) → IsNotRun (text_from script start) fault → after ≡ before
+    (error : RunError) → IsNotRun (text_from script start) error → after ≡ before
 script_silent before after script start h Usage k = absurd k
 script_silent before after script start h (CannotRead name) k = absurd k
 script_silent before after script start h (Syntax fault) k = h fault k
@@ -96,7 +96,7 @@ image_reasons read (Ok x) h = h
 image_reasons read (Err e) h = image_reason read e h
 
 image_silent : (before after : Option (List Event)) (read : Read) → ((fault : ImageFault) → read ≡ Err fault → after ≡ before) →
-    (fault : RunError) → IsNotRun (handed read) fault → after ≡ before
+    (error : RunError) → IsNotRun (handed read) error → after ≡ before
 image_silent before after read h Usage k = absurd k
 image_silent before after read h (CannotRead name) k = absurd k
 image_silent before after read h (Syntax fault) k = absurd k

@@ -18,34 +18,34 @@ script_of (Some bytes) = (take (suc longest_script) bytes, refl)
 
 -- a run that was left out of memory before its first call
 pub left_unrecorded : (recorded : Option (List Event)) (p : Program) → RunsAsMeant recorded recorded p (Err NoMemory)
-left_unrecorded recorded p = (λ t s is. recorded_nothing most_instructions t s recorded recorded, λ fault reason. refl)
+left_unrecorded recorded p = (λ t s is. recorded_nothing most_instructions t s recorded recorded, λ error reason. refl)
 
 -- why a script was not read
-abbrev IsReadingFault : Bor (List ℕ) → RunError → Type 0
-IsReadingFault name fault = (fault ≡ CannotRead name) ⊎ (fault ≡ NoMemory)
+abbrev IsReadingError : Bor (List ℕ) → RunError → Type 0
+IsReadingError name error = (error ≡ CannotRead name) ⊎ (error ≡ NoMemory)
 
 -- a reading is no wrong use
-pub no_wrong_use : (name : Bor (List ℕ)) (read : Result (Vec ℕ Global) RunError) → IfErr read (IsReadingFault name) → read ≢ Err Usage
+pub no_wrong_use : (name : Bor (List ℕ)) (read : Result (Vec ℕ Global) RunError) → IfErr read (IsReadingError name) → read ≢ Err Usage
 no_wrong_use name (Ok script) h e = absurd cc
-no_wrong_use name (Err fault) (inl h) e = absurd (let n : ⊥ = cc in n)
-no_wrong_use name (Err fault) (inr h) e = absurd (let n : ⊥ = cc in n)
+no_wrong_use name (Err error) (inl h) e = absurd (let n : ⊥ = cc in n)
+no_wrong_use name (Err error) (inr h) e = absurd (let n : ⊥ = cc in n)
 
 module _ (before after : Option (List Event)) (r : Request) (entries : List (List ℕ)) (name : Bor (List ℕ)) (result : Result ℕ RunError) (named : name_of r.source ≡ Some name.now) where
   -- nothing was run, since the script could not be read
-  unread : (fault : RunError) → fault ≡ CannotRead name → (result ≡ Err fault) × (after ≡ before) → IsUnread before after r result
-  unread fault e h = rw (h.0, e) (named, h.1)
+  unread : (error : RunError) → error ≡ CannotRead name → (result ≡ Err error) × (after ≡ before) → IsUnread before after r result
+  unread error e h = rw (h.0, e) (named, h.1)
 
   -- the run of an input is what came of its reading
   pub input_run : {R : Type 0} (left : R → Option (List ℕ)) (input : Option R) (read : Result (Vec ℕ Global) RunError) → (input ≡ None → read ≡ Err (CannotRead name))
-      → IfOk read (λ script. IfSome input (λ x. IsScriptOf (left x) script.items)) → IfErr read (IsReadingFault name)
+      → IfOk read (λ script. IfSome input (λ x. IsScriptOf (left x) script.items)) → IfErr read (IsReadingError name)
       → RunsRead before after r entries read result → RunsInput (option_map left input) before after r entries result
   input_run left None (Ok script) unopened of either h = absurd (let e = unopened refl in let n : ⊥ = cc in n)
-  input_run left None (Err fault) unopened of either h =
+  input_run left None (Err error) unopened of either h =
       let e = unopened refl in
-      let same : fault ≡ CannotRead name = cc in
-      unread fault same h
+      let same : error ≡ CannotRead name = cc in
+      unread error same h
   input_run left (Some x) (Ok script) unopened of either h = inr (script.items, of, h)
-  input_run left (Some x) (Err fault) unopened of (inl e) h = inl (unread fault e h)
-  input_run left (Some x) (Err fault) unopened of (inr e) h =
+  input_run left (Some x) (Err error) unopened of (inl e) h = inl (unread error e h)
+  input_run left (Some x) (Err error) unopened of (inr e) h =
       let known = script_of (left x) in
       inr (known.0, known.1, rw (h.0, e, h.1) (left_unrecorded before (text_from known.0 (first_state r entries))))

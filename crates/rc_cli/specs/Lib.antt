@@ -1,5 +1,5 @@
 pub mod Asked
-pub mod FaultLines
+pub mod Errors
 pub mod Requests
 pub mod Runs
 pub mod Start

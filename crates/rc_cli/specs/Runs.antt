@@ -70,7 +70,7 @@ RunsAsMeant before after p (Err Limit) =
 RunsAsMeant before after p (Err NoMemory) =
     ((t : Node cmd) (s : State) → IsRun p t s →
     Recorded before after (λ trace. IsBegunWithin most_instructions t s trace))
-    × ((fault : RunError) → IsNotRun p fault → after ≡ before)
+    × ((error : RunError) → IsNotRun p error → after ≡ before)
 
 -- ** where the script comes from
 
@@ -90,7 +90,7 @@ abbrev pub RunsImage : Option (List Event) → Option (List Event) → Request �
 RunsImage before after r entries result =
     RunsAsMeant before after (handed (read_image r.strict r.arguments entries)) result
 
--- nothing is run, since the script can't be read: the fault names its input
+-- nothing is run, since the script can't be read: the error names its input
 abbrev pub IsUnread : Option (List Event) → Option (List Event) → Request → Result ℕ RunError → Type 0
 IsUnread before after r (Err (CannotRead name)) = (name_of r.source ≡ Some name.now) × (after ≡ before)
 IsUnread before after r _ = ⊥
@@ -99,7 +99,7 @@ IsUnread before after r _ = ⊥
 abbrev pub RunsRead : Option (List Event) → Option (List Event) → Request → (entries : List (List ℕ)) →
     Result (Vec ℕ Global) RunError → Result ℕ RunError → Type 0
 RunsRead before after r entries (Ok script) result = RunsScript before after r entries script.items result
-RunsRead before after r entries (Err fault) result = (result ≡ Err fault) × (after ≡ before)
+RunsRead before after r entries (Err error) result = (result ≡ Err error) × (after ≡ before)
 
 -- a run of the script that an input has, unless it can't be read
 abbrev pub RunsInput : Option (Option (List ℕ)) → Option (List Event) → Option (List Event) → Request →

@@ -1,7 +1,7 @@
 //! Why a run failed.
-ghost use Rattle.std.specs.Prelude.{◌≡◌, ◌≢◌, ◌⊎◌, None, Some};
+ghost use Rattle.std.specs.Prelude.{◌≡◌, Some};
 ghost use Rattle.std.specs.IoError.{error_kind, raw_os_error};
-ghost use Rattle.rc_cli.specs.FaultLines.{fault_line};
+ghost use Rattle.rc_cli.specs.Errors.{error_at, error_line};
 
 use rc_model::SyntaxFault;
 use std::alloc::AllocError;
@@ -40,10 +40,7 @@ impl<'a> From<AllocError> for RunError<'a> {
 impl<'a> RunError<'a> {
     /// What an error of the system is: out of memory, or else this other one.
     pub(crate) fn at(error: &io::Error, other: RunError<'a>) -> RunError<'a>
-        ensures either { (result ≡ other.entry) ⊎ (result ≡ RunError.NoMemory) }
-        ensures other { error_kind error.now ≢ ErrorKind.OutOfMemory → result ≡ other.entry }
-        ensures memory { error_kind error.now ≡ ErrorKind.OutOfMemory → raw_os_error error.now ≡ None →
-            result ≡ RunError.NoMemory }
+        ensures { result ≡ error_at (error_kind error.now) (raw_os_error error.now) other.entry }
     {
         match error.kind() {
             ErrorKind::OutOfMemory if error.raw_os_error().is_none() => RunError::NoMemory,
@@ -53,7 +50,7 @@ impl<'a> RunError<'a> {
 }
 
 impl fmt::Display for RunError<'_> {
-    ghost output = { λ fault. Some (fault_line fault) };
+    ghost output = { λ error. Some (error_line error) };
 
     fn fmt<W: fmt::Write>(&self, f: &mut fmt::Formatter<W>) -> fmt::Result {
         match self {

@@ -5,15 +5,15 @@ ghost use Rattle.std.specs.Process.{exit_status};
 use crate::fault::RunError;
 use std::process::ExitCode;
 
-/// Prints the line of a fault to descriptor 2, and gives what the process ends with.
+/// Prints the line of an error to descriptor 2, and gives what the process ends with.
 pub fn report<R: Eprint>(rt: &R, run: Result<u8, RunError<'_>>) -> ExitCode
     ensures ended { IfOk run.entry (λ status. exit_status result ≡ status) }
     ensures failed { OnErr run.entry (exit_status result ≡ 1) }
 {
     match run {
         Ok(status) => ExitCode::from(status),
-        Err(fault) => {
-            let _ = rt.eprintln(fault);
+        Err(error) => {
+            let _ = rt.eprintln(error);
             ExitCode::FAILURE
         }
     }

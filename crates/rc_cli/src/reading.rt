@@ -9,7 +9,7 @@ use std::alloc::Global;
 use std::io::Read;
 
 /// One byte more than a script may have.
-const MOST: u64 = LONGEST_SCRIPT as u64 + 1;
+const MOST_BYTES: u64 = LONGEST_SCRIPT as u64 + 1;
 
 /// The bytes of the script that is read from an input of this name, if it could be opened. No more are read than it
 /// takes to see that it is too long.
@@ -20,13 +20,13 @@ pub fn read_script<'a, R: Read + Drop>(
 ) -> Result<Vec<u8>, RunError<'a>>
     ensures script { IfOk result (λ script. IfSome input (λ r. IsScriptOf (R.remaining r) script.items)) }
     ensures unopened { input ≡ None → result ≡ Err (CannotRead name.entry) }
-    ensures err { IfErr result (λ fault. (fault ≡ CannotRead name.entry) ⊎ (fault ≡ NoMemory)) }
+    ensures err { IfErr result (λ error. (error ≡ CannotRead name.entry) ⊎ (error ≡ NoMemory)) }
 {
     let Some(input) = input else {
         return Err(RunError::CannotRead(name));
     };
     let mut script = Vec::new(alloc);
-    match input.take(MOST).read_to_end(&mut script) {
+    match input.take(MOST_BYTES).read_to_end(&mut script) {
         Ok(_) => Ok(script),
         Err(error) => Err(RunError::at(&error, RunError::CannotRead(name))),
     }

@@ -28,7 +28,7 @@ pub struct Request<'a> {
 fn is_option(word: &str) -> bool
     ensures { result ≡ is_option word.now }
 {
-    word.as_bytes().first() == Some(&b'-')
+    word.starts_with('-')
 }
 
 /// What `[-c text | file] [arg ...]` asks for, or `-S` and the words of an image.

@@ -75,7 +75,7 @@ fn run_read<'a, W: World>(
 {
     match read {
         Ok(script) => run_script(alloc, world, request, entries, &script),
-        Err(fault) => Err(fault),
+        Err(error) => Err(error),
     }
 }
 

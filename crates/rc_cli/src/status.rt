@@ -1,8 +1,9 @@
 //! The number that the process ends with.
 ghost use Rattle.std.specs.Prelude.{◌≡◌, ◌≢◌, ℕ, ◌<◌, ◌≤◌, ◌↔◌, IsTrue, IfSome, IfNone, slice_index};
 ghost use Rattle.std.specs.Fmt.{decimal};
-ghost use Rattle.rc_model.specs.Run.State.{is_true};
 ghost use Rattle.rc_cli.specs.Statuses.{IsProcessStatus};
+
+use rc_text::is_true;
 
 /// The number that the process ends with where the script ends with this status.
 pub fn process_status(status: &str) -> u8
@@ -32,10 +33,4 @@ fn has_leading_digit(text: &str) -> bool
     ensures { IsTrue result ↔ ((49 ≤ slice_index text.now 0) × (slice_index text.now 0 ≤ 57)) }
 {
     matches!(text.as_bytes().first(), Some(b'1'..=b'9'))
-}
-
-fn is_true(status: &str) -> bool
-    ensures { result ≡ is_true status.now }
-{
-    status.as_bytes().iter().all(|b| *b == b'0' || *b == b'|')
 }

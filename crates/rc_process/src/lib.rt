@@ -1,0 +1,59 @@
+//! The program as a process of its own, on Linux.
+#![tactic(auto)]
+
+ghost use Rattle.std.specs.Prelude.{◌≡◌, Err, None, map, string_bytes};
+ghost use Rattle.std.specs.Process.{exit_status};
+ghost use Rattle.rc_cli.specs.Requests.{request_of};
+ghost use Rattle.rc_cli.specs.declared.fault.RunError.TheVariants.{Usage};
+
+use rc_cli::{RunError, Source, report, request_of, run_rc};
+use rc_host::{ArgumentsFault, HostWorld, InputError, entries, open_standard, own_path};
+use std::fs;
+use std::process::ExitCode;
+
+/// Runs what the arguments ask for, and gives what the process ends with. An error is reported on descriptor 2.
+pub fn run(rt: HostRuntime, arguments: &[String]) -> ExitCode
+    ensures usage { request_of (map string_bytes arguments.now) ≡ None → exit_status result ≡ 1 }
+{
+    report(&rt, status_of(rt, arguments))
+}
+
+/// Reports that the process cannot have its arguments, and gives what it ends with.
+pub fn refuse(rt: &HostRuntime, error: InputError<ArgumentsFault>) -> ExitCode
+    ensures { exit_status result ≡ 1 }
+{
+    let error = match error {
+        InputError::Fault(ArgumentsFault::NotText) => RunError::Usage,
+        InputError::NoMemory => RunError::NoMemory,
+    };
+    report(rt, Err(error))
+}
+
+/// The number that the process ends with, by a run of what the arguments ask for.
+fn status_of<'a>(rt: HostRuntime, arguments: &'a [String]) -> Result<u8, RunError<'a>>
+    ensures usage { request_of (map string_bytes arguments.now) ≡ None → result ≡ Err Usage }
+{
+    let Some(request) = request_of(arguments) else {
+        return Err(RunError::Usage);
+    };
+    // Before anything else is opened, so that no file of a script gets the number 0, 1 or 2.
+    open_standard(&rt).map_err(|_| RunError::CannotRead("standard input"))?;
+    let shell = own_path(&rt)?;
+    let entries = entries(&rt)?;
+    let mut world = HostWorld::new(rt, shell);
+    match request.source {
+        Source::File(name) => {
+            let file = fs::open(&rt, name).ok();
+            run_rc(rt.alloc(), &mut world, arguments, &entries, file)
+        }
+        Source::Input | Source::Text(_) | Source::Image => {
+            run_rc(
+                rt.alloc(),
+                &mut world,
+                arguments,
+                &entries,
+                Some(rt.reader()),
+            )
+        }
+    }
+}
