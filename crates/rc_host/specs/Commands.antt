@@ -9,6 +9,7 @@ use Rattle.std.specs.declared.alloc.Global.{Global}
 use Rattle.rc_model.specs.Run.Calls.{Launch}
 use Rattle.rc_model.specs.declared.call.Fault.{Fault}
 use Rattle.rc_model.specs.declared.call.Fault.TheVariants.{NoMemory, Other}
+use Rattle.rc_model.specs.declared.call.Slots.{Slots}
 use Rattle.rc_host.specs.Plan.{Plan, plan_of}
 
 -- an entry of an environment has an equals sign
@@ -45,9 +46,10 @@ pub record AsksFor (command : Command Global) (plan : Plan) : Type 0 where
   pub args : command_args command ≡ plan.args
   pub env : HasEnvironment command plan.env
 
--- a command asks for the plan of a launch
-abbrev pub AsksForPlanOf : (shell : List ℕ) → Launch → Command Global → Type 0
-AsksForPlanOf shell launch command = IsSomeAnd (plan_of shell launch) (AsksFor command)
+-- a command asks for the plan of a launch, and its descriptors are those of the plan
+abbrev pub AsksForPlanOf : (shell : List ℕ) → Launch → Command Global → Slots → Type 0
+AsksForPlanOf shell launch command slots =
+    IsSomeAnd (plan_of shell launch) (λ plan. AsksFor command plan × (slots ≡ plan.slots))
 
 -- why a command was not made: out of memory, or one of the entries is none
 abbrev pub IsNotMade : List (List ℕ) → Fault → Type 0

@@ -60,6 +60,11 @@ pub record AreThere (files : List (Option OpenFile)) (slots : Slots) : Type 0 wh
   pub output : IsThere files slots.output
   pub errors : IsThere files slots.errors
 
+-- an open file is the one that a slot names
+abbrev pub IsNamed : List (Option OpenFile) → OpenFile → Slot → Type 0
+IsNamed files held (Own n) = ⊥
+IsNamed files held (To file) = held_at files file.0 ≡ Some held
+
 -- a descriptor of this process, by its number, is the shell's own that a slot names
 abbrev pub IsOwn : Option ℤ → Slot → Type 0
 IsOwn descriptor (Own n) = descriptor ≡ Some (pos n)

@@ -16,7 +16,7 @@ use std::rt::HostRuntime;
 use std::{fs, io, str};
 
 /// How many bytes of names Linux is asked for at once.
-const NAMES: usize = 32_768;
+const NAME_BYTES: usize = 32_768;
 
 /// The names in the directory with this path, in the order in which Linux has them.
 pub fn names_in(rt: &HostRuntime, path: &str) -> Result<Vec<String>, Fault>
@@ -24,7 +24,7 @@ pub fn names_in(rt: &HostRuntime, path: &str) -> Result<Vec<String>, Fault>
 {
     let directory = opened(rt, path).map_err(|error| fault_of(&error))?;
     let mut bytes = Vec::new(rt.alloc());
-    bytes.resize(NAMES, 0u8).map_err(|_| Fault::NoMemory)?;
+    bytes.resize(NAME_BYTES, 0u8).map_err(|_| Fault::NoMemory)?;
     let mut names = Vec::new(rt.alloc());
     for _ in 0..u64::MAX {
         let count = os::read_dir(directory.as_raw_fd(), &mut bytes);

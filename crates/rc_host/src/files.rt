@@ -16,7 +16,7 @@ use std::rt::HostRuntime;
 use std::{fs, io, process};
 
 /// How many names are tried for the file of a here document.
-const NAMES: u32 = 100;
+const MOST_NAMES: u32 = 100;
 
 /// A file or an end of a pipe that is open in this process and in none of its children.
 #[derive(Drop)]
@@ -116,7 +116,7 @@ pub fn here_file(rt: &HostRuntime, text: &str) -> Result<File, Fault>
 /// A fresh file, for writing and for reading, whose name is gone.
 fn nameless_file(rt: &HostRuntime) -> io::Result<(File, File)> {
     let process = process::id(rt.process());
-    for turn in 0..NAMES {
+    for turn in 0..MOST_NAMES {
         let path = format!(in rt.alloc(); "/tmp/rc.{process}.{turn}")?;
         match fresh_file(rt, &path) {
             Ok(writer) => {

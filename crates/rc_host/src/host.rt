@@ -10,7 +10,7 @@ ghost use Rattle.rc_host.specs.Commands.{AsksForPlanOf};
 ghost use Rattle.rc_host.specs.Plan.{plan_of};
 ghost use Rattle.rc_host.specs.Table.{held_at, IsLeastFree, AreLeastFree, HoldsTheSame, ChangesOnly};
 ghost use Rattle.rc_host.specs.Host.{shell_of, files_of, children_of, ChangesFilesAlone, ChangesChildrenAlone};
-ghost use Rattle.rc_host.specs.Host.{AddsFile, AddsPipe, AddsChild, IsThere, AreThere, IsOwn};
+ghost use Rattle.rc_host.specs.Host.{AddsFile, AddsPipe, AddsChild, IsThere, AreThere, IsOwn, IsNamed};
 
 use crate::answers::{end_of, kind_of};
 use crate::command::command_of;
@@ -18,11 +18,13 @@ use crate::directory::names_in;
 use crate::fault::fault_of;
 use crate::files::{OpenFile, here_file, options_of, write_text};
 use crate::planning::plan;
+use crate::streams::{Connected, Stream, own_copy, set_errors, set_input, set_output};
 use crate::table::Table;
 use rc_world::{ChildNo, Ending, Fault, Handle, Kind, Launch, Mode, Slot, Slots, World};
-use std::io::Write;
-use std::os::fd::{AsFd, AsRawFd};
-use std::process::{Child, Command, Stdio};
+use std::fs::File;
+use std::io::{PipeReader, PipeWriter, Write};
+use std::os::fd::AsRawFd;
+use std::process::{Child, Command};
 use std::rt::HostRuntime;
 use std::{env, fs, io};
 
@@ -71,33 +73,74 @@ impl HostWorld {
     }
 
     /// Gives a command the descriptors of its child.
-    fn connect(&self, command: &mut Command, slots: Slots) -> Result<(), Fault>
-        ensures call { OnOk result (SameProgramAndArgs command.old command.new) }
-        ensures env { OnOk result (SameEnv command.old command.new) }
+    fn connect(&self, mut command: Command, slots: Slots) -> Result<Connected, Fault>
+        ensures call { IfOk result (λ connected. SameProgramAndArgs command connected.command) }
+        ensures env { IfOk result (λ connected. SameEnv command connected.command) }
+        ensures slots { IfOk result (λ connected. connected.slots ≡ slots) }
         ensures answered { result ≢ Err Halt }
     {
-        command.stdin(self.stream(slots.input)?);
-        command.stdout(self.stream(slots.output)?);
-        command.stderr(self.stream(slots.errors)?);
-        Ok(())
+        let input = self.stream(slots.input)?;
+        let output = self.stream(slots.output)?;
+        let errors = self.stream(slots.errors)?;
+        set_input(&mut command, input, slots);
+        set_output(&mut command, output, slots);
+        set_errors(&mut command, errors, slots);
+        Ok(Connected { command, slots })
     }
 
     /// A copy of what a slot names, to be a descriptor of a child. A child does not inherit the
     /// shell's own as it is, since one that was opened where it was absent is closed there.
-    fn stream(&self, slot: Slot) -> Result<Stdio, Fault>
-        ensures { result ≢ Err Halt }
+    fn stream(&self, slot: Slot) -> Result<Stream, Fault>
+        ensures made { IfOk result (λ stream. stream.slot ≡ slot) }
+        ensures answered { result ≢ Err Halt }
     {
         let copy = match slot {
             Slot::Own(0) => own_copy(&self.rt.stdin(), slot),
             Slot::Own(1) => own_copy(&self.rt.stdout(), slot),
             Slot::Own(2) => own_copy(&self.rt.stderr(), slot),
             Slot::Own(_) => return Err(Fault::Other),
-            Slot::To(file) => match self.files.get(file.0) {
-                Some(file) => file.copy(),
+            Slot::To(named) => match self.files.get(named.0) {
+                Some(file) => self.file_copy(file, slot),
                 None => return Err(Fault::Other),
             },
         };
         copy.map_err(|error| fault_of(&error))
+    }
+
+    /// A copy of the open file that the slot names.
+    fn file_copy(&self, file: &OpenFile, slot: Slot) -> io::Result<Stream>
+        requires { IsNamed (files_of self.now) file.now slot }
+        ensures { IfOk result (λ stream. stream.slot ≡ slot) }
+    {
+        let copy = file.copy()?;
+        Ok(Stream { slot, copy })
+    }
+
+    /// Opens the file that is to be held at this number, whose place is there already.
+    fn file_for(&self, _number: u32, path: &str, mode: Mode) -> Result<File, Fault>
+        requires place { _number < length (files_of self.now) }
+        ensures answered { result ≢ Err Halt }
+    {
+        options_of(mode)
+            .open(&self.rt, path)
+            .map_err(|error| fault_of(&error))
+    }
+
+    /// Makes the here document that is to be held at this number, whose place is there already.
+    fn here_for(&self, _number: u32, text: &str) -> Result<File, Fault>
+        requires place { _number < length (files_of self.now) }
+        ensures answered { result ≢ Err Halt }
+    {
+        here_file(&self.rt, text)
+    }
+
+    /// Makes the pipe whose ends are to be held at these numbers, whose places are there already.
+    fn pipe_for(&self, _read_end: u32, _write_end: u32) -> Result<(PipeReader, PipeWriter), Fault>
+        requires read_place { _read_end < length (files_of self.now) }
+        requires write_place { _write_end < length (files_of self.now) }
+        ensures answered { result ≢ Err Halt }
+    {
+        io::pipe(&self.rt).map_err(|error| fault_of(&error))
     }
 
     /// Starts the command of a launch, whose child is held at this number.
@@ -105,27 +148,23 @@ impl HostWorld {
         &mut self,
         number: u32,
         _launch: &Launch,
-        mut command: Command,
+        mut connected: Connected,
     ) -> Result<ChildNo, Fault>
         requires place { number < length (children_of self.old) }
-        requires planned { AsksForPlanOf (shell_of self.old) (launch_of _launch.now) command }
+        requires planned { AsksForPlanOf (shell_of self.old) (launch_of _launch.now) connected.command connected.slots }
         ensures started { IfOk result (λ child. AddsChild self.old self.new child.0) }
         ensures number { IfOk result (λ child. child.0 ≡ number) }
         ensures refused { OnErr result (children_of self.new ≡ children_of self.old) }
         ensures rest { ChangesChildrenAlone self.old self.new }
         ensures answered { result ≢ Err Halt }
     {
-        let child = command.spawn(&self.rt).map_err(|error| fault_of(&error))?;
+        let child = connected
+            .command
+            .spawn(&self.rt)
+            .map_err(|error| fault_of(&error))?;
         self.children.put(number, child);
         Ok(ChildNo(number))
     }
-}
-
-/// A copy of one of this process's own descriptors.
-fn own_copy<F: AsFd + AsRawFd>(own: &F, _slot: Slot) -> io::Result<Stdio>
-    requires { IsOwn (F.raw_fd own.now) _slot }
-{
-    Ok(Stdio::from(own.as_fd().try_clone_to_owned()?))
 }
 
 /// Writes the whole text to one of this process's own descriptors.
@@ -148,9 +187,7 @@ impl World for HostWorld {
         ensures answered { result ≢ Err Halt }
     {
         let number = self.files.room()?;
-        let file = options_of(mode)
-            .open(&self.rt, path)
-            .map_err(|error| fault_of(&error))?;
+        let file = self.file_for(number, path, mode)?;
         self.files.put(number, OpenFile::File(file));
         Ok(Handle(number))
     }
@@ -163,7 +200,7 @@ impl World for HostWorld {
         ensures answered { result ≢ Err Halt }
     {
         let number = self.files.room()?;
-        let file = here_file(&self.rt, text)?;
+        let file = self.here_for(number, text)?;
         self.files.put(number, OpenFile::File(file));
         Ok(Handle(number))
     }
@@ -176,7 +213,7 @@ impl World for HostWorld {
         ensures answered { result ≢ Err Halt }
     {
         let (read_end, write_end) = self.files.room_for_two()?;
-        let (reader, writer) = io::pipe(&self.rt).map_err(|error| fault_of(&error))?;
+        let (reader, writer) = self.pipe_for(read_end, write_end)?;
         self.files.put(read_end, OpenFile::ReadEnd(reader));
         self.files.put(write_end, OpenFile::WriteEnd(writer));
         Ok((Handle(read_end), Handle(write_end)))
@@ -237,9 +274,9 @@ impl World for HostWorld {
         }
         let plan = plan(self.rt.alloc(), launch, &self.shell)?;
         let number = self.children.room()?;
-        let mut command = command_of(self.rt.alloc(), &plan)?;
-        self.connect(&mut command, plan.slots)?;
-        self.spawn(number, launch, command)
+        let command = command_of(self.rt.alloc(), &plan)?;
+        let connected = self.connect(command, plan.slots)?;
+        self.spawn(number, launch, connected)
     }
 
     fn wait(&mut self, child: ChildNo) -> Result<Ending, Fault>

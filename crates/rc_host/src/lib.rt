@@ -10,6 +10,7 @@ mod host;
 mod planned;
 mod planning;
 mod process;
+mod streams;
 mod table;
 
 pub use host::HostWorld;

@@ -10,13 +10,13 @@ use crate::planned::Plan;
 use rc_world::{Fault, Launch, Program, Slot, Slots};
 use std::alloc::{AllocError, Global};
 
-/// What `/bin/sh` runs, so that descriptor 2 becomes a copy of descriptor 1.
+/// The text by which `/bin/sh` makes descriptor 2 a copy of descriptor 1, and then becomes the program.
 const ERRORS_TO_OUTPUT: &str = "exec \"$@\" 2>&1";
 
-/// The other way round.
+/// The text by which `/bin/sh` makes descriptor 1 a copy of descriptor 2, and then becomes the program.
 const OUTPUT_TO_ERRORS: &str = "exec \"$@\" 1>&2";
 
-/// The two change places.
+/// The text by which `/bin/sh` exchanges descriptors 1 and 2, and then becomes the program.
 const EXCHANGED: &str = "exec \"$@\" 3>&1 1>&2 2>&3 3>&-";
 
 /// What a launch asks of Linux, where `shell` is the path of the shell's own program. `Other`: its

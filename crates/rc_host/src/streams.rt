@@ -1,0 +1,59 @@
+//! The descriptors of a child.
+ghost use Rattle.std.specs.Prelude.{◌≡◌, IfOk};
+ghost use Rattle.std.specs.Process.{SameProgramAndArgs, SameEnv};
+ghost use Rattle.rc_host.specs.Host.{IsOwn};
+
+use rc_world::{Slot, Slots};
+use std::io;
+use std::os::fd::{AsFd, AsRawFd};
+use std::process::{Command, Stdio};
+
+/// A copy of what a slot names, to be a descriptor of a child.
+#[derive(Drop)]
+pub struct Stream {
+    pub slot: Slot,
+    pub copy: Stdio,
+}
+
+/// A command that has the descriptors of its child, each a copy of what a slot names.
+#[derive(Drop)]
+pub struct Connected {
+    pub command: Command,
+    pub slots: Slots,
+}
+
+/// A copy of one of this process's own descriptors, the one that the slot names.
+pub fn own_copy<F: AsFd + AsRawFd>(own: &F, slot: Slot) -> io::Result<Stream>
+    requires { IsOwn (F.raw_fd own.now) slot }
+    ensures { IfOk result (λ stream. stream.slot ≡ slot) }
+{
+    let copy = Stdio::from(own.as_fd().try_clone_to_owned()?);
+    Ok(Stream { slot, copy })
+}
+
+/// Gives a command its descriptor 0.
+pub fn set_input(command: &mut Command, stream: Stream, _slots: Slots)
+    requires { stream.slot ≡ _slots.input }
+    ensures call { SameProgramAndArgs command.old command.new }
+    ensures env { SameEnv command.old command.new }
+{
+    command.stdin(stream.copy);
+}
+
+/// Gives a command its descriptor 1.
+pub fn set_output(command: &mut Command, stream: Stream, _slots: Slots)
+    requires { stream.slot ≡ _slots.output }
+    ensures call { SameProgramAndArgs command.old command.new }
+    ensures env { SameEnv command.old command.new }
+{
+    command.stdout(stream.copy);
+}
+
+/// Gives a command its descriptor 2.
+pub fn set_errors(command: &mut Command, stream: Stream, _slots: Slots)
+    requires { stream.slot ≡ _slots.errors }
+    ensures call { SameProgramAndArgs command.old command.new }
+    ensures env { SameEnv command.old command.new }
+{
+    command.stderr(stream.copy);
+}
