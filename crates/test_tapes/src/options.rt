@@ -9,8 +9,10 @@
 //! - `set x a b`: a variable before the run, and `args a b` and `ifs a b`: the variables `*` and `ifs`. `''` is an
 //!   empty member; after a backslash stand `n` for a newline, `t` for a tab, `s` for a space, `1` and `2` for these
 //!   bytes;
+//! - `each 12 word a#`: the 12 options `word a1` to `word a12`, and `each 12 entry x#=a` likewise;
 //! - `repeat MARK 12 ab`: the mark stands in the script, the calls, the words and the entries for 12 times `ab`, with
-//!   the same backslashes. Marks are replaced in the order of their lines.
+//!   the same backslashes, where each `#` is the number of the turn, from 1 on. Marks are replaced in the order of their
+//!   lines.
 //!
 //! Before the options `path` is `/bin`.
 
@@ -50,7 +52,7 @@ fn change(alloc: Global, state: &mut State, option: &str) -> Result<(), RowError
             state.set_strict(true);
             Ok(())
         }
-        "limit" | "repeat" | "image" | "entry" => Ok(()),
+        "limit" | "repeat" | "image" | "entry" | "each" => Ok(()),
         _ => Err(RowError::BadRow),
     }
 }
@@ -78,9 +80,46 @@ pub fn texts(alloc: Global, options: &str, wanted: &str) -> Result<Vec<String>, 
         let (kind, rest) = option.split_once(' ').unwrap_or((option, ""));
         if kind == wanted {
             texts.push(text(alloc, options, rest)?)?;
+        } else if kind == "each" {
+            push_each(alloc, &mut texts, options, wanted, rest)?;
         }
     }
     Ok(texts)
+}
+
+/// Adds what so many options give, where they are of this kind.
+fn push_each(
+    alloc: Global,
+    texts: &mut Vec<String>,
+    options: &str,
+    wanted: &str,
+    each: &str,
+) -> Result<(), RowError> {
+    let (times, option) = each.split_once(' ').unwrap_or((each, ""));
+    let (kind, rest) = option.split_once(' ').unwrap_or((option, ""));
+    if kind != wanted {
+        return Ok(());
+    }
+    let times = times.parse::<usize>()?;
+    let once = text(alloc, options, rest)?;
+    for turn in 0..times {
+        let mut numbered = String::new(alloc);
+        push_numbered(&mut numbered, once.as_str(), turn + 1)?;
+        texts.push(numbered)?;
+    }
+    Ok(())
+}
+
+/// Adds a text with this number for each `#`.
+fn push_numbered(out: &mut String, text: &str, number: usize) -> Result<(), AllocError> {
+    for character in text.chars() {
+        if character == '#' {
+            write!(out, "{number}")?;
+        } else {
+            out.push(character)?;
+        }
+    }
+    Ok(())
 }
 
 /// The text that is written so.
@@ -119,12 +158,12 @@ fn replaced(alloc: Global, text: &str, repeat: &str) -> Result<String, RowError>
     Ok(text.replace(alloc, mark, many.as_str())?)
 }
 
-/// A text this many times.
+/// A text this many times, each with its number.
 fn many_times(alloc: Global, times: usize, written: &str) -> Result<String, AllocError> {
     let once = unescaped(alloc, written)?;
     let mut many = String::new(alloc);
-    for _ in 0..times {
-        many.push_str(once.as_str())?;
+    for turn in 0..times {
+        push_numbered(&mut many, once.as_str(), turn + 1)?;
     }
     Ok(many)
 }
