@@ -1,14 +1,15 @@
 -- How an image begins.
-use Rattle.std.proofs.Common.{◌≡◌, refl, ap, sym, ◌∙◌, ℕ, ◌<◌, ◌≤◌, Bool, true, false, ◌==◌, ◌&&◌, if◌then◌else◌, List, [], ◌∷◌, length, drop, codes, nat_le, Err, arith}
-use Rattle.std.proofs.lemmas.Bool.{le-leb, lt-leb}
+use Rattle.std.proofs.Common.{◌≡◌, refl, ap, sym, ◌∙◌, ℕ, ◌<◌, ◌≤◌, Bool, true, false, ◌==◌, ◌&&◌, if◌then◌else◌, List, [], ◌∷◌, ◌++◌, length, drop, codes, nat_le, None, Err, arith}
+use Rattle.std.specs.Bool.{MatchBool}
+use Rattle.std.specs.Str.Pattern.{HasPrefixMatch, FindsTextPrefix}
+use Rattle.std.proofs.lemmas.Bool.{le-leb, lt-leb, eqb-true, eq-eqb, and_parts, false_from_ne_true}
 use Rattle.std.proofs.lemmas.Grind.{common_steps}
-use Rattle.std.proofs.lemmas.Bool.Decides.{nat_tests}
 use Rattle.rc_model.specs.Syntax.Text.{begins_with}
 use Rattle.rc_model.specs.Run.Numbers.{digits_value, greatest_number}
 use Rattle.rc_model.specs.Handed.TreeSpelling.{is_numeral}
 use Rattle.rc_model.specs.Handed.TreeReading.{digit_run, past_digits, is_count, other_version, beginning_fault, read_spelling, read_tree}
 use Rattle.rc_leaves.specs.Steps.{number_here, value_from, after_digits}
-use Rattle.rc_image.specs.Images.{begun, version_here, fault_here}
+use Rattle.rc_image.specs.Images.{version_here, fault_here}
 use Rattle.rc_model.specs.declared.fault.ImageFault.TheVariants.{BadTag, Version}
 
 first_false : (c e o : Bool) → c ≡ false → ((c && e) && o) ≡ false
@@ -57,66 +58,51 @@ version_some b bytes rest after h k e l = version_is bytes rest h k e ∙ ap oth
 pub ruleset versions = (version_bad, version_large, version_none, version_some, common_steps)
 
 -- whether a text begins with another
-pub begun_all : (mark text : List ℕ) → length mark ≡ 0 → begun mark text ≡ true
-unfolding begun
-begun_all [] text h = refl
-begun_all (b ∷ bs) text h = absurd (omega arith)
+pub begun_split : (mark text : List ℕ) → begins_with mark text ≡ true → text ≡ mark ++ drop (length mark) text
+begun_split [] text h = refl
+begun_split (b ∷ bs) [] h = cc
+begun_split (b ∷ bs) (c ∷ text) h =
+    let p = and_parts (b == c) (begins_with bs text) h in
+    ap (λ t. c ∷ t) (begun_split bs text p.1) ∙ ap (λ x. x ∷ bs ++ drop (length bs) text) (sym (eqb-true b c p.0))
 
-pub begun_short : (b : ℕ) (mark marks text : List ℕ) → mark ≡ b ∷ marks → length text ≡ 0 → begun mark text ≡ false
-unfolding begun
-begun_short b mark marks [] e h = ap (λ m. begun m []) e
-begun_short b mark marks (c ∷ text) e h = absurd (omega arith)
+pub not_begun : (mark text : List ℕ) → ((rest : List ℕ) → text ≡ mark ++ rest → ⊥) → begins_with mark text ≡ false
+not_begun mark text h = false_from_ne_true (begins_with mark text) (λ b. h (drop (length mark) text) (begun_split mark text b))
 
-step : (b c : ℕ) (marks rest : List ℕ) → (b == c) ≡ true → begun (b ∷ marks) (c ∷ rest) ≡ begun marks rest
-unfolding begun
-step b c marks rest h = ap (λ v. v && begins_with marks rest) h
+pub begun_by : (mark rest : List ℕ) → begins_with mark (mark ++ rest) ≡ true
+begun_by [] rest = refl
+begun_by (b ∷ bs) rest = ap (λ t. t && begins_with bs (bs ++ rest)) (eq-eqb b b refl) ∙ begun_by bs rest
 
-stop : (b c : ℕ) (marks rest : List ℕ) → (b == c) ≡ false → begun (b ∷ marks) (c ∷ rest) ≡ false
-unfolding begun
-stop b c marks rest h = ap (λ v. v && begins_with marks rest) h
+pub begins_by : (r : Bool) (mark text : List ℕ) → MatchBool r (HasPrefixMatch (FindsTextPrefix mark) text) (FindsTextPrefix mark text None) → r ≡ begins_with mark text
+begins_by true mark text h = sym (ap (begins_with mark) h.1.1 ∙ begun_by mark (drop h.0 text))
+begins_by false mark text h = sym (not_begun mark text h)
 
-pub begun_step : (b c : ℕ) (mark marks text rest : List ℕ) → mark ≡ b ∷ marks → text ≡ c ∷ rest → b ≡ c → begun mark text ≡ begun marks rest
-begun_step b c mark marks text rest e k h =
-    ap (λ m. begun m text) e ∙ ap (begun (b ∷ marks)) k ∙ step b c marks rest (grind (arith, nat_tests, h))
-
-pub begun_stop : (b c : ℕ) (mark marks text rest : List ℕ) → mark ≡ b ∷ marks → text ≡ c ∷ rest → (b ≡ c → ⊥) → begun mark text ≡ false
-begun_stop b c mark marks text rest e k h =
-    ap (λ m. begun m text) e ∙ ap (begun (b ∷ marks)) k ∙ stop b c marks rest (grind (arith, nat_tests, h))
-
-pub ruleset beginnings = (begun_all, begun_short, begun_step, begun_stop, common_steps)
+-- what follows a mark
+pub from_mark : (mark text rest : List ℕ) (n : ℕ) → text ≡ mark ++ drop n text → rest ≡ drop n text → text ≡ mark ++ rest
+from_mark mark text rest n e r = e ∙ ap (λ t. mark ++ t) (sym r)
 
 -- the fault of a beginning
-pub fault_other : (bytes : List ℕ) → begun (codes "rc") bytes ≡ false → fault_here bytes ≡ BadTag
-unfolding begun fault_here
-fault_other bytes h = ap (λ (c : Bool). if c && (is_count (digit_run (drop 2 bytes)) && other_version (past_digits (drop 2 bytes))) then Version else BadTag) h
+pub fault_other : (text : List ℕ) → ((rest : List ℕ) → text ≡ codes "rc" ++ rest → ⊥) → fault_here text ≡ BadTag
+unfolding fault_here
+fault_other text h =
+    ap (λ (c : Bool). if c && (is_count (digit_run (drop 2 text)) && other_version (past_digits (drop 2 text))) then Version else BadTag)
+    (not_begun (codes "rc") text h)
 
-pub fault_none : (bytes rest : List ℕ) → rest ≡ drop 2 bytes → version_here rest ≡ false → fault_here bytes ≡ BadTag
+pub fault_none : (text rest : List ℕ) (n : ℕ) → text ≡ codes "rc" ++ drop n text → rest ≡ drop n text → version_here rest ≡ false → fault_here text ≡ BadTag
 unfolding version_here fault_here
-fault_none bytes rest e h = no (begins_with (codes "rc") bytes) (version_here (drop 2 bytes)) (ap version_here (sym e) ∙ h)
-  where
-    no : (c v : Bool) → v ≡ false → (if c && v then Version else BadTag) ≡ BadTag
-    no true true k = cc
-    no true false k = refl
-    no false v k = refl
+fault_none text rest n e r h = ap beginning_fault (from_mark (codes "rc") text rest n e r) ∙ ap (λ (v : Bool). if v then Version else BadTag) h
 
-pub fault_version : (bytes rest : List ℕ) → begun (codes "rc") bytes ≡ true → rest ≡ drop 2 bytes → version_here rest ≡ true → fault_here bytes ≡ Version
-unfolding begun version_here fault_here
-fault_version bytes rest b e h = yes (begins_with (codes "rc") bytes) (version_here (drop 2 bytes)) b (ap version_here (sym e) ∙ h)
-  where
-    yes : (c v : Bool) → c ≡ true → v ≡ true → (if c && v then Version else BadTag) ≡ Version
-    yes true true k l = refl
-    yes true false k l = cc
-    yes false v k l = cc
+pub fault_version : (text rest : List ℕ) (n : ℕ) → text ≡ codes "rc" ++ drop n text → rest ≡ drop n text → version_here rest ≡ true → fault_here text ≡ Version
+unfolding version_here fault_here
+fault_version text rest n e r h = ap beginning_fault (from_mark (codes "rc") text rest n e r) ∙ ap (λ (v : Bool). if v then Version else BadTag) h
 
-pub ruleset faults = (fault_other, fault_none, fault_version, common_steps)
+pub ruleset faults = (fault_none, fault_version, common_steps)
 
 -- what an image is read as
-pub image_other : (text : List ℕ) → begun (codes "rc1;") text ≡ false → read_tree text ≡ Err (fault_here text)
-unfolding begun fault_here
-image_other text h = ap (λ (c : Bool). if c then read_spelling (drop 4 text) else Err (beginning_fault text)) h
+pub image_other : (text : List ℕ) → ((rest : List ℕ) → text ≡ codes "rc1;" ++ rest → ⊥) → read_tree text ≡ Err (fault_here text)
+unfolding fault_here
+image_other text h = ap (λ (c : Bool). if c then read_spelling (drop 4 text) else Err (beginning_fault text)) (not_begun (codes "rc1;") text h)
 
-pub image_is : (text rest : List ℕ) → begun (codes "rc1;") text ≡ true → rest ≡ drop 4 text → read_tree text ≡ read_spelling rest
-unfolding begun
-image_is text rest h e = ap (λ (c : Bool). if c then read_spelling (drop 4 text) else Err (beginning_fault text)) h ∙ ap read_spelling (sym e)
+pub image_is : (text rest : List ℕ) (n : ℕ) → text ≡ codes "rc1;" ++ drop n text → rest ≡ drop n text → read_tree text ≡ read_spelling rest
+image_is text rest n e r = ap read_tree (from_mark (codes "rc1;") text rest n e r)
 
-pub ruleset images = (image_other, image_is, common_steps)
+pub ruleset images = (image_is, common_steps)

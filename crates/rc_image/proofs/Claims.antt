@@ -18,7 +18,7 @@ use Rattle.rc_model.specs.Handed.TreeReading.{read_spelling, read_tree, beginnin
 use Rattle.rc_model.specs.Handed.WordsReading.{Taken, counted, from_one, from_pieces, are_these, read_pieces}
 use Rattle.rc_model.specs.Syntax.Faults.{Fails}
 use Rattle.rc_leaves.specs.Faults.{ImageError}
-use Rattle.rc_image.specs.Images.{Refuses, written, in_one, in_pieces, begun, fault_here}
+use Rattle.rc_image.specs.Images.{Refuses, written, in_one, in_pieces, fault_here}
 use Rattle.rc_model.specs.declared.fault.ImageFault.{ImageFault}
 use Rattle.rc_model.specs.declared.fault.ImageFault.TheVariants as image_fault
 
@@ -142,19 +142,18 @@ by_mark first rest one two =
     else if two then from_pieces longest_word first (take (digits_value 0 (drop 4 first)) rest)
     else Err (beginning_fault first)
 
-marked : (first : List ℕ) (rest : List (List ℕ)) (one two : Bool) → begun (codes "rc1;") first ≡ one → begun (codes "rc2;") first ≡ two →
+marked : (first : List ℕ) (rest : List (List ℕ)) (one two : Bool) → begins_with (codes "rc1;") first ≡ one → begins_with (codes "rc2;") first ≡ two →
     read_pieces (first ∷ rest) ≡ by_mark first rest one two
-unfolding begun
 marked first rest one two e h = ap (λ o. by_mark first rest o (begins_with (codes "rc2;") first)) e ∙ ap (by_mark first rest one) h
 
-pub reads_one : (words rest : List (String Global)) (first : String Global) → words ≡ first ∷ rest → begun (codes "rc1;") (string_bytes first) ≡ true →
+pub reads_one : (words rest : List (String Global)) (first : String Global) → words ≡ first ∷ rest → begins_with (codes "rc1;") (string_bytes first) ≡ true →
     read_pieces (map string_bytes words) ≡ in_one (string_bytes first)
 unfolding in_one
 reads_one words rest first e h =
-    ap (λ ws. read_pieces (map string_bytes ws)) e ∙ marked (string_bytes first) (map string_bytes rest) true (begun (codes "rc2;") (string_bytes first)) h refl
+    ap (λ ws. read_pieces (map string_bytes ws)) e ∙ marked (string_bytes first) (map string_bytes rest) true (begins_with (codes "rc2;") (string_bytes first)) h refl
 
-pub reads_other : (words rest : List (String Global)) (first : String Global) → words ≡ first ∷ rest → begun (codes "rc1;") (string_bytes first) ≡ false →
-    begun (codes "rc2;") (string_bytes first) ≡ false → read_pieces (map string_bytes words) ≡ Err (fault_here (string_bytes first))
+pub reads_other : (words rest : List (String Global)) (first : String Global) → words ≡ first ∷ rest → begins_with (codes "rc1;") (string_bytes first) ≡ false →
+    begins_with (codes "rc2;") (string_bytes first) ≡ false → read_pieces (map string_bytes words) ≡ Err (fault_here (string_bytes first))
 unfolding fault_here
 reads_other words rest first e h k =
     ap (λ ws. read_pieces (map string_bytes ws)) e ∙ marked (string_bytes first) (map string_bytes rest) false false h k
@@ -163,7 +162,7 @@ enough : (n claim size : ℕ) → size ≤ 2 ^ 64 - 1 → claim ≡ min n (2 ^ 6
 enough n claim size l e = omega arith
 
 pub reads_several : (words rest pieces : List (String Global)) (first : String Global) (digits : List ℕ) (claim count : ℕ) → words ≡ first ∷ rest →
-    begun (codes "rc1;") (string_bytes first) ≡ false → begun (codes "rc2;") (string_bytes first) ≡ true → digits ≡ drop 4 (string_bytes first) →
+    begins_with (codes "rc1;") (string_bytes first) ≡ false → begins_with (codes "rc2;") (string_bytes first) ≡ true → digits ≡ drop 4 (string_bytes first) →
     claim ≡ min (digits_value 0 digits) (2 ^ 64 - 1) → length rest ≤ 2 ^ 64 - 1 → count ≡ min claim (length rest) → pieces ≡ take count rest →
     read_pieces (map string_bytes words) ≡ in_pieces (string_bytes first) (map string_bytes pieces)
 unfolding in_pieces

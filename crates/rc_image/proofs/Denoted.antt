@@ -25,7 +25,7 @@ use Rattle.rc_tree_types.specs.declared.Cmd.{Cmd}
 use Rattle.rc_model.specs.declared.fault.InputError.TheVariants as error
 use Rattle.rc_model.specs.Syntax.Faults.{Fails, Gives}
 use Rattle.rc_leaves.specs.Faults.{ImageError}
-use Rattle.rc_image.proofs.Escapes.{begun_split}
+use Rattle.rc_image.proofs.Beginnings.{begun_split}
 use Rattle.rc_image.proofs.Puts.{found, swap}
 use Rattle.rc_model.specs.declared.fault.ImageFault.{ImageFault}
 

@@ -1,7 +1,7 @@
 -- What the entries of an environment say.
 use Rattle.std.specs.Prelude.{string_bytes, option_map}
 use Rattle.std.proofs.Common.{◌≡◌, ℕ, ◌<◌, suc, List, [], ◌∷◌, ◌++◌, length, drop, map, get_or, refl, sym, ap, ◌∙◌, arith, append_assoc, true, false, cond, ◌==◌, ◌&&◌, if◌then◌else◌, codes, Option, Some, None}
-use Rattle.std.proofs.lemmas.Bool.{ne_eqb, eqb-true, eq-eqb, and_parts, false_from_ne_true}
+use Rattle.std.proofs.lemmas.Bool.{ne_eqb}
 use Rattle.std.proofs.lemmas.List.{append-nil, map-append}
 use Rattle.std.specs.List.{slice_split, onto_first}
 use Rattle.std.specs.Option.{MatchOption}
@@ -13,6 +13,7 @@ use Rattle.rc_model.specs.Run.State.{is_function_name}
 use Rattle.rc_model.specs.Handed.Environment.{cut_entry, with_first, unescaped, members_of}
 use Rattle.rc_image.specs.Entries.{pair_of, function_in}
 use Rattle.law_image.proofs.Members.{past_other}
+use Rattle.rc_image.proofs.Beginnings.{begun_by, not_begun}
 
 -- a text without a byte
 abbrev pub Lacks : ℕ → List ℕ → Type 0
@@ -115,20 +116,6 @@ no_more_members m written s rest whole h k i w =
     ∙ i
 
 -- ** functions
-
-pub begun_split : (mark text : List ℕ) → begins_with mark text ≡ true → text ≡ mark ++ drop (length mark) text
-begun_split [] text h = refl
-begun_split (b ∷ bs) [] h = cc
-begun_split (b ∷ bs) (c ∷ text) h =
-    let p = and_parts (b == c) (begins_with bs text) h in
-    ap (λ t. c ∷ t) (begun_split bs text p.1) ∙ ap (λ x. x ∷ bs ++ drop (length bs) text) (sym (eqb-true b c p.0))
-
-not_begun : (mark text : List ℕ) → ((rest : List ℕ) → text ≡ mark ++ rest → ⊥) → begins_with mark text ≡ false
-not_begun mark text h = false_from_ne_true (begins_with mark text) (λ b. h (drop (length mark) text) (begun_split mark text b))
-
-begun_by : (mark rest : List ℕ) → begins_with mark (mark ++ rest) ≡ true
-begun_by [] rest = refl
-begun_by (b ∷ bs) rest = ap (λ t. t && begins_with bs (bs ++ rest)) (eq-eqb b b refl) ∙ begun_by bs rest
 
 pub function_none : (cut : Option (List ℕ × List ℕ)) → cut ≡ None → function_in cut ≡ None
 unfolding function_in

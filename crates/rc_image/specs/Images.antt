@@ -1,7 +1,6 @@
 -- What the calls for images answer.
 use Rattle.std.specs.Prelude.{◌≡◌, ℕ, List, Bool, ◌&&◌, if◌then◌else◌, Option, Some, None, Result, Ok, Err}
 use Rattle.rc_model.specs.Syntax.Tree.{Node, cmd}
-use Rattle.rc_model.specs.Syntax.Text.{begins_with}
 use Rattle.rc_model.specs.Handed.Image.{image, is_short}
 use Rattle.rc_model.specs.Handed.Pieces.{longest_word, words_of}
 use Rattle.rc_model.specs.Handed.WordsReading.{Taken, from_one, from_pieces}
@@ -34,10 +33,6 @@ Writes view (Err e) written = Refuses e written
 -- whether the number of a version and a `;` stand here
 unfoldable pub version_here : List ℕ → Bool
 version_here bytes = is_count (digit_run bytes) && other_version (past_digits bytes)
-
--- whether a text begins with another
-unfoldable pub begun : List ℕ → List ℕ → Bool
-begun mark text = begins_with mark text
 
 -- the fault of another beginning than that of an image
 unfoldable pub fault_here : List ℕ → ImageFault

@@ -9,7 +9,7 @@ use Rattle.rc_image.specs.declared.launch.Handover.{Handover}
 abbrev pub handed_of : Handover → List (List ℕ) × List (List ℕ)
 handed_of h = (map string_bytes h.args.items, map string_bytes h.entries.items)
 
--- the arguments of a shell that is handed its command in these words
+-- the arguments of a shell that is handed its command in these words; `shell_args` has those of a tree
 abbrev pub args_with : List (List ℕ) → State → List (List ℕ)
 args_with words s = strict_option s.strict ++ (codes "-S" ∷ (words ++ value_of s (codes "*")))
 

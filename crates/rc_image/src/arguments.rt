@@ -3,7 +3,6 @@
 ghost use Rattle.std.specs.Prelude.{◌≡◌, OnOk, map, string_bytes};
 ghost use Rattle.rc_model.specs.Handed.Arguments.{read_image};
 ghost use Rattle.rc_model.specs.Handed.Environment.{read_state};
-ghost use Rattle.rc_model.specs.Handed.WordsReading.{read_pieces};
 ghost use Rattle.rc_tree_types.specs.View.{cmd_tree};
 ghost use Rattle.rc_scope.specs.States.{state_of};
 ghost use Rattle.rc_model.specs.Syntax.Faults.{Gives};
@@ -11,7 +10,7 @@ ghost use Rattle.rc_image.specs.Entries.{with_arguments};
 
 use crate::ImageError;
 use crate::environment::{read_env, set_value};
-use crate::words::read_pieces;
+use crate::words::read_words;
 use rc_scope::{State, copy_texts};
 use rc_tree::Cmd;
 use std::alloc::{AllocError, Global};
@@ -43,15 +42,6 @@ pub fn read_state(
     Ok(state)
 }
 
-/// The tree of the first of these words, in a box, and how many of them it takes.
-#[tactic(auto, using(std::proofs::lemmas::Grind::common_steps))]
-fn read_boxed(alloc: Global, words: &[String]) -> Result<(Box<Cmd>, usize), ImageError>
-    ensures { Gives (λ x. (cmd_tree x.0.value, x.1)) result (read_pieces (map string_bytes words.now)) }
-{
-    let (cmd, taken) = read_pieces(alloc, words)?;
-    Ok((Box::new(alloc, cmd)?, taken))
-}
-
 /// The tree and the state that words and entries denote. What the image leaves of the words is `$*`.
 pub fn read_image(
     alloc: Global,
@@ -62,7 +52,7 @@ pub fn read_image(
     ensures { Gives (λ x. (cmd_tree x.0, state_of x.1)) result
         (read_image strict (map string_bytes words.now) (map string_bytes entries.now)) }
 {
-    let (cmd, taken) = read_boxed(alloc, words)?;
+    let (cmd, taken) = read_words(alloc, words)?;
     let (_, args) = words.split_at(taken);
     let mut state = read_state(alloc, true, args, entries)?;
     state.set_strict(strict);

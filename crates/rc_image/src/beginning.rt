@@ -1,29 +1,19 @@
 //! How an image begins.
 
-ghost use Rattle.std.specs.Prelude.{◌≡◌, ◌≤◌, codes, IsTrue, length};
-ghost use Rattle.rc_image.specs.Images.{begun, version_here, fault_here};
+ghost use Rattle.std.specs.Prelude.{◌≡◌};
+ghost use Rattle.rc_image.specs.Images.{version_here, fault_here};
 
 use rc_leaves::{begins_number, number};
 use rc_model::ImageFault;
 
-/// Whether a text begins with another.
-#[cycle(begins)]
-#[tactic(auto, using(crate::proofs::Beginnings::beginnings))]
-pub fn begins(mark: &[u8], text: &[u8]) -> bool
-    ensures value { result ≡ begun mark.now text.now }
-    ensures within { IsTrue result → length mark.now ≤ length text.now }
-{
-    let Some((first, marks)) = mark.split_first() else {
-        return true;
-    };
-    let Some((byte, rest)) = text.split_first() else {
-        return false;
-    };
-    if *first != *byte {
-        return false;
-    }
-    begins(marks, rest)
-}
+/// What an image in one word begins with.
+pub const MARK: &str = "rc1;";
+
+/// What the first word of an image in pieces begins with.
+pub const PIECES_MARK: &str = "rc2;";
+
+/// What the marks of all versions begin with.
+const VERSION_MARK: &str = "rc";
 
 /// Whether the digits of a version stand here, and a `;` after them.
 #[tactic(auto, using(crate::proofs::Beginnings::versions))]
@@ -44,14 +34,13 @@ fn has_version(bytes: &[u8]) -> bool
 
 /// The fault of another beginning than that of an image.
 #[tactic(auto, using(crate::proofs::Beginnings::faults))]
-pub fn beginning_fault(bytes: &[u8]) -> ImageFault
-    ensures { result ≡ fault_here bytes.now }
+pub fn beginning_fault(text: &str) -> ImageFault
+    ensures { result ≡ fault_here text.now }
 {
-    if !begins("rc".as_bytes(), bytes) {
+    let Some(rest) = text.strip_prefix(VERSION_MARK) else {
         return ImageFault::BadTag;
-    }
-    let (_, rest) = bytes.split_at(2);
-    if has_version(rest) {
+    };
+    if has_version(rest.as_bytes()) {
         ImageFault::Version
     } else {
         ImageFault::BadTag

@@ -17,7 +17,7 @@ mod texts;
 mod words;
 
 pub use arguments::{read_image, read_state};
-use beginning::{beginning_fault, begins};
+use beginning::{MARK, beginning_fault};
 pub use environment::read_env;
 pub use launch::{Handover, handed, write_env};
 pub use pieces::write_pieces;
@@ -35,7 +35,7 @@ pub use words::read_pieces;
 pub fn write_tree(alloc: Global, cmd: &Cmd) -> Result<String, ImageError>
     ensures { Writes (λ text. string_bytes text) result (short_image (cmd_tree cmd.now)) }
 {
-    let mut text = String::from_str(alloc, "rc1;")?;
+    let mut text = String::from_str(alloc, MARK)?;
     push_spelling(&mut text, cmd)?;
     if text.len() > LONGEST_ARGUMENT {
         return Err(InputError::Fault(ImageFault::TooLarge));
@@ -43,15 +43,21 @@ pub fn write_tree(alloc: Global, cmd: &Cmd) -> Result<String, ImageError>
     Ok(text)
 }
 
-/// The tree of an image.
+/// The tree of an image, in a box.
 #[tactic(auto, using(crate::proofs::Beginnings::images))]
+fn read_boxed(alloc: Global, text: &str) -> Result<Box<Cmd>, ImageError>
+    ensures { Gives (λ c. cmd_tree c.value) result (read_tree text.now) }
+{
+    let Some(spelling) = text.strip_prefix(MARK) else {
+        return Err(InputError::Fault(beginning_fault(text)));
+    };
+    read_spelling(alloc, spelling.as_bytes())
+}
+
+/// The tree of an image.
+#[tactic(auto, using(std::proofs::lemmas::Grind::common_steps))]
 pub fn read_tree(alloc: Global, text: &str) -> Result<Cmd, ImageError>
     ensures { Gives (λ c. cmd_tree c) result (read_tree text.now) }
 {
-    let bytes = text.as_bytes();
-    if !begins("rc1;".as_bytes(), bytes) {
-        return Err(InputError::Fault(beginning_fault(bytes)));
-    }
-    let (_, spelling) = bytes.split_at(4);
-    read_spelling(alloc, spelling)
+    Ok(Box::into_inner(read_boxed(alloc, text)?))
 }

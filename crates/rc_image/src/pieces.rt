@@ -6,6 +6,7 @@ ghost use Rattle.rc_model.specs.Handed.Pieces.{longest_word, most_pieces, one_wo
 ghost use Rattle.rc_tree_types.specs.View.{cmd_tree};
 ghost use Rattle.rc_image.specs.Images.{Writes, written};
 
+use crate::beginning::{MARK, PIECES_MARK};
 use crate::{ImageError, ImageFault, InputError};
 use rc_model::limits::{LONGEST_ARGUMENT, MOST_PIECES};
 use rc_spelling::push_spelling;
@@ -13,7 +14,7 @@ use rc_tree::Cmd;
 use std::alloc::{AllocError, Global};
 
 /// The most bytes of a spelling that stands in one word with its mark.
-const LONGEST_SPELLING: usize = LONGEST_ARGUMENT - 4;
+const LONGEST_SPELLING: usize = LONGEST_ARGUMENT - MARK.len();
 
 /// The pieces of a spelling, each the longest of what is left.
 #[tactic(auto, using(crate::proofs::Cuts::cuts))]
@@ -39,7 +40,7 @@ fn one_word(alloc: Global, spelling: &str) -> Result<Vec<String>, AllocError>
     ensures { IfOk result (λ words. map string_bytes words.items ≡ one_word spelling.now) }
 {
     let mut words = Vec::new(alloc);
-    words.push(format!(in alloc; "rc1;{spelling}")?)?;
+    words.push(format!(in alloc; "{MARK}{spelling}")?)?;
     Ok(words)
 }
 
@@ -49,7 +50,7 @@ fn several_words(alloc: Global, mut pieces: Vec<String>) -> Result<Vec<String>, 
     ensures { IfOk result (λ words. map string_bytes words.items ≡ several_words (map string_bytes pieces.items)) }
 {
     let count = pieces.len();
-    pieces.insert(0, format!(in alloc; "rc2;{count}")?)?;
+    pieces.insert(0, format!(in alloc; "{PIECES_MARK}{count}")?)?;
     Ok(pieces)
 }
 

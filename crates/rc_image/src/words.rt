@@ -10,9 +10,9 @@ ghost use Rattle.rc_tree_types.specs.View.{cmd_tree};
 ghost use Rattle.rc_model.specs.Syntax.Faults.{Gives};
 ghost use Rattle.rc_image.specs.Images.{in_one, in_pieces};
 
-use crate::beginning::{beginning_fault, begins};
+use crate::beginning::{MARK, PIECES_MARK, beginning_fault};
 use crate::pieces::words_of;
-use crate::{ImageError, ImageFault, InputError, read_tree};
+use crate::{ImageError, ImageFault, InputError, read_boxed};
 use rc_model::limits::LONGEST_ARGUMENT;
 use rc_reading::read_spelling;
 use rc_tree::Cmd;
@@ -55,19 +55,23 @@ fn are_these(words: &[String], first: &str, pieces: &[String]) -> bool
 
 /// The tree of an image in one word.
 #[tactic(auto, using(crate::proofs::Claims::ones))]
-fn read_one(alloc: Global, word: &str) -> Result<(Cmd, usize), ImageError>
-    ensures { Gives (λ x. (cmd_tree x.0, x.1)) result (in_one word.now) }
+fn read_one(alloc: Global, word: &str) -> Result<(Box<Cmd>, usize), ImageError>
+    ensures { Gives (λ x. (cmd_tree x.0.value, x.1)) result (in_one word.now) }
 {
     if word.len() > LONGEST_ARGUMENT {
         return Err(InputError::Fault(ImageFault::BadLength));
     }
-    Ok((read_tree(alloc, word)?, 1))
+    Ok((read_boxed(alloc, word)?, 1))
 }
 
 /// The tree of an image in pieces. Its words must be those in which it is written.
 #[tactic(auto, using(crate::proofs::Claims::severals))]
-fn read_several(alloc: Global, first: &str, pieces: &[String]) -> Result<(Cmd, usize), ImageError>
-    ensures { Gives (λ x. (cmd_tree x.0, x.1)) result (in_pieces first.now (map string_bytes pieces.now)) }
+fn read_several(
+    alloc: Global,
+    first: &str,
+    pieces: &[String],
+) -> Result<(Box<Cmd>, usize), ImageError>
+    ensures { Gives (λ x. (cmd_tree x.0.value, x.1)) result (in_pieces first.now (map string_bytes pieces.now)) }
 {
     let spelling = joined(alloc, pieces)?;
     match words_of(alloc, &spelling) {
@@ -79,23 +83,30 @@ fn read_several(alloc: Global, first: &str, pieces: &[String]) -> Result<(Cmd, u
     }
 }
 
+/// The tree of the first of these words, in a box, and how many of them it takes.
+#[tactic(auto, using(std::proofs::lemmas::Grind::common_steps))]
+pub fn read_words(alloc: Global, words: &[String]) -> Result<(Box<Cmd>, usize), ImageError>
+    ensures { Gives (λ x. (cmd_tree x.0.value, x.1)) result (read_pieces (map string_bytes words.now)) }
+{
+    let Some((first, rest)) = words.split_first() else {
+        return Err(InputError::Fault(ImageFault::BadTag));
+    };
+    if first.starts_with(MARK) {
+        return read_one(alloc, first);
+    }
+    let Some(digits) = first.strip_prefix(PIECES_MARK) else {
+        return Err(InputError::Fault(beginning_fault(first)));
+    };
+    let count = claimed(digits.as_bytes()).min(rest.len());
+    let (pieces, _) = rest.split_at(count);
+    read_several(alloc, first, pieces)
+}
+
 /// The tree of the first of these words, and how many of them it takes.
 #[tactic(auto, using(std::proofs::lemmas::Grind::common_steps))]
 pub fn read_pieces(alloc: Global, words: &[String]) -> Result<(Cmd, usize), ImageError>
     ensures { Gives (λ x. (cmd_tree x.0, x.1)) result (read_pieces (map string_bytes words.now)) }
 {
-    let Some((first, rest)) = words.split_first() else {
-        return Err(InputError::Fault(ImageFault::BadTag));
-    };
-    let bytes = first.as_bytes();
-    if begins("rc1;".as_bytes(), bytes) {
-        return read_one(alloc, first);
-    }
-    if !begins("rc2;".as_bytes(), bytes) {
-        return Err(InputError::Fault(beginning_fault(bytes)));
-    }
-    let (_, digits) = bytes.split_at(4);
-    let count = claimed(digits).min(rest.len());
-    let (pieces, _) = rest.split_at(count);
-    read_several(alloc, first, pieces)
+    let (cmd, taken) = read_words(alloc, words)?;
+    Ok((Box::into_inner(cmd), taken))
 }

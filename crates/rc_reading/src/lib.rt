@@ -15,14 +15,14 @@ use rc_tree::Cmd;
 use read::read_cmd;
 use std::alloc::Global;
 
-/// The tree of a spelling, which nothing follows.
+/// The tree of a spelling, which nothing follows, in a box.
 #[tactic(auto, using(std::proofs::lemmas::Grind::common_steps))]
-pub fn read_spelling(alloc: Global, bytes: &[u8]) -> Result<Cmd, ImageError>
-    ensures { Gives (λ c. cmd_tree c) result (read_spelling bytes.now) }
+pub fn read_spelling(alloc: Global, bytes: &[u8]) -> Result<Box<Cmd>, ImageError>
+    ensures { Gives (λ c. cmd_tree c.value) result (read_spelling bytes.now) }
 {
     let (cmd, rest) = read_cmd(alloc, MOST_LEVELS, bytes)?;
     if !rest.is_empty() {
         return Err(InputError::Fault(ImageFault::Trailing));
     }
-    Ok(Box::into_inner(cmd))
+    Ok(cmd)
 }

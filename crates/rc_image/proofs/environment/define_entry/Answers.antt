@@ -19,4 +19,4 @@ returns-in_err-body c =
 pub returns : goal.returns
 returns c =
     is_defined (state_of c.args.state.now) (state_of c.define.new.state) c.in-Some.name.now c.in-Some.image.now c.args.entry.now c.function.result _
-    c.in-Some.ensures c.function.ensures (search rules) c.in_ok-body.ensures c.in_ok-define.ensures
+    c.in-Some.ensures c.function.ensures (search rules) c.in_ok-body.ensures (rw c.in_ok-shared.ensures.ok at c.in_ok-define.ensures)
