@@ -21,6 +21,7 @@ use Rattle.law_image.proofs.Proper.{proper_set, proper_define, proper_same}
 use Rattle.law_image.proofs.Handed.{launch_reads_back}
 use Rattle.law_handed.proofs.Safe.{Gives, Keeps, bind_so, bind, next, gives_pure, keeps_pure, keeps_skip, gives_exits, keeps_call, keeps_say, keeps_change, keeps_status, gives_from, gives_at, gives_if}
 use Rattle.rc_model.specs.declared.fault.ListFault.{ListFault}
+use Rattle.rc_model.specs.Run.Acts.{cannot_open, here_name, not_one_word}
 
 -- reports and runtime errors
 pub keeps_report : (slots : Slots) (text : List ℕ) → Keeps (report slots text)
@@ -82,15 +83,15 @@ keeps_define slots (x ∷ xs) body b =
 -- files
 keeps_opened : (slots : Slots) (name : List ℕ) (o : Option ℕ) → Keeps (opened slots name o)
 keeps_opened slots name (Some h) = keeps_pure h
-keeps_opened slots name None = gives_fails slots (codes "cannot open " ++ name)
+keeps_opened slots name None = gives_fails slots (cannot_open name)
 
 pub keeps_open_one : (slots : Slots) (mode : Mode) (names : List (List ℕ)) → Keeps (open_one slots mode names)
-keeps_open_one slots mode [] = gives_fails slots (codes "redirection needs one word")
+keeps_open_one slots mode [] = gives_fails slots not_one_word
 keeps_open_one slots mode (name ∷ []) = bind (call (open_file name mode)) _ (keeps_call (open_file name mode) tt) (λ a. keeps_opened slots name (as_file a))
-keeps_open_one slots mode (name ∷ other ∷ others) = gives_fails slots (codes "redirection needs one word")
+keeps_open_one slots mode (name ∷ other ∷ others) = gives_fails slots not_one_word
 
 pub keeps_open_here : (slots : Slots) (pieces : Many piece) → Keeps (open_here slots pieces)
-keeps_open_here slots pieces = gives_from _ (λ t p. bind (call (here (here_text t pieces))) _ (keeps_call (here (here_text t pieces)) tt) (λ a. keeps_opened slots (codes "here document") (as_file a)))
+keeps_open_here slots pieces = gives_from _ (λ t p. bind (call (here (here_text t pieces))) _ (keeps_call (here (here_text t pieces)) tt) (λ a. keeps_opened slots here_name (as_file a)))
 
 -- file names
 keeps_each_name : (go : List ℕ → Shell (List (List ℕ))) → ((path : List ℕ) → Keeps (go path)) → (path : List ℕ) (names : List (List ℕ)) → Keeps (each_name go path names)

@@ -27,6 +27,7 @@ use Rattle.law_traces.proofs.Does.{strangers, Ends, keeps_bind, CoversSlot, Cove
 use Rattle.law_traces.proofs.Children.{same_background, set_keeps, clean_pipeline, keeps_file, clean_back, clean_subshell, clean_background}
 use Rattle.law_traces.proofs.Forms.{clean_choice, clean_then, clean_scope, clean_value_words, clean_count_words, clean_flat_words, clean_selected_words, clean_concat, clean_variable, clean_define, clean_expanded}
 use Rattle.law_traces.proofs.Builtins.{clean_words}
+use Rattle.rc_model.specs.Run.Acts.{cannot_open, here_name, not_one_word}
 
 -- locals
 push_keeps : (name : List ℕ) (value : List (List ℕ)) (s : State) → (push_local s name value).background ≡ s.background
@@ -95,16 +96,16 @@ keeps_fails F O slots t a s c n = (may_call (write slots.errors _) n (holds_slot
 
 keeps_opened : (F : List Held) (O : List Kid) (slots : Slots) (name : List ℕ) (o : Option ℕ) (a : Account) (s : State) → Covers F slots → Opened F O o a s → Keeps a (opened slots name o s) (Ends F O (λ h. Rest (held h a_file 0 ∷ F) O))
 keeps_opened F O slots name (Some h) a s c n = n
-keeps_opened F O slots name None a s c n = keeps_fails F O slots (codes "cannot open " ++ name) a s c n
+keeps_opened F O slots name None a s c n = keeps_fails F O slots (cannot_open name) a s c n
 
 keeps_open_one : (F : List Held) (O : List Kid) (slots : Slots) (mode : Mode) (v : List (List ℕ)) (a : Account) (s : State) → Covers F slots → Rest F O a s → Keeps a (open_one slots mode v s) (Ends F O (λ h. Rest (held h a_file 0 ∷ F) O))
-keeps_open_one F O slots mode [] a s c n = keeps_fails F O slots (codes "redirection needs one word") a s c n
+keeps_open_one F O slots mode [] a s c n = keeps_fails F O slots not_one_word a s c n
 keeps_open_one F O slots mode (name ∷ []) a s c n = (may_call (open_file name mode) n tt tt tt, λ x f. keeps_opened F O slots name (as_file x) (after a (open_file name mode) x) s c (opened_so (open_file name mode) (as_file x) f n))
-keeps_open_one F O slots mode (name ∷ x ∷ xs) a s c n = keeps_fails F O slots (codes "redirection needs one word") a s c n
+keeps_open_one F O slots mode (name ∷ x ∷ xs) a s c n = keeps_fails F O slots not_one_word a s c n
 
 keeps_open_here : (F : List Held) (O : List Kid) (slots : Slots) (pieces : Many piece) (a : Account) (s : State) → Covers F slots → Rest F O a s → Keeps a (open_here slots pieces s) (Ends F O (λ h. Rest (held h a_file 0 ∷ F) O))
 keeps_open_here F O slots pieces a s c n =
-    (may_call (here (here_text s pieces)) n tt tt tt, λ x f. keeps_opened F O slots (codes "here document") (as_file x) (after a (here (here_text s pieces)) x) s c (opened_so (here (here_text s pieces)) (as_file x) f n))
+    (may_call (here (here_text s pieces)) n tt tt tt, λ x f. keeps_opened F O slots here_name (as_file x) (after a (here (here_text s pieces)) x) s c (opened_so (here (here_text s pieces)) (as_file x) f n))
 
 slot_covers : (F : List Held) (slots : Slots) (n : ℕ) → Covers F slots → CoversSlot F (slot_of slots n)
 slot_covers F slots zero c = c.input

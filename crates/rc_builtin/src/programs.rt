@@ -264,7 +264,7 @@ fn run_found<W: World>(
 
 /// Runs a program by its name, and waits for it. The status is how it ended: null for 0, another number in decimal, or
 /// `signal`. Where it could not be run the status is `not found`, `cannot start` or `too large`, with a report; where
-/// it could not be waited for, `cannot wait`. These are the words that rc(1) lists.
+/// it could not be waited for, `cannot wait`.
 #[tactic(auto, using(crate::proofs::Acts::acting))]
 pub fn run_program<W: World>(
     alloc: Global,

@@ -1,5 +1,4 @@
 pub mod Outcomes
 pub mod Configs
 pub mod Names
-pub mod Endings
 pub mod Tops

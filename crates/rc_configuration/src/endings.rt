@@ -1,11 +1,12 @@
 //! The end of the shell.
 
-ghost use Rattle.std.specs.Prelude.{◌≡◌, ◌<◌, ◌∷◌, [], Some, codes};
+ghost use Rattle.std.specs.Prelude.{◌≡◌, ◌<◌, ◌∷◌, [], Some};
 ghost use Rattle.rc_model.specs.Code.Machine.{Over, end_waits, unwind};
 ghost use Rattle.rc_model.specs.Run.State as model;
 ghost use Rattle.rc_configuration.specs.Configs.{scopes_of};
 ghost use Rattle.rc_scope.specs.States.{child_numbers, state_of};
 ghost use Rattle.rc_world.specs.Comes.{Comes};
+ghost use Rattle.rc_model.specs.Run.Values.{bad_name};
 
 use crate::configuration::{Configuration, Move};
 use crate::parts::Scope;
@@ -27,7 +28,7 @@ fn wait_owed<W: World>(world: &mut W, owed: &[ChildNo]) -> Result<(), Stop>
 
 impl Configuration {
     ghost use Rattle.rc_configuration.specs.Configs.{config_of};
-    ghost use Rattle.rc_configuration.specs.Endings.{GoesOn};
+    ghost use Rattle.rc_world.specs.Comes.{GoesOn};
     ghost use Rattle.rc_configuration.specs.Outcomes.{Steps, failed};
 
     /// Ends a scope that was the innermost.
@@ -40,7 +41,8 @@ impl Configuration {
         ensures ended { let before = scopes_of (scope ∷ self.old.scopes) self.old.redirs in
             GoesOn (W.events world.old) (W.events world.new)
             (unwind before (state_of self.old.state) (child_numbers owed.old.items))
-            (unwind (config_of self.new).scopes (state_of self.new.state) (child_numbers owed.new.items)) result }
+            (λ done. unwind (config_of self.new).scopes (state_of self.new.state) (child_numbers owed.new.items))
+            result }
         ensures others { self.new.scopes ≡ self.old.scopes }
     {
         match scope {
@@ -90,7 +92,7 @@ impl Configuration {
     /// open ends.
     pub fn fail_bad_name<W: World>(&mut self, alloc: Global, world: &mut W) -> Result<Move, Stop>
         ensures { Steps (W.events world.old) (W.events world.new)
-            (failed (config_of self.old) (codes "bad name")) (config_of self.new) result }
+            (failed (config_of self.old) bad_name) (config_of self.new) result }
     {
         self.fail(alloc, world, NameFault::BadName.words())
     }

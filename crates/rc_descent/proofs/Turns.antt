@@ -9,6 +9,7 @@ use Rattle.rc_model.specs.Syntax.Tree as t
 use Rattle.rc_model.specs.Syntax.Grammar.{begins_arg, begins_redir, begins_command, past_blanks, past_newlines, after_caret, ends}
 use Rattle.rc_model.specs.Mirrors.Descent as d
 use Rattle.rc_model.specs.Mirrors.Descent.{Reader, Readers, Read, ◌>>=◌}
+use Rattle.rc_tree_types.proofs.Numbers.{count_nodes}
 use Rattle.rc_tree_types.specs.View.{nodes_push}
 use Rattle.rc_lexemes.specs.declared.lexeme.Lexeme.{Lexeme}
 use Rattle.rc_lexemes.specs.Lexemes.{lexemes_of}
@@ -124,10 +125,6 @@ pub ruleset branches = (branches_start, branches_more, branches_done, nodes_push
 pub pipe_start : (r : Readers) (turns : ℕ) (first : Node t.cmd) (xs : List Lexeme) → turns ≡ length xs → d.pipe_by r first (lexemes_of xs) ≡ d.pipe_from r (turns - 0) none first (lexemes_of xs)
 unfolding d.pipe_by
 pipe_start r turns first xs h = ap (λ k. d.pipe_from r k none first (lexemes_of xs)) (all_left turns xs h)
-
-count_nodes : {X : Type 0} (f : X → Node t.stage) (xs : List X) → count (nodes f xs) ≡ length xs
-count_nodes f [] = refl
-count_nodes f (x ∷ xs) = ap suc (count_nodes f xs)
 
 few : {X : Type 0} (f : X → Node t.stage) (xs : List X) → length xs < 63 → nat_lt (suc (count (nodes f xs))) 64 ≡ true
 few f xs h = lt-ltb (suc (count (nodes f xs))) 64 (let e = count_nodes f xs in omega arith)

@@ -15,14 +15,7 @@ use Rattle.rc_world.specs.Comes.{Left}
 use Rattle.rc_world.specs.declared.types.Stop.{Stop}
 use Rattle.rc_world.proofs.Joins.{left_asked, left_join, ran_answered}
 use Rattle.rc_world.proofs.Shells.{left_under}
-use Rattle.rc_pipes.specs.Stages.{GoesOn}
 use Rattle.rc_pipes.proofs.Steps.{ran_said, left_saying, ran_both, left_first}
-
--- why it was given up is handed on
-pub given_up : {X T : Type 0} (a b : Option (List Event)) (plan : Plan X) (rest : T → Plan X) (result : Outcome T Stop) (stop : Stop) →
-    IsErrAnd result (λ s. s ≡ stop) → Left a b plan stop → GoesOn a b plan rest result
-given_up a b plan rest (Err s) stop h k = subst (λ s. Left a b plan s) (sym h) k
-given_up a b plan rest (Ok x) stop h k = absurd h
 
 -- the waits after a refusal
 abbrev refusal : List ℕ → List ℕ → Shell StartedStages

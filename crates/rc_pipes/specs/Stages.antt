@@ -1,15 +1,14 @@
 -- What the start of the stages of a pipeline gave.
 use Rattle.std.specs.Prelude.{ℕ, List, [], ◌∷◌, ◌++◌, Option, Some, None, Result, option_map}
-use Rattle.std.specs.Result.{MatchResult}
 use Rattle.rc_model.specs.Run.Acts as acts
 use Rattle.rc_model.specs.Run.Calls.{Event}
-use Rattle.rc_model.specs.Run.Plans.{Plan, done_with, Ran}
+use Rattle.rc_model.specs.Run.Plans.{Plan, done_with}
 use Rattle.rc_model.specs.Run.Shell as shell
 use Rattle.rc_model.specs.Run.State.{State}
 use Rattle.rc_model.specs.Syntax.Tree.{Node, Many, stage, more}
 use Rattle.rc_model.specs.declared.call.Slots.{Slots}
 use Rattle.rc_scope.specs.States.{child_numbers}
-use Rattle.rc_world.specs.Comes.{Left}
+use Rattle.rc_world.specs.Comes.{GoesOn}
 use Rattle.rc_world.specs.declared.types.Stop.{Stop}
 use Rattle.rc_pipes.specs.declared.stages.StageStart.{StageStart}
 use Rattle.rc_pipes.specs.declared.stages.StageStart.TheVariants.{Running, Refused}
@@ -31,12 +30,6 @@ abbrev pub after_stages : State → StartedStages → Plan (shell.Result acts.St
 after_stages s started =
     ends_or_waits (option_map (λ end. end.0) started.read) (child_numbers started.children.items) s
     (option_map (λ why. why.now) started.refused)
-
--- a plan went on as its result says, or it was left
-abbrev pub GoesOn : {X T : Type 0} → (before after : Option (List Event)) → Plan X → (T → Plan X) →
-    Result T Stop → Type 0
-GoesOn before after plan rest result =
-    MatchResult result (λ v. Ran before after plan (rest v)) (Left before after plan)
 
 -- the first of any row of stages that reads from an end was started, or was not, beside any children before it
 abbrev pub StartsStage : (before after : Option (List Event)) → Slots → Node stage → Option ℕ → State →

@@ -5,10 +5,9 @@ ghost use Rattle.rc_builtin.specs.Starts.{paths_in};
 ghost use Rattle.rc_model.specs.Run.Acts.{candidates};
 ghost use Rattle.rc_model.specs.Run.Builtins.{dot, open_first, run_file};
 ghost use Rattle.rc_model.specs.Run.State as model;
-ghost use Rattle.rc_world.specs.Comes.{Reads};
 ghost use Rattle.rc_scope.specs.States.{state_of};
 ghost use Rattle.rc_pipes.specs.Readings.{after_file};
-ghost use Rattle.rc_pipes.specs.Stages.{GoesOn};
+ghost use Rattle.rc_world.specs.Comes.{GoesOn, Reads};
 
 use crate::reading::{ReadBytes, read_all};
 use rc_builtin::{candidate, is_path};

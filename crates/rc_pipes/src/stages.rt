@@ -5,9 +5,9 @@ ghost use Rattle.rc_model.specs.Run.Acts.{close_end, from_pipe, start_stages};
 ghost use Rattle.rc_model.specs.Run.Calls.{with_slot, to_file};
 ghost use Rattle.rc_model.specs.Run.State as model;
 ghost use Rattle.rc_tree_types.specs.View.{stage_tree, stages_tree};
-ghost use Rattle.rc_world.specs.Comes.{Reads};
+ghost use Rattle.rc_world.specs.Comes.{GoesOn, Reads};
 ghost use Rattle.rc_scope.specs.States.{state_of};
-ghost use Rattle.rc_pipes.specs.Stages.{GoesOn, StartsStage, after_stages};
+ghost use Rattle.rc_pipes.specs.Stages.{StartsStage, after_stages};
 
 use crate::launches::start_shell;
 use rc_builtin::Started;

@@ -1,5 +1,5 @@
 -- A call that opens a file, by its answer.
-use Rattle.std.proofs.Common.{◌≡◌, inr, ℕ, List, ◌++◌, Option, Some, None, Result, Ok, Err, codes, string_bytes, sym, subst}
+use Rattle.std.proofs.Common.{◌≡◌, inr, ℕ, List, ◌++◌, Option, Some, None, Result, Ok, Err, string_bytes, sym, subst}
 use Rattle.std.specs.Result.{IsErrAnd}
 use Rattle.std.specs.declared.alloc.Global.{Global}
 use Rattle.std.specs.declared.string.String.{String}
@@ -17,6 +17,7 @@ use Rattle.rc_redir.specs.Opening.{HoldsNothing, Opens, open_by, with_file}
 use Rattle.rc_redir.specs.declared.RedirError.{RedirError}
 use Rattle.rc_redir.specs.declared.RedirError.TheVariants.{Fault, Stopped}
 use Rattle.rc_redir.specs.declared.RedirFault.TheVariants.{CannotOpen}
+use Rattle.rc_model.specs.Run.Acts.{cannot_open}
 
 -- why it was given up is handed on
 stopped : (a b : Option (List Event)) (old new : Redirections) (slot : ℕ) (act : Shell ℕ) (result : Result (Unit {0}) RedirError) (stop : Stop) →
@@ -42,20 +43,20 @@ module _ (a b : Option (List Event)) (old new : Redirections) (slot : ℕ) (c : 
       (λ s. left_answered a b b NoMemory c as_file answer (λ file. opened old.slots name file s) f (left_memory b _))
 
   -- the call was refused
-  refused : Ran a b (asks c as_file) (done_with None) → (s : _) → Ran a b (open_by c old.slots name s) (fails old.slots (codes "cannot open " ++ name) s)
+  refused : Ran a b (asks c as_file) (done_with None) → (s : _) → Ran a b (open_by c old.slots name s) (fails old.slots (cannot_open name) s)
   refused f s = ran_answered a b b c as_file None (λ file. opened old.slots name file s) _ f (ran_none b _)
 
   pub refused_by : (text : String Global) → string_bytes text ≡ name → Ran a b (asks c as_file) (done_with None) →
       Opens a b old new slot (open_by c old.slots name) (Err (Fault (CannotOpen text)))
   refused_by text e f s =
-      let P : List ℕ → Type 0 = λ n. Ran a b (open_by c old.slots name s) (fails old.slots (codes "cannot open " ++ n) s) in
+      let P : List ℕ → Type 0 = λ n. Ran a b (open_by c old.slots name s) (fails old.slots (cannot_open n) s) in
       subst P (sym e) (refused f s)
 
   -- there was no room for the name of what was refused
   pub held_by_none : (result : Result (Unit {0}) RedirError) → IsErrAnd result (λ e. e ≡ Stopped NoMemory) → Ran a b (asks c as_file) (done_with None) →
       HoldsNothing a b old.slots (open_by c old.slots name) result
   held_by_none (Err e) h f =
-      subst (λ e. HoldsNothing a b old.slots (open_by c old.slots name) (Err e)) (sym h) (inr (codes "cannot open " ++ name, refused f))
+      subst (λ e. HoldsNothing a b old.slots (open_by c old.slots name) (Err e)) (sym h) (inr (cannot_open name, refused f))
   held_by_none (Ok x) h f = absurd h
 
   pub opened_by : (file : ℕ) → new ≡ with_file old slot file → Ran a b (asks c as_file) (done_with (Some file)) →

@@ -1,11 +1,11 @@
 -- How a redirection that opens a file ends.
-use Rattle.std.specs.Prelude.{◌≡◌, ◌⊎◌, ℕ, List, ◌++◌, Option, Some, Result, Ok, Err, codes, string_bytes}
+use Rattle.std.specs.Prelude.{◌≡◌, ◌⊎◌, ℕ, List, Option, Some, Result, Ok, Err, string_bytes}
 use Rattle.rc_model.specs.Run.Calls.{Call, Event, here, as_file, to_file, with_slot}
 use Rattle.rc_model.specs.declared.call.Slots.{Slots}
 use Rattle.rc_model.specs.Run.Plans.{done_with, Ran}
 use Rattle.rc_model.specs.Run.State.{State}
 use Rattle.rc_model.specs.Run.Shell.{Shell, Next, ◌>>=◌, call}
-use Rattle.rc_model.specs.Run.Acts.{fails, opened}
+use Rattle.rc_model.specs.Run.Acts.{fails, opened, cannot_open, here_name, not_one_word}
 use Rattle.rc_world.specs.Comes.{Left}
 use Rattle.rc_redir.specs.Redirections.{Redirections, redirected}
 use Rattle.rc_redir.specs.declared.RedirFault.{RedirFault}
@@ -22,7 +22,7 @@ open_by c slots name = do
 
 -- the file of a here document whose text is this
 abbrev pub open_text : Slots → (text : List ℕ) → Shell ℕ
-open_text slots text = open_by (here text) slots (codes "here document")
+open_text slots text = open_by (here text) slots here_name
 
 -- the file that was opened stands in the place of a descriptor
 abbrev pub with_file : Redirections → (slot file : ℕ) → Redirections
@@ -30,8 +30,8 @@ with_file r slot file = redirected r (Some file) (with_slot r.slots slot (to_fil
 
 -- the fault in words, as a shell reports it
 abbrev pub redir_words : RedirFault → List ℕ
-redir_words NotOneWord = codes "redirection needs one word"
-redir_words (CannotOpen name) = codes "cannot open " ++ string_bytes name
+redir_words NotOneWord = not_one_word
+redir_words (CannotOpen name) = cannot_open (string_bytes name)
 
 -- in each state, an act that opens a file came to that file, which stands in the place of the descriptor now;
 -- or it came to a runtime error, of which nothing was reported yet; or it was left

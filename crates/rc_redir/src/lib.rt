@@ -7,9 +7,9 @@ ghost use Rattle.std.specs.Option.{MatchOption};
 ghost use Rattle.rc_model.specs.Run.Calls.{slot_of, with_slot, to_file};
 ghost use Rattle.rc_model.specs.Run.Plans.{done_with};
 ghost use Rattle.rc_model.specs.Run.Acts.{open_one, closing, from_pipe};
-ghost use Rattle.rc_world.specs.Comes.{Comes, unless_refused};
+ghost use Rattle.rc_world.specs.Comes.{Comes};
 
-use rc_world::{Fault, Handle, Mode, Slot, Slots, Stop, World, calls};
+use rc_world::{Handle, Mode, Slot, Slots, Stop, World, calls};
 use std::alloc::{AllocError, Global};
 use std::fmt;
 use std::marker::Model;
@@ -121,19 +121,6 @@ fn slot_of(slots: Slots, number: u8) -> Slot
     }
 }
 
-/// The file that a call gave, and `None` where it was refused. Out of memory says that the call was
-/// not made, which the functions of `calls` do not tell.
-fn unless_refused(answer: Result<Handle, Fault>) -> Result<Option<Handle>, Stop>
-    ensures { result ≡ unless_refused answer }
-{
-    match answer {
-        Ok(file) => Ok(Some(file)),
-        Err(Fault::Halt) => Err(Stop::Halt),
-        Err(Fault::NoMemory) => Err(Stop::NoMemory),
-        Err(_) => Ok(None),
-    }
-}
-
 /// Adds a redirection, for which there is room.
 fn push_within(redirections: &mut Vec<Redirection>, redirection: Redirection)
     requires { vec_len redirections.old < vec_capacity redirections.old }
@@ -207,7 +194,7 @@ impl RedirStack {
         };
         // Where there is no room, no file is opened.
         self.redirections.try_reserve(1)?;
-        let Some(file) = unless_refused(world.open(name, mode))? else {
+        let Some(file) = calls::unless_refused(world.open(name, mode))? else {
             return Err(RedirError::Fault(RedirFault::CannotOpen(name.clone()?)));
         };
         let redirection = Redirection {
@@ -229,7 +216,7 @@ impl RedirStack {
     {
         // Where there is no room, no text is handed over.
         self.redirections.try_reserve(1)?;
-        let Some(file) = unless_refused(world.here(text))? else {
+        let Some(file) = calls::unless_refused(world.here(text))? else {
             let name = String::from_str(*self.redirections.allocator(), "here document")?;
             return Err(RedirError::Fault(RedirFault::CannotOpen(name)));
         };

@@ -7,7 +7,8 @@ use Rattle.std.specs.Result.{OkIff, result_ok}
 use Rattle.std.specs.Str.Parse.{ParsesUnsigned}
 use Rattle.rc_model.specs.Run.Numbers.{is_digit, digits_value, bounded, greatest_number, number_of}
 
-digits_are_numerals : IsNumeralModel (λ ds. list_all is_digit ds ≡ true) (digits_value 0)
+-- decimal digits are a numeral
+pub digits_are_numerals : IsNumeralModel (λ ds. list_all is_digit ds ≡ true) (digits_value 0)
 digits_are_numerals = numerals_by_fold _ (search rules) digits_value (search rules)
 
 within : (n : ℕ) → n < 2 ^ 32 → bounded n ≡ Some n

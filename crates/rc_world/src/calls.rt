@@ -11,7 +11,7 @@ ghost use Rattle.rc_world.specs.Views.{launch_of};
 use crate::{ChildNo, Ending, Fault, Handle, Kind, Launch, Mode, Slot, Stop, World};
 
 /// What a call gave, and `None` where it was refused.
-fn unless_refused<T>(answer: Result<T, Fault>) -> Result<Option<T>, Stop>
+pub fn unless_refused<T>(answer: Result<T, Fault>) -> Result<Option<T>, Stop>
     ensures { result ≡ unless_refused answer }
 {
     match answer {

@@ -8,5 +8,5 @@ returns-in_err-text-in-Fault g c = rw c.in-Fault.is (step_refused _ _ _ c.from_r
 
 pub returns-in_ok-text-in-Fault : goal.returns-in_ok-text-in-Fault
 returns-in_ok-text-in-Fault g c =
-    let text : c.deref-in-Fault.result.now ≡ redir_words c.in-Fault.fault = search rules in
-    rw c.in-Fault.is (rw text at c.fail-in-Fault.ensures)
+    let text : c.deref.result.now ≡ redir_words c.in-Fault.fault = search rules in
+    rw c.in-Fault.is (rw text at c.fail.ensures)

@@ -4,8 +4,8 @@ use Rattle.rc_model.specs.Run.Calls.{close, as_done}
 use Rattle.rc_model.specs.Run.Shell.{◌>>◌, say}
 use Rattle.rc_world.proofs.Shells.{left_do, left_done, ran_do}
 use Rattle.law_plans.proofs.Runs.{ran_none}
+use Rattle.rc_world.proofs.Joins.{given_up}
 use Rattle.rc_pipes.specs.Readings.{got_of}
-use Rattle.rc_pipes.proofs.StageSteps.{given_up}
 use Rattle.rc_pipes.proofs.Steps.{ran_said, left_saying}
 use Rattle.rc_pipes.proofs.files.read_and_close.Goals as goal
 

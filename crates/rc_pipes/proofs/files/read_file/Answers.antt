@@ -3,10 +3,9 @@ use Rattle.rc_model.specs.Run.Acts.{candidates}
 use Rattle.rc_model.specs.Run.Builtins.{open_first, run_file}
 use Rattle.rc_scope.specs.States.{state_of}
 use Rattle.rc_world.specs.declared.types.Stop.TheVariants.{NoMemory}
-use Rattle.rc_world.proofs.Joins.{left_here}
+use Rattle.rc_world.proofs.Joins.{given_up, left_here}
 use Rattle.rc_world.proofs.Shells.{left_do, left_done, ran_do}
 use Rattle.law_plans.proofs.Runs.{ran_none}
-use Rattle.rc_pipes.proofs.StageSteps.{given_up}
 use Rattle.rc_pipes.proofs.files.read_file.Goals as goal
 
 pub returns-in_err-paths : goal.returns-in_err-paths

@@ -1,5 +1,5 @@
 use Rattle.std.proofs.Common.{ℕ, List, [], ◌∷◌, ◌++◌, Option, Some, Bool, ◌≡◌, codes, option_map, ap, subst}
-use Rattle.rc_world.proofs.Joins.{left_join}
+use Rattle.rc_world.proofs.Joins.{given_up, left_join}
 use Rattle.rc_world.specs.Comes.{Left}
 use Rattle.rc_world.specs.declared.types.Stop.{Stop}
 use Rattle.law_plans.proofs.Runs.{ran_join}
@@ -18,7 +18,7 @@ use Rattle.rc_scope.specs.States.{state_of}
 use Rattle.rc_scope.specs.declared.state.State.{State}
 use Rattle.rc_tree_types.specs.View.{cmd_tree}
 use Rattle.rc_tree_types.specs.declared.Stage.{Stage}
-use Rattle.rc_pipes.proofs.StageSteps.{given_up, ran_refusal, left_refusal, left_at_pipe, no_pipe, left_at_start, with_start, started_stage, plan, cut_off, ran_cut_off, left_cut_off, ran_child, left_child, ran_no_child, left_no_child}
+use Rattle.rc_pipes.proofs.StageSteps.{ran_refusal, left_refusal, left_at_pipe, no_pipe, left_at_start, with_start, started_stage, plan, cut_off, ran_cut_off, left_cut_off, ran_child, left_child, ran_no_child, left_no_child}
 use Rattle.rc_pipes.proofs.stages.start_stage.Goals as goal
 
 -- a stage whose pipe was made, and what the start of its shell gave

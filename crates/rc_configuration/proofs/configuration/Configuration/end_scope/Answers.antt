@@ -1,8 +1,9 @@
 use Rattle.rc_model.specs.Code.Machine.{unwind}
 use Rattle.rc_scope.specs.States.{child_numbers, state_of}
 use Rattle.rc_world.specs.declared.types.Stop.TheVariants.{NoMemory}
+use Rattle.rc_world.proofs.Joins.{given_up}
 use Rattle.rc_configuration.specs.Configs.{scopes_of}
-use Rattle.rc_configuration.proofs.ScopeEnds.{goes_closed, goes_left, left_after_close, left_pipeline, ran_pipeline}
+use Rattle.rc_configuration.proofs.ScopeEnds.{goes_closed, left_after_close, left_pipeline, ran_pipeline}
 use Rattle.rc_configuration.proofs.configuration.Configuration.end_scope.Goals as goal
 
 pub returns-in-Redirection-clause-ended : goal.returns-in-Redirection-clause-ended
@@ -13,14 +14,14 @@ returns-in-Redirection-clause-ended g c =
 pub returns-in_err-pop-in-Pipeline-clause-ended : goal.returns-in_err-pop-in-Pipeline-clause-ended
 returns-in_err-pop-in-Pipeline-clause-ended g c =
     let m = c.args.self.now in
-    goes_left _ _ _ _ c.from_residual.result c.in_err-pop-in-Pipeline.field-0.0 c.from_residual.ensures.1
+    given_up _ _ _ _ c.from_residual.result c.in_err-pop-in-Pipeline.field-0.0 c.from_residual.ensures.1
     (rw c.in-Pipeline.is (left_pipeline _ _ m.redirs m.scopes c.in-Pipeline.children (state_of m.state) c.args.owed.now.items
     c.in_err-pop-in-Pipeline.field-0.0 c.in_err-pop-in-Pipeline.ensures.closed))
 
 pub returns-in_err-append-in-Pipeline-clause-ended : goal.returns-in_err-append-in-Pipeline-clause-ended
 returns-in_err-append-in-Pipeline-clause-ended g c =
     let m = c.args.self.now in
-    goes_left _ _ _ _ c.from_residual-in_err-append-in-Pipeline.result NoMemory c.from_residual-in_err-append-in-Pipeline.ensures.1
+    given_up _ _ _ _ c.from_residual-in_err-append-in-Pipeline.result NoMemory c.from_residual-in_err-append-in-Pipeline.ensures.1
     (rw c.in-Pipeline.is (left_after_close _ _ m.redirs m.scopes c.in-Pipeline.children (state_of m.state) c.args.owed.now.items
     c.in_ok-pop-in-Pipeline.ensures.closed))
 
