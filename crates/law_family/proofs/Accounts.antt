@@ -6,7 +6,7 @@ use Rattle.rc_model.specs.Run.Calls.{Call, Answer, Event, event, open_file, here
 use Rattle.rc_model.specs.declared.call.Fault.TheVariants.{Halt}
 use Rattle.std.proofs.lemmas.List.{append-nil}
 use Rattle.rc_model.specs.Run.Plans.{play, calls_made}
-use Rattle.rc_model.specs.Run.Script.{whole}
+use Rattle.rc_model.specs.Run.Script.{whole, IsBegunAsMeant}
 use Rattle.rc_model.specs.Family.Accounts.{Settled, NothingLost, Due, free, made, used, passed, Account, put, next_due, called, add_file, add_pair, add_child, past, after, Fresh, FreshFrom, Allowed, AllAllowed, account, at_start, IsFresh, OneWriteEnd}
 use Rattle.rc_model.specs.Family.Family.{Process, holding, IsPending, GoesAsMeant}
 use Rattle.law_traces.proofs.Keep.{put_self, put_other}
@@ -142,10 +142,14 @@ pending_allowed p c f w =
     let a = allowed_on (at_start p.state) p.trace (event c (refused Halt)) k in
     ((f.fresh, a.0), a.1)
 
-pub meant_sound : (p : Process) → IsFresh p.state p.trace → GoesAsMeant p → Sound p
-meant_sound p f (inl w) = (pending_allowed p w.0 f w.1).0
-meant_sound p f (inr e) = (f.fresh, (begun_loses_nothing p.tree p.state p.trace (e.0, record { rest = []; is = ap calls_made e.2 ∙ sym (append-nil (calls p.trace)) }) f).each_call)
+-- a process that goes as its script means makes the first calls of that
+pub begun : (p : Process) → GoesAsMeant p → IsBegunAsMeant p.tree p.state p.trace
+begun p (inl w) = (w.1.0, record { rest = w.0 ∷ []; is = ap calls_made w.1.1 })
+begun p (inr e) = (e.1.0, record { rest = []; is = ap calls_made e.1.1 ∙ sym (append-nil (calls p.trace)) })
 
 pub meant_nothing_lost : (p : Process) → IsFresh p.state p.trace → GoesAsMeant p → NothingLost p.state p.trace
-meant_nothing_lost p f (inl w) = begun_loses_nothing p.tree p.state p.trace (w.1.0, record { rest = w.0 ∷ []; is = ap calls_made w.1.1 }) f
-meant_nothing_lost p f (inr e) = begun_loses_nothing p.tree p.state p.trace (e.0, record { rest = []; is = ap calls_made e.2 ∙ sym (append-nil (calls p.trace)) }) f
+meant_nothing_lost p f g = begun_loses_nothing p.tree p.state p.trace (begun p g) f
+
+pub meant_sound : (p : Process) → IsFresh p.state p.trace → GoesAsMeant p → Sound p
+meant_sound p f (inl w) = (pending_allowed p w.0 f w.1).0
+meant_sound p f (inr e) = (f.fresh, (meant_nothing_lost p f (inr e)).each_call)

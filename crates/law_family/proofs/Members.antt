@@ -174,7 +174,7 @@ module _ (reads : Launch → Node cmd × State) where
         handed = handed_so c s es h.possible;
         launched = λ j k l w. launched (family reads (first reads c s) es) j k w (meant_nothing_lost ((family reads (first reads c s) es).at k) (h.fresh k (let e = w.earlier in omega arith)) (h.as_meant k (let e = w.earlier in omega arith)));
         nothing_lost = λ j l. meant_nothing_lost ((family reads (first reads c s) es).at j) (h.fresh j l) (h.as_meant j l);
-        nothing_left = λ j l n t e. let p = (family reads (first reads c s) es).at j in ended_leaves_nothing ((family reads (first reads c s) es).at j).tree ((family reads (first reads c s) es).at j).state ((family reads (first reads c s) es).at j).trace t (n, e) (h.fresh j l);
+        nothing_left = λ j l t e. let p = (family reads (first reads c s) es).at j in ended_leaves_nothing p.tree p.state p.trace t e (h.fresh j l);
         write_ends = write_ends (family reads (first reads c s) es) v;
         no_ring = no_ring (family reads (first reads c s) es) v sound (λ j l d w. (pending_allowed ((family reads (first reads c s) es).at j) d (h.fresh j l) w).1);
       }

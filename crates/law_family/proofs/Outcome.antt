@@ -18,9 +18,9 @@ ends_on : (p q : Played State) (made : List Call) (t : State) (left : List Answe
 ends_on p q made t left e g = subst (λ r. Within r q) e g
 
 pub one_outcome : (p : Process) → GoesOn p → (c : Call) → IsPending p c → HasEnded p → ⊥
-one_outcome p g c w e = elim (cases_lt w.0 e.0) [
-  | inl l ↦ let a = waits_on (script w.0 p.tree p.state (answers p.trace)) (script e.0 p.tree p.state (answers p.trace)) _ w.1 (g w.0 e.0 (omega arith)) in absurd (cc (a, e.2))
-  | inr l ↦ let a = ends_on (script e.0 p.tree p.state (answers p.trace)) (script w.0 p.tree p.state (answers p.trace)) _ _ _ e.2 (g e.0 w.0 l) in absurd (cc (a, w.1))
+one_outcome p g c w e = elim (cases_lt w.0 e.1.0) [
+  | inl l ↦ let a = waits_on (script w.0 p.tree p.state (answers p.trace)) (script e.1.0 p.tree p.state (answers p.trace)) _ w.1 (g w.0 e.1.0 (omega arith)) in absurd (cc (a, e.1.1))
+  | inr l ↦ let a = ends_on (script e.1.0 p.tree p.state (answers p.trace)) (script w.0 p.tree p.state (answers p.trace)) _ _ _ e.1.1 (g e.1.0 w.0 l) in absurd (cc (a, w.1))
 ]
 
 last_same : (l : List Call) (c d : Call) → l ++ c ∷ [] ≡ l ++ d ∷ [] → c ≡ d

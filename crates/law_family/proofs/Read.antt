@@ -1,22 +1,17 @@
 -- Each shell of a family begins with what it was handed.
-use Rattle.std.proofs.Common.{◌≡◌, ℕ, zero, suc, ◌<◌, inl, inr, List, [], ◌∷◌, ◌++◌, append-nil, sym, ap, ◌∙◌, subst, arith}
+use Rattle.std.proofs.Common.{◌≡◌, ℕ, zero, suc, ◌<◌, List, [], ◌∷◌, ◌++◌, sym, ap, ◌∙◌, subst, arith}
 use Rattle.std.specs.Prelude.{unwrap_or}
 use Rattle.rc_model.specs.Syntax.Tree.{Node, cmd, Empty}
 use Rattle.rc_model.specs.Run.Calls.{start, child, Event, event, calls}
-use Rattle.rc_model.specs.Run.Plans.{calls_made}
 use Rattle.rc_model.specs.Run.State.{State, new_state}
-use Rattle.rc_model.specs.Run.Script.{IsBegunAsMeant}
 use Rattle.rc_model.specs.Handed.Arguments.{entry_state}
 use Rattle.rc_model.specs.Handed.Proper.{IsProperTree, IsProper}
 use Rattle.rc_model.specs.Handed.HandedLaws.{ReadsBack, ReadBackBy, AllReadBack, IsReadBack}
-use Rattle.rc_model.specs.Family.Family.{Process, Family, GoesAsMeant, EachOf, family, first, WasStarted, HandedSo, read_launch, BeganAsHanded, BeganSo, FamiliesRead}
+use Rattle.rc_model.specs.Family.Family.{Family, GoesAsMeant, EachOf, family, first, WasStarted, HandedSo, read_launch, BeganAsHanded, BeganSo, FamiliesRead}
 use Rattle.law_image.proofs.Proper.{proper_entry}
 use Rattle.law_handed.proofs.Played.{traces_read_back}
+use Rattle.law_family.proofs.Accounts.{begun}
 use Rattle.law_family.proofs.Members.{handed_so}
-
-begun : (p : Process) → GoesAsMeant p → IsBegunAsMeant p.tree p.state p.trace
-begun p (inl w) = (w.1.0, record { rest = w.0 ∷ []; is = ap calls_made w.1.1 })
-begun p (inr e) = (e.0, record { rest = []; is = ap calls_made e.2 ∙ sym (append-nil (calls p.trace)) })
 
 -- what stands in a trace reads back
 within : (before : List Event) (e : Event) (later : List Event) → AllReadBack (calls (before ++ e ∷ later)) → ReadsBack e.call

@@ -1,6 +1,6 @@
 -- What is handed over reads back.
 use Rattle.std.specs.Prelude.{Option, Some, None, option_map, unwrap_or, Result, Ok, IsTrue, map, not, if◌then◌else◌, codes, nat_le, drop, ◌++◌}
-use Rattle.std.proofs.Common.{length, ◌≡◌, ℕ, List, [], ◌∷◌, Bool, true, false, refl, sym, ap, ◌∙◌}
+use Rattle.std.proofs.Common.{length, ◌≡◌, ℕ, List, [], ◌∷◌, Bool, true, false, refl, sym, ap, ◌∙◌, append-nil}
 use Rattle.std.specs.List.{list_all}
 use Rattle.std.specs.BTreeMap.{insert_entry}
 use Rattle.std.proofs.Math.Seq.{drop-append_seam}
@@ -48,7 +48,7 @@ variables_of s p =
     ap (λ z. with_args (value_of s (codes "*")) z) e ∙ star_back s.variables (value_of s (codes "*")) p.names p.ordered refl
 
 status_of : (s : State) → status_in (all_bindings s) ≡ s.status
-status_of s = status_past s.functions (values s) ∙ status_put (handed_values s.variables) (value_text (s.status ∷ [])) ∙ ap spaced (members_back s.status [])
+status_of s = status_past s.functions (values s) ∙ status_put (handed_values s.variables) (value_text (s.status ∷ [])) ∙ ap spaced (members_back s.status []) ∙ append-nil s.status
 
 fns_handed : (s : State) → IsProper s → fns (all_bindings s) ≡ map fn_binding s.functions
 fns_handed s p =

@@ -8,7 +8,7 @@ use Rattle.std.specs.List.{list_all}
 use Rattle.std.specs.Str.{chars}
 use lib.Utf8.{encode, encodes, scalars, low_scalar}
 use Rattle.rc_model.specs.Syntax.Text.{begins_with, without_zero}
-use Rattle.rc_model.specs.Syntax.Tokens.{Lexeme, Run, name_goes_on, is_name_char, begins_operator, goes_on, names}
+use Rattle.rc_model.specs.Syntax.Tokens.{Lexeme, Run, name_goes_on, is_name_char, goes_on, names}
 use Rattle.rc_model.specs.Syntax.Tokens as k
 use Rattle.law_lexing.proofs.Texts.{name_char_low, name_encodes}
 use Rattle.law_print_lexing.proofs.Gives.{Gives, lexeme}

@@ -4,7 +4,7 @@ use Rattle.std.proofs.lemmas.Str.{chars-encodes}
 use Rattle.std.specs.Str.{chars}
 use Rattle.rc_model.specs.Syntax.Text.{without_zero}
 use Rattle.rc_model.specs.Syntax.Tree.{Node, cmd}
-use Rattle.rc_model.specs.Syntax.Tokens.{Token, Cuts, Lexes, first_place, result_of, filled}
+use Rattle.rc_model.specs.Syntax.Tokens.{Token, Cuts, Lexes, first_place, filled}
 use Rattle.rc_model.specs.Syntax.Tokens as k
 use Rattle.rc_model.specs.Syntax.Printing.{cmd_text, printed}
 use Rattle.law_print_lexing.specs.Lexemes.{IsWritable, cmd_lexemes}

@@ -12,10 +12,11 @@ use Rattle.rc_model.specs.Syntax.Tree as t
 use Rattle.rc_model.specs.Syntax.Tokens.{Lexeme}
 use Rattle.rc_model.specs.Syntax.Tokens as k
 use Rattle.rc_model.specs.Syntax.WellFormed.{is_output, opens, copies}
-use Rattle.rc_model.specs.Syntax.Printing.{joined, stands_first, cmd_text, arg_text, redir_text, arg_texts, pair_texts, redir_texts, stages_text, links_text}
+use Rattle.rc_model.specs.Syntax.Text.{joined, spaced}
+use Rattle.rc_model.specs.Syntax.Printing.{stands_first, cmd_text, arg_text, redir_text, arg_texts, pair_texts, redir_texts, stages_text, links_text}
 use Rattle.rc_model.specs.Syntax.Tree.{is_empty}
 use Rattle.rc_model.specs.Syntax.Printing as p
-use Rattle.law_print_lexing.specs.Lexemes.{IsWritable, IsWritableName, AreWritable, IsLiteral, IsNameLiteral, cmd_lexemes, arg_lexemes}
+use Rattle.law_print_lexing.specs.Lexemes.{IsWritable, IsWritableName, AreWritable, cmd_lexemes, arg_lexemes}
 use Rattle.law_print_lexing.specs.Lexemes.{name_lexemes, redir_lexemes}
 use Rattle.law_print_lexing.specs.Lexemes.{args_lexemes, first_part, further_parts, pairs_lexemes, redirs_lexemes, stages_lexemes, links_lexemes}
 use Rattle.law_print_lexing.specs.Lexemes as x
@@ -81,16 +82,16 @@ copying_piece to from o = go (to == 2) refl
         subst (λ s. Piece IsApart IsApart Anything (p.copying s from) (k.CopyTo s from ∷ [])) (sym one)
         (subst (λ s. Piece IsApart IsApart Anything (p.copying 1 s) (k.CopyTo 1 s ∷ [])) (sym two) operators.copy_to_one)
 
-assigned_piece : (e : Bool) (ps : List (List ℕ)) {text : List ℕ} {ls ms : List Lexeme} → Piece IsApart IsCalm Ends (joined (codes " ") ps) ls →
+assigned_piece : (e : Bool) (ps : List (List ℕ)) {text : List ℕ} {ls ms : List Lexeme} → Piece IsApart IsCalm Ends (spaced ps) ls →
     Piece IsApart IsCalm Ends text ms →
-    Piece IsApart IsCalm Ends (if e then joined (codes " ") ps else joined (codes " ") ps ++ (codes " " ++ text)) (if e then ls else ls ++ ms)
+    Piece IsApart IsCalm Ends (if e then spaced ps else spaced ps ++ (codes " " ++ text)) (if e then ls else ls ++ ms)
 assigned_piece true ps q r = q
 assigned_piece false ps q r = between q marks.space marks.space_ends r (λ rest e. tt)
 
-redirected_piece : (e s : Bool) (rs : List (List ℕ)) {text : List ℕ} {ls ms : List Lexeme} → Piece IsApart IsCalm Ends (joined (codes " ") rs) ls →
+redirected_piece : (e s : Bool) (rs : List (List ℕ)) {text : List ℕ} {ls ms : List Lexeme} → Piece IsApart IsCalm Ends (spaced rs) ls →
     Tail (flat_map (λ r. codes " " ++ r) rs) ls → Piece IsApart IsApart Anything (flat_map (λ r. r ++ codes " ") rs) ls → Piece IsApart IsCalm Ends text ms →
     Piece IsApart IsCalm Ends
-    (if e then joined (codes " ") rs else (if s then text ++ flat_map (λ r. codes " " ++ r) rs else flat_map (λ r. r ++ codes " ") rs ++ text))
+    (if e then spaced rs else (if s then text ++ flat_map (λ r. codes " " ++ r) rs else flat_map (λ r. r ++ codes " ") rs ++ text))
     (if e then ls else (if s then ms ++ ls else ls ++ ms))
 redirected_piece true s rs alone tail before body = alone
 redirected_piece false true rs alone tail before body = tailed body tail
@@ -142,7 +143,7 @@ mutual
   arg_piece (t.Count name) w = count_piece (name_piece name w)
   arg_piece (t.Flat name) w = flat_piece (name_piece name w)
   arg_piece (t.Sub name subscripts) w =
-      retext (ap (λ l. 36 ∷ l) (append_assoc (arg_text name) (codes "(") (joined (codes " ") (arg_texts subscripts) ++ codes ")")))
+      retext (ap (λ l. 36 ∷ l) (append_assoc (arg_text name) (codes "(") (spaced (arg_texts subscripts) ++ codes ")")))
       (settled (led (subscript_piece (name_piece name w.0)) (followed (args_piece subscripts w.1) marks.close_paren (λ rest e. marks.close_paren_ends rest))))
   arg_piece (t.Back body) w = settled (led marks.back_brace (followed (cmd_piece body false w) marks.close_brace (λ rest e. marks.close_brace_ends rest)))
 
@@ -162,7 +163,7 @@ mutual
   redir_piece (t.Copy to from) w = settled (copying_piece to from w)
   redir_piece (t.Here pieces) w = empty
 
-  args_piece : (ws : Many t.arg) → AreWritable ws → Piece IsApart IsCalm Ends (joined (codes " ") (arg_texts ws)) (args_lexemes ws)
+  args_piece : (ws : Many t.arg) → AreWritable ws → Piece IsApart IsCalm Ends (spaced (arg_texts ws)) (args_lexemes ws)
   args_piece none w = empty
   args_piece (more a as') w = tailed (arg_piece a w.0) (args_tail as' w.1)
 
@@ -178,7 +179,7 @@ mutual
   parts_tail none w = no_tail
   parts_tail (more a as') w = both (marked marks.caret marks.caret_ends (arg_piece a w.0)) (parts_tail as' w.1)
 
-  pairs_piece : (ps : Many t.pair) → AreWritable ps → Piece IsApart IsCalm Ends (joined (codes " ") (pair_texts ps)) (pairs_lexemes ps)
+  pairs_piece : (ps : Many t.pair) → AreWritable ps → Piece IsApart IsCalm Ends (spaced (pair_texts ps)) (pairs_lexemes ps)
   pairs_piece none w = empty
   pairs_piece (more (t.Pair n v) ps) w = tailed (between (arg_piece n w.0.0) marks.equals marks.equals_ends (arg_piece v w.0.1) (λ rest e. tt)) (pairs_tail ps w.1)
 
@@ -187,7 +188,7 @@ mutual
   pairs_tail (more (t.Pair n v) ps) w =
       both (marked marks.space marks.space_ends (between (arg_piece n w.0.0) marks.equals marks.equals_ends (arg_piece v w.0.1) (λ rest e. tt))) (pairs_tail ps w.1)
 
-  redirs_piece : (rs : Many t.redir) → AreWritable rs → Piece IsApart IsCalm Ends (joined (codes " ") (redir_texts rs)) (redirs_lexemes rs)
+  redirs_piece : (rs : Many t.redir) → AreWritable rs → Piece IsApart IsCalm Ends (spaced (redir_texts rs)) (redirs_lexemes rs)
   redirs_piece none w = empty
   redirs_piece (more r rs) w = tailed (redir_piece r w.0) (redirs_tail rs w.1)
 

@@ -4,8 +4,8 @@ use Rattle.std.proofs.lemmas.Str.{encodes-chars, scalars-chars}
 use Rattle.std.specs.Str.{chars}
 use lib.Utf8.{encode, encodes}
 use Rattle.rc_model.specs.Syntax.Text.{without_zero}
-use Rattle.rc_model.specs.Syntax.Tokens.{Lexeme, Run, word_goes_on, name_goes_on, is_in_word, is_name_char, at_newline}
-use Rattle.rc_model.specs.Syntax.Tokens.{class_of, begins_operator, goes_on, names}
+use Rattle.rc_model.specs.Syntax.Tokens.{Lexeme, Run, word_goes_on, is_in_word, at_newline}
+use Rattle.rc_model.specs.Syntax.Tokens.{class_of}
 use Rattle.rc_model.specs.Syntax.Tokens as k
 use Rattle.law_print_lexing.proofs.Gives.{Gives, lexeme}
 use Rattle.law_print_lexing.proofs.Pieces.{Piece, IsApart, apart, IsCalm, calm_word, Ends, at_end, at_space, at_semicolon, at_caret, at_equals, at_paren, at_brace}

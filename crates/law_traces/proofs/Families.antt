@@ -27,7 +27,7 @@ after c es = family read_launch (first read_launch c looking) es
 
 -- the empty script has ended at once
 nothing_to_do : HasEnded ((after (alone Empty) []).at 0)
-nothing_to_do = (0, looking, refl)
+nothing_to_do = (looking, (0, refl))
 
 -- a program is looked for
 a_program : IsPending ((after (alone (word (codes "a"))) []).at 0) (probe (codes "/bin/a"))

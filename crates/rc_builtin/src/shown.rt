@@ -1,9 +1,9 @@
 //! How names and values are shown.
 
-ghost use Rattle.std.specs.Prelude.{◌≡◌, ◌++◌, ◌∷◌, ◌&&◌, ◌==◌, not, length, OnOk, IfOk, map, string_bytes, codes};
+ghost use Rattle.std.specs.Prelude.{◌≡◌, ◌++◌, ◌∷◌, ◌&&◌, ◌==◌, not, length, OnOk, IfOk, map, string_bytes};
 ghost use Rattle.std.specs.List.{list_all};
 ghost use Rattle.rc_model.specs.Syntax.Grammar.{keyword, is_plain};
-ghost use Rattle.rc_model.specs.Syntax.Printing.{joined};
+ghost use Rattle.rc_model.specs.Syntax.Text.{spaced};
 ghost use Rattle.rc_model.specs.Run.Builtins.{is_plain_char, shown, shown_value, value_line};
 
 use rc_lexemes::keyword_named;
@@ -47,7 +47,7 @@ fn push_shown(out: &mut String, text: &str) -> Result<(), AllocError>
 /// Writes members with a space between each two.
 fn push_members(out: &mut String, first: &str, others: &[String]) -> Result<(), AllocError>
     ensures { OnOk result (string_bytes out.new
-        ≡ string_bytes out.old ++ joined (codes " ") (map shown (first.now ∷ map string_bytes others.now))) }
+        ≡ string_bytes out.old ++ spaced (map shown (first.now ∷ map string_bytes others.now))) }
 {
     push_shown(out, first)?;
     for member in others {

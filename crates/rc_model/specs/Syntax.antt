@@ -1,3 +1,4 @@
+pub mod Results
 pub mod Text
 pub mod Words
 pub mod Lexemes

@@ -6,7 +6,8 @@ use Rattle.rc_model.specs.declared.call.Mode.{Mode}
 use Rattle.rc_model.specs.Syntax.Tree.{Node, Many, none, more}
 use Rattle.rc_model.specs.declared.syntax.Logic.{Logic}
 use Rattle.rc_model.specs.Syntax.Tree as t
-use Rattle.rc_model.specs.Syntax.Printing.{Line, joined, ended, parting, listed, literal, bar, sign, opening, copying, stands_first, body_lines}
+use Rattle.rc_model.specs.Syntax.Text.{joined}
+use Rattle.rc_model.specs.Syntax.Printing.{Line, ended, parting, listed, literal, bar, sign, opening, copying, stands_first, body_lines}
 use Rattle.rc_model.specs.Syntax.Tree.{is_empty}
 use Rattle.rc_model.specs.Syntax.Printing.{cmd_text, arg_text, redir_text, arg_texts, pair_texts, redir_texts, stages_text, links_text}
 use Rattle.rc_model.specs.Syntax.Printing.{item_lines, branch_lines, branch_items}

@@ -2,10 +2,10 @@
 use Rattle.std.specs.Prelude.{◌≡◌, ◌≢◌, ℕ, zero, suc, ◌≤◌, ◌<◌, List, [], ◌∷◌, ◌++◌, Option, Some, None, unwrap_or, ◌⊎◌}
 use Rattle.rc_model.specs.Run.Calls.{Slot, Own, To, slot_of, Launch, Call, Answer, start, wait, read, child, Event}
 use Rattle.rc_model.specs.Run.Calls.{event, calls, answers}
-use Rattle.rc_model.specs.Run.Plans.{IsAnswered, Ends, Waits}
+use Rattle.rc_model.specs.Run.Plans.{IsAnswered, Waits}
 use Rattle.rc_model.specs.Syntax.Tree.{Node, cmd, Empty}
 use Rattle.rc_model.specs.Run.State.{State, new_state}
-use Rattle.rc_model.specs.Run.Script.{script}
+use Rattle.rc_model.specs.Run.Script.{script, EndsAsMeant}
 use Rattle.rc_model.specs.Handed.Arguments.{entry_state, reads}
 use Rattle.rc_model.specs.Handed.Proper.{IsProperTree, IsProper}
 use Rattle.rc_model.specs.Handed.Handed.{IsHanded}
@@ -49,7 +49,7 @@ IsPending p c = (n : ℕ) × (script n p.tree p.state (answers p.trace) ≡ Wait
 
 -- its script has ended
 abbrev pub HasEnded : Process → Type 0
-HasEnded p = (n : ℕ) × (t : State) × (script n p.tree p.state (answers p.trace) ≡ Ends (calls p.trace) t [])
+HasEnded p = (t : State) × EndsAsMeant p.tree p.state p.trace t
 
 -- its calls are those of its script over its own answers, and it waits for an answer or has ended
 abbrev pub GoesAsMeant : Process → Type 0
@@ -258,8 +258,7 @@ module _ (reads : Launch → Node cmd × State) where
     pub handed : (j : ℕ) → j < f.count → HandedSo c s f j
     pub launched : (j k : ℕ) → j < f.count → (w : WasStarted f j k) → IsHanded w.launch
     pub nothing_lost : EachOf (λ p. NothingLost p.state p.trace) f
-    pub nothing_left : EachOf (λ p. (n : ℕ) (t : State) → script n p.tree p.state (answers p.trace)
-        ≡ Ends (calls p.trace) t [] → NothingLeft p.state p.trace t) f
+    pub nothing_left : EachOf (λ p. (t : State) → EndsAsMeant p.tree p.state p.trace t → NothingLeft p.state p.trace t) f
     pub write_ends : WriteEnds f
     pub no_ring : NoRing f
 

@@ -2,6 +2,7 @@
 use Rattle.std.specs.Prelude.{ℕ, zero, suc, nat_lt, nat_le, length, take, drop, List, [], ◌∷◌, Bool, true, false, ◌&&◌}
 use Rattle.std.specs.Prelude.{◌==◌, if◌then◌else◌, Result, Ok, Err, codes}
 use Rattle.rc_model.specs.Run.Numbers.{is_digit, digits_value, greatest_number}
+pub use Rattle.rc_model.specs.Syntax.Results.{◌>>=◌}
 use Rattle.rc_model.specs.Syntax.Text.{begins_with}
 use Rattle.rc_model.specs.Run.Calls.{Read, Write, Append}
 use Rattle.rc_model.specs.Syntax.Tree.{Sort, Node, Many, cmd, arg, item, pair, redir, stage, link, branch, piece, none}
@@ -16,12 +17,6 @@ use Rattle.rc_model.specs.declared.limits.TheConstants.{MOST_LEVELS, MOST_STAGES
 -- what stands at the front of a text, and what stands after it
 abbrev pub Reader : Type 0 → Type 0
 Reader X = List ℕ → Result (X × List ℕ) ImageFault
-
--- reading goes on with what was read, unless there was a fault
-infixl 10 ◌>>=◌
-abbrev pub ◌>>=◌ : {A B : Type 0} → Result A ImageFault → (A → Result B ImageFault) → Result B ImageFault
-(Ok x) >>= f = f x
-(Err e) >>= f = Err e
 
 -- what is made of the thing that was read
 abbrev pub made : {X Y : Type 0} → (X → Y) → Reader X → Reader Y

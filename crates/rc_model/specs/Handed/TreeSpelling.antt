@@ -6,7 +6,7 @@ use Rattle.std.specs.Str.{is_utf8}
 use Rattle.rc_model.specs.Run.Numbers.{is_digit, digits_value, greatest_number}
 use Rattle.rc_model.specs.Run.Calls.{Mode, Read, Write, Append}
 use Rattle.rc_model.specs.Syntax.Text.{without_zero}
-use Rattle.rc_model.specs.Syntax.Tree.{Sort, Node, Many, cmd, none, more, count, And, Or}
+use Rattle.rc_model.specs.Syntax.Tree.{Sort, Node, Many, cmd, none, more, count}
 use Rattle.rc_model.specs.Syntax.Tree as t
 use Rattle.rc_model.specs.Syntax.WellFormed.{is_output, copies}
 use Rattle.rc_model.specs.Handed.Image.{literal_mark, item_mark, logic_mark}

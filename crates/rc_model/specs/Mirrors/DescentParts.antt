@@ -1,6 +1,7 @@
 -- The descent into the parts of a command: arguments, redirections, lists in braces, and the forms that are words.
 use Rattle.std.specs.Prelude.{ℕ, zero, suc, Bool, true, false, if◌then◌else◌, List, ◌∷◌}
 use Rattle.std.specs.Prelude.{length, Option, Some, None, Result, Ok, Err}
+pub use Rattle.rc_model.specs.Syntax.Results.{◌>>=◌}
 use Rattle.rc_model.specs.Syntax.Tokens.{Lexeme, Word, Quoted, Semicolon, Newline}
 use Rattle.rc_model.specs.Syntax.Tokens.{LeftParen, RightParen, LeftBrace, RightBrace, Backquote, Redirection, CopyTo}
 use Rattle.rc_model.specs.Syntax.Tokens.{HereDoc}
@@ -22,12 +23,6 @@ Read A = Result (A × List Lexeme) DescentFault
 -- how something is read from the front of the tokens
 abbrev pub Reader : Type 0 → Type 0
 Reader A = List Lexeme → Read A
-
--- reading goes on with what was read, unless there was a fault
-infixl 10 ◌>>=◌
-abbrev pub ◌>>=◌ : {A B : Type 0} → Result A DescentFault → (A → Result B DescentFault) → Result B DescentFault
-(Ok x) >>= f = f x
-(Err e) >>= f = Err e
 
 -- what is read one level deeper: a name, a part of an argument, an operand, what follows a bar, a command, the commands
 -- of a list

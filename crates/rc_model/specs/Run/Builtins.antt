@@ -6,7 +6,7 @@ use Rattle.std.specs.Str.{bytes_eq}
 use Rattle.rc_model.specs.Syntax.Text.{spaced}
 use Rattle.rc_model.specs.Syntax.Tokens.{quoted_text}
 use Rattle.rc_model.specs.Syntax.Grammar.{keyword, is_plain}
-use Rattle.rc_model.specs.Syntax.Printing.{printed, has_here, joined}
+use Rattle.rc_model.specs.Syntax.Printing.{printed, has_here}
 use Rattle.rc_model.specs.Run.Numbers.{is_digit, number_of}
 use Rattle.rc_model.specs.Run.Calls.{Slots, Read, open_file, close, write, change_dir, as_file, as_done}
 use Rattle.rc_model.specs.Syntax.Tree.{Node, cmd}
@@ -202,7 +202,7 @@ shown text =
 abbrev pub shown_value : List (List ℕ) → List ℕ
 shown_value [] = codes "()"
 shown_value (m ∷ []) = shown m
-shown_value (m ∷ n ∷ ms) = codes "(" ++ (joined (codes " ") (map shown (m ∷ n ∷ ms)) ++ codes ")")
+shown_value (m ∷ n ∷ ms) = codes "(" ++ (spaced (map shown (m ∷ n ∷ ms)) ++ codes ")")
 
 -- what is known of a name: its lines, and a status where something is missing
 abbrev pub Known : Type 0

@@ -3,14 +3,10 @@ use Rattle.std.specs.Prelude.{ℕ, Bool, true, false, not, ◌&&◌, ◌||◌, �
 use Rattle.std.specs.List.{flat_map}
 use Rattle.rc_model.specs.Run.Calls.{Mode, Read, Write, Append}
 use Rattle.rc_model.specs.Syntax.Ahead.{is_case}
+use Rattle.rc_model.specs.Syntax.Text.{joined, spaced}
 use Rattle.rc_model.specs.Syntax.Tokens.{quoted_text}
 use Rattle.rc_model.specs.Syntax.Tree.{Sort, Node, Many, none, more, is_empty, Logic, And, Or}
 use Rattle.rc_model.specs.Syntax.Tree as t
-
--- texts with a mark between each two
-abbrev pub joined : (mark : List ℕ) → List (List ℕ) → List ℕ
-joined mark [] = []
-joined mark (t ∷ ts) = t ++ flat_map (λ u. mark ++ u) ts
 
 -- a line of a list of commands: its text, and whether it runs in the background
 abbrev pub Line : Type 0
@@ -77,14 +73,14 @@ stands_first _ begins = false
 -- redirections, and the text of the command that they surround
 abbrev pub redirected : Node t.cmd → (begins : Bool) → (redirs : List (List ℕ)) → (text : List ℕ) → List ℕ
 redirected body begins redirs text =
-    if is_empty body then joined (codes " ") redirs
+    if is_empty body then spaced redirs
     else (if stands_first body begins then text ++ flat_map (λ r. codes " " ++ r) redirs
     else flat_map (λ r. r ++ codes " ") redirs ++ text)
 
 -- assignments, and the text of the command for which they are made
 abbrev pub assigned : Node t.cmd → (pairs : List (List ℕ)) → (text : List ℕ) → List ℕ
 assigned body pairs text =
-    if is_empty body then joined (codes " ") pairs else joined (codes " ") pairs ++ (codes " " ++ text)
+    if is_empty body then spaced pairs else spaced pairs ++ (codes " " ++ text)
 
 -- the lines of a branch's body: those of a list, else one
 abbrev pub body_lines : Node t.cmd → (items : List Line) → (text : List ℕ) → List Line
@@ -97,7 +93,7 @@ unfoldable mutual
   pub cmd_text : Node t.cmd → (begins : Bool) → List ℕ
   cmd_text t.Empty begins = []
   cmd_text (t.Seq items) begins = listed (item_lines items begins false)
-  cmd_text (t.Simple words) begins = joined (codes " ") (arg_texts words)
+  cmd_text (t.Simple words) begins = spaced (arg_texts words)
   cmd_text (t.Assign pairs body) begins = assigned body (pair_texts pairs) (cmd_text body false)
   cmd_text (t.Redirect redirs body) begins = redirected body begins (redir_texts redirs) (cmd_text body false)
   cmd_text (t.Pipeline stages last) begins = stages_text stages begins ++ cmd_text last false
@@ -111,26 +107,26 @@ unfoldable mutual
       codes "while(" ++ (cmd_text condition false ++ (codes ") " ++ cmd_text body false))
   cmd_text (t.ForAll name body) begins = codes "for(" ++ (arg_text name ++ (codes ") " ++ cmd_text body false))
   cmd_text (t.For name words body) begins =
-      codes "for(" ++ (arg_text name ++ (codes " in " ++ (joined (codes " ") (arg_texts words) ++ (codes ") "
+      codes "for(" ++ (arg_text name ++ (codes " in " ++ (spaced (arg_texts words) ++ (codes ") "
       ++ cmd_text body false))))
   cmd_text (t.Switch subject branches) begins =
       codes "switch " ++ (arg_text subject ++ (codes " {" ++ (listed (branch_lines branches) ++ codes "}")))
-  cmd_text (t.Match subject patterns) begins = codes "~ " ++ joined (codes " ") (arg_text subject ∷ arg_texts patterns)
+  cmd_text (t.Match subject patterns) begins = codes "~ " ++ spaced (arg_text subject ∷ arg_texts patterns)
   cmd_text (t.Define names body) begins =
-      codes "fn " ++ (joined (codes " ") (arg_texts names) ++ (codes " {" ++ (cmd_text body false ++ codes "}")))
-  cmd_text (t.Undefine names) begins = codes "fn " ++ joined (codes " ") (arg_texts names)
+      codes "fn " ++ (spaced (arg_texts names) ++ (codes " {" ++ (cmd_text body false ++ codes "}")))
+  cmd_text (t.Undefine names) begins = codes "fn " ++ spaced (arg_texts names)
   cmd_text (t.Brace body) begins = codes "{" ++ (cmd_text body false ++ codes "}")
 
   -- an argument
   pub arg_text : Node t.arg → List ℕ
   arg_text (t.Lit text quoted) = literal text quoted
   arg_text (t.Concat parts) = joined (codes "^") (arg_texts parts)
-  arg_text (t.Paren words) = codes "(" ++ (joined (codes " ") (arg_texts words) ++ codes ")")
+  arg_text (t.Paren words) = codes "(" ++ (spaced (arg_texts words) ++ codes ")")
   arg_text (t.Var name) = codes "$" ++ arg_text name
   arg_text (t.Count name) = codes "$#" ++ arg_text name
   arg_text (t.Flat name) = codes "$\"" ++ arg_text name
   arg_text (t.Sub name subscripts) =
-      codes "$" ++ (arg_text name ++ (codes "(" ++ (joined (codes " ") (arg_texts subscripts) ++ codes ")")))
+      codes "$" ++ (arg_text name ++ (codes "(" ++ (spaced (arg_texts subscripts) ++ codes ")")))
   arg_text (t.Back body) = codes "`{" ++ (cmd_text body false ++ codes "}")
 
   -- a redirection
@@ -175,7 +171,7 @@ unfoldable mutual
   pub branch_lines : Many t.branch → List Line
   branch_lines none = []
   branch_lines (more (t.Branch patterns body) branches) =
-      (joined (codes " ") (codes "case" ∷ arg_texts patterns), false)
+      (spaced (codes "case" ∷ arg_texts patterns), false)
       ∷ (body_lines body (branch_items body) (cmd_text body true) ++ branch_lines branches)
 
   -- the lines of a branch's body, where that is a list
