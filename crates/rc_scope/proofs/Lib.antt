@@ -3,4 +3,3 @@ pub mod Stacks
 pub mod Bodies
 pub mod Firsts
 pub mod Ends
-pub mod Spaces

@@ -4,7 +4,7 @@ ghost use Rattle.std.specs.Prelude.{◌≡◌, ◌↔◌, ◌∷◌, [], IfOk, O
 ghost use Rattle.std.specs.Prelude.{string_bytes, option_map, codes, drop};
 ghost use Rattle.std.specs.Option.{option_copied};
 ghost use Rattle.std.specs.Result.{IsErrOf};
-ghost use Rattle.rc_model.specs.Run.State.{new_state, value_of, got, set_value, with_status, with_flag, is_name};
+ghost use Rattle.rc_model.specs.Run.State.{new_state, value_of, set_value, with_status, with_flag, is_name};
 ghost use Rattle.rc_model.specs.Run.State.{push_local, pop_local, is_function_name, define, undefine, function_of};
 ghost use Rattle.rc_model.specs.Run.State.{add_child, drop_child};
 ghost use Rattle.rc_tree_types.specs.View.{cmd_tree};
@@ -16,10 +16,11 @@ ghost use Rattle.rc_scope.specs.States.{child_numbers};
 use crate::children::place_of;
 use crate::functions::{Function, names};
 use crate::names::{NameFault, is_function_name, is_name, is_status};
-use crate::texts::{copy_texts, join};
+use crate::texts::copy_texts;
 use crate::variables::{Binding, Variables};
 use rc_code::Code;
 use rc_model::{ChildNo, InputError};
+use rc_text::flat;
 use rc_tree_types::Cmd;
 use std::alloc::{AllocError, Global};
 use std::collections::BTreeMap;
@@ -86,7 +87,7 @@ impl State {
         }
         let alloc = *self.status.allocator();
         if is_status(name) {
-            self.status = join(alloc, value.as_slice())?;
+            self.status = flat(alloc, value.as_slice())?;
             return Ok(());
         }
         self.variables.set(alloc, name, value)?;
@@ -121,7 +122,7 @@ impl State {
         }
         let alloc = *self.status.allocator();
         if is_status(name) {
-            let status = join(alloc, value.as_slice())?;
+            let status = flat(alloc, value.as_slice())?;
             self.variables.push_status(alloc)?;
             self.status = status;
             return Ok(());

@@ -1,5 +1,7 @@
-use Rattle.std.proofs.Common.{rules, ◌≡◌, length, ap}
+use Rattle.std.proofs.Common.{rules, ◌≡◌, List, [], ◌∷◌, length, map, string_bytes, refl, ap, arith}
 use Rattle.std.specs.Prelude.{codes}
+use Rattle.std.specs.declared.alloc.Global.{Global}
+use Rattle.std.specs.declared.string.String.{String}
 use Rattle.rc_model.specs.Run.Acts.{fault}
 use Rattle.rc_model.specs.Run.Builtins.{run_words}
 use Rattle.rc_model.specs.Run.Shell.{exits, leaves}
@@ -7,9 +9,12 @@ use Rattle.law_plans.proofs.Runs.{ran_next, ran_none}
 use Rattle.rc_world.proofs.Joins.{left_as, ran_as}
 use Rattle.rc_world.proofs.Shells.{left_under}
 use Rattle.rc_scope.specs.States.{state_of}
-use Rattle.rc_scope.proofs.Spaces.{no_texts}
 use Rattle.rc_commands.proofs.Left.{words_left}
 use Rattle.rc_commands.proofs.commands.run_words.Goals as goal
+
+no_texts : (ss : List (String Global)) → length ss ≡ 0 → map string_bytes ss ≡ []
+no_texts [] h = refl
+no_texts (s ∷ ss) h = absurd (omega (arith, h))
 
 pub returns-in_err-fault : goal.returns-in_err-fault
 returns-in_err-fault g c =
