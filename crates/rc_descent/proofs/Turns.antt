@@ -1,14 +1,14 @@
 -- One turn of a loop of the descent.
-use Rattle.std.proofs.Common.{◌≡◌, ℕ, suc, ◌+◌, ◌-◌, ◌<◌, ◌≤◌, Bool, true, false, if◌then◌else◌, List, [], ◌∷◌, length, Ok, Err, refl, ap, arith, nat_lt}
+use Rattle.std.proofs.Common.{◌≡◌, ℕ, suc, ◌+◌, ◌-◌, ◌<◌, ◌≤◌, Bool, true, false, if◌then◌else◌, List, ◌∷◌, length, Ok, Err, refl, ap, arith, nat_lt}
 use Rattle.std.proofs.lemmas.List.{length-map}
 use Rattle.std.proofs.lemmas.Bool.{lt-ltb, le-ltb}
 use Rattle.std.proofs.lemmas.Grind.{common_steps}
 use Rattle.rc_model.specs.Syntax.Tokens as model
-use Rattle.rc_model.specs.Syntax.Tree.{Node, Many, none, more, count, nodes, snoc}
+use Rattle.rc_model.specs.Syntax.Tree.{Node, Many, none, count, nodes, snoc}
 use Rattle.rc_model.specs.Syntax.Tree as t
 use Rattle.rc_model.specs.Syntax.Grammar.{begins_arg, begins_redir, begins_command, past_blanks, past_newlines, after_caret, ends}
 use Rattle.rc_model.specs.Mirrors.Descent as d
-use Rattle.rc_model.specs.Mirrors.Descent.{Reader, Readers, Read, ◌>>=◌}
+use Rattle.rc_model.specs.Mirrors.Descent.{Reader, Readers, ◌>>=◌}
 use Rattle.rc_tree_types.proofs.Numbers.{count_nodes}
 use Rattle.rc_tree_types.specs.View.{nodes_push}
 use Rattle.rc_lexemes.specs.declared.lexeme.Lexeme.{Lexeme}

@@ -1,5 +1,7 @@
 -- What the reading functions answer.
+use Rattle.std.specs.Prelude.{Ok}
 use Rattle.rc_model.specs.Mirrors.Descent as d
+use Rattle.rc_model.specs.Mirrors.Descent.{Read, ◌>>=◌}
 use Rattle.rc_tree_types.specs.View.{cmd_tree, arg_tree}
 use Rattle.rc_descent.specs.declared.stages.Opening.{Opening}
 use Rattle.rc_descent.specs.declared.stages.Opening.TheVariants as o
@@ -8,3 +10,7 @@ use Rattle.rc_descent.specs.declared.stages.Opening.TheVariants as o
 abbrev pub opening_of : Opening → d.Opening
 opening_of (o.Staged c) = d.Staged (cmd_tree c.value)
 opening_of (o.Named a) = d.Named (arg_tree a.value)
+
+-- what is made of the thing that was read
+abbrev pub made : {X Y : Type 0} → (X → Y) → Read X → Read Y
+made f read = read >>= λ x. Ok (f x.0, x.1)

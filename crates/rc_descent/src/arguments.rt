@@ -1,43 +1,23 @@
-//! The arguments of a command, and the names of variables.
+//! The arguments of a command.
 
 ghost use Rattle.std.specs.Prelude.{true, false};
-ghost use Rattle.rc_model.specs.Mirrors.Descent.{read, a_name, a_part, parts_by, arg_by, members_by, words_by};
-ghost use Rattle.rc_model.specs.Mirrors.Descent.{dollar_by};
+ghost use Rattle.rc_model.specs.Syntax.Tree as t;
+ghost use Rattle.rc_model.specs.Mirrors.Descent.{read, a_part, parts_by, arg_by, members_by, words_by};
+ghost use Rattle.rc_model.specs.Mirrors.Descent.{brace_by, dollar_by};
 ghost use Rattle.rc_tree_types.specs.View.{arg_tree, args_tree};
 ghost use Rattle.rc_lexemes.specs.Lexemes.{lexemes_of};
 ghost use Rattle.rc_lexemes.specs.Reading.{Gives};
+ghost use Rattle.rc_descent.specs.Reading.{made};
 
 use crate::lists::parse_brace;
+use crate::names::{parse_count, parse_flat, parse_name};
 use rc_lexemes::{
-    Lexeme, TokenError, after_caret, back, begins_arg, concat, count, fault_at, flat, literal,
-    paren, past_blanks, push_arg, subscripted, variable,
+    Lexeme, TokenError, after_caret, back, begins_arg, concat, fault_at, literal, paren,
+    past_blanks, push_arg, subscripted, variable,
 };
 use rc_model::DescentFault;
 use rc_tree::Arg;
 use std::alloc::Global;
-
-/// A name after a `$`.
-#[tactic(auto, using(crate::proofs::Steps::levels, std::proofs::lemmas::Grind::common_steps), unfolding(rc_model::specs::Mirrors::Descent::name_by))]
-fn parse_name(
-    alloc: Global,
-    left: usize,
-    lexemes: &[Lexeme],
-) -> Result<(Box<Arg>, &[Lexeme]), TokenError>
-    ensures { Gives (λ x. (arg_tree x.0.value, lexemes_of x.1.now)) result (read left a_name (lexemes_of lexemes.now)) }
-{
-    if left == 0 {
-        return Err(fault_at(DescentFault::TooDeep, lexemes));
-    }
-    match lexemes {
-        [Lexeme::Name(text), rest @ ..] => Ok((literal(alloc, text, false)?, rest)),
-        [Lexeme::Quoted(text), rest @ ..] => Ok((literal(alloc, text, true)?, rest)),
-        [Lexeme::Dollar, rest @ ..] => {
-            let (inner, rest) = parse_name(alloc, left - 1, rest)?;
-            Ok((variable(alloc, inner)?, rest))
-        }
-        _ => Err(fault_at(DescentFault::Unexpected, lexemes)),
-    }
-}
 
 /// A part of an argument. Inside parentheses newlines are blanks.
 #[cycle(parse)]
@@ -57,25 +37,45 @@ fn parse_part(
     match lexemes {
         [Lexeme::Word(text), rest @ ..] => Ok((literal(alloc, text, false)?, rest)),
         [Lexeme::Quoted(text), rest @ ..] => Ok((literal(alloc, text, true)?, rest)),
-        [Lexeme::LeftParen, rest @ ..] => {
-            let (words, rest) = parse_members(alloc, left - 1, rest)?;
-            Ok((paren(alloc, words)?, rest))
-        }
+        [Lexeme::LeftParen, rest @ ..] => parse_group(alloc, left - 1, rest),
         [Lexeme::Backquote, rest @ ..] => {
-            let (body, rest) = parse_brace(alloc, left - 1, past_blanks(inside, rest))?;
-            Ok((back(alloc, body)?, rest))
+            parse_backquote(alloc, left - 1, past_blanks(inside, rest))
         }
         [Lexeme::Dollar, rest @ ..] => parse_dollar(alloc, left - 1, rest),
-        [Lexeme::DollarCount, rest @ ..] => {
-            let (inner, rest) = parse_name(alloc, left - 1, rest)?;
-            Ok((count(alloc, inner)?, rest))
-        }
-        [Lexeme::DollarFlat, rest @ ..] => {
-            let (inner, rest) = parse_name(alloc, left - 1, rest)?;
-            Ok((flat(alloc, inner)?, rest))
-        }
+        [Lexeme::DollarCount, rest @ ..] => parse_count(alloc, left - 1, rest),
+        [Lexeme::DollarFlat, rest @ ..] => parse_flat(alloc, left - 1, rest),
         _ => Err(fault_at(DescentFault::Unexpected, lexemes)),
     }
+}
+
+/// What follows a `(`: a list of arguments.
+#[cycle(parse)]
+#[tactic(auto, using(std::proofs::lemmas::Grind::common_steps))]
+fn parse_group(
+    alloc: Global,
+    below: usize,
+    lexemes: &[Lexeme],
+) -> Result<(Box<Arg>, &[Lexeme]), TokenError>
+    ensures { Gives (λ x. (arg_tree x.0.value, lexemes_of x.1.now)) result
+        (made t.Paren (members_by (read below (a_part true)) (lexemes_of lexemes.now))) }
+{
+    let (words, rest) = parse_members(alloc, below, lexemes)?;
+    Ok((paren(alloc, words)?, rest))
+}
+
+/// What follows a backquote: a list of commands in braces.
+#[cycle(parse)]
+#[tactic(auto, using(std::proofs::lemmas::Grind::common_steps))]
+fn parse_backquote(
+    alloc: Global,
+    below: usize,
+    lexemes: &[Lexeme],
+) -> Result<(Box<Arg>, &[Lexeme]), TokenError>
+    ensures { Gives (λ x. (arg_tree x.0.value, lexemes_of x.1.now)) result
+        (made t.Back (brace_by (read below) (lexemes_of lexemes.now))) }
+{
+    let (body, rest) = parse_brace(alloc, below, lexemes)?;
+    Ok((back(alloc, body)?, rest))
 }
 
 /// What follows a `$`: a name, perhaps with subscripts.

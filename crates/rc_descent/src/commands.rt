@@ -46,7 +46,7 @@ pub fn parse_pipeline(
         last = next;
         rest = after;
         if !is_stage {
-            return Ok((pipeline(alloc, stages, last)?, rest));
+            break;
         }
     }
     Ok((pipeline(alloc, stages, last)?, rest))

@@ -1,9 +1,14 @@
 //! The control forms.
 
-ghost use Rattle.rc_model.specs.Mirrors.Descent.{read, body_by, if_by, while_by, over_by, for_by, control_by};
+ghost use Rattle.std.specs.Prelude.{true};
+ghost use Rattle.rc_model.specs.Syntax.Tree as t;
+ghost use Rattle.rc_model.specs.Mirrors.Descent.{read, an_operand, body_by, not_by, condition_by, if_by, while_by, in_by};
+ghost use Rattle.rc_model.specs.Mirrors.Descent.{over_by, for_by, control_by};
+ghost use Rattle.rc_model.specs.declared.syntax.Keyword.TheVariants as keyword;
 ghost use Rattle.rc_tree_types.specs.View.{cmd_tree, arg_tree};
 ghost use Rattle.rc_lexemes.specs.Lexemes.{lexemes_of};
 ghost use Rattle.rc_lexemes.specs.Reading.{Gives};
+ghost use Rattle.rc_descent.specs.Reading.{made};
 
 use crate::arguments::{parse_argument, parse_members};
 use crate::commands::{parse_command, parse_inner_operand};
@@ -49,16 +54,44 @@ fn parse_if(
     ensures { Gives (λ x. (cmd_tree x.0.value, lexemes_of x.1.now)) result
         (if_by (read below) after_if (lexemes_of lexemes.now)) }
 {
-    if let [Lexeme::Word(text), rest @ ..] = lexemes {
-        let Keyword::Not = keyword_named(text) else {
-            return Err(fault_at(DescentFault::Unexpected, lexemes));
-        };
-        if !after_if {
-            return Err(fault_at(DescentFault::IfNot, lexemes));
-        }
-        let (body, rest) = parse_body(alloc, below, past_caret(rest))?;
-        return Ok((if_not(alloc, body)?, rest));
+    let [Lexeme::Word(text), rest @ ..] = lexemes else {
+        return parse_condition(alloc, below, lexemes);
+    };
+    let Keyword::Not = keyword_named(text) else {
+        return Err(fault_at(DescentFault::Unexpected, lexemes));
+    };
+    if !after_if {
+        return Err(fault_at(DescentFault::IfNot, lexemes));
     }
+    parse_if_not(alloc, below, rest)
+}
+
+/// What follows `if not`: a body.
+#[cycle(parse)]
+#[tactic(auto, using(std::proofs::lemmas::Grind::common_steps))]
+fn parse_if_not(
+    alloc: Global,
+    below: usize,
+    lexemes: &[Lexeme],
+) -> Result<(Box<Cmd>, &[Lexeme]), TokenError>
+    ensures { Gives (λ x. (cmd_tree x.0.value, lexemes_of x.1.now)) result
+        (not_by (read below) true keyword.Not (lexemes_of lexemes.now)) }
+{
+    let (body, rest) = parse_body(alloc, below, past_caret(lexemes))?;
+    Ok((if_not(alloc, body)?, rest))
+}
+
+/// What follows `if` where that is a condition: it, and a body.
+#[cycle(parse)]
+#[tactic(auto, using(std::proofs::lemmas::Grind::common_steps))]
+fn parse_condition(
+    alloc: Global,
+    below: usize,
+    lexemes: &[Lexeme],
+) -> Result<(Box<Cmd>, &[Lexeme]), TokenError>
+    ensures { Gives (λ x. (cmd_tree x.0.value, lexemes_of x.1.now)) result
+        (condition_by (read below) (lexemes_of lexemes.now)) }
+{
     let (condition, rest) = parse_paren(alloc, below, lexemes)?;
     let (body, rest) = parse_body(alloc, below, rest)?;
     Ok((conditional(alloc, condition, body)?, rest))
@@ -93,20 +126,48 @@ fn parse_over(
         (over_by (read below) (arg_tree name.value) (lexemes_of lexemes.now)) }
 {
     match lexemes {
-        [Lexeme::RightParen, rest @ ..] => {
-            let (body, rest) = parse_body(alloc, below, rest)?;
-            Ok((for_all(alloc, name, body)?, rest))
-        }
+        [Lexeme::RightParen, rest @ ..] => parse_for_all(alloc, below, name, rest),
         [Lexeme::Word(text), rest @ ..] => {
             let Keyword::In = keyword_named(text) else {
                 return Err(fault_at(DescentFault::Unexpected, lexemes));
             };
-            let (words, rest) = parse_members(alloc, below, past_caret(rest))?;
-            let (body, rest) = parse_body(alloc, below, rest)?;
-            Ok((for_each(alloc, name, words, body)?, rest))
+            parse_for_each(alloc, below, name, rest)
         }
         _ => Err(fault_at(DescentFault::Unexpected, lexemes)),
     }
+}
+
+/// What follows `for(name)`: a body.
+#[cycle(parse)]
+#[tactic(auto, using(std::proofs::lemmas::Grind::common_steps))]
+fn parse_for_all(
+    alloc: Global,
+    below: usize,
+    name: Box<Arg>,
+    lexemes: &[Lexeme],
+) -> Result<(Box<Cmd>, &[Lexeme]), TokenError>
+    ensures { Gives (λ x. (cmd_tree x.0.value, lexemes_of x.1.now)) result
+        (made (t.ForAll (arg_tree name.value)) (body_by (read below) (lexemes_of lexemes.now))) }
+{
+    let (body, rest) = parse_body(alloc, below, lexemes)?;
+    Ok((for_all(alloc, name, body)?, rest))
+}
+
+/// What follows the `in` of a `for`: a list and a body.
+#[cycle(parse)]
+#[tactic(auto, using(std::proofs::lemmas::Grind::common_steps))]
+fn parse_for_each(
+    alloc: Global,
+    below: usize,
+    name: Box<Arg>,
+    lexemes: &[Lexeme],
+) -> Result<(Box<Cmd>, &[Lexeme]), TokenError>
+    ensures { Gives (λ x. (cmd_tree x.0.value, lexemes_of x.1.now)) result
+        (in_by (read below) (arg_tree name.value) keyword.In (lexemes_of lexemes.now)) }
+{
+    let (words, rest) = parse_members(alloc, below, past_caret(lexemes))?;
+    let (body, rest) = parse_body(alloc, below, rest)?;
+    Ok((for_each(alloc, name, words, body)?, rest))
 }
 
 /// What follows `for`.
@@ -127,6 +188,36 @@ fn parse_for(
     parse_over(alloc, below, name, past_newlines(rest))
 }
 
+/// What follows `!`.
+#[cycle(parse)]
+#[tactic(auto, using(std::proofs::lemmas::Grind::common_steps))]
+fn parse_not(
+    alloc: Global,
+    below: usize,
+    lexemes: &[Lexeme],
+) -> Result<(Box<Cmd>, &[Lexeme]), TokenError>
+    ensures { Gives (λ x. (cmd_tree x.0.value, lexemes_of x.1.now)) result
+        (made t.Not (read below an_operand (lexemes_of lexemes.now))) }
+{
+    let (cmd, rest) = parse_inner_operand(alloc, below, lexemes)?;
+    Ok((not(alloc, cmd)?, rest))
+}
+
+/// What follows `@`.
+#[cycle(parse)]
+#[tactic(auto, using(std::proofs::lemmas::Grind::common_steps))]
+fn parse_subshell(
+    alloc: Global,
+    below: usize,
+    lexemes: &[Lexeme],
+) -> Result<(Box<Cmd>, &[Lexeme]), TokenError>
+    ensures { Gives (λ x. (cmd_tree x.0.value, lexemes_of x.1.now)) result
+        (made t.Subshell (read below an_operand (lexemes_of lexemes.now))) }
+{
+    let (cmd, rest) = parse_inner_operand(alloc, below, lexemes)?;
+    Ok((subshell(alloc, cmd)?, rest))
+}
+
 /// What follows `!`, `@` and the control words.
 #[cycle(parse)]
 #[tactic(auto, using(std::proofs::lemmas::Grind::common_steps), unfolding(rc_model::specs::Mirrors::Descent::control_by))]
@@ -142,14 +233,8 @@ pub fn parse_control(
 {
     let rest = past_caret(lexemes);
     match keyword {
-        Keyword::Bang => {
-            let (cmd, rest) = parse_inner_operand(alloc, below, rest)?;
-            Ok((not(alloc, cmd)?, rest))
-        }
-        Keyword::At => {
-            let (cmd, rest) = parse_inner_operand(alloc, below, rest)?;
-            Ok((subshell(alloc, cmd)?, rest))
-        }
+        Keyword::Bang => parse_not(alloc, below, rest),
+        Keyword::At => parse_subshell(alloc, below, rest),
         Keyword::If => parse_if(alloc, below, after_if, rest),
         Keyword::While => parse_while(alloc, below, rest),
         Keyword::For => parse_for(alloc, below, rest),

@@ -2,8 +2,8 @@
 //!
 //! It is a descent with one token in sight. Each function `parse_..` reads the part of the grammar that it is named
 //! after, and answers what it read and the lexemes after it. At most `left` levels of the tree may be read, and `below`
-//! is how many there may be below this one. A loop makes at most as many turns as there are lexemes, each of which takes
-//! one at least.
+//! is how many there may be below this one. A loop makes at most as many turns as there are lexemes, each of which
+//! takes one at least.
 #![tactic(auto)]
 
 ghost use Rattle.std.specs.Prelude.{◌≡◌, ◌<◌, ◌⊎◌, IfOk};
@@ -20,6 +20,7 @@ mod arguments;
 mod commands;
 mod controls;
 mod lists;
+mod names;
 mod prefixes;
 mod redirections;
 mod stages;

@@ -1,9 +1,13 @@
 //! What stands before a command: redirections and assignments.
 
+ghost use Rattle.std.specs.Prelude.{◌≡◌, IfOk, false};
+ghost use Rattle.rc_model.specs.Syntax.Tree as t;
 ghost use Rattle.rc_model.specs.Mirrors.Descent.{read, optional_by, redirected_by, values_by, assigned_by};
+ghost use Rattle.rc_model.specs.Mirrors.Descent.{leading_by, pipe_by};
 ghost use Rattle.rc_tree_types.specs.View.{cmd_tree, arg_tree, pairs_tree};
 ghost use Rattle.rc_lexemes.specs.Lexemes.{lexemes_of};
 ghost use Rattle.rc_lexemes.specs.Reading.{Gives};
+ghost use Rattle.rc_descent.specs.Reading.{made};
 
 use crate::arguments::parse_argument;
 use crate::commands::{parse_inner_operand, parse_leading, parse_pipeline};
@@ -14,7 +18,7 @@ use rc_lexemes::{
     redirected,
 };
 use rc_tree::{Arg, Cmd};
-use std::alloc::Global;
+use std::alloc::{AllocError, Global};
 
 /// An operand that may be absent.
 #[cycle(parse)]
@@ -86,8 +90,7 @@ fn parse_values(
     let turns = lexemes.len();
     for _ in 0..turns {
         if begins_leading(rest) {
-            let (body, rest) = parse_leading(alloc, below, false, rest)?;
-            return Ok((assigned(alloc, pairs, body)?, rest));
+            return parse_assigned_leading(alloc, below, pairs, rest);
         }
         if !begins_command(rest) {
             break;
@@ -100,10 +103,51 @@ fn parse_values(
                 rest = after;
             }
             Opening::Staged(first) => {
-                let (body, rest) = parse_pipeline(alloc, below, first, after)?;
-                return Ok((assigned(alloc, pairs, body)?, rest));
+                return parse_assigned_pipeline(alloc, below, pairs, first, after);
             }
         }
     }
-    Ok((assigned(alloc, pairs, empty(alloc)?)?, rest))
+    Ok((assigned_alone(alloc, pairs)?, rest))
+}
+
+/// The command after assignments where it begins with `!`, `@`, a control word or a redirection.
+#[cycle(parse)]
+#[tactic(auto, using(std::proofs::lemmas::Grind::common_steps))]
+fn parse_assigned_leading(
+    alloc: Global,
+    below: usize,
+    pairs: Vec<(Arg, Arg)>,
+    lexemes: &[Lexeme],
+) -> Result<(Box<Cmd>, &[Lexeme]), TokenError>
+    ensures { Gives (λ x. (cmd_tree x.0.value, lexemes_of x.1.now)) result
+        (made (t.Assign (pairs_tree pairs.items)) (leading_by (read below) false (lexemes_of lexemes.now))) }
+{
+    let (body, rest) = parse_leading(alloc, below, false, lexemes)?;
+    Ok((assigned(alloc, pairs, body)?, rest))
+}
+
+/// The command after assignments that begins with this stage.
+#[cycle(parse)]
+#[tactic(auto, using(std::proofs::lemmas::Grind::common_steps))]
+fn parse_assigned_pipeline(
+    alloc: Global,
+    below: usize,
+    pairs: Vec<(Arg, Arg)>,
+    first: Box<Cmd>,
+    lexemes: &[Lexeme],
+) -> Result<(Box<Cmd>, &[Lexeme]), TokenError>
+    ensures { Gives (λ x. (cmd_tree x.0.value, lexemes_of x.1.now)) result
+        (made (t.Assign (pairs_tree pairs.items))
+        (pipe_by (read below) (cmd_tree first.value) (lexemes_of lexemes.now))) }
+{
+    let (body, rest) = parse_pipeline(alloc, below, first, lexemes)?;
+    Ok((assigned(alloc, pairs, body)?, rest))
+}
+
+/// Assignments without a command after them.
+#[tactic(auto, using(std::proofs::lemmas::Grind::common_steps))]
+fn assigned_alone(alloc: Global, pairs: Vec<(Arg, Arg)>) -> Result<Box<Cmd>, AllocError>
+    ensures { IfOk result (λ b. cmd_tree b.value ≡ t.Assign (pairs_tree pairs.items) t.Empty) }
+{
+    assigned(alloc, pairs, empty(alloc)?)
 }

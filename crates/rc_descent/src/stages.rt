@@ -1,12 +1,16 @@
 //! The stages of a pipeline.
 
 ghost use Rattle.std.specs.Prelude.{false};
+ghost use Rattle.rc_model.specs.Syntax.Tree.{more};
+ghost use Rattle.rc_model.specs.Syntax.Tree as t;
+ghost use Rattle.rc_model.specs.Syntax.Grammar.{redirect};
+ghost use Rattle.rc_model.specs.Mirrors.Descent as d;
 ghost use Rattle.rc_model.specs.Mirrors.Descent.{read, a_part, simple_by, match_by, define_by, block_by, first_by};
-ghost use Rattle.rc_model.specs.Mirrors.Descent.{opening_by};
-ghost use Rattle.rc_tree_types.specs.View.{cmd_tree, args_tree, redirs_tree};
+ghost use Rattle.rc_model.specs.Mirrors.Descent.{defined_by, opening_by};
+ghost use Rattle.rc_tree_types.specs.View.{cmd_tree, arg_tree, args_tree, redirs_tree};
 ghost use Rattle.rc_lexemes.specs.Lexemes.{lexemes_of};
 ghost use Rattle.rc_lexemes.specs.Reading.{Gives};
-ghost use Rattle.rc_descent.specs.Reading.{opening_of};
+ghost use Rattle.rc_descent.specs.Reading.{made, opening_of};
 
 use crate::arguments::{parse_argument, parse_words};
 use crate::lists::parse_brace;
@@ -91,10 +95,25 @@ fn parse_define(
     let (first, rest) = parse_argument(alloc, below, false, lexemes)?;
     let (mut names, rest) = parse_words(alloc, below, rest)?;
     insert_arg(&mut names, first)?;
-    if !begins_brace(rest) {
-        return Ok((undefined(alloc, names)?, rest));
+    parse_defined(alloc, below, names, rest)
+}
+
+/// What follows the names of `fn`: the body that they get, or nothing where they are removed.
+#[cycle(parse)]
+#[tactic(auto, using(std::proofs::lemmas::Grind::common_steps))]
+fn parse_defined(
+    alloc: Global,
+    below: usize,
+    names: Vec<Arg>,
+    lexemes: &[Lexeme],
+) -> Result<(Box<Cmd>, &[Lexeme]), TokenError>
+    ensures { Gives (λ x. (cmd_tree x.0.value, lexemes_of x.1.now)) result
+        (defined_by (read below) (args_tree names.items) (lexemes_of lexemes.now)) }
+{
+    if !begins_brace(lexemes) {
+        return Ok((undefined(alloc, names)?, lexemes));
     }
-    let (body, rest) = parse_brace(alloc, below, rest)?;
+    let (body, rest) = parse_brace(alloc, below, lexemes)?;
     Ok((defined(alloc, names, body)?, rest))
 }
 
@@ -127,10 +146,26 @@ fn parse_first(
         (first_by (read below) (lexemes_of lexemes.now)) }
 {
     let (first, rest) = parse_argument(alloc, below, false, lexemes)?;
-    if let [Lexeme::Equals, rest @ ..] = rest {
-        return Ok((Opening::Named(first), rest));
+    match rest {
+        [Lexeme::Equals, rest @ ..] => Ok((Opening::Named(first), rest)),
+        _ => parse_simple_command(alloc, below, first, rest),
     }
-    let ((mut words, redirs), rest) = parse_simple(alloc, below, rest)?;
+}
+
+/// The simple command that begins with this argument.
+#[cycle(parse)]
+#[tactic(auto, using(std::proofs::lemmas::Grind::common_steps))]
+fn parse_simple_command(
+    alloc: Global,
+    below: usize,
+    first: Box<Arg>,
+    lexemes: &[Lexeme],
+) -> Result<(Opening, &[Lexeme]), TokenError>
+    ensures { Gives (λ x. (opening_of x.0, lexemes_of x.1.now)) result
+        (made (λ x. d.Staged (redirect x.1 (t.Simple (more (arg_tree first.value) x.0))))
+        (simple_by (read below (a_part false)) (lexemes_of lexemes.now))) }
+{
+    let ((mut words, redirs), rest) = parse_simple(alloc, below, lexemes)?;
     insert_arg(&mut words, first)?;
     let command = redirect(alloc, redirs, simple(alloc, words)?)?;
     Ok((Opening::Staged(command), rest))

@@ -82,7 +82,7 @@ pub fn parse_switch(
 {
     let (subject, rest) = parse_argument(alloc, below, false, lexemes)?;
     let (branches, rest) = parse_cases(alloc, below, past_newlines(rest))?;
-    let (redirs, rest) = parse_redirections(alloc, below, rest)?;
     let command = switched(alloc, subject, branches)?;
+    let (redirs, rest) = parse_redirections(alloc, below, rest)?;
     Ok((redirect(alloc, redirs, command)?, rest))
 }

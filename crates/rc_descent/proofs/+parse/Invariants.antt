@@ -32,20 +32,29 @@ decreases-arguments::parse_members l = 16 * l.left + 3
 abbrev pub decreases-arguments::parse_words : goal.decreases-arguments::parse_words
 decreases-arguments::parse_words l = 16 * l.left + 3
 
+abbrev pub decreases-redirections::parse_file_redirection : goal.decreases-redirections::parse_file_redirection
+decreases-redirections::parse_file_redirection l = 16 * l.left + 3
+
+abbrev pub decreases-arguments::parse_group : goal.decreases-arguments::parse_group
+decreases-arguments::parse_group l = 16 * l.below + 4
+
 abbrev pub decreases-redirections::parse_redirection : goal.decreases-redirections::parse_redirection
-decreases-redirections::parse_redirection l = 16 * l.left + 3
+decreases-redirections::parse_redirection l = 16 * l.left + 4
 
 abbrev pub decreases-arguments::parse_dollar : goal.decreases-arguments::parse_dollar
 decreases-arguments::parse_dollar l = 16 * l.below + 4
 
 abbrev pub decreases-redirections::parse_redirections : goal.decreases-redirections::parse_redirections
-decreases-redirections::parse_redirections l = 16 * l.left + 4
+decreases-redirections::parse_redirections l = 16 * l.left + 5
 
 abbrev pub decreases-stages::parse_simple : goal.decreases-stages::parse_simple
-decreases-stages::parse_simple l = 16 * l.left + 4
+decreases-stages::parse_simple l = 16 * l.left + 5
 
 abbrev pub decreases-lists::parse_brace : goal.decreases-lists::parse_brace
 decreases-lists::parse_brace l = 16 * l.below + 1
+
+abbrev pub decreases-arguments::parse_backquote : goal.decreases-arguments::parse_backquote
+decreases-arguments::parse_backquote l = 16 * l.below + 2
 
 abbrev pub decreases-lists::parse_paren : goal.decreases-lists::parse_paren
 decreases-lists::parse_paren l = 16 * l.below + 1
@@ -65,59 +74,89 @@ decreases-switches::parse_switch l = 16 * l.below + 6
 abbrev pub decreases-stages::parse_match : goal.decreases-stages::parse_match
 decreases-stages::parse_match l = 16 * l.below + 4
 
+abbrev pub decreases-stages::parse_defined : goal.decreases-stages::parse_defined
+decreases-stages::parse_defined l = 16 * l.below + 2
+
 abbrev pub decreases-stages::parse_define : goal.decreases-stages::parse_define
 decreases-stages::parse_define l = 16 * l.below + 4
 
 abbrev pub decreases-stages::parse_block : goal.decreases-stages::parse_block
-decreases-stages::parse_block l = 16 * l.below + 5
+decreases-stages::parse_block l = 16 * l.below + 6
+
+abbrev pub decreases-stages::parse_simple_command : goal.decreases-stages::parse_simple_command
+decreases-stages::parse_simple_command l = 16 * l.below + 6
 
 abbrev pub decreases-stages::parse_first : goal.decreases-stages::parse_first
-decreases-stages::parse_first l = 16 * l.below + 5
+decreases-stages::parse_first l = 16 * l.below + 7
 
 abbrev pub decreases-stages::parse_opening : goal.decreases-stages::parse_opening
-decreases-stages::parse_opening l = 16 * l.below + 7
+decreases-stages::parse_opening l = 16 * l.below + 8
 
 abbrev pub decreases-controls::parse_body : goal.decreases-controls::parse_body
 decreases-controls::parse_body l = 16 * l.below + 1
+
+abbrev pub decreases-controls::parse_not : goal.decreases-controls::parse_not
+decreases-controls::parse_not l = 16 * l.below + 1
+
+abbrev pub decreases-controls::parse_subshell : goal.decreases-controls::parse_subshell
+decreases-controls::parse_subshell l = 16 * l.below + 1
+
+abbrev pub decreases-controls::parse_if_not : goal.decreases-controls::parse_if_not
+decreases-controls::parse_if_not l = 16 * l.below + 2
+
+abbrev pub decreases-controls::parse_condition : goal.decreases-controls::parse_condition
+decreases-controls::parse_condition l = 16 * l.below + 2
 
 abbrev pub decreases-prefixes::parse_optional_operand : goal.decreases-prefixes::parse_optional_operand
 decreases-prefixes::parse_optional_operand l = 16 * l.below + 1
 
 abbrev pub decreases-controls::parse_if : goal.decreases-controls::parse_if
-decreases-controls::parse_if l = 16 * l.below + 2
+decreases-controls::parse_if l = 16 * l.below + 3
 
 abbrev pub decreases-controls::parse_while : goal.decreases-controls::parse_while
 decreases-controls::parse_while l = 16 * l.below + 2
 
+abbrev pub decreases-controls::parse_for_all : goal.decreases-controls::parse_for_all
+decreases-controls::parse_for_all l = 16 * l.below + 2
+
+abbrev pub decreases-controls::parse_for_each : goal.decreases-controls::parse_for_each
+decreases-controls::parse_for_each l = 16 * l.below + 4
+
 abbrev pub decreases-controls::parse_over : goal.decreases-controls::parse_over
-decreases-controls::parse_over l = 16 * l.below + 4
+decreases-controls::parse_over l = 16 * l.below + 5
 
 abbrev pub decreases-controls::parse_for : goal.decreases-controls::parse_for
-decreases-controls::parse_for l = 16 * l.below + 5
+decreases-controls::parse_for l = 16 * l.below + 6
 
 abbrev pub decreases-controls::parse_control : goal.decreases-controls::parse_control
-decreases-controls::parse_control l = 16 * l.below + 6
+decreases-controls::parse_control l = 16 * l.below + 7
 
 abbrev pub decreases-prefixes::parse_redirected : goal.decreases-prefixes::parse_redirected
-decreases-prefixes::parse_redirected l = 16 * l.below + 5
+decreases-prefixes::parse_redirected l = 16 * l.below + 6
 
 abbrev pub decreases-commands::parse_leading : goal.decreases-commands::parse_leading
-decreases-commands::parse_leading l = 16 * l.below + 7
+decreases-commands::parse_leading l = 16 * l.below + 8
+
+abbrev pub decreases-prefixes::parse_assigned_leading : goal.decreases-prefixes::parse_assigned_leading
+decreases-prefixes::parse_assigned_leading l = 16 * l.below + 9
 
 abbrev pub decreases-commands::parse_pipeline : goal.decreases-commands::parse_pipeline
 decreases-commands::parse_pipeline l = 16 * l.below + 1
 
+abbrev pub decreases-prefixes::parse_assigned_pipeline : goal.decreases-prefixes::parse_assigned_pipeline
+decreases-prefixes::parse_assigned_pipeline l = 16 * l.below + 2
+
 abbrev pub decreases-prefixes::parse_values : goal.decreases-prefixes::parse_values
-decreases-prefixes::parse_values l = 16 * l.below + 8
+decreases-prefixes::parse_values l = 16 * l.below + 10
 
 abbrev pub decreases-prefixes::parse_assigned : goal.decreases-prefixes::parse_assigned
-decreases-prefixes::parse_assigned l = 16 * l.below + 9
+decreases-prefixes::parse_assigned l = 16 * l.below + 11
 
 abbrev pub decreases-commands::parse_operand : goal.decreases-commands::parse_operand
-decreases-commands::parse_operand l = 16 * l.below + 10
+decreases-commands::parse_operand l = 16 * l.below + 12
 
 abbrev pub decreases-commands::parse_links : goal.decreases-commands::parse_links
-decreases-commands::parse_links l = 16 * l.below + 11
+decreases-commands::parse_links l = 16 * l.below + 13
 
 abbrev pub invariant-arguments::parse_parts-loop : goal.invariant-arguments::parse_parts-loop
 invariant-arguments::parse_parts-loop l =
