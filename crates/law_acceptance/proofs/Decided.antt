@@ -12,7 +12,7 @@ use Rattle.rc_model.specs.Syntax.Tree.{Node, cmd}
 use Rattle.rc_model.specs.Syntax.WellFormed.{depth, is_sound}
 use Rattle.rc_model.specs.declared.fault.SyntaxFault.{SyntaxFault}
 use Rattle.rc_model.specs.Syntax.Faults.{fault}
-use Rattle.rc_model.specs.Syntax.Accepted.{HasTokens, IsAccepted, IsRefused, IsLineOf, lexemes, line_of, longest_script}
+use Rattle.rc_model.specs.Syntax.Accepted.{HasTokens, IsAccepted, IsRefused, lexemes, line_of, longest_script}
 use Rattle.rc_model.specs.Syntax.Accepted as script
 use Rattle.rc_model.specs.Syntax.Grammar.{HaveTree}
 use Rattle.rc_model.specs.Mirrors.Descent.{script_tree}

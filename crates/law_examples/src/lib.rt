@@ -2,7 +2,7 @@
 //! The first is a contract, the others stand in `proofs/`, by their subjects.
 #![tactic(auto)]
 
-ghost use Rattle.std.specs.Prelude.{List, [], ◌∷◌, ◌++◌, codes};
+ghost use Rattle.std.specs.Prelude.{[], ◌∷◌, codes};
 ghost use Rattle.law_examples.specs.Shown.{Does, fresh, runs, usual};
 
 /// A program is found in the path, started with the environment, and waited for.

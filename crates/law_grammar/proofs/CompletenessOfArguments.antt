@@ -1,10 +1,10 @@
 -- Each phrase is read, unless its tree is too deep or a pipeline in it too long: names, arguments, redirections, the words of a simple command and lists in brackets.
 use Rattle.std.proofs.Common.{◌≡◌, ℕ, zero, suc, ◌<◌, ◌≤◌, Bool, true, false, List, ◌∷◌, length, Ok, Err, refl, sym, ap, subst, arith}
-use Rattle.rc_model.specs.Syntax.Tokens.{Lexeme, Newline, RightParen, RightBrace, Redirection, CopyTo, HereDoc, Subscript}
+use Rattle.rc_model.specs.Syntax.Tokens.{Lexeme, Newline, RightParen, RightBrace, Subscript}
 use Rattle.rc_model.specs.Syntax.Tree.{Node, Many, none, more, snoc}
 use Rattle.rc_model.specs.Syntax.Tree as t
 use Rattle.rc_model.specs.Syntax.WellFormed.{depth, depths, most_stages, most_stages_in}
-use Rattle.rc_model.specs.Syntax.Grammar.{Phrase, past_blanks, concat_of, begins_arg, begins_redir, begins_subscript}
+use Rattle.rc_model.specs.Syntax.Grammar.{Phrase, past_blanks, concat_of, begins_arg, begins_subscript}
 use Rattle.rc_model.specs.Syntax.Grammar as g
 use Rattle.rc_model.specs.Mirrors.Descent as d
 use Rattle.rc_model.specs.Mirrors.Descent.{Read, Reader, Readers, ◌>>=◌}

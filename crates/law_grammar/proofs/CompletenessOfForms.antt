@@ -4,15 +4,13 @@ use Rattle.rc_model.specs.Syntax.Tokens.{Lexeme, Word, Equals, LeftBrace, RightB
 use Rattle.rc_model.specs.Syntax.Tree.{Node, Many, none, more, snoc}
 use Rattle.rc_model.specs.Syntax.Tree as t
 use Rattle.rc_model.specs.Syntax.WellFormed.{depth, depths, most_stages, most_stages_in}
-use Rattle.rc_model.specs.Syntax.Grammar.{Phrase, keyword, is_plain, past_newlines, past_caret, redirect, begins_arg, begins_first, begins_redir, begins_brace, begins_command, begins_value, ends_case}
-use Rattle.rc_model.specs.declared.syntax.Keyword.{Keyword}
+use Rattle.rc_model.specs.Syntax.Grammar.{Phrase, keyword, past_newlines, past_caret, redirect, begins_arg, begins_first, begins_redir, begins_value, ends_case}
 use Rattle.rc_model.specs.Syntax.Grammar as g
 use Rattle.rc_model.specs.Mirrors.Descent as d
 use Rattle.rc_model.specs.Mirrors.Descent.{Read, Readers, ◌>>=◌, Staged, Named}
 use Rattle.law_grammar.proofs.Shorter.{Phrase-shorter, past_caret-shorter}
 use Rattle.law_grammar.proofs.Lists.{append, append_snoc, append_none}
 use Rattle.law_grammar.proofs.Beginnings.{arg_begins, redir_begins, plain_is, brace_begins, operand_commands, command_commands}
-use Rattle.rc_model.specs.declared.syntax.Keyword.TheVariants.{Plain as NoKeyword}
 use Rattle.law_grammar.proofs.CompletenessOfArguments.{Meets, deepen, bind, Good, good_part, arg_meets, members_meets, words_meets, redir_meets, redirs_meets, simple_meets, brace_meets, paren_meets}
 
 -- the case lines of a switch

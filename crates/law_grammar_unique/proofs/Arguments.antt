@@ -6,7 +6,7 @@ use Rattle.rc_model.specs.Syntax.Tokens.{CopyTo, HereDoc, Dollar, DollarCount, D
 use Rattle.rc_model.specs.Syntax.Tree.{Node, Many, none, more}
 use Rattle.rc_model.specs.Syntax.Tree as t
 use Rattle.rc_model.specs.Syntax.HereDocs.{pieces_of}
-use Rattle.rc_model.specs.Syntax.Grammar.{Phrase, past_blanks, after_caret, concat_of, begins_arg, begins_redir, begins_subscript}
+use Rattle.rc_model.specs.Syntax.Grammar.{past_blanks, after_caret, concat_of, begins_arg, begins_redir, begins_subscript}
 use Rattle.rc_model.specs.Syntax.Grammar as g
 use Rattle.law_grammar_unique.proofs.Same.{Alike, One}
 use Rattle.law_grammar.proofs.Beginnings.{arg_begins, redir_begins, redir_no_arg}

@@ -3,7 +3,7 @@ use Rattle.std.proofs.Common.{◌≡◌, ℕ, true, false, List, ◌∷◌, refl
 use Rattle.rc_model.specs.Syntax.Tokens.{Lexeme, Word, LeftParen, RightParen, LeftBrace, RightBrace, Equals, Bar}
 use Rattle.rc_model.specs.Syntax.Tree.{Node, Many, none, more}
 use Rattle.rc_model.specs.Syntax.Tree as t
-use Rattle.rc_model.specs.Syntax.Grammar.{Phrase, keyword, is_plain, past_newlines, past_caret}
+use Rattle.rc_model.specs.Syntax.Grammar.{keyword, is_plain, past_newlines, past_caret}
 use Rattle.rc_model.specs.declared.syntax.Keyword.{Keyword}
 use Rattle.rc_model.specs.Syntax.Grammar.{redirect, pipeline, begins_first, begins_brace, begins_bar, begins_value}
 use Rattle.rc_model.specs.Syntax.Grammar as g

@@ -3,7 +3,7 @@ use Rattle.std.proofs.Common.{◌≡◌, ℕ, Bool, true, false, List, ◌∷◌
 use Rattle.rc_model.specs.Syntax.Tokens.{Lexeme, Word, LeftParen, RightParen, AndAnd, OrOr, Equals}
 use Rattle.rc_model.specs.Syntax.Tree.{Node, Many, none, more}
 use Rattle.rc_model.specs.Syntax.Tree as t
-use Rattle.rc_model.specs.Syntax.Grammar.{Phrase, keyword, past_newlines, past_caret, and_or, begins_first, begins_redir, begins_command, begins_link}
+use Rattle.rc_model.specs.Syntax.Grammar.{keyword, past_newlines, past_caret, and_or, begins_first, begins_command, begins_link}
 use Rattle.rc_model.specs.Syntax.Grammar as g
 use Rattle.law_grammar_unique.proofs.Same.{Alike, Apart, One, keyword_at, leads, redir_word, paren_word, pipe_leads, assigned_leads, leading_leads}
 use Rattle.law_grammar_unique.proofs.Same.{first_leads, through, tail}

@@ -1,9 +1,9 @@
 -- A phrase with one tree and one rest, and how phrases begin.
-use Rattle.std.proofs.Common.{◌≡◌, ◌||◌, ℕ, Bool, true, false, not, List, ◌∷◌, refl, sym, ap, ◌∙◌}
+use Rattle.std.proofs.Common.{◌≡◌, ℕ, Bool, true, false, not, List, ◌∷◌, refl, sym, ap, ◌∙◌}
 use Rattle.rc_model.specs.Syntax.Tokens.{Lexeme, Word, LeftBrace, Redirection, CopyTo, HereDoc}
-use Rattle.rc_model.specs.Syntax.Tree.{Node, Many}
+use Rattle.rc_model.specs.Syntax.Tree.{Node}
 use Rattle.rc_model.specs.Syntax.Tree as t
-use Rattle.rc_model.specs.Syntax.Grammar.{Phrase, Level, Out, keyword, is_plain, begins_arg, begins_first, begins_redir, begins_brace, begins_command}
+use Rattle.rc_model.specs.Syntax.Grammar.{Phrase, Level, Out, keyword, begins_first, begins_redir, begins_brace}
 use Rattle.rc_model.specs.declared.syntax.Keyword.{Keyword}
 use Rattle.rc_model.specs.Syntax.Grammar as g
 use Rattle.rc_model.specs.declared.syntax.Keyword.TheVariants.{At as AtWord, Bang as BangWord, Fn as FnWord, For as ForWord, If as IfWord, Match as MatchWord, Plain as NoKeyword, Switch as SwitchWord, While as WhileWord}

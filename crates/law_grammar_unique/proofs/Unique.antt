@@ -1,7 +1,7 @@
 -- A list of lexemes has one tree at most.
 use Rattle.std.proofs.Common.{◌≡◌, sym, ap, ◌∙◌, refl, List}
 use Rattle.rc_model.specs.Syntax.Tokens.{Lexeme}
-use Rattle.rc_model.specs.Syntax.Tree.{Node, Many}
+use Rattle.rc_model.specs.Syntax.Tree.{Node}
 use Rattle.rc_model.specs.Syntax.Tree as t
 use Rattle.rc_model.specs.Syntax.Grammar.{Phrase, Level, Out, HaveTree}
 use Rattle.rc_model.specs.Syntax.Grammar as g

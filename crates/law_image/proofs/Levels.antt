@@ -6,7 +6,7 @@ use Rattle.std.proofs.lemmas.Bool.Decides.{nat_tests}
 use Rattle.std.proofs.Common.{◌⊎◌, arith}
 use mathlib.Core.Logic.{⊎_elim}
 use Rattle.rc_model.specs.declared.call.Mode.TheVariants.{Read, Write, Append}
-use Rattle.rc_model.specs.Syntax.Tree.{Sort, Node, Many, cmd, arg, item, pair, redir, stage, link, branch, piece, none, more, count}
+use Rattle.rc_model.specs.Syntax.Tree.{Sort, Node, cmd, arg, item, pair, redir, stage, link, branch, piece}
 use Rattle.rc_model.specs.declared.syntax.Logic.TheVariants.{And, Or}
 use Rattle.rc_model.specs.Syntax.Tree as t
 use Rattle.rc_model.specs.Syntax.WellFormed.{is_output, copies, has_text}

@@ -10,7 +10,7 @@ use Rattle.rc_model.specs.Run.Numbers.{greatest_number}
 use Rattle.rc_model.specs.declared.call.Mode.{Mode}
 use Rattle.rc_model.specs.declared.call.Mode.TheVariants.{Read, Write, Append}
 use Rattle.rc_model.specs.Syntax.Text.{without_zero}
-use Rattle.rc_model.specs.Syntax.Tree.{Sort, Node, Many, cmd, arg, piece, none, more, count}
+use Rattle.rc_model.specs.Syntax.Tree.{Sort, Node, Many, none, more, count}
 use Rattle.rc_model.specs.Syntax.Tree as t
 use Rattle.rc_model.specs.Handed.Image.{node_image, many_image, list_image, text_image, literal_mark, opening_mark}
 use Rattle.rc_model.specs.Syntax.WellFormed.{is_sound, are_sound, is_output, opens, copies, has_text, has_some, has_several, has_stages}

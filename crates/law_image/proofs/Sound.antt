@@ -6,7 +6,7 @@ use Rattle.std.proofs.lemmas.Bool.{and_parts, and_from, false≢true, eq-eqb}
 use Rattle.rc_model.specs.declared.call.Mode.{Mode}
 use Rattle.rc_model.specs.declared.call.Mode.TheVariants.{Read, Write, Append}
 use Rattle.rc_model.specs.Syntax.Text.{without_zero}
-use Rattle.rc_model.specs.Syntax.Tree.{Sort, Node, Many, cmd, arg, piece, none, more, count}
+use Rattle.rc_model.specs.Syntax.Tree.{Sort, Node, Many, piece, none, more, count}
 use Rattle.rc_model.specs.Syntax.Tree as t
 use Rattle.rc_model.specs.Syntax.WellFormed.{is_sound, are_sound, depth, depths, is_output, opens, has_text, has_some, has_several, has_stages}
 use Rattle.rc_model.specs.Handed.TreeSpelling.{is_text, Opened, Spells, SpellsAll}

@@ -5,7 +5,7 @@ use Rattle.std.specs.Str.{chars}
 use Rattle.std.proofs.lemmas.Bool.{eqb-true}
 use Rattle.rc_model.specs.Syntax.Text.{without_zero}
 use Rattle.rc_model.specs.Syntax.Tokens as t
-use Rattle.rc_model.specs.Syntax.Tokens.{Token, Outcome}
+use Rattle.rc_model.specs.Syntax.Tokens.{Token}
 use Rattle.rc_model.specs.declared.fault.SyntaxFault.{SyntaxFault}
 use Rattle.rc_model.specs.Mirrors.Reading.{Between, run, zero_line, unless_zero, lexed, ReadingLaw}
 use Rattle.law_lexing.proofs.CutRuns.{Cuts-run}

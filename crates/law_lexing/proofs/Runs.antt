@@ -8,7 +8,7 @@ use Rattle.std.proofs.lemmas.Str.{encode_ascii}
 use Rattle.std.specs.Char.{encode_utf8}
 use Rattle.std.specs.Str.{encode_utf8_all}
 use Rattle.rc_model.specs.Syntax.Tokens as t
-use Rattle.rc_model.specs.Syntax.Tokens.{Lexeme, Token, PendingHereDoc, Outcome}
+use Rattle.rc_model.specs.Syntax.Tokens.{Lexeme, PendingHereDoc}
 use Rattle.rc_model.specs.Mirrors.Reading.{Between, Backslash, WordBackslash, Word, Name, Quoted, Closed, goes, bare_here, begin, ends, closed, ended, follow, run}
 use Rattle.law_lexing.proofs.Steps.{run_at, join_nil, follow_emit, join_closed, quote_is, line_end_is, backslash_is}
 use Rattle.rc_model.specs.declared.syntax.Place.{Place}

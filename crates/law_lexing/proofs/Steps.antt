@@ -3,7 +3,7 @@ use Rattle.std.proofs.Common.{◌≡◌, ℕ, Bool, true, false, cond, ◌==◌,
 use Rattle.std.specs.Prelude.{Ok, Err}
 use Rattle.std.proofs.lemmas.Bool.{eqb-true}
 use Rattle.rc_model.specs.Syntax.Tokens as t
-use Rattle.rc_model.specs.Syntax.Tokens.{Lexeme, Token, PendingHereDoc, Outcome}
+use Rattle.rc_model.specs.Syntax.Tokens.{Token, PendingHereDoc, Outcome}
 use Rattle.rc_model.specs.Mirrors.Reading.{State, Step, emit, step, closed, follow, run}
 use Rattle.rc_model.specs.declared.syntax.Place.{Place}
 use Rattle.rc_model.specs.declared.syntax.Class.{Class}

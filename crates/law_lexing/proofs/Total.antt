@@ -7,7 +7,7 @@ use Rattle.std.proofs.lemmas.Slice.Eq.{bytes_eq-Decides}
 use Rattle.std.specs.Str.{bytes_eq, encode_utf8_all}
 use Rattle.rc_model.specs.Syntax.Text.{begins_with}
 use Rattle.rc_model.specs.Syntax.Tokens as t
-use Rattle.rc_model.specs.Syntax.Tokens.{Lexeme, Token, PendingHereDoc, Outcome}
+use Rattle.rc_model.specs.Syntax.Tokens.{Lexeme, PendingHereDoc, Outcome}
 use Rattle.law_lexing.proofs.Steps.{quote_is, line_end_is, hash_is, backslash_is, operates_is}
 use Rattle.law_lexing.proofs.Runs.{run_stops}
 use Rattle.rc_model.specs.declared.fault.FaultKind.TheVariants.{BadDescriptor, OpenHere, OpenQuote}

@@ -12,7 +12,7 @@ use Rattle.rc_model.specs.Run.FileNames.{expanded}
 use Rattle.rc_model.specs.Run.Acts.{check, variable, value_words, count_words, flat_words, selected_words, concat_words, match_status, define_each, open_one, open_here, subshell, background, back_words}
 use Rattle.rc_model.specs.Run.Builtins.{run_words}
 use Rattle.rc_model.specs.Run.Meaning.{checked, called, Runner, Caller, cmd_means, arg_means, args_mean, parts_mean, more_parts_mean, items_mean, pairs_mean, redirs_mean, links_mean, branches_mean, meaning}
-use Rattle.rc_model.specs.Code.Layout.{run_code, Check, Part, Code, Nothing, Do, ◌⨾◌, Past, Loop, KeptTree, KeptPieces, cmd_code, arg_code, args_code, parts_code, more_parts_code, items_code, pairs_code, redirs_code, links_code, branches_code, unlocal, assign_by, code, Nil, Join, Glob, Value, Select, Drop, Invert, Local, Unlocal, Unredir, Background}
+use Rattle.rc_model.specs.Code.Layout.{run_code, Check, Part, Nothing, Do, ◌⨾◌, KeptTree, KeptPieces, cmd_code, arg_code, args_code, parts_code, more_parts_code, items_code, pairs_code, redirs_code, links_code, branches_code, unlocal, code, Nil, Join, Glob, Value, Select, Drop, Invert, Local, Unlocal, Unredir, Background}
 use Rattle.rc_model.specs.Code.Layout as op
 use Rattle.rc_model.specs.Code.Machine.{Config, Scope, InLocal, InRedirection, Step, goes, end_locals, end_redirs}
 use Rattle.law_machine.proofs.Place.{stands_first, stands_code}

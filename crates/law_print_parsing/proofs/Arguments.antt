@@ -3,7 +3,7 @@ use Rattle.std.proofs.Common.{◌≡◌, refl, sym, subst, ap, Bool, true, false
 use Rattle.rc_model.specs.Syntax.Tokens.{Lexeme, Caret, RightParen}
 use Rattle.rc_model.specs.Syntax.Tree.{Node, Many, none, more}
 use Rattle.rc_model.specs.Syntax.Tree as t
-use Rattle.rc_model.specs.Syntax.Grammar.{Phrase, Level, Out, past_newlines, past_blanks, after_caret, concat_of}
+use Rattle.rc_model.specs.Syntax.Grammar.{Phrase, Level, Out, past_blanks, after_caret, concat_of}
 use Rattle.rc_model.specs.Syntax.Grammar.{begins_arg, begins_redir, begins_value, begins_subscript}
 use Rattle.rc_model.specs.Syntax.Grammar as g
 use Rattle.law_print_lexing.specs.Lexemes.{arg_lexemes, name_lexemes, redir_lexemes, args_lexemes, first_part, further_parts, redirs_lexemes}

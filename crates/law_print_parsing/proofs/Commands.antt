@@ -5,8 +5,8 @@ use Rattle.std.proofs.lemmas.Bool.{not-true}
 use Rattle.rc_model.specs.Syntax.Tokens.{Lexeme, LeftParen, RightParen, LeftBrace, RightBrace}
 use Rattle.rc_model.specs.Syntax.Tree.{Node, Many, none, more}
 use Rattle.rc_model.specs.Syntax.Tree as t
-use Rattle.rc_model.specs.Syntax.Grammar.{Phrase, past_newlines, past_caret, concat_of, redirect, stages_of, last_of, pipeline, and_or, is_case}
-use Rattle.rc_model.specs.Syntax.Grammar.{begins_first, begins_arg, begins_redir, begins_value, begins_link}
+use Rattle.rc_model.specs.Syntax.Grammar.{Phrase, redirect}
+use Rattle.rc_model.specs.Syntax.Grammar.{begins_first, begins_redir}
 use Rattle.rc_model.specs.Syntax.Grammar as g
 use Rattle.rc_model.specs.Syntax.Printing.{begins_with_case, stands_first}
 use Rattle.law_print_lexing.specs.Lexemes.{cmd_lexemes, arg_lexemes, args_lexemes, redirs_lexemes, listed, branch_lines}

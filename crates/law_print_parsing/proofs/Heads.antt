@@ -3,7 +3,7 @@ use Rattle.std.proofs.Common.{◌≡◌, refl, ◌∙◌, sym, Bool, true, false
 use Rattle.rc_model.specs.Syntax.Tokens.{Lexeme}
 use Rattle.rc_model.specs.Syntax.Tree.{Node, Many, none, more}
 use Rattle.rc_model.specs.Syntax.Tree as t
-use Rattle.rc_model.specs.Syntax.Grammar.{Phrase, begins_first, begins_redir, begins_link, ends, concat_of}
+use Rattle.rc_model.specs.Syntax.Grammar.{Phrase, begins_first, begins_link, ends, concat_of}
 use Rattle.rc_model.specs.Syntax.Grammar as g
 use Rattle.rc_model.specs.Syntax.Printing.{begins_with_case}
 use Rattle.law_print_lexing.specs.Lexemes.{arg_lexemes, first_part, further_parts}

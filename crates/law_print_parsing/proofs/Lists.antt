@@ -3,7 +3,7 @@ use Rattle.std.proofs.Common.{◌≡◌, refl, sym, ap, ◌∙◌, Bool, true, f
 use Rattle.rc_model.specs.Syntax.Tokens.{Lexeme, Word, Semicolon, Ampersand, RightBrace, RightParen}
 use Rattle.rc_model.specs.Syntax.Tree.{Node, Many, none, more}
 use Rattle.rc_model.specs.Syntax.Tree as t
-use Rattle.rc_model.specs.Syntax.Grammar.{Phrase, past_caret, closes, ends, ends_case, is_if}
+use Rattle.rc_model.specs.Syntax.Grammar.{Phrase, ends, is_if}
 use Rattle.rc_model.specs.Syntax.Grammar as g
 use Rattle.law_print_lexing.specs.Lexemes.{LexemeLine, listed, cmd_lexemes, args_lexemes, item_lines, branch_lines}
 use Rattle.law_print_parsing.proofs.Follows.{end_apart, Closing, at_paren, at_brace, Ends, at_close, at_semicolon, at_ampersand, closing_closes, open_on, opened}

@@ -3,11 +3,9 @@ use Rattle.std.proofs.Common.{◌≡◌, refl, sym, ap, ◌∙◌, ℕ, Bool, tr
 use Rattle.std.proofs.Common.{inl, inr}
 use Rattle.rc_model.specs.Syntax.Tokens.{Lexeme, Word, Bar, LeftBrace, RightBrace}
 use Rattle.rc_model.specs.Syntax.Tree.{Node, Many, none, more}
-use Rattle.rc_model.specs.declared.syntax.Logic.{Logic}
-use Rattle.rc_model.specs.declared.syntax.Logic.TheVariants.{And, Or}
 use Rattle.rc_model.specs.Syntax.Tree as t
-use Rattle.rc_model.specs.Syntax.Grammar.{Phrase, past_newlines, past_caret, redirect, stages_of, last_of, pipeline, and_or, is_case}
-use Rattle.rc_model.specs.Syntax.Grammar.{begins_first, begins_redir, begins_link}
+use Rattle.rc_model.specs.Syntax.Grammar.{Phrase, past_newlines, past_caret, stages_of, last_of, pipeline, is_case}
+use Rattle.rc_model.specs.Syntax.Grammar.{begins_redir}
 use Rattle.rc_model.specs.Syntax.Grammar as g
 use Rattle.rc_model.specs.Syntax.Printing.{stands_first}
 use Rattle.law_print_lexing.specs.Lexemes.{cmd_lexemes, arg_lexemes, redir_lexemes, redirs_lexemes, stages_lexemes, listed, branch_lines}

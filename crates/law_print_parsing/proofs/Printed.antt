@@ -1,9 +1,9 @@
 -- What was read from any tokens is read again where it is printed.
 use Rattle.std.proofs.Common.{◌≡◌, refl, sym, subst, Bool, true, false, not, ◌&&◌, ◌||◌, List, [], ◌∷◌, append-nil}
 use Rattle.rc_model.specs.Syntax.Tokens.{Lexeme, Word}
-use Rattle.rc_model.specs.Syntax.Tree.{Node, Many, none, more}
+use Rattle.rc_model.specs.Syntax.Tree.{Node, Many, more}
 use Rattle.rc_model.specs.Syntax.Tree as t
-use Rattle.rc_model.specs.Syntax.Grammar.{Phrase, Level, Out, HaveTree, past_newlines, past_caret, ends, is_if, begins_redir, redirect, concat_of}
+use Rattle.rc_model.specs.Syntax.Grammar.{Phrase, Level, Out, HaveTree, past_newlines, past_caret, ends, begins_redir}
 use Rattle.rc_model.specs.Syntax.Grammar as g
 use Rattle.rc_model.specs.Syntax.Printing.{has_here, have_here, begins_with_case}
 use Rattle.law_print_lexing.specs.Lexemes.{cmd_lexemes}

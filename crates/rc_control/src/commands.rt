@@ -1,6 +1,6 @@
 //! Simple commands.
 
-ghost use Rattle.std.specs.Prelude.{◌<◌, ◌^◌, Some, map, string_bytes};
+ghost use Rattle.std.specs.Prelude.{◌<◌, ◌^◌, Some};
 ghost use Rattle.rc_model.specs.Code.Machine.{act};
 ghost use Rattle.rc_model.specs.Code.Layout as op;
 ghost use Rattle.rc_configuration.specs.Configs.{config_of};

@@ -1,6 +1,6 @@
 //! Functions: their definitions, the calls of their bodies, and the returns.
 
-ghost use Rattle.std.specs.Prelude.{◌≡◌, ◌<◌, ◌^◌, OnOk, IfOk, Some, map, string_bytes, ◌∷◌, []};
+ghost use Rattle.std.specs.Prelude.{◌≡◌, ◌<◌, ◌^◌, OnOk, IfOk, Some, map, string_bytes};
 ghost use Rattle.rc_model.specs.Code.Machine.{act};
 ghost use Rattle.rc_model.specs.Code.Layout as op;
 ghost use Rattle.rc_model.specs.Run.State.{undefine};

@@ -1,6 +1,6 @@
 //! Instructions that go to another place, and those that set the status or the flag.
 
-ghost use Rattle.std.specs.Prelude.{◌≡◌, ◌<◌, ◌^◌, Some, IfOk};
+ghost use Rattle.std.specs.Prelude.{◌<◌, ◌^◌, Some, IfOk};
 ghost use Rattle.rc_model.specs.Code.Machine.{act};
 ghost use Rattle.rc_model.specs.Code.Layout as op;
 ghost use Rattle.rc_configuration.specs.Configs.{config_of};

@@ -3,14 +3,13 @@ use Rattle.std.specs.declared.alloc.Global.{Global}
 use Rattle.std.specs.declared.vec.Vec.{Vec}
 use Rattle.std.specs.declared.boxed.Box.{Box}
 use Rattle.std.specs.declared.string.String.{String}
-use Rattle.std.proofs.Common.{◌≡◌, refl, sym, ◌∙◌, ℕ, Bool, false, List, [], ◌∷◌}
-use Rattle.rc_model.specs.Syntax.Printing.{stands_first, begins_with_case, body_lines, Line}
+use Rattle.std.proofs.Common.{◌≡◌, refl, sym, ◌∙◌, Bool, false}
+use Rattle.rc_model.specs.Syntax.Printing.{stands_first, begins_with_case}
 use Rattle.rc_model.specs.Syntax.Tree.{is_empty}
 use Rattle.rc_tree_types.specs.declared.Cmd.{Cmd}
 use Rattle.rc_tree_types.specs.declared.Cmd.TheVariants as c
 use Rattle.rc_tree_types.specs.declared.Arg.{Arg}
 use Rattle.rc_tree_types.specs.declared.Arg.TheVariants as a
-use Rattle.rc_tree_types.specs.declared.Item.{Item}
 use Rattle.rc_tree_types.specs.declared.Branch.{Branch}
 use Rattle.rc_tree_types.specs.View.{cmd_tree, arg_tree}
 use Rattle.rc_tree_types.specs.declared.Arg.TheBlock as rows

@@ -1,5 +1,5 @@
 -- Texts that are written over, one after the other.
-use Rattle.std.proofs.Common.{◌≡◌, ap, ◌∙◌, ℕ, zero, suc, ◌<◌, List, [], ◌∷◌, ◌++◌, length, map, take, drop, slice_index_or, slice_set, arith}
+use Rattle.std.proofs.Common.{◌≡◌, ℕ, zero, suc, ◌<◌, List, [], ◌∷◌, ◌++◌, length, map, take, drop, slice_index_or, slice_set, arith}
 
 -- the first n texts are changed, and then the next one
 pub next_changed : {A : Type 0} (text : A → List ℕ) (change : List ℕ → List ℕ) (before : List (List ℕ)) (items : List A) (n : ℕ) (other item : A)

@@ -1,5 +1,5 @@
 //! Classes of characters.
-ghost use Rattle.std.specs.Prelude.{◌≡◌, ◌&&◌, nat_le};
+ghost use Rattle.std.specs.Prelude.{◌≡◌, ◌&&◌};
 ghost use Rattle.rc_model.specs.Run.Patterns.{holds, is_between, is_marked};
 ghost use Rattle.rc_model.specs.Mirrors.Greedy.{class_end, class_holds};
 ghost use Rattle.rc_literal.specs.Views.{mark_of, marks};

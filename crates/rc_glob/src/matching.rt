@@ -1,5 +1,5 @@
 //! Which texts a word matches: from left to right, with one star to go back to.
-ghost use Rattle.std.specs.Prelude.{◌≡◌, false, map, option_map};
+ghost use Rattle.std.specs.Prelude.{◌≡◌, false, option_map};
 ghost use Rattle.std.specs.List.{list_all, list_any};
 ghost use Rattle.std.specs.Str.{chars};
 ghost use Rattle.rc_model.specs.Run.Patterns.{is_dots, matched, matches, Outside, parts_from, parts_match, stands_for};

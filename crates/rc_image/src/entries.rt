@@ -1,6 +1,6 @@
 //! What the entries of an environment say.
 
-ghost use Rattle.std.specs.Prelude.{◌≡◌, ◌∷◌, ◌<◌, ◌≤◌, ℕ, length, IfOk, map, option_map, string_bytes};
+ghost use Rattle.std.specs.Prelude.{◌≡◌, ◌∷◌, ◌<◌, ◌≤◌, length, IfOk, map, option_map, string_bytes};
 ghost use Rattle.rc_model.specs.Handed.Environment.{cut_entry, members_of, unescaped};
 ghost use Rattle.rc_image.specs.Entries.{pair_of, function_in};
 

@@ -1,7 +1,7 @@
 //! What a shell hands to another, as text: the image of a tree, and the state that arguments and entries denote.
 #![tactic(auto)]
 
-ghost use Rattle.std.specs.Prelude.{◌≡◌, string_bytes};
+ghost use Rattle.std.specs.Prelude.{string_bytes};
 ghost use Rattle.rc_model.specs.Handed.TreeReading.{read_tree};
 ghost use Rattle.rc_tree_types.specs.View.{cmd_tree};
 ghost use Rattle.rc_model.specs.Syntax.Faults.{Gives};

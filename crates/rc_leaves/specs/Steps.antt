@@ -3,7 +3,7 @@ use Rattle.std.specs.Prelude.{ℕ, zero, suc, nat_le, nat_lt, ◌==◌, if◌the
 use Rattle.std.specs.Prelude.{Ok, Err}
 use Rattle.rc_model.specs.declared.syntax.Logic.{Logic}
 use Rattle.rc_model.specs.declared.syntax.Logic.TheVariants.{And, Or}
-use Rattle.rc_model.specs.Syntax.Tree.{Node, Many, none, more, snoc}
+use Rattle.rc_model.specs.Syntax.Tree.{Node, Many, none, snoc}
 use Rattle.rc_model.specs.Syntax.Tree as t
 use Rattle.rc_model.specs.Handed.TreeReading.{Reader, ◌>>=◌, digit_run, past_digits}
 use Rattle.rc_model.specs.Handed.TreeReading.{count_at, bytes_at, cmd_at, arg_at}

@@ -1,6 +1,6 @@
 //! Operators: how they are written, and where they end.
 
-ghost use Rattle.std.specs.Prelude.{false, ◌≡◌, ℕ, ◌≤◌, List, MatchOption, Some, None, [], length, slice_range, IfOk};
+ghost use Rattle.std.specs.Prelude.{false, ◌≡◌, ℕ, ◌≤◌, List, MatchOption, Some, None, length, slice_range, IfOk};
 ghost use Rattle.rc_model.specs.Syntax.Tokens.{begins_operator, operator};
 ghost use Rattle.rc_model.specs.Syntax.Tokens as model;
 ghost use Rattle.rc_model.specs.Mirrors.Reading as reading;

@@ -1,6 +1,6 @@
 //! What the grammar sees of the tokens of a script: each with its text.
 
-ghost use Rattle.std.specs.Prelude.{◌≡◌, IfOk, IsUtf8, string_bytes, slice_range};
+ghost use Rattle.std.specs.Prelude.{◌≡◌, IfOk, IsUtf8, string_bytes};
 ghost use Rattle.rc_model.specs.Syntax.Accepted.{lexemes};
 ghost use Rattle.rc_model.specs.Mirrors.Spelling.{IsSpelled, AreSpelled};
 ghost use Rattle.rc_model.specs.Syntax.Tokens.{unquoted_text};

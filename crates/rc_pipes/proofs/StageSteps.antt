@@ -1,7 +1,5 @@
 -- The start of a stage, call by call.
-use Rattle.std.proofs.Common.{◌≡◌, ℕ, List, [], ◌∷◌, ◌++◌, Option, Some, None, Bool, Ok, Err, codes, sym, subst}
-use Rattle.std.specs.Prelude.{Result as Outcome}
-use Rattle.std.specs.Result.{IsErrAnd}
+use Rattle.std.proofs.Common.{ℕ, List, [], ◌∷◌, ◌++◌, Option, Some, None, Bool, codes}
 use Rattle.rc_model.specs.Run.Calls.{Event, make_pipe, close, as_pair, as_done, with_slot, to_file}
 use Rattle.rc_model.specs.declared.call.Slots.{Slots}
 use Rattle.rc_model.specs.Run.Plans.{Plan, done_with, asks, Ran}

@@ -4,8 +4,7 @@ ghost use Rattle.std.specs.Prelude.{◌≡◌, ◌++◌, ◌∷◌, [], None, If
 ghost use Rattle.rc_model.specs.Run.Acts.{waited, wait_each};
 ghost use Rattle.rc_model.specs.Run.Acts.{stages_status, end_stages, no_stages, Refused};
 ghost use Rattle.rc_model.specs.Run.State as model;
-ghost use Rattle.rc_model.specs.Run.Shell.{Next};
-ghost use Rattle.rc_world.specs.Comes.{Comes, Reads, Does};
+ghost use Rattle.rc_world.specs.Comes.{Reads, Does};
 ghost use Rattle.rc_scope.specs.States.{child_numbers, state_of};
 
 use rc_builtin::ending_status;

@@ -1,6 +1,5 @@
 //! Reading to the end.
 
-ghost use Rattle.std.specs.Prelude.{◌≡◌};
 ghost use Rattle.rc_model.specs.Run.Acts.{read_all};
 ghost use Rattle.rc_model.specs.Run.State as model;
 ghost use Rattle.rc_world.specs.Comes.{Reads};

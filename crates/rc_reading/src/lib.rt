@@ -1,7 +1,6 @@
 //! Reads the spelling of a tree.
 #![tactic(auto)]
 
-ghost use Rattle.std.specs.Prelude.{◌≡◌};
 ghost use Rattle.rc_model.specs.Handed.TreeReading.{read_spelling};
 ghost use Rattle.rc_tree_types.specs.View.{cmd_tree};
 ghost use Rattle.rc_model.specs.Syntax.Faults.{Gives};

@@ -1,6 +1,6 @@
 //! Reads nodes, each with as many levels as are left. Each function answers what it read and the bytes after it.
 
-ghost use Rattle.std.specs.Prelude.{◌≡◌, true};
+ghost use Rattle.std.specs.Prelude.{true};
 ghost use Rattle.rc_model.specs.Handed.TreeReading.{cmd_at, arg_at};
 ghost use Rattle.rc_tree_types.specs.View.{cmd_tree, arg_tree, redir_tree, args_tree, items_tree, pairs_tree};
 ghost use Rattle.rc_tree_types.specs.View.{redirs_tree, stages_tree, links_tree, branches_tree};

@@ -4,7 +4,7 @@
 ghost use Rattle.std.specs.Prelude.{◌≡◌, ◌++◌, ◌∷◌, ◌<◌, [], Some, None, OnOk, OnErr, map, string_bytes};
 ghost use Rattle.std.specs.Prelude.{◌-◌, length, option_map, take, vec_len, vec_capacity};
 ghost use Rattle.std.specs.Option.{MatchOption};
-ghost use Rattle.rc_model.specs.Run.Calls.{slot_of, with_slot, to_file};
+ghost use Rattle.rc_model.specs.Run.Calls.{slot_of, with_slot};
 ghost use Rattle.rc_model.specs.Run.Plans.{done_with};
 ghost use Rattle.rc_model.specs.Run.Acts.{open_one, closing, from_pipe};
 ghost use Rattle.rc_world.specs.Comes.{Comes};

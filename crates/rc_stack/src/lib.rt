@@ -1,8 +1,7 @@
 //! A stack of lists, over one buffer of elements.
 #![tactic(auto)]
 
-ghost use Rattle.std.specs.Prelude.{◌≡◌, [], ◌∷◌, ◌++◌, length, option_map, OnOk, OnErr};
-ghost use Rattle.std.specs.Option.{option_copied};
+ghost use Rattle.std.specs.Prelude.{◌≡◌, [], ◌∷◌, length, option_map, OnOk, OnErr};
 ghost use Rattle.rc_stack.specs.Lists.{Joins, Extends, IsDropped, TakesLast, top_of, two_of, below_two};
 
 use std::alloc::{AllocError, Global};

@@ -6,13 +6,11 @@ use Rattle.std.proofs.lemmas.List.{append-nil, map-append}
 use Rattle.std.proofs.lemmas.Str.{chars-append, chars-encodes, encodes-chars}
 use Rattle.std.proofs.lemmas.Bool.{or_parts}
 use Rattle.std.specs.Char.{encode_utf8}
-use Rattle.std.specs.List.{list_any, flat_map}
+use Rattle.std.specs.List.{flat_map}
 use Rattle.std.specs.Str.{chars, encode_utf8_all, IsUtf8}
 use Rattle.std.specs.declared.alloc.Global.{Global}
 use Rattle.std.specs.declared.string.String.{String}
 use Rattle.rc_model.specs.Syntax.Words.{Word, has_pattern, is_pattern, plain_words, spaced_words, unmarked, word_text, written}
-use Rattle.rc_literal.specs.declared.Ch.{Ch}
-use Rattle.rc_literal.specs.Views.{mark_of, marks}
 use Rattle.rc_literal.proofs.Marks.{unmarked_patterns}
 use Rattle.std.specs.declared.boxed.Box.{Box}
 use Rattle.std.specs.declared.rc.Rc.{Rc}

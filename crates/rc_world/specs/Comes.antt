@@ -1,5 +1,5 @@
 -- How code over a world ends: it comes to the value of what it does, or it is stopped on the way.
-use Rattle.std.specs.Prelude.{◌≡◌, List, [], Option, Some, None, Result, Ok, Err, Bool, true, false}
+use Rattle.std.specs.Prelude.{◌≡◌, List, Option, Some, None, Result, Ok, Err, Bool, true, false}
 use Rattle.std.specs.Result.{MatchResult}
 use Rattle.rc_model.specs.Run.Calls.{Call, Answer, Event, extend, recorded_by}
 use Rattle.rc_model.specs.Run.Plans.{Plan, done_with, asks, Ran, Halted}

@@ -1,4 +1,4 @@
-use Rattle.std.proofs.Common.{◌≡◌, ◌<◌, ◌+◌, ◌++◌, ap, ◌∙◌, suc, List, ℕ, length, map, take, drop, string_bytes, arith}
+use Rattle.std.proofs.Common.{◌≡◌, ◌<◌, ◌+◌, ◌++◌, ap, ◌∙◌, suc, length, map, take, drop, string_bytes, arith}
 use Rattle.rc_glob.proofs.Writing.{next_changed}
 use Rattle.rc_glob.proofs.components.paths_in.Goals as goal
 
