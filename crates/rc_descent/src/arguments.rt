@@ -4,6 +4,7 @@ ghost use Rattle.std.specs.Prelude.{true, false};
 ghost use Rattle.rc_model.specs.Syntax.Tree as t;
 ghost use Rattle.rc_model.specs.Mirrors.Descent.{read, a_part, parts_by, arg_by, members_by, words_by};
 ghost use Rattle.rc_model.specs.Mirrors.Descent.{brace_by, dollar_by};
+ghost use Rattle.rc_model.specs.Syntax.Grammar.{past_blanks};
 ghost use Rattle.rc_tree_types.specs.View.{arg_tree, args_tree};
 ghost use Rattle.rc_lexemes.specs.Lexemes.{lexemes_of};
 ghost use Rattle.rc_lexemes.specs.Reading.{Gives};
@@ -38,9 +39,7 @@ fn parse_part(
         [Lexeme::Word(text), rest @ ..] => Ok((literal(alloc, text, false)?, rest)),
         [Lexeme::Quoted(text), rest @ ..] => Ok((literal(alloc, text, true)?, rest)),
         [Lexeme::LeftParen, rest @ ..] => parse_group(alloc, left - 1, rest),
-        [Lexeme::Backquote, rest @ ..] => {
-            parse_backquote(alloc, left - 1, past_blanks(inside, rest))
-        }
+        [Lexeme::Backquote, rest @ ..] => parse_backquote(alloc, left - 1, inside, rest),
         [Lexeme::Dollar, rest @ ..] => parse_dollar(alloc, left - 1, rest),
         [Lexeme::DollarCount, rest @ ..] => parse_count(alloc, left - 1, rest),
         [Lexeme::DollarFlat, rest @ ..] => parse_flat(alloc, left - 1, rest),
@@ -63,18 +62,19 @@ fn parse_group(
     Ok((paren(alloc, words)?, rest))
 }
 
-/// What follows a backquote: a list of commands in braces.
+/// What follows a backquote: a list of commands in braces. Inside parentheses newlines before it are blanks.
 #[cycle(parse)]
 #[tactic(auto, using(std::proofs::lemmas::Grind::common_steps))]
 fn parse_backquote(
     alloc: Global,
     below: usize,
+    inside: bool,
     lexemes: &[Lexeme],
 ) -> Result<(Box<Arg>, &[Lexeme]), TokenError>
     ensures { Gives (λ x. (arg_tree x.0.value, lexemes_of x.1.now)) result
-        (made t.Back (brace_by (read below) (lexemes_of lexemes.now))) }
+        (made t.Back (brace_by (read below) (past_blanks inside (lexemes_of lexemes.now)))) }
 {
-    let (body, rest) = parse_brace(alloc, below, lexemes)?;
+    let (body, rest) = parse_brace(alloc, below, past_blanks(inside, lexemes))?;
     Ok((back(alloc, body)?, rest))
 }
 

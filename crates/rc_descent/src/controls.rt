@@ -2,8 +2,8 @@
 
 ghost use Rattle.std.specs.Prelude.{true};
 ghost use Rattle.rc_model.specs.Syntax.Tree as t;
-ghost use Rattle.rc_model.specs.Mirrors.Descent.{read, an_operand, body_by, not_by, condition_by, if_by, while_by, in_by};
-ghost use Rattle.rc_model.specs.Mirrors.Descent.{over_by, for_by, control_by};
+ghost use Rattle.rc_model.specs.Mirrors.Descent.{read, an_operand, body_by, not_by, condition_by, if_by, while_by};
+ghost use Rattle.rc_model.specs.Mirrors.Descent.{in_by, over_by, for_by, control_by};
 ghost use Rattle.rc_model.specs.declared.syntax.Keyword.TheVariants as keyword;
 ghost use Rattle.rc_tree_types.specs.View.{cmd_tree, arg_tree};
 ghost use Rattle.rc_lexemes.specs.Lexemes.{lexemes_of};

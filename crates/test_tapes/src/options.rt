@@ -11,8 +11,8 @@
 //!   bytes;
 //! - `each 12 word a#`: the 12 options `word a1` to `word a12`, and `each 12 entry x#=a` likewise;
 //! - `repeat MARK 12 ab`: the mark stands in the script, the calls, the words and the entries for 12 times `ab`, with
-//!   the same backslashes, where each `#` is the number of the turn, from 1 on. Marks are replaced in the order of their
-//!   lines.
+//!   the same backslashes, where each `#` is the number of the turn, from 1 on. Marks are replaced in the order of
+//!   their lines.
 //!
 //! Before the options `path` is `/bin`.
 

@@ -258,7 +258,8 @@ module _ (reads : Launch → Node cmd × State) where
     pub handed : (j : ℕ) → j < f.count → HandedSo c s f j
     pub launched : (j k : ℕ) → j < f.count → (w : WasStarted f j k) → IsHanded w.launch
     pub nothing_lost : EachOf (λ p. NothingLost p.state p.trace) f
-    pub nothing_left : EachOf (λ p. (t : State) → EndsAsMeant p.tree p.state p.trace t → NothingLeft p.state p.trace t) f
+    pub nothing_left : EachOf (λ p. (t : State) → EndsAsMeant p.tree p.state p.trace t →
+        NothingLeft p.state p.trace t) f
     pub write_ends : WriteEnds f
     pub no_ring : NoRing f
 
