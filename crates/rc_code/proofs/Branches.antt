@@ -2,30 +2,17 @@
 use Rattle.std.specs.Prelude.{slice_set}
 use Rattle.std.proofs.Common.{◌≡◌, ◌+◌, ◌<◌, ◌≤◌, ℕ, Bool, List, [], ◌∷◌, ◌++◌, length, refl, sym, ap, ◌∙◌, subst, arith, append_assoc, length-append, append-nil}
 use Rattle.std.specs.List.{All}
-use Rattle.std.proofs.lemmas.Grind.{common_steps}
 use Rattle.std.proofs.lemmas.List.{set-append_left, length-set}
 use Rattle.std.proofs.lemmas.List.Elements.{All-nil, All-head, All-tail, All-push, All-weaker}
 use Rattle.std.proofs.Math.Seq.{set-append_seam}
 use Rattle.rc_model.specs.Syntax.Tree.{Node, Many, branch, Branch, none, more}
 use Rattle.rc_model.specs.Code.Layout.{Op, Nil, Case, Jump, Code, Part, Nothing, Do, Past, Either, ◌⨾◌, ops_of, kept_of, branches_code, cmd_code, args_code}
-use Rattle.rc_code.specs.Emission.{with_part, patched, redirected, branch_to, branches_to}
+use Rattle.rc_listing.specs.Writing.{with_part, patched, redirected}
+use Rattle.rc_code.specs.Emission.{branch_to, branches_to}
+use Rattle.rc_listing.proofs.Redirecting.{redirected-none, length_patched}
 use Rattle.rc_code.proofs.Parts.{same_code, with_part-Nothing, with_part-then, length_part}
 
 -- jumps that are put in where a part stands after
-
-pub redirected-none : (c : Code) (e : ℕ) → redirected c [] e ≡ c
-unfolding redirected
-redirected-none c e = refl
-
-pub redirected-more : (c : Code) (from : ℕ) (places : List ℕ) (e : ℕ) → redirected c (from ∷ places) e ≡ redirected (patched c from (Jump e)) places e
-unfolding redirected
-redirected-more c from places e = refl
-
-pub length_patched : (c : Code) (p : ℕ) (op : Op) → length (patched c p op).ops ≡ length c.ops
-unfolding patched
-length_patched c p op = length-set c.ops p op
-
-pub ruleset redirecting = (redirected-none, redirected-more, length_patched, common_steps)
 
 length_redirected : (places : List ℕ) (c : Code) (e : ℕ) → length (redirected c places e).ops ≡ length c.ops
 unfolding redirected

@@ -7,7 +7,8 @@ use Rattle.rc_model.specs.Syntax.Tree as tree
 use Rattle.rc_model.specs.Code.Layout.{Op, Kept, Code, Part, Nothing, Do, Keep, Past, PastKeep, Loop, ◌⨾◌, ops_of, kept_of, Jump, Return, code, cmd_code, pairs_code, redirs_code}
 use Rattle.rc_tree_types.specs.View.{tree_nodes}
 use Rattle.rc_tree_types.proofs.Numbers.{count_nodes}
-use Rattle.rc_code.specs.Emission.{with_part, with_kept, patched, pairs_alone, redirs_alone, members_code, turns_code}
+use Rattle.rc_listing.specs.Writing.{with_part, with_kept, patched}
+use Rattle.rc_code.specs.Emission.{pairs_alone, redirs_alone, members_code, turns_code}
 
 pub same_code : (a b : Code) → a.ops ≡ b.ops → a.kept ≡ b.kept → a ≡ b
 same_code a b e f = ap (λ ops. record a { ops = ops }) e ∙ ap (λ kept. record b { kept = kept }) f
@@ -115,11 +116,9 @@ pub for_parts : (c : Code) (name : Node arg) (words : Many arg) (body : Node cmd
 for_parts c name words body g = simp with_part-then
 
 -- a command, whose end is the end of its code
-pub whole_code : (a b c : Code) (t : Node cmd) → a ≡ record { ops = []; kept = [] } → b ≡ with_part a (cmd_code t false) → c ≡ with_part b (Do Return) → c ≡ code t
-whole_code a b c t empty written ended =
-    ended ∙ (ap (λ d. with_part d (Do Return)) written
-    ∙ (sym (with_part-then a (cmd_code t false) (Do Return))
-    ∙ (ap (λ d. with_part d (cmd_code t false ⨾ Do Return)) empty ∙ with_part-alone (cmd_code t false ⨾ Do Return))))
+pub whole_code : (a c : Code) (t : Node cmd) → a ≡ record { ops = []; kept = [] } → c ≡ with_part a (cmd_code t false ⨾ Do Return) → c ≡ code t
+whole_code a c t empty written =
+    written ∙ (ap (λ d. with_part d (cmd_code t false ⨾ Do Return)) empty ∙ with_part-alone (cmd_code t false ⨾ Do Return))
 
 -- what the writing of a form needs
 pub ruleset emitting =

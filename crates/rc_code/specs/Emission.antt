@@ -1,37 +1,12 @@
--- How the compiler writes a part: at the end of the code, with each jump put in when its target is known.
-use Rattle.std.specs.Prelude.{◌≡◌, ℕ, List, [], ◌∷◌, ◌++◌, length, slice_set, Bool, true, false, codes}
+-- The parts that have a function of their own in the compiler.
+use Rattle.std.specs.Prelude.{ℕ, Bool, true, false, codes}
 use Rattle.rc_model.specs.Syntax.Tree.{Node, Many, cmd, arg, pair, redir, branch, Pair, Branch, none, more}
 use Rattle.rc_model.specs.Syntax.Tree.{has_no_items}
 use Rattle.rc_model.specs.Syntax.Tree as tree
-use Rattle.rc_model.specs.Code.Layout.{Op, Nil, Word, Value, Glob, For, Next, Open, Copy, Here, Jump, IfFalse, Case}
+use Rattle.rc_model.specs.Code.Layout.{Nil, Word, Value, Glob, For, Next, Open, Copy, Here, Jump, IfFalse, Case}
 use Rattle.rc_model.specs.Code.Layout.{If, WasTrue, Stages, EndPipe, Subject}
-use Rattle.rc_model.specs.Code.Layout.{Kept, KeptPieces, Code, Part, Nothing, Do, Keep, Past, Loop, ◌⨾◌}
-use Rattle.rc_model.specs.Code.Layout.{ops_of, kept_of, assign_by, condition_code, cmd_code, arg_code, args_code}
-use Rattle.rc_code.specs.Views.{listing_of}
-use Rattle.rc_code.specs.declared.listing.Listing as program
-
--- the code with a part at its end
-unfoldable pub with_part : Code → Part → Code
-with_part c part = record { ops = c.ops ++ ops_of part (length c.ops) (length c.kept); kept = c.kept ++ kept_of part }
-
--- the code with something more beside it
-unfoldable pub with_kept : Code → Kept → Code
-with_kept c x = record c { kept = c.kept ++ x ∷ [] }
-
--- the code with another instruction at a place
-unfoldable pub patched : Code → (p : ℕ) → Op → Code
-patched c p op = record c { ops = slice_set c.ops p op }
-
--- the code with jumps to one place at several
-unfoldable pub redirected : Code → List ℕ → (p : ℕ) → Code
-redirected c [] p = c
-redirected c (from ∷ places) p = redirected (patched c from (Jump p)) places p
-
--- a part was written
-abbrev pub Writes : (old new : program.Listing) → Part → Type 0
-Writes old new part = listing_of new ≡ with_part (listing_of old) part
-
--- The parts that have a function of their own.
+use Rattle.rc_model.specs.Code.Layout.{KeptPieces, Part, Nothing, Do, Keep, Past, Loop, ◌⨾◌}
+use Rattle.rc_model.specs.Code.Layout.{assign_by, condition_code, cmd_code, arg_code, args_code}
 
 -- a list of words
 abbrev pub list_code : Many arg → Part

@@ -3,11 +3,10 @@
 ghost use Rattle.std.specs.Prelude.{OnOk};
 ghost use Rattle.rc_model.specs.Code.Layout.{Do, Word, arg_code, parts_code};
 ghost use Rattle.rc_tree_types.specs.View.{arg_tree, args_tree};
-ghost use Rattle.rc_code.specs.Emission.{Writes, list_code};
+ghost use Rattle.rc_listing.specs.Writing.{Writes};
+ghost use Rattle.rc_code.specs.Emission.{list_code};
 
-use crate::code::Op;
-use crate::kept::kept_tree;
-use crate::listing::Listing;
+use rc_listing::{Listing, Op, kept_tree};
 use rc_literal::Literal;
 use rc_tree::Arg;
 use std::alloc::{AllocError, Global};

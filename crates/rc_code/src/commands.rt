@@ -3,20 +3,19 @@
 ghost use Rattle.std.specs.Prelude.{◌≡◌, ◌+◌, IfOk, OnOk, length};
 ghost use Rattle.rc_model.specs.Code.Layout.{Past, IfNot, cmd_code, items_code, links_code, branches_code};
 ghost use Rattle.rc_tree_types.specs.View.{cmd_tree, items_tree, links_tree, branch_tree, branches_tree};
-ghost use Rattle.rc_code.specs.Views.{listing_of};
-ghost use Rattle.rc_code.specs.Emission.{Writes, last_stage_code, body_code, test_code, repeat_code, turns_code};
+ghost use Rattle.rc_listing.specs.Views.{listing_of};
+ghost use Rattle.rc_listing.specs.Writing.{Writes};
+ghost use Rattle.rc_code.specs.Emission.{last_stage_code, body_code, test_code, repeat_code, turns_code};
 ghost use Rattle.rc_code.specs.Emission.{branch_to};
 
 use crate::args::emit_list;
-use crate::code::Op;
 use crate::forms::{guards, has_no_items, skip};
-use crate::kept::{kept_stages, kept_tree};
-use crate::listing::Listing;
 use crate::plain::{
     emit_define, emit_match, emit_members, emit_pairs, emit_redirs, emit_simple, emit_star,
     emit_subject, emit_subshell, emit_undefine, emit_unlocal,
 };
 use rc_form::is_empty;
+use rc_listing::{Listing, Op, kept_stages, kept_tree};
 use rc_tree::{Branch, Cmd, Item, Logic};
 use std::alloc::{AllocError, Global};
 

@@ -1,23 +1,20 @@
-//! The compiler: from the tree of a command to its instructions. What an instruction needs that is no number or text
-//! is kept beside the code, and the instruction names it by its number.
+//! The compiler: from the tree of a command to its instructions.
 #![tactic(auto)]
 
 mod args;
-mod code;
 mod commands;
 mod forms;
-mod kept;
-mod listing;
 mod plain;
 
-ghost use Rattle.std.specs.Prelude.{◌≡◌, IfOk};
-ghost use Rattle.rc_model.specs.Code.Layout.{code};
+ghost use Rattle.std.specs.Prelude.{◌≡◌, false, IfOk, OnOk};
+ghost use Rattle.rc_model.specs.Code.Layout.{code, cmd_code, Do, Return, ◌⨾◌};
 ghost use Rattle.rc_tree_types.specs.View.{cmd_tree};
-ghost use Rattle.rc_code.specs.Views.{code_of};
+ghost use Rattle.rc_listing.specs.Views.{code_of};
+ghost use Rattle.rc_listing.specs.Writing.{Writes};
 
-pub use code::{Code, Op};
 use commands::emit_cmd;
-use listing::Listing;
+use rc_listing::Listing;
+pub use rc_listing::{Code, Op};
 use rc_tree::Cmd;
 use std::alloc::{AllocError, Global};
 
@@ -26,7 +23,15 @@ pub fn compile(alloc: Global, cmd: &Cmd) -> Result<Code, AllocError>
     ensures { IfOk result (λ done. code_of done ≡ code (cmd_tree cmd.now)) }
 {
     let mut listing = Listing::empty(alloc);
-    emit_cmd(alloc, &mut listing, cmd, false)?;
-    listing.put(Op::Return)?;
-    Code::of(alloc, listing)
+    let written = emit_whole(alloc, &mut listing, cmd);
+    Code::of(alloc, listing, written)
+}
+
+/// A whole command, with its `Return`.
+#[tactic(auto, using(crate::proofs::Parts::emitting))]
+fn emit_whole(alloc: Global, code: &mut Listing, cmd: &Cmd) -> Result<(), AllocError>
+    ensures { OnOk result (Writes code.old code.new (cmd_code (cmd_tree cmd.now) false ⨾ Do Return)) }
+{
+    emit_cmd(alloc, code, cmd, false)?;
+    code.put(Op::Return)
 }

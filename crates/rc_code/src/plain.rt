@@ -4,13 +4,12 @@ ghost use Rattle.std.specs.Prelude.{OnOk};
 ghost use Rattle.rc_model.specs.Syntax.Tree as tree;
 ghost use Rattle.rc_model.specs.Code.Layout.{cmd_code, unlocal};
 ghost use Rattle.rc_tree_types.specs.View.{cmd_tree, arg_tree, args_tree, pairs_tree, redir_tree, redirs_tree};
-ghost use Rattle.rc_code.specs.Emission.{Writes, star_code, members_code, pairs_alone, redir_code, redirs_alone};
+ghost use Rattle.rc_listing.specs.Writing.{Writes};
+ghost use Rattle.rc_code.specs.Emission.{star_code, members_code, pairs_alone, redir_code, redirs_alone};
 ghost use Rattle.rc_code.specs.Emission.{subject_code, match_code, define_code, undefine_code, subshell_code};
 
 use crate::args::{emit_arg, emit_list, emit_word};
-use crate::code::Op;
-use crate::kept::{kept_pieces, kept_tree};
-use crate::listing::Listing;
+use rc_listing::{Listing, Op, kept_pieces, kept_tree};
 use rc_tree::{Arg, Cmd, Redir};
 use std::alloc::{AllocError, Global};
 

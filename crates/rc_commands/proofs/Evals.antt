@@ -8,8 +8,8 @@ use Rattle.std.specs.declared.string.String.{String}
 use Rattle.law_acceptance.proofs.Decided.{never_both}
 use Rattle.law_acceptance.proofs.Found.{finds_the_tree}
 use Rattle.law_plans.proofs.Runs.{ran_none}
-use Rattle.rc_code.specs.Views.{code_of}
-use Rattle.rc_code.specs.declared.code.Code.{Code}
+use Rattle.rc_listing.specs.Views.{code_of}
+use Rattle.rc_listing.specs.declared.code.Code.{Code}
 use Rattle.rc_commands.specs.Outcomes.{RunsWords}
 use Rattle.rc_commands.specs.Scripts.{Compiles}
 use Rattle.rc_commands.specs.declared.commands.Outcome.TheVariants as words

@@ -7,7 +7,7 @@ use Rattle.rc_model.specs.Run.State.{State}
 use Rattle.rc_model.specs.Run.Builtins.{Called, Finished, Body, BodyWith}
 use Rattle.rc_model.specs.Code.Layout.{code}
 use Rattle.rc_model.specs.Syntax.Tree.{Node, cmd}
-use Rattle.rc_code.specs.Views.{code_of}
+use Rattle.rc_listing.specs.Views.{code_of}
 use Rattle.rc_world.specs.Comes.{Left}
 use Rattle.rc_world.specs.declared.types.Stop.{Stop}
 use Rattle.rc_commands.specs.declared.commands.Outcome.{Outcome}

@@ -4,8 +4,8 @@ use Rattle.rc_model.specs.Code.Layout.{code}
 use Rattle.rc_model.specs.Mirrors.TreeOfText.{tree_of}
 use Rattle.rc_model.specs.Run.State.{State, with_status}
 use Rattle.rc_model.specs.Syntax.Tree.{Node, cmd}
-use Rattle.rc_code.specs.Views.{code_of}
-use Rattle.rc_code.specs.declared.code.Code.{Code}
+use Rattle.rc_listing.specs.Views.{code_of}
+use Rattle.rc_listing.specs.declared.code.Code.{Code}
 
 -- the code is that of the tree of a text; or the text has no tree, and the status says so
 abbrev pub Compiles : (text : List ℕ) → (before after : State) → Option Code → Type 0

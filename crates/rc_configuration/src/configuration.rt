@@ -36,7 +36,7 @@ pub struct Configuration {
 impl Configuration {
     ghost use Rattle.rc_configuration.specs.Configs.{config_of};
     ghost use Rattle.rc_scope.specs.States.{state_of};
-    ghost use Rattle.rc_code.specs.Views.{code_of};
+    ghost use Rattle.rc_listing.specs.Views.{code_of};
 
     /// Before the first instruction.
     pub fn new(alloc: Global, code: Code, state: State) -> Configuration

@@ -4,7 +4,7 @@ ghost use Rattle.std.specs.Prelude.{◌≡◌, ◌<◌, ◌^◌, OnOk, IfOk, Som
 ghost use Rattle.rc_model.specs.Code.Machine.{act};
 ghost use Rattle.rc_model.specs.Code.Layout as op;
 ghost use Rattle.rc_model.specs.Run.State.{undefine};
-ghost use Rattle.rc_code.specs.Views.{code_of};
+ghost use Rattle.rc_listing.specs.Views.{code_of};
 ghost use Rattle.rc_scope.specs.States.{state_of};
 ghost use Rattle.rc_tree_types.specs.View.{cmd_tree};
 ghost use Rattle.rc_control.specs.Calls.{Defines, called, entered};

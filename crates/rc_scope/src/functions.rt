@@ -3,7 +3,7 @@
 ghost use Rattle.std.specs.Prelude.{◌≡◌, map, string_bytes, IfOk};
 ghost use Rattle.rc_model.specs.Code.Layout.{code};
 ghost use Rattle.rc_tree_types.specs.View.{cmd_tree};
-ghost use Rattle.rc_code.specs.Views.{code_of};
+ghost use Rattle.rc_listing.specs.Views.{code_of};
 ghost use Rattle.rc_scope.specs.Bodies.{functions_of};
 
 use rc_code::{Code, compile};
@@ -28,7 +28,7 @@ impl Model for Function {
     ghost use Rattle.rc_tree_types.specs.View.{cmd_tree};
     ghost use Rattle.rc_tree_types.specs.contracts.Cmd as e;
     ghost use Rattle.rc_tree_types.specs.declared.Cmd.{Cmd};
-    ghost use Rattle.rc_code.specs.Views.{code_of};
+    ghost use Rattle.rc_listing.specs.Views.{code_of};
 
     ghost Value = { Cmd };
 

@@ -1,12 +1,18 @@
-use Rattle.std.proofs.Common.{◌≡◌}
+use Rattle.std.proofs.Common.{◌≡◌, Result, Ok, Err, IfOk, OnOk, IsOk, arith}
 use Rattle.rc_model.specs.Code.Layout.{code}
 use Rattle.rc_tree_types.specs.View.{cmd_tree}
-use Rattle.rc_code.specs.Views.{listing_of}
+use Rattle.rc_listing.specs.Views.{code_of}
 use Rattle.rc_code.proofs.Parts.{whole_code}
 use Rattle.rc_code.proofs.compile.Goals as goal
+
+-- what holds where all was written holds where there is code
+where_written : {A B E F P : Type 0} (Q : A → Type 0) (made : Result A E) (written : Result B F) → OnOk made (IsOk written) → OnOk written P → (P → IfOk made Q) → IfOk made Q
+where_written Q (Ok x) (Ok u) whole holds go_on = go_on holds
+where_written Q (Ok x) (Err e) whole holds go_on = absurd (grind arith)
+where_written Q (Err e) written whole holds go_on = tt
 
 pub returns : goal.returns
 returns c =
     let tree = cmd_tree c.args.cmd.now in
-    let whole : listing_of c.put.new.self ≡ code tree = whole_code _ _ _ tree c.empty-listing.ensures c.in_ok-emit_cmd.ensures c.in_ok-put.ensures in
-    rw whole at c.of.ensures
+    where_written (λ done. code_of done ≡ code tree) c.of.result c.emit_whole-written.result c.of.ensures.whole c.emit_whole-written.ensures
+    (λ put. let whole = whole_code _ _ tree c.empty-listing.ensures put in rw whole at c.of.ensures.code)

@@ -1,8 +1,9 @@
 use Rattle.std.proofs.Common.{◌≡◌, drop}
 use Rattle.rc_model.specs.Code.Layout.{args_code, more_parts_code, parts_code}
 use Rattle.rc_tree_types.specs.View.{args_tree}
-use Rattle.rc_code.specs.Emission.{with_part, list_code}
-use Rattle.rc_code.specs.Views.{listing_of}
+use Rattle.rc_listing.specs.Writing.{with_part}
+use Rattle.rc_code.specs.Emission.{list_code}
+use Rattle.rc_listing.specs.Views.{listing_of}
 use Rattle.rc_code.proofs.args.+emit.Given as goal
 
 -- what is written and what is left is the whole

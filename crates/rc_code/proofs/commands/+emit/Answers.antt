@@ -2,10 +2,11 @@ use Rattle.std.proofs.Common.{◌≡◌, ◌∙◌, ◌+◌, ◌≤◌, sym, ap,
 use Rattle.std.proofs.lemmas.Grind.{common_steps}
 use Rattle.rc_model.specs.Syntax.Tree.{more}
 use Rattle.rc_tree_types.specs.View.{branch_tree, branches_tree, tree_For}
-use Rattle.rc_code.specs.Views.{listing_of}
-use Rattle.rc_code.specs.Emission.{redirected}
+use Rattle.rc_listing.specs.Views.{listing_of}
+use Rattle.rc_listing.specs.Writing.{redirected}
 use Rattle.rc_code.proofs.Parts.{starts, stays, put_last, for_parts}
-use Rattle.rc_code.proofs.Branches.{leaves_start, leaves_more, leaves_none, length_patched}
+use Rattle.rc_listing.proofs.Redirecting.{length_patched}
+use Rattle.rc_code.proofs.Branches.{leaves_start, leaves_more, leaves_none}
 use Rattle.rc_code.proofs.commands.+emit.Goals as goal
 
 -- a jump stands where it was put

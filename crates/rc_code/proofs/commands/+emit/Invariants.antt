@@ -1,8 +1,8 @@
 use Rattle.std.proofs.Common.{◌≡◌, drop}
 use Rattle.rc_model.specs.Code.Layout.{items_code, links_code}
 use Rattle.rc_tree_types.specs.View.{items_tree, links_tree, branches_tree}
-use Rattle.rc_code.specs.Views.{listing_of}
-use Rattle.rc_code.specs.Emission.{with_part}
+use Rattle.rc_listing.specs.Views.{listing_of}
+use Rattle.rc_listing.specs.Writing.{with_part}
 use Rattle.rc_code.proofs.Branches.{Leaves}
 use Rattle.rc_code.proofs.commands.+emit.Given as goal
 

@@ -1,7 +1,8 @@
 use Rattle.std.proofs.Common.{◌≡◌, drop}
 use Rattle.rc_tree_types.specs.View.{pairs_tree}
-use Rattle.rc_code.specs.Views.{listing_of}
-use Rattle.rc_code.specs.Emission.{with_part, pairs_alone}
+use Rattle.rc_listing.specs.Views.{listing_of}
+use Rattle.rc_listing.specs.Writing.{with_part}
+use Rattle.rc_code.specs.Emission.{pairs_alone}
 use Rattle.rc_code.proofs.plain.emit_pairs.Given as goal
 
 -- what is written and what is left is the whole

@@ -3,7 +3,7 @@ use Rattle.rc_model.specs.Code.Layout as op
 use Rattle.rc_model.specs.Code.Machine.{On, act, enter, unwind}
 use Rattle.rc_model.specs.Code.Layout.{code}
 use Rattle.rc_model.specs.Run.Plans.{Ran, done_with}
-use Rattle.rc_code.specs.Views.{code_of}
+use Rattle.rc_listing.specs.Views.{code_of}
 use Rattle.rc_control.specs.Calls.{called, entered}
 use Rattle.rc_world.specs.Comes.{for_memory}
 use Rattle.rc_model.specs.Run.Builtins.{Body, BodyWith, Finished, run_words}

@@ -1,5 +1,5 @@
 use Rattle.std.proofs.Common.{rules, ◌≡◌, Some, false}
-use Rattle.rc_code.specs.Views.{tree_at}
+use Rattle.rc_listing.specs.Views.{tree_at}
 use Rattle.rc_model.specs.Syntax.Words.{word_texts}
 use Rattle.rc_scope.specs.States.{state_of}
 use Rattle.rc_stack.specs.Lists.{top_of}

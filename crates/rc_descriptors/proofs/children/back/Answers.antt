@@ -1,5 +1,5 @@
 use Rattle.std.proofs.Common.{rules, ◌≡◌, ◌∷◌, Some, sym, subst}
-use Rattle.rc_code.specs.Views.{tree_at}
+use Rattle.rc_listing.specs.Views.{tree_at}
 use Rattle.rc_model.specs.Code.Layout.{Back}
 use Rattle.rc_model.specs.Code.Machine.{On, act, next}
 use Rattle.rc_model.specs.Run.Plans.{Ran, done_with}

@@ -1,5 +1,5 @@
 use Rattle.std.proofs.Common.{rules, ◌≡◌, Some}
-use Rattle.rc_code.specs.Views.{tree_at}
+use Rattle.rc_listing.specs.Views.{tree_at}
 use Rattle.rc_scope.specs.States.{state_of}
 use Rattle.rc_tree_types.specs.View.{cmd_tree}
 use Rattle.rc_configuration.specs.Configs.{config_of}

@@ -1,5 +1,5 @@
 use Rattle.std.proofs.Common.{rules, ◌≡◌, Some, None, option_map, sym, subst}
-use Rattle.rc_code.specs.Views.{stages_at}
+use Rattle.rc_listing.specs.Views.{stages_at}
 use Rattle.rc_model.specs.Code.Layout.{Stages}
 use Rattle.rc_model.specs.Code.Machine.{Config, On, act}
 use Rattle.rc_model.specs.Run.Plans.{Ran, done_with}

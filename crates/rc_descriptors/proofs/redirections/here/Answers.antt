@@ -1,5 +1,5 @@
 use Rattle.std.proofs.Common.{rules, ◌≡◌, Some, refl}
-use Rattle.rc_code.specs.Views.{code_of, pieces_at}
+use Rattle.rc_listing.specs.Views.{code_of, pieces_at}
 use Rattle.rc_model.specs.Code.Machine.{redirect}
 use Rattle.rc_model.specs.Run.Acts.{here_text}
 use Rattle.rc_redir.specs.Opening.{open_text}

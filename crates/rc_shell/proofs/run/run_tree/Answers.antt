@@ -1,5 +1,5 @@
 use Rattle.std.proofs.Common.{◌≡◌}
-use Rattle.rc_code.specs.Views.{code_of}
+use Rattle.rc_listing.specs.Views.{code_of}
 use Rattle.rc_machine.specs.Configs.{config_of}
 use Rattle.rc_model.specs.Code.Machine.{begin}
 use Rattle.rc_scope.specs.States.{state_of}

@@ -1,9 +1,9 @@
 //! The instructions, and the code that they stand in.
 
-ghost use Rattle.std.specs.Prelude.{◌≡◌, ◌<◌, ◌^◌, IfOk, IsSome, option_map, slice_get};
+ghost use Rattle.std.specs.Prelude.{◌≡◌, ◌<◌, ◌^◌, IfOk, IsOk, IsSome, OnOk, option_map, slice_get};
 ghost use Rattle.std.specs.Option.{option_copied};
 ghost use Rattle.rc_tree_types.specs.View.{cmd_tree, stages_tree, pieces_tree};
-ghost use Rattle.rc_code.specs.Views.{op_of, code_of, listing_of, tree_at, stages_at, pieces_at};
+ghost use Rattle.rc_listing.specs.Views.{op_of, code_of, listing_of, tree_at, stages_at, pieces_at};
 
 use crate::listing::Listing;
 use rc_literal::Literal;
@@ -110,11 +110,17 @@ pub enum Kept {
 pub struct Code(Rc<Listing>);
 
 impl Code {
-    /// The code of a listing to which nothing is added any more.
+    /// The code of a listing to which nothing is added any more, if all of it was written: else there is none.
     #[tactic(auto, unfolding(crate::specs::Views::code_of))]
-    pub(crate) fn of(alloc: Global, listing: Listing) -> Result<Code, AllocError>
-        ensures { IfOk result (λ code. code_of code ≡ listing_of listing) }
+    pub fn of(
+        alloc: Global,
+        listing: Listing,
+        written: Result<(), AllocError>,
+    ) -> Result<Code, AllocError>
+        ensures whole { OnOk result (IsOk written) }
+        ensures code { IfOk result (λ code. code_of code ≡ listing_of listing) }
     {
+        written?;
         Ok(Code(Rc::new(alloc, listing)?))
     }
 
