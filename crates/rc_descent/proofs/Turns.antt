@@ -1,15 +1,13 @@
 -- One turn of a loop of the descent.
-use Rattle.std.proofs.Common.{◌≡◌, ℕ, suc, ◌+◌, ◌-◌, ◌<◌, ◌≤◌, Bool, true, false, if◌then◌else◌, List, ◌∷◌, length, Ok, Err, refl, ap, arith, nat_lt}
+use Rattle.std.proofs.Common.{◌≡◌, ℕ, suc, ◌+◌, ◌-◌, ◌<◌, ◌≤◌, Bool, false, if◌then◌else◌, List, ◌∷◌, length, Ok, Err, ap, arith}
 use Rattle.std.proofs.lemmas.List.{length-map}
-use Rattle.std.proofs.lemmas.Bool.{lt-ltb, le-ltb}
 use Rattle.std.proofs.lemmas.Grind.{common_steps}
 use Rattle.rc_model.specs.Syntax.Tokens as model
-use Rattle.rc_model.specs.Syntax.Tree.{Node, Many, none, count, nodes, snoc}
+use Rattle.rc_model.specs.Syntax.Tree.{Node, Many, none, snoc}
 use Rattle.rc_model.specs.Syntax.Tree as t
-use Rattle.rc_model.specs.Syntax.Grammar.{begins_arg, begins_redir, begins_command, past_blanks, past_newlines, after_caret, ends}
+use Rattle.rc_model.specs.Syntax.Grammar.{begins_arg, begins_redir, begins_command, past_blanks, after_caret, ends}
 use Rattle.rc_model.specs.Mirrors.Descent as d
 use Rattle.rc_model.specs.Mirrors.Descent.{Reader, Readers, ◌>>=◌}
-use Rattle.rc_tree_types.proofs.Numbers.{count_nodes}
 use Rattle.rc_tree_types.specs.View.{nodes_push}
 use Rattle.rc_lexemes.specs.declared.lexeme.Lexeme.{Lexeme}
 use Rattle.rc_lexemes.specs.Lexemes.{lexemes_of}
@@ -126,23 +124,6 @@ pub pipe_start : (r : Readers) (turns : ℕ) (first : Node t.cmd) (xs : List Lex
 unfolding d.pipe_by
 pipe_start r turns first xs h = ap (λ k. d.pipe_from r k none first (lexemes_of xs)) (all_left turns xs h)
 
-few : {X : Type 0} (f : X → Node t.stage) (xs : List X) → length xs < 63 → nat_lt (suc (count (nodes f xs))) 64 ≡ true
-few f xs h = lt-ltb (suc (count (nodes f xs))) 64 (let e = count_nodes f xs in omega arith)
-
-many : {X : Type 0} (f : X → Node t.stage) (xs : List X) → 63 ≤ length xs → nat_lt (suc (count (nodes f xs))) 64 ≡ false
-many f xs h = le-ltb (suc (count (nodes f xs))) 64 (let e = count_nodes f xs in omega arith)
-
-pub pipe_full : {X : Type 0} (r : Readers) (turns i : ℕ) (f : X → Node t.stage) (xs : List X) (last : Node t.cmd) (slot : ℕ) (ts : List model.Lexeme) → i < turns → 63 ≤ length xs →
-    d.pipe_from r (turns - i) (nodes f xs) last (model.Bar slot ∷ ts) ≡ Err descent.TooManyStages
-unfolding d.pipe_from
-pipe_full r turns i f xs last slot ts h k = rw (one_less turns i h, many f xs k) refl
-
-pub pipe_bar : {X : Type 0} (r : Readers) (turns i : ℕ) (f : X → Node t.stage) (xs : List X) (last : Node t.cmd) (slot : ℕ) (ts : List model.Lexeme) → i < turns → length xs < 63 →
-    d.pipe_from r (turns - i) (nodes f xs) last (model.Bar slot ∷ ts) ≡ (r d.a_piped (past_newlines ts) >>= λ p.
-    (if p.0.1 then d.pipe_from r (turns - (i + 1)) (snoc (nodes f xs) (t.Stage last slot)) p.0.0 p.1 else Ok (d.pipeline_of (snoc (nodes f xs) (t.Stage last slot)) p.0.0, p.1)))
-unfolding d.pipe_from
-pipe_bar r turns i f xs last slot ts h k = rw (one_less turns i h, few f xs k) refl
-
 pub pipe_more : (r : Readers) (turns i : ℕ) (stages : Many t.stage) (last : Node t.cmd) (ts : List model.Lexeme) → i < turns → d.pipe_from r (turns - i) stages last ts ≡
     d.pipe_turn r (λ ss c u. d.pipe_from r (turns - (i + 1)) ss c u) stages last ts
 unfolding d.pipe_from
@@ -153,7 +134,7 @@ pub pipe_done : (r : Readers) (turns i : ℕ) (stages : Many t.stage) (last : No
 unfolding d.pipe_from
 pipe_done r turns i stages last ts h = ap (λ k. d.pipe_from r k stages last ts) (none_left turns i h)
 
-pub ruleset pipe = (pipe_start, pipe_full, pipe_bar, pipe_more, pipe_done, nodes_push, common_steps)
+pub ruleset pipe = (pipe_start, pipe_more, pipe_done, nodes_push, common_steps)
 
 pub values_start : (r : Readers) (turns : ℕ) (front : Many t.pair) (xs : List Lexeme) → turns ≡ length xs → d.values_by r front (lexemes_of xs) ≡ d.values_from r (turns - 0) front (lexemes_of xs)
 unfolding d.values_by

@@ -10,10 +10,9 @@ use crate::controls::parse_control;
 use crate::prefixes::{parse_assigned, parse_redirected};
 use crate::stages::{Opening, parse_opening};
 use rc_lexemes::{
-    Lexeme, TokenError, and_or, begins_leading, fault_at, keyword_named, past_newlines, pipeline,
-    push_link, push_stage,
+    Lexeme, TokenError, allows_stage, and_or, begins_leading, fault_at, keyword_named,
+    past_newlines, pipeline, push_link, push_stage,
 };
-use rc_model::limits::MOST_STAGES;
 use rc_model::{DescentFault, Logic};
 use rc_tree::Cmd;
 use std::alloc::Global;
@@ -38,7 +37,7 @@ pub fn parse_pipeline(
         let [Lexeme::Bar(slot), after @ ..] = rest else {
             break;
         };
-        if stages.len() >= MOST_STAGES - 1 {
+        if !allows_stage(&stages) {
             return Err(fault_at(DescentFault::TooManyStages, rest));
         }
         push_stage(&mut stages, last, *slot)?;

@@ -6,7 +6,7 @@ ghost use Rattle.rc_lexemes.specs.Lexemes.{lexemes_of};
 ghost use Rattle.rc_lexemes.specs.Reading.{Gives};
 
 use crate::commands::parse_command;
-use rc_lexemes::{Lexeme, TokenError, ends, fault_at, is_if, item_end, push_item, seq};
+use rc_lexemes::{Lexeme, TokenError, allows_if_not, ends, fault_at, item_end, push_item, seq};
 use rc_model::DescentFault;
 use rc_tree::{Cmd, Item};
 use std::alloc::Global;
@@ -37,7 +37,7 @@ fn parse_items(
             _ => {
                 let (cmd, after) = parse_command(alloc, below, after_if, rest)?;
                 let (background, after) = item_end(after)?;
-                after_if = !background && is_if(&cmd);
+                after_if = allows_if_not(background, &cmd);
                 push_item(&mut items, cmd, background)?;
                 rest = after;
             }
@@ -46,7 +46,7 @@ fn parse_items(
     Ok((items, rest))
 }
 
-/// A list one level deeper.
+/// The commands of a list, one level deeper. In a switch it ends before a case line too.
 #[cycle(parse)]
 #[tactic(auto, using(crate::proofs::Steps::levels))]
 pub fn parse_list(

@@ -5,6 +5,7 @@ ghost use Rattle.rc_model.specs.Syntax.Tree as t;
 ghost use Rattle.rc_model.specs.Syntax.Grammar.{concat_of};
 ghost use Rattle.rc_tree_types.specs.View.{cmd_tree, arg_tree, args_tree};
 
+use crate::boxes::boxed_arg;
 use rc_tree::{Arg, Cmd};
 use std::alloc::{AllocError, Global};
 
@@ -14,7 +15,7 @@ pub fn literal(alloc: Global, text: &String, quoted: bool) -> Result<Box<Arg>, A
     ensures { IfOk result (λ b. arg_tree b.value ≡ t.Lit (string_bytes text.now) quoted) }
 {
     let text = text.clone()?;
-    Ok(Box::new(alloc, Arg::Lit { text, quoted })?)
+    boxed_arg(alloc, Arg::Lit { text, quoted })
 }
 
 /// A list of arguments.
@@ -22,7 +23,7 @@ pub fn literal(alloc: Global, text: &String, quoted: bool) -> Result<Box<Arg>, A
 pub fn paren(alloc: Global, words: Vec<Arg>) -> Result<Box<Arg>, AllocError>
     ensures { IfOk result (λ b. arg_tree b.value ≡ t.Paren (args_tree words.items)) }
 {
-    Ok(Box::new(alloc, Arg::Paren(words))?)
+    boxed_arg(alloc, Arg::Paren(words))
 }
 
 /// The value of a variable.
@@ -30,7 +31,7 @@ pub fn paren(alloc: Global, words: Vec<Arg>) -> Result<Box<Arg>, AllocError>
 pub fn variable(alloc: Global, name: Box<Arg>) -> Result<Box<Arg>, AllocError>
     ensures { IfOk result (λ b. arg_tree b.value ≡ t.Var (arg_tree name.value)) }
 {
-    Ok(Box::new(alloc, Arg::Var(name))?)
+    boxed_arg(alloc, Arg::Var(name))
 }
 
 /// How many values a variable has.
@@ -38,7 +39,7 @@ pub fn variable(alloc: Global, name: Box<Arg>) -> Result<Box<Arg>, AllocError>
 pub fn count(alloc: Global, name: Box<Arg>) -> Result<Box<Arg>, AllocError>
     ensures { IfOk result (λ b. arg_tree b.value ≡ t.Count (arg_tree name.value)) }
 {
-    Ok(Box::new(alloc, Arg::Count(name))?)
+    boxed_arg(alloc, Arg::Count(name))
 }
 
 /// The values of a variable as one word.
@@ -46,7 +47,7 @@ pub fn count(alloc: Global, name: Box<Arg>) -> Result<Box<Arg>, AllocError>
 pub fn flat(alloc: Global, name: Box<Arg>) -> Result<Box<Arg>, AllocError>
     ensures { IfOk result (λ b. arg_tree b.value ≡ t.Flat (arg_tree name.value)) }
 {
-    Ok(Box::new(alloc, Arg::Flat(name))?)
+    boxed_arg(alloc, Arg::Flat(name))
 }
 
 /// Some of a variable's values.
@@ -58,7 +59,7 @@ pub fn subscripted(
 ) -> Result<Box<Arg>, AllocError>
     ensures { IfOk result (λ b. arg_tree b.value ≡ t.Sub (arg_tree name.value) (args_tree subscripts.items)) }
 {
-    Ok(Box::new(alloc, Arg::Sub(name, subscripts))?)
+    boxed_arg(alloc, Arg::Sub(name, subscripts))
 }
 
 /// What a command writes.
@@ -66,7 +67,7 @@ pub fn subscripted(
 pub fn back(alloc: Global, body: Box<Cmd>) -> Result<Box<Arg>, AllocError>
     ensures { IfOk result (λ b. arg_tree b.value ≡ t.Back (cmd_tree body.value)) }
 {
-    Ok(Box::new(alloc, Arg::Back(body))?)
+    boxed_arg(alloc, Arg::Back(body))
 }
 
 /// One part stands alone, and several are joined.
@@ -78,5 +79,5 @@ pub fn concat(alloc: Global, first: Box<Arg>, mut others: Vec<Arg>) -> Result<Bo
         return Ok(first);
     }
     others.insert(0, Box::into_inner(first))?;
-    Ok(Box::new(alloc, Arg::Concat(others))?)
+    boxed_arg(alloc, Arg::Concat(others))
 }

@@ -1,12 +1,13 @@
 //! The nodes of commands, each in a box.
 
-ghost use Rattle.std.specs.Prelude.{◌≡◌, IfOk};
+ghost use Rattle.std.specs.Prelude.{◌≡◌, not, ◌&&◌, IfOk};
 ghost use Rattle.rc_model.specs.Syntax.Tree as t;
 ghost use Rattle.rc_model.specs.Syntax.Grammar.{redirect, and_or, is_if};
 ghost use Rattle.rc_model.specs.Mirrors.Descent.{pipeline_of};
 ghost use Rattle.rc_tree_types.specs.View.{cmd_tree, arg_tree, args_tree, items_tree, pairs_tree, redirs_tree};
 ghost use Rattle.rc_tree_types.specs.View.{stages_tree, links_tree, branches_tree};
 
+use crate::boxes::boxed_cmd;
 use rc_model::Logic;
 use rc_tree::{Arg, Branch, Cmd, Item, Redir, Stage};
 use std::alloc::{AllocError, Global};
@@ -16,7 +17,7 @@ use std::alloc::{AllocError, Global};
 pub fn empty(alloc: Global) -> Result<Box<Cmd>, AllocError>
     ensures { IfOk result (λ b. cmd_tree b.value ≡ t.Empty) }
 {
-    Ok(Box::new(alloc, Cmd::Empty)?)
+    boxed_cmd(alloc, Cmd::Empty)
 }
 
 /// A sequence.
@@ -24,7 +25,7 @@ pub fn empty(alloc: Global) -> Result<Box<Cmd>, AllocError>
 pub fn seq(alloc: Global, items: Vec<Item>) -> Result<Box<Cmd>, AllocError>
     ensures { IfOk result (λ b. cmd_tree b.value ≡ t.Seq (items_tree items.items)) }
 {
-    Ok(Box::new(alloc, Cmd::Seq(items))?)
+    boxed_cmd(alloc, Cmd::Seq(items))
 }
 
 /// A simple command.
@@ -32,7 +33,7 @@ pub fn seq(alloc: Global, items: Vec<Item>) -> Result<Box<Cmd>, AllocError>
 pub fn simple(alloc: Global, words: Vec<Arg>) -> Result<Box<Cmd>, AllocError>
     ensures { IfOk result (λ b. cmd_tree b.value ≡ t.Simple (args_tree words.items)) }
 {
-    Ok(Box::new(alloc, Cmd::Simple(words))?)
+    boxed_cmd(alloc, Cmd::Simple(words))
 }
 
 /// Assignments before a command.
@@ -44,7 +45,7 @@ pub fn assigned(
 ) -> Result<Box<Cmd>, AllocError>
     ensures { IfOk result (λ b. cmd_tree b.value ≡ t.Assign (pairs_tree pairs.items) (cmd_tree body.value)) }
 {
-    Ok(Box::new(alloc, Cmd::Assign(pairs, body))?)
+    boxed_cmd(alloc, Cmd::Assign(pairs, body))
 }
 
 /// Redirections of a command.
@@ -52,7 +53,7 @@ pub fn assigned(
 pub fn redirected(alloc: Global, redirs: Vec<Redir>, body: Box<Cmd>) -> Result<Box<Cmd>, AllocError>
     ensures { IfOk result (λ b. cmd_tree b.value ≡ t.Redirect (redirs_tree redirs.items) (cmd_tree body.value)) }
 {
-    Ok(Box::new(alloc, Cmd::Redirect(redirs, body))?)
+    boxed_cmd(alloc, Cmd::Redirect(redirs, body))
 }
 
 /// A command with the redirections after it.
@@ -63,7 +64,7 @@ pub fn redirect(alloc: Global, redirs: Vec<Redir>, body: Box<Cmd>) -> Result<Box
     if redirs.len() == 0 {
         return Ok(body);
     }
-    Ok(Box::new(alloc, Cmd::Redirect(redirs, body))?)
+    boxed_cmd(alloc, Cmd::Redirect(redirs, body))
 }
 
 /// A pipeline of stages before a last one.
@@ -74,7 +75,7 @@ pub fn pipeline(alloc: Global, stages: Vec<Stage>, last: Box<Cmd>) -> Result<Box
     if stages.len() == 0 {
         return Ok(last);
     }
-    Ok(Box::new(alloc, Cmd::Pipeline(stages, last))?)
+    boxed_cmd(alloc, Cmd::Pipeline(stages, last))
 }
 
 /// A command of one operand or several.
@@ -89,7 +90,7 @@ pub fn and_or(
     if links.len() == 0 {
         return Ok(first);
     }
-    Ok(Box::new(alloc, Cmd::AndOr(first, links))?)
+    boxed_cmd(alloc, Cmd::AndOr(first, links))
 }
 
 /// A command whose status is inverted.
@@ -97,7 +98,7 @@ pub fn and_or(
 pub fn not(alloc: Global, body: Box<Cmd>) -> Result<Box<Cmd>, AllocError>
     ensures { IfOk result (λ b. cmd_tree b.value ≡ t.Not (cmd_tree body.value)) }
 {
-    Ok(Box::new(alloc, Cmd::Not(body))?)
+    boxed_cmd(alloc, Cmd::Not(body))
 }
 
 /// A command in a subshell.
@@ -105,7 +106,7 @@ pub fn not(alloc: Global, body: Box<Cmd>) -> Result<Box<Cmd>, AllocError>
 pub fn subshell(alloc: Global, body: Box<Cmd>) -> Result<Box<Cmd>, AllocError>
     ensures { IfOk result (λ b. cmd_tree b.value ≡ t.Subshell (cmd_tree body.value)) }
 {
-    Ok(Box::new(alloc, Cmd::Subshell(body))?)
+    boxed_cmd(alloc, Cmd::Subshell(body))
 }
 
 /// What runs where the `if` before didn't.
@@ -113,7 +114,7 @@ pub fn subshell(alloc: Global, body: Box<Cmd>) -> Result<Box<Cmd>, AllocError>
 pub fn if_not(alloc: Global, body: Box<Cmd>) -> Result<Box<Cmd>, AllocError>
     ensures { IfOk result (λ b. cmd_tree b.value ≡ t.IfNot (cmd_tree body.value)) }
 {
-    Ok(Box::new(alloc, Cmd::IfNot(body))?)
+    boxed_cmd(alloc, Cmd::IfNot(body))
 }
 
 /// A list in braces.
@@ -121,7 +122,7 @@ pub fn if_not(alloc: Global, body: Box<Cmd>) -> Result<Box<Cmd>, AllocError>
 pub fn block(alloc: Global, body: Box<Cmd>) -> Result<Box<Cmd>, AllocError>
     ensures { IfOk result (λ b. cmd_tree b.value ≡ t.Brace (cmd_tree body.value)) }
 {
-    Ok(Box::new(alloc, Cmd::Brace(body))?)
+    boxed_cmd(alloc, Cmd::Brace(body))
 }
 
 /// An `if`.
@@ -133,7 +134,7 @@ pub fn conditional(
 ) -> Result<Box<Cmd>, AllocError>
     ensures { IfOk result (λ b. cmd_tree b.value ≡ t.If (cmd_tree condition.value) (cmd_tree body.value)) }
 {
-    Ok(Box::new(alloc, Cmd::If(condition, body))?)
+    boxed_cmd(alloc, Cmd::If(condition, body))
 }
 
 /// A `while`.
@@ -141,7 +142,7 @@ pub fn conditional(
 pub fn repeated(alloc: Global, condition: Box<Cmd>, body: Box<Cmd>) -> Result<Box<Cmd>, AllocError>
     ensures { IfOk result (λ b. cmd_tree b.value ≡ t.While (cmd_tree condition.value) (cmd_tree body.value)) }
 {
-    Ok(Box::new(alloc, Cmd::While(condition, body))?)
+    boxed_cmd(alloc, Cmd::While(condition, body))
 }
 
 /// A `for` over `$*`.
@@ -149,7 +150,7 @@ pub fn repeated(alloc: Global, condition: Box<Cmd>, body: Box<Cmd>) -> Result<Bo
 pub fn for_all(alloc: Global, name: Box<Arg>, body: Box<Cmd>) -> Result<Box<Cmd>, AllocError>
     ensures { IfOk result (λ b. cmd_tree b.value ≡ t.ForAll (arg_tree name.value) (cmd_tree body.value)) }
 {
-    Ok(Box::new(alloc, Cmd::ForAll(Box::into_inner(name), body))?)
+    boxed_cmd(alloc, Cmd::ForAll(Box::into_inner(name), body))
 }
 
 /// A `for` over words.
@@ -163,7 +164,7 @@ pub fn for_each(
     ensures { IfOk result (λ b. cmd_tree b.value
         ≡ t.For (arg_tree name.value) (args_tree words.items) (cmd_tree body.value)) }
 {
-    Ok(Box::new(alloc, Cmd::For(Box::into_inner(name), words, body))?)
+    boxed_cmd(alloc, Cmd::For(Box::into_inner(name), words, body))
 }
 
 /// A `switch`.
@@ -175,7 +176,7 @@ pub fn switched(
 ) -> Result<Box<Cmd>, AllocError>
     ensures { IfOk result (λ b. cmd_tree b.value ≡ t.Switch (arg_tree subject.value) (branches_tree branches.items)) }
 {
-    Ok(Box::new(alloc, Cmd::Switch(Box::into_inner(subject), branches))?)
+    boxed_cmd(alloc, Cmd::Switch(Box::into_inner(subject), branches))
 }
 
 /// A match.
@@ -187,7 +188,7 @@ pub fn matching(
 ) -> Result<Box<Cmd>, AllocError>
     ensures { IfOk result (λ b. cmd_tree b.value ≡ t.Match (arg_tree subject.value) (args_tree patterns.items)) }
 {
-    Ok(Box::new(alloc, Cmd::Match(Box::into_inner(subject), patterns))?)
+    boxed_cmd(alloc, Cmd::Match(Box::into_inner(subject), patterns))
 }
 
 /// The definition of functions.
@@ -195,7 +196,7 @@ pub fn matching(
 pub fn defined(alloc: Global, names: Vec<Arg>, body: Box<Cmd>) -> Result<Box<Cmd>, AllocError>
     ensures { IfOk result (λ b. cmd_tree b.value ≡ t.Define (args_tree names.items) (cmd_tree body.value)) }
 {
-    Ok(Box::new(alloc, Cmd::Define(names, body))?)
+    boxed_cmd(alloc, Cmd::Define(names, body))
 }
 
 /// The removal of functions.
@@ -203,12 +204,19 @@ pub fn defined(alloc: Global, names: Vec<Arg>, body: Box<Cmd>) -> Result<Box<Cmd
 pub fn undefined(alloc: Global, names: Vec<Arg>) -> Result<Box<Cmd>, AllocError>
     ensures { IfOk result (λ b. cmd_tree b.value ≡ t.Undefine (args_tree names.items)) }
 {
-    Ok(Box::new(alloc, Cmd::Undefine(names))?)
+    boxed_cmd(alloc, Cmd::Undefine(names))
 }
 
-/// Whether an `if not` may follow.
+/// Whether an `if not` may follow an item: its command is an `if` or an `if not`, and no `&` ends it.
+pub fn allows_if_not(background: bool, cmd: &Cmd) -> bool
+    ensures { result ≡ (not background && is_if (cmd_tree cmd.now)) }
+{
+    !background && is_if(cmd)
+}
+
+/// Whether a command is an `if` or an `if not`.
 #[tactic(auto, using(rc_tree_types::specs::View::tree_nodes))]
-pub fn is_if(cmd: &Cmd) -> bool
+fn is_if(cmd: &Cmd) -> bool
     ensures { result ≡ is_if (cmd_tree cmd.now) }
 {
     match cmd {

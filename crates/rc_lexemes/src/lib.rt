@@ -2,6 +2,7 @@
 #![tactic(auto)]
 
 mod arguments;
+mod boxes;
 mod commands;
 mod fault;
 mod here;
@@ -10,8 +11,9 @@ mod lists;
 mod redirections;
 
 pub use arguments::{back, concat, count, flat, literal, paren, subscripted, variable};
+pub use boxes::{boxed_arg, boxed_cmd, boxed_redir};
 pub use commands::{
-    and_or, assigned, block, conditional, defined, empty, for_all, for_each, if_not, is_if,
+    allows_if_not, and_or, assigned, block, conditional, defined, empty, for_all, for_each, if_not,
     matching, not, pipeline, redirect, redirected, repeated, seq, simple, subshell, switched,
     undefined,
 };
@@ -22,6 +24,7 @@ pub use lexeme::{
     past_caret, past_newlines,
 };
 pub use lists::{
-    insert_arg, insert_redir, push_arg, push_item, push_link, push_pair, push_redir, push_stage,
+    allows_stage, insert_arg, insert_redir, push_arg, push_branch, push_item, push_link, push_pair,
+    push_redir, push_stage,
 };
 pub use redirections::{copying, here_doc, opening};

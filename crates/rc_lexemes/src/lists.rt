@@ -1,13 +1,15 @@
 //! Lists of nodes, and one more node in them.
 
-ghost use Rattle.std.specs.Prelude.{◌≡◌, OnOk};
+ghost use Rattle.std.specs.Prelude.{◌≡◌, suc, nat_lt, OnOk};
 ghost use Rattle.rc_model.specs.Syntax.Tree as t;
-ghost use Rattle.rc_model.specs.Syntax.Tree.{more, snoc};
+ghost use Rattle.rc_model.specs.Syntax.Tree.{more, count, snoc};
+ghost use Rattle.rc_model.specs.declared.limits.TheConstants.{MOST_STAGES};
 ghost use Rattle.rc_tree_types.specs.View.{cmd_tree, arg_tree, redir_tree, args_tree, items_tree, pairs_tree};
-ghost use Rattle.rc_tree_types.specs.View.{redirs_tree, stages_tree, links_tree};
+ghost use Rattle.rc_tree_types.specs.View.{redirs_tree, stages_tree, links_tree, branches_tree};
 
 use rc_model::Logic;
-use rc_tree::{Arg, Cmd, Item, Redir, Stage};
+use rc_model::limits::MOST_STAGES;
+use rc_tree::{Arg, Branch, Cmd, Item, Redir, Stage};
 use std::alloc::AllocError;
 
 /// One more argument.
@@ -68,6 +70,14 @@ pub fn push_stage(stages: &mut Vec<Stage>, cmd: Box<Cmd>, slot: u8) -> Result<()
     })?)
 }
 
+/// Whether a bar may follow these stages and the one after them.
+#[tactic(auto, using(rc_tree_types::proofs::Numbers::count_nodes))]
+pub fn allows_stage(stages: &[Stage]) -> bool
+    ensures { result ≡ nat_lt (suc (count (stages_tree stages.now))) MOST_STAGES }
+{
+    stages.len() < MOST_STAGES - 1
+}
+
 /// One more operand.
 #[tactic(auto, using(rc_tree_types::specs::View::tree_lists))]
 pub fn push_link(
@@ -92,4 +102,17 @@ pub fn push_pair(
         ≡ snoc (pairs_tree pairs.old.items) (t.Pair (arg_tree name.value) (arg_tree value.value))) }
 {
     Ok(pairs.push((Box::into_inner(name), Box::into_inner(value)))?)
+}
+
+/// One more branch.
+#[tactic(auto, using(rc_tree_types::specs::View::tree_lists))]
+pub fn push_branch(
+    branches: &mut Vec<Branch>,
+    patterns: Vec<Arg>,
+    body: Box<Cmd>,
+) -> Result<(), AllocError>
+    ensures { OnOk result (branches_tree branches.new.items
+        ≡ snoc (branches_tree branches.old.items) (t.Branch (args_tree patterns.items) (cmd_tree body.value))) }
+{
+    Ok(branches.push(Branch { patterns, body })?)
 }

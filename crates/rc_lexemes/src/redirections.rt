@@ -5,6 +5,7 @@ ghost use Rattle.rc_model.specs.Syntax.Tree as t;
 ghost use Rattle.rc_model.specs.Syntax.HereDocs.{pieces_of};
 ghost use Rattle.rc_tree_types.specs.View.{arg_tree, redir_tree};
 
+use crate::boxes::boxed_redir;
 use crate::here::pieces;
 use rc_model::Mode;
 use rc_tree::{Arg, Redir};
@@ -20,14 +21,14 @@ pub fn opening(
 ) -> Result<Box<Redir>, AllocError>
     ensures { IfOk result (λ b. redir_tree b.value ≡ t.Open mode slot (arg_tree file.value)) }
 {
-    Ok(Box::new(
+    boxed_redir(
         alloc,
         Redir::Open {
             mode,
             slot,
             file: Box::into_inner(file),
         },
-    )?)
+    )
 }
 
 /// A copy of a descriptor.
@@ -35,7 +36,7 @@ pub fn opening(
 pub fn copying(alloc: Global, to: u8, from: u8) -> Result<Box<Redir>, AllocError>
     ensures { IfOk result (λ b. redir_tree b.value ≡ t.Copy to from) }
 {
-    Ok(Box::new(alloc, Redir::Copy { to, from })?)
+    boxed_redir(alloc, Redir::Copy { to, from })
 }
 
 /// A here document.
@@ -44,5 +45,5 @@ pub fn here_doc(alloc: Global, quoted: bool, body: &str) -> Result<Box<Redir>, A
     ensures { IfOk result (λ b. redir_tree b.value ≡ t.Here (pieces_of quoted body.now)) }
 {
     let pieces = pieces(alloc, quoted, body)?;
-    Ok(Box::new(alloc, Redir::Here(pieces))?)
+    boxed_redir(alloc, Redir::Here(pieces))
 }

@@ -1,4 +1,5 @@
 pub mod Texts
 pub mod Lines
 pub mod Spelled
-pub mod Trees
+pub mod Parsing
+pub mod Scripts

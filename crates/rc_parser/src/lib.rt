@@ -12,12 +12,14 @@ ghost use Rattle.rc_tree_types.specs.View.{cmd_tree};
 mod fault;
 mod lexemes;
 mod text;
+mod trees;
 
 pub use rc_lexer::ScriptError;
 use rc_lexer::Token;
 pub use rc_model::{FaultKind, InputError, SyntaxFault};
 use rc_tree::Cmd;
 use std::alloc::Global;
+pub use trees::script;
 
 /// The tree of a script, or its first fault. The faults come in this order: it is too long, it is not UTF-8, it has a
 /// zero byte; an open quote or a bad descriptor, whichever is read first; an open here document; what the grammar
@@ -30,7 +32,7 @@ pub fn parse(alloc: Global, script: &[u8]) -> Result<Cmd, ScriptError>
 {
     let tokens = tokens(alloc, script)?;
     let lexemes = lexemes::lexemes(alloc, script, &tokens)?;
-    match rc_descent::script(alloc, &lexemes) {
+    match trees::script(alloc, &lexemes) {
         Ok(cmd) => Ok(cmd),
         Err(InputError::Fault(found)) => Err(InputError::Fault(fault::syntax_fault(
             script, &tokens, found,

@@ -1,4 +1,4 @@
-use Rattle.rc_parser.proofs.Trees.{tokens_cut, tokens_refused}
+use Rattle.rc_parser.proofs.Parsing.{tokens_cut, tokens_refused}
 use Rattle.rc_parser.proofs.tokens.Goals as goal
 
 pub returns : goal.returns

@@ -1,8 +1,8 @@
 use Rattle.std.proofs.Common.{◌≡◌, nat_le, true, false, ap, sym, subst, ◌∙◌}
 use Rattle.rc_model.specs.Syntax.WellFormed.{depth}
 use Rattle.rc_tree_types.specs.View.{cmd_tree, items_tree}
-use Rattle.rc_descent.proofs.Scripts.{script_fits, script_unfit}
-use Rattle.rc_descent.proofs.parse_script.Goals as goal
+use Rattle.rc_parser.proofs.Scripts.{script_fits, script_unfit}
+use Rattle.rc_parser.proofs.trees.parse_script.Goals as goal
 
 pub returns-then-not-is_within : goal.returns-then-not-is_within
 returns-then-not-is_within c =

@@ -1,5 +1,5 @@
-use Rattle.rc_descent.proofs.Scripts.{found_by, only_by, none_by, stages_by, levels_by}
-use Rattle.rc_descent.proofs.script.Goals as goal
+use Rattle.rc_parser.proofs.Scripts.{found_by, only_by, none_by, stages_by, levels_by}
+use Rattle.rc_parser.proofs.trees.script.Goals as goal
 
 pub returns : goal.returns
 returns c = record {
