@@ -9,7 +9,7 @@ ghost use Rattle.rc_leaves.specs.Steps.{slot_by, background_by, logic_by, list_b
 
 use crate::ImageError;
 use crate::numbers::{count_at, count_from, first};
-use rc_lexemes::copying;
+use rc_lexemes::{boxed_arg, boxed_redir, copying};
 use rc_model::{ImageFault, InputError, Logic};
 use rc_tree::{Arg, Piece, Redir};
 use std::alloc::{AllocError, Global};
@@ -46,7 +46,7 @@ fn text_at(alloc: Global, bytes: &[u8]) -> Result<(String, &[u8]), ImageError>
 fn literal(alloc: Global, text: String, quoted: bool) -> Result<Box<Arg>, AllocError>
     ensures { IfOk result (λ b. arg_tree b.value ≡ t.Lit (string_bytes text) quoted) }
 {
-    Ok(Box::new(alloc, Arg::Lit { text, quoted })?)
+    boxed_arg(alloc, Arg::Lit { text, quoted })
 }
 
 /// An unquoted word, which isn't empty.
@@ -181,5 +181,5 @@ pub fn here(alloc: Global, bytes: &[u8]) -> Result<(Box<Redir>, &[u8]), ImageErr
     ensures { Gives (λ x. (redir_tree x.0.value, x.1.now)) result (here_by bytes.now) }
 {
     let (pieces, rest) = pieces(alloc, bytes)?;
-    Ok((Box::new(alloc, Redir::Here(pieces))?, rest))
+    Ok((boxed_redir(alloc, Redir::Here(pieces))?, rest))
 }

@@ -9,9 +9,7 @@ mod shape;
 
 pub use leaves::{background, copy, here, logic, quoted, slot, word};
 pub use marks::{arg_mark, cmd_mark, redir_mark};
-pub use nodes::{
-    and_or, concat, pipeline, push_branch, with_bodies, with_body, with_name, with_words,
-};
+pub use nodes::{and_or, concat, pipeline, with_bodies, with_body, with_name, with_words};
 pub use numbers::{begins_number, count_from, number, stage_count};
 use rc_model::{ImageFault, InputError};
 pub use shape::{

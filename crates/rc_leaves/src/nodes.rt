@@ -1,17 +1,17 @@
 //! Nodes by their shape, and nodes that only an image spells as they are.
 
-ghost use Rattle.std.specs.Prelude.{◌≡◌, IfOk, OnOk};
+ghost use Rattle.std.specs.Prelude.{◌≡◌, IfOk};
 ghost use Rattle.rc_model.specs.Syntax.Tree as t;
-ghost use Rattle.rc_model.specs.Syntax.Tree.{snoc};
-ghost use Rattle.rc_tree_types.specs.View.{cmd_tree, arg_tree, args_tree, stages_tree, links_tree, branches_tree};
+ghost use Rattle.rc_tree_types.specs.View.{cmd_tree, arg_tree, args_tree, stages_tree, links_tree};
 ghost use Rattle.rc_leaves.specs.Nodes.{body_node, bodies_node, words_node, name_node};
 
 use crate::shape::{BodiesShape, BodyShape, NameShape, WordsShape};
 use rc_lexemes::{
-    block, conditional, count, flat, if_not, not, repeated, simple, subshell, undefined, variable,
+    block, boxed_arg, boxed_cmd, conditional, count, flat, if_not, not, repeated, simple, subshell,
+    undefined, variable,
 };
 use rc_model::Logic;
-use rc_tree::{Arg, Branch, Cmd, Stage};
+use rc_tree::{Arg, Cmd, Stage};
 use std::alloc::{AllocError, Global};
 
 /// The node of one command.
@@ -71,7 +71,7 @@ pub fn with_name(alloc: Global, shape: NameShape, name: Box<Arg>) -> Result<Box<
 pub fn concat(alloc: Global, parts: Vec<Arg>) -> Result<Box<Arg>, AllocError>
     ensures { IfOk result (λ b. arg_tree b.value ≡ t.Concat (args_tree parts.items)) }
 {
-    Ok(Box::new(alloc, Arg::Concat(parts))?)
+    boxed_arg(alloc, Arg::Concat(parts))
 }
 
 /// A pipeline.
@@ -79,7 +79,7 @@ pub fn concat(alloc: Global, parts: Vec<Arg>) -> Result<Box<Arg>, AllocError>
 pub fn pipeline(alloc: Global, stages: Vec<Stage>, last: Box<Cmd>) -> Result<Box<Cmd>, AllocError>
     ensures { IfOk result (λ b. cmd_tree b.value ≡ t.Pipeline (stages_tree stages.items) (cmd_tree last.value)) }
 {
-    Ok(Box::new(alloc, Cmd::Pipeline(stages, last))?)
+    boxed_cmd(alloc, Cmd::Pipeline(stages, last))
 }
 
 /// Operands of `&&` and `||`.
@@ -91,18 +91,5 @@ pub fn and_or(
 ) -> Result<Box<Cmd>, AllocError>
     ensures { IfOk result (λ b. cmd_tree b.value ≡ t.AndOr (cmd_tree first.value) (links_tree links.items)) }
 {
-    Ok(Box::new(alloc, Cmd::AndOr(first, links))?)
-}
-
-/// One more branch.
-#[tactic(auto, using(rc_tree_types::specs::View::tree_lists))]
-pub fn push_branch(
-    branches: &mut Vec<Branch>,
-    patterns: Vec<Arg>,
-    body: Box<Cmd>,
-) -> Result<(), AllocError>
-    ensures { OnOk result (branches_tree branches.new.items
-        ≡ snoc (branches_tree branches.old.items) (t.Branch (args_tree patterns.items) (cmd_tree body.value))) }
-{
-    Ok(branches.push(Branch { patterns, body })?)
+    boxed_cmd(alloc, Cmd::AndOr(first, links))
 }

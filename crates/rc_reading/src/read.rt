@@ -11,13 +11,13 @@ ghost use Rattle.rc_reading.specs.Reading.{cmd_of, front_by, subject_by, arg_of,
 
 use rc_leaves::{
     ArgShape, CmdShape, FrontShape, ImageError, RedirShape, SubjectShape, and_or, arg_mark,
-    background, cmd_mark, concat, copy, count_from, here, logic, pipeline, push_branch, quoted,
-    redir_mark, slot, stage_count, with_bodies, with_body, with_name, with_words, word,
+    background, cmd_mark, concat, copy, count_from, here, logic, pipeline, quoted, redir_mark,
+    slot, stage_count, with_bodies, with_body, with_name, with_words, word,
 };
 use rc_lexemes::{
     assigned, back, defined, empty, for_all, for_each, matching, opening, paren, push_arg,
-    push_item, push_link, push_pair, push_redir, push_stage, redirected, seq, subscripted,
-    switched,
+    push_branch, push_item, push_link, push_pair, push_redir, push_stage, redirected, seq,
+    subscripted, switched,
 };
 use rc_model::{ImageFault, InputError, Logic, Mode};
 use rc_tree::{Arg, Branch, Cmd, Item, Redir, Stage};
