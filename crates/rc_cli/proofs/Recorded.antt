@@ -8,12 +8,12 @@ use Rattle.rc_model.specs.Run.State.{State}
 use Rattle.rc_model.specs.Syntax.Tree.{Node, cmd}
 use Rattle.rc_model.specs.declared.fault.SyntaxFault.{SyntaxFault}
 use Rattle.rc_scope.specs.States.{state_of}
-use Rattle.rc_shell.specs.Executed as executed
+use Rattle.rc_run.specs.Outcome as outcome
 use Rattle.rc_shell.specs.Executed.{IfDenoted, IfImage, IfSyntax}
-use Rattle.rc_shell.specs.declared.run.Ran.{Ran}
-use Rattle.rc_shell.specs.declared.run.Ran.TheVariants as ran
-use Rattle.rc_shell.specs.declared.run.ShellFault.{ShellFault}
-use Rattle.rc_shell.specs.declared.run.ShellFault.TheVariants as shell
+use Rattle.rc_run.specs.declared.Ran.{Ran}
+use Rattle.rc_run.specs.declared.Ran.TheVariants as ran
+use Rattle.rc_run.specs.declared.ShellFault.{ShellFault}
+use Rattle.rc_run.specs.declared.ShellFault.TheVariants as shell
 use Rattle.rc_cli.specs.Runs.{Answers, IsNotRun, IsRun, Program, RunsAsMeant, handed, most_instructions, text_from}
 use Rattle.rc_cli.specs.declared.fault.RunError.{RunError}
 use Rattle.rc_cli.specs.declared.fault.RunError.TheVariants.{Usage, CannotRead, Syntax, BadImage}
@@ -33,7 +33,7 @@ module _ (before after : Option (List Event)) (p : Program) where
 
   -- of each tree that is run this was recorded
   abbrev pub OfEach : Result Ran ShellFault → Type 0
-  OfEach r = (t : Node cmd) (s : State) → IsRun p t s → Recorded before after (λ trace. executed.RunsAsMeant most_instructions t s trace r)
+  OfEach r = (t : Node cmd) (s : State) → IsRun p t s → Recorded before after (λ trace. outcome.RunsAsMeant most_instructions t s trace r)
 
   pub answered : (r : Result Ran ShellFault) (result : Result ℕ RunError) → Answers r result → OnOk r HasTree → IfErr r (IsReason p) → OfEach r →
       ((error : RunError) → IsNotRun p error → after ≡ before) → RunsAsMeant before after p result
@@ -74,11 +74,11 @@ script_silent before after script start h Halted k = absurd k
 
 pub script_answered : (before after : Option (List Event)) (script : List ℕ) (s start : State) (r : Result Ran ShellFault) (result : Result ℕ RunError) → s ≡ start → Answers r result →
     OnOk r ((t : Node cmd) × IsAccepted script t) → IfErr r (λ e. IfSyntax e (λ fault. IsRefused script fault)) →
-    ((t : Node cmd) → IsAccepted script t → Recorded before after (λ trace. executed.RunsAsMeant most_instructions t s trace r)) →
+    ((t : Node cmd) → IsAccepted script t → Recorded before after (λ trace. outcome.RunsAsMeant most_instructions t s trace r)) →
     ((fault : SyntaxFault) → IsRefused script fault → after ≡ before) → RunsAsMeant before after (text_from script start) result
 script_answered before after script s start r result is a h w each silent =
     answered before after (text_from script start) r result a (script_tree script start r h) (script_reasons script start r w)
-    (λ t z k. subst (λ y. Recorded before after (λ trace. executed.RunsAsMeant most_instructions t y trace r)) (is ∙ sym k.1) (each t k.0))
+    (λ t z k. subst (λ y. Recorded before after (λ trace. outcome.RunsAsMeant most_instructions t y trace r)) (is ∙ sym k.1) (each t k.0))
     (script_silent before after script start silent)
 
 -- ** images
@@ -107,7 +107,7 @@ image_silent before after read h Halted k = absurd k
 
 pub image_answered : (before after : Option (List Event)) (read : Read) (r : Result Ran ShellFault) (result : Result ℕ RunError) → Answers r result →
     OnOk r ((t : Node cmd) × (s : State) × (read ≡ Ok (t, s))) → IfErr r (λ e. IfImage e (λ fault. read ≡ Err fault)) →
-    IfDenoted read before after (λ t s trace. executed.RunsAsMeant most_instructions t s trace r) →
+    IfDenoted read before after (λ t s trace. outcome.RunsAsMeant most_instructions t s trace r) →
     ((fault : ImageFault) → read ≡ Err fault → after ≡ before) → RunsAsMeant before after (handed read) result
 image_answered before after read r result a h w each silent =
     answered before after (handed read) r result a h (image_reasons read r w) each (image_silent before after read silent)

@@ -1,4 +1,3 @@
-pub mod Runs
 pub mod Scripts
 pub mod Images
 pub mod Kept

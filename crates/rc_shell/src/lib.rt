@@ -5,9 +5,8 @@
 #![tactic(auto)]
 
 mod image;
-mod run;
 mod script;
 
 pub use image::execute_image;
-pub use run::{Ran, ShellFault};
+pub use rc_run::{Ran, ShellFault};
 pub use script::execute;

@@ -4,8 +4,8 @@ use Rattle.rc_machine.specs.Configs.{config_of}
 use Rattle.rc_model.specs.Code.Machine.{begin}
 use Rattle.rc_scope.specs.States.{state_of}
 use Rattle.rc_tree_types.specs.View.{cmd_tree}
-use Rattle.rc_shell.proofs.Runs.{begins, recorded_nothing, recorded_run}
-use Rattle.rc_shell.proofs.run.run_tree.Goals as goal
+use Rattle.rc_run.proofs.Runs.{begins, recorded_nothing, recorded_run}
+use Rattle.rc_run.proofs.run_tree.Goals as goal
 
 pub returns-in_default : goal.returns-in_default
 returns-in_default g c = let before = g.W.World.events c.args.world.now in recorded_nothing c.args.limit (cmd_tree c.args.cmd) (state_of c.args.state) before before

@@ -14,10 +14,10 @@ use Rattle.law_plans.proofs.Plays.{ends_over, waits_over, cut_over, halts_over}
 use Rattle.rc_machine.specs.Outcomes.{Begun, Reached, RunsTo}
 use Rattle.rc_machine.specs.declared.machine.Progress.{Progress}
 use Rattle.rc_machine.specs.declared.machine.Progress.TheVariants as progress
-use Rattle.rc_shell.specs.Executed.{EndsWithin, HaltsWithin, IsOutcome, IsBegunWithin, RunsAsMeant}
-use Rattle.rc_shell.specs.declared.run.Ran.{Ran as Finished}
-use Rattle.rc_shell.specs.declared.run.Ran.TheVariants.{Ended, Limit, Halted as Halting}
-use Rattle.rc_shell.specs.declared.run.ShellFault.{ShellFault}
+use Rattle.rc_run.specs.Outcome.{EndsWithin, HaltsWithin, IsOutcome, IsBegunWithin, RunsAsMeant}
+use Rattle.rc_run.specs.declared.Ran.{Ran as Finished}
+use Rattle.rc_run.specs.declared.Ran.TheVariants.{Ended, Limit, Halted as Halting}
+use Rattle.rc_run.specs.declared.ShellFault.{ShellFault}
 use Rattle.law_plans.proofs.Recordings.{extend_nil}
 
 -- the calls of a run that was left somewhere are the first ones of the whole run

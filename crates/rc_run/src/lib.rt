@@ -1,9 +1,10 @@
-//! Runs a tree from a state.
+//! Runs the tree of a script from a state.
+#![tactic(auto)]
 
 ghost use Rattle.rc_machine.specs.Configs.{config_of};
 ghost use Rattle.rc_model.specs.Run.Script.{Recorded};
 ghost use Rattle.rc_scope.specs.States.{state_of};
-ghost use Rattle.rc_shell.specs.Executed.{IsOutcome, RunsAsMeant};
+ghost use Rattle.rc_run.specs.Outcome.{IsOutcome, RunsAsMeant};
 ghost use Rattle.rc_tree_types.specs.View.{cmd_tree};
 
 use rc_code::compile;
