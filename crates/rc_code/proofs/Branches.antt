@@ -12,7 +12,7 @@ use Rattle.rc_code.specs.Emission.{branch_to, branches_to}
 use Rattle.rc_listing.proofs.Redirecting.{redirected-none, length_patched}
 use Rattle.rc_code.proofs.Parts.{same_code, with_part-Nothing, with_part-then, length_part}
 
--- jumps that are put in where a part stands after
+-- jumps that are put in with a part after them
 
 length_redirected : (places : List ℕ) (c : Code) (e : ℕ) → length (redirected c places e).ops ≡ length c.ops
 unfolding redirected

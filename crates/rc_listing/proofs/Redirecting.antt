@@ -1,4 +1,4 @@
--- Jumps that are put in where what they jump over stands.
+-- Jumps that are put in once what they jump over is written.
 use Rattle.std.proofs.Common.{◌≡◌, ℕ, List, [], ◌∷◌, length, refl}
 use Rattle.std.proofs.lemmas.Grind.{common_steps}
 use Rattle.std.proofs.lemmas.List.{length-set}

@@ -104,13 +104,13 @@ pub enum Kept {
     Pieces(Vec<Piece>),
 }
 
-/// The instructions of a command, and what they keep of its tree. `compile` makes it, and nothing changes it then, so
-/// it is shared.
+/// The instructions of a command, and what they keep of its tree. Nothing changes it once it is made, so it is shared.
 #[derive(Drop)]
 pub struct Code(Rc<Listing>);
 
 impl Code {
-    /// The code of a listing to which nothing is added any more, if all of it was written: else there is none.
+    /// The code of a listing, if all of it was written. That is asked here and not by who writes it, since a crate that
+    /// lets a listing go has to prove that trees are let go.
     #[tactic(auto, unfolding(crate::specs::Views::code_of))]
     pub fn of(
         alloc: Global,

@@ -17,6 +17,7 @@ pub fn kept_tree(alloc: Global, tree: &Cmd) -> Result<Kept, AllocError>
     Ok(Kept::Tree(Rc::new(alloc, clone_tree(alloc, tree)?)?))
 }
 
+/// The stages of a pipeline before its last one.
 #[tactic(auto, using(rc_tree_types::specs::View::tree_lists))]
 pub fn kept_stages(alloc: Global, stages: &[Stage]) -> Result<Kept, AllocError>
     ensures { IfOk result (λ kept. kept_of kept ≡ model.KeptStages (stages_tree stages.now)) }
@@ -31,6 +32,7 @@ pub fn kept_stages(alloc: Global, stages: &[Stage]) -> Result<Kept, AllocError>
     Ok(Kept::Stages(copies))
 }
 
+/// The pieces of a here document.
 #[tactic(auto, using(rc_tree_types::specs::View::tree_lists))]
 pub fn kept_pieces(alloc: Global, pieces: &[Piece]) -> Result<Kept, AllocError>
     ensures { IfOk result (λ kept. kept_of kept ≡ model.KeptPieces (pieces_tree pieces.now)) }

@@ -48,10 +48,7 @@ tokens_refused bytes text (Ok v) e short utf8 read = tt
 tokens_refused bytes text (Err (error.Fault f)) e short utf8 read = has_fault bytes text f e short utf8 read.found
 tokens_refused bytes text (Err error.NoMemory) e short utf8 read = tt
 
--- the tree of a script's tokens is the script's tree, and its only one
-pub is_accepted : (text : List ℕ) (tokens : List Token) (ts : List t.Lexeme) (tree : Node cmd) → HasTokens text tokens → ts ≡ lexemes tokens → grammar.HaveAcceptedTree ts tree → IsAccepted text tree
-is_accepted text tokens ts tree h e a = record { tokens = tokens; has = h; tree_is = subst (λ z. grammar.HaveAcceptedTree z tree) e a }
-
+-- the tree of a script's tokens is the script's only one
 pub has_no_other : (text : List ℕ) (tokens : List Token) (ts : List t.Lexeme) (tree : Node cmd) → HasTokens text tokens → ts ≡ lexemes tokens →
     ((other : Node cmd) → HaveTree ts other → other ≡ tree) → (other : Node cmd) → IsAccepted text other → other ≡ tree
 has_no_other text tokens ts tree h e only other a = only other (subst (λ z. HaveTree z other) (ap lexemes (same_tokens a.has h) ∙ sym e) a.tree_is.script)

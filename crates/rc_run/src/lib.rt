@@ -1,4 +1,4 @@
-//! Runs the tree of a script from a state.
+//! Runs a tree from a state.
 #![tactic(auto)]
 
 ghost use Rattle.rc_machine.specs.Configs.{config_of};

@@ -1,4 +1,4 @@
--- What is said of the run of a script, and of what was handed over.
+-- What holds of the run of a script or of an image.
 use Rattle.std.specs.Prelude.{◌≡◌, ◌≢◌, ℕ, ◌≤◌, List, Bool, Option, Result, Ok, String, map, string_bytes}
 use Rattle.std.specs.declared.alloc.Global.{Global}
 use Rattle.law_machine.specs.Limits.{IsEnough, IsOnTape}

@@ -5,7 +5,7 @@ use Rattle.rc_listing.specs.Views.{code_of}
 use Rattle.rc_code.proofs.Parts.{whole_code}
 use Rattle.rc_code.proofs.compile.Goals as goal
 
--- what holds where all was written holds where there is code
+-- there is code only where all was written, so what holds then holds of it
 where_written : {A B E F P : Type 0} (Q : A → Type 0) (made : Result A E) (written : Result B F) → OnOk made (IsOk written) → OnOk written P → (P → IfOk made Q) → IfOk made Q
 where_written Q (Ok x) (Ok u) whole holds go_on = go_on holds
 where_written Q (Ok x) (Err e) whole holds go_on = absurd (grind arith)
