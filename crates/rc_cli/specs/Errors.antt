@@ -1,7 +1,7 @@
 -- Why a run failed: what an error of the system is, and the line that says it.
-use Rattle.std.specs.Prelude.{ℕ, ℤ, List, ◌++◌, Option, None, codes}
-use Rattle.std.specs.declared.io.ErrorKind.{ErrorKind}
-use Rattle.std.specs.declared.io.ErrorKind.TheVariants as kind
+use Rattle.std.specs.Prelude.{ℕ, List, ◌++◌, codes}
+use Rattle.rc_model.specs.declared.call.Fault as call
+use Rattle.rc_model.specs.declared.call.Fault.TheVariants as refusal
 use Rattle.rc_model.specs.Syntax.Faults.{fault_words}
 use Rattle.rc_cli.specs.declared.fault.RunError.{RunError}
 use Rattle.rc_cli.specs.declared.fault.RunError.TheVariants.{Usage, CannotRead, Syntax, BadImage}
@@ -17,8 +17,7 @@ error_line NoMemory = codes "rc: no memory"
 error_line Limit = codes "rc: limit"
 error_line Halted = codes "rc: halted"
 
--- what an error of the system is, by its kind and Linux's number of it: out of memory without a number was met before
--- Linux was asked, and any other is this one
-abbrev pub error_at : ErrorKind → Option ℤ → RunError → RunError
-error_at kind.OutOfMemory None other = NoMemory
-error_at _ number other = other
+-- what an error of the system is, by the fault that it stands for: out of memory, or else this other one
+abbrev pub error_at : call.Fault → RunError → RunError
+error_at refusal.NoMemory other = NoMemory
+error_at _ other = other

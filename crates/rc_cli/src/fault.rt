@@ -1,12 +1,12 @@
 //! Why a run failed.
 ghost use Rattle.std.specs.Prelude.{◌≡◌, Some};
-ghost use Rattle.std.specs.IoError.{error_kind, raw_os_error};
 ghost use Rattle.rc_cli.specs.Errors.{error_at, error_line};
+ghost use Rattle.rc_world.specs.Faults.{fault_at};
 
 use rc_model::SyntaxFault;
+use rc_world::{Fault, fault_of};
 use std::alloc::AllocError;
 use std::error::Error;
-use std::io::ErrorKind;
 use std::{fmt, io};
 
 /// Why a run of the program failed. It is shown as the line that the program prints, without a
@@ -40,10 +40,10 @@ impl<'a> From<AllocError> for RunError<'a> {
 impl<'a> RunError<'a> {
     /// What an error of the system is: out of memory, or else this other one.
     pub(crate) fn at(error: &io::Error, other: RunError<'a>) -> RunError<'a>
-        ensures { result ≡ error_at (error_kind error.now) (raw_os_error error.now) other.entry }
+        ensures { result ≡ error_at (fault_at error.now) other.entry }
     {
-        match error.kind() {
-            ErrorKind::OutOfMemory if error.raw_os_error().is_none() => RunError::NoMemory,
+        match fault_of(error) {
+            Fault::NoMemory => RunError::NoMemory,
             _ => other,
         }
     }

@@ -4,7 +4,7 @@ ghost use Rattle.std.specs.Prelude.{◌≡◌, ◌≢◌, ◌≤◌, ◌∷◌, 
 ghost use Rattle.rc_model.specs.Run.Builtins.{Called, Finished, exec, finished, run_builtin, wait_for};
 ghost use Rattle.rc_model.specs.Run.Builtins.{without_functions};
 ghost use Rattle.rc_model.specs.Run.Acts.{run_program};
-ghost use Rattle.rc_model.specs.declared.builtin.Builtin.TheVariants.{BuiltinWord, Wait};
+ghost use Rattle.rc_model.specs.declared.builtin.Builtin.TheVariants.{BuiltinWord};
 ghost use Rattle.rc_model.specs.declared.call.Slots.{Slots};
 ghost use Rattle.rc_model.specs.Run.Shell.{Shell};
 ghost use Rattle.rc_commands.specs.Outcomes.{RunsWords};
@@ -53,16 +53,16 @@ fn exec<W: World>(
     Ok(Outcome::Exit)
 }
 
-/// `wait`: all children in the background are waited for, or that of a number. An `Err` may leave fewer of them, and
-/// another status, since each is taken out of the list before the call that waits for it.
+/// `wait`: all children in the background are waited for, or that of a number.
 fn wait<W: World>(
     alloc: Global,
     world: &mut W,
     state: &mut State,
     args: &[String],
 ) -> Result<(), Stop>
-    ensures { Does W.events world.old world.new state_of state.old state.new
+    ensures does { Does W.events world.old world.new state_of state.old state.new
         (wait_for (map string_bytes args.now)) (λ x. Finished) result }
+    ensures err { OnErr result (state_of state.new ≡ state_of state.old) }
 {
     match args {
         [] => wait_for(alloc, world, state, None),
@@ -74,7 +74,7 @@ fn wait<W: World>(
     }
 }
 
-/// Runs a built-in command other than `builtin`. An `Err` of any but `wait` leaves the state as it was.
+/// Runs a built-in command other than `builtin`.
 #[tactic(auto, using(crate::proofs::Left::words_refused))]
 fn run_builtin<W: World>(
     alloc: Global,
@@ -88,7 +88,7 @@ fn run_builtin<W: World>(
     ensures runs { (again : Shell Called) → RunsWords (W.events world.old) (W.events world.new)
         (run_builtin again slots builtin (map string_bytes args.items) (state_of state.old))
         (state_of state.new) result }
-    ensures err { builtin ≢ Wait → OnErr result (state_of state.new ≡ state_of state.old) }
+    ensures err { OnErr result (state_of state.new ≡ state_of state.old) }
 {
     match builtin {
         Builtin::Dot => return dot(alloc, world, state, args),
@@ -154,8 +154,7 @@ fn past_builtins(mut words: Vec<String>) -> Vec<String>
     words
 }
 
-/// Runs words for which functions are ignored. Of the state after an `Err` nothing is said here, since the words may be
-/// those of `wait`.
+/// Runs words for which functions are ignored. An `Err` leaves the state as it was.
 #[tactic(auto, using(crate::proofs::Left::words_refused))]
 pub fn run_without_functions<W: World>(
     alloc: Global,
@@ -164,8 +163,9 @@ pub fn run_without_functions<W: World>(
     slots: Slots,
     words: Vec<String>,
 ) -> Result<Outcome, Stop>
-    ensures { RunsWords (W.events world.old) (W.events world.new)
+    ensures runs { RunsWords (W.events world.old) (W.events world.new)
         (without_functions slots (map string_bytes words.items) (state_of state.old)) (state_of state.new) result }
+    ensures err { OnErr result (state_of state.new ≡ state_of state.old) }
 {
     let Some((name, args)) = name_and_args(past_builtins(words)) else {
         misuse(state)?;

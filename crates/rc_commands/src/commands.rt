@@ -1,6 +1,6 @@
 //! What the words of a simple command run.
 
-ghost use Rattle.std.specs.Prelude.{◌<◌, Some, map, string_bytes};
+ghost use Rattle.std.specs.Prelude.{◌≡◌, ◌<◌, OnErr, Some, map, string_bytes};
 ghost use Rattle.rc_model.specs.Run.Builtins.{run_words};
 ghost use Rattle.rc_commands.specs.Outcomes.{RunsWords};
 ghost use Rattle.rc_scope.specs.States.{state_of};
@@ -25,8 +25,7 @@ pub enum Outcome {
     Exit,
 }
 
-/// Runs the words of a simple command. Of the state after an `Err` nothing is said here, since the words may be those
-/// of `wait`.
+/// Runs the words of a simple command. An `Err` leaves the state as it was.
 #[tactic(auto, using(crate::proofs::Left::words_refused))]
 pub fn run_words<W: World>(
     alloc: Global,
@@ -35,8 +34,9 @@ pub fn run_words<W: World>(
     slots: Slots,
     mut words: Vec<String>,
 ) -> Result<Outcome, Stop>
-    ensures { RunsWords (W.events world.old) (W.events world.new)
+    ensures runs { RunsWords (W.events world.old) (W.events world.new)
         (run_words slots (map string_bytes words.items) (state_of state.old)) (state_of state.new) result }
+    ensures err { OnErr result (state_of state.new ≡ state_of state.old) }
 {
     let Some(name) = words.first() else {
         fault(alloc, world, state, slots, "empty argument list")?;

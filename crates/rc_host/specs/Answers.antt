@@ -1,20 +1,12 @@
 -- What Linux says, as what a world answers.
 use Rattle.std.specs.Prelude.{◌<◌, nat_abs, bit_and, option_map, unwrap_or}
 use Rattle.std.specs.Fs.{IsFile, file_type, metadata_mode}
-use Rattle.std.specs.IoError.{error_kind, raw_os_error}
 use Rattle.std.specs.Process.{exit_code}
 use Rattle.std.specs.declared.fs.attrs.Metadata.{Metadata}
-use Rattle.std.specs.declared.io.Error.{Error}
 use Rattle.std.specs.declared.process.status.ExitStatus.{ExitStatus}
 use Rattle.rc_model.specs.declared.call.Ending.{Ending}
 use Rattle.rc_model.specs.declared.call.Ending.TheVariants.{Code, Signal}
-use Rattle.rc_model.specs.declared.call.Fault.{Fault}
-use Rattle.rc_host.specs.Faults as faults
 use Rattle.rc_host.specs.declared.answers.TheConstants.{EXECUTE}
-
--- the fault that an error stands for
-abbrev pub fault_at : Error → Fault
-fault_at error = faults.fault_of (error_kind error) (raw_os_error error)
 
 -- how a child ended: with its code, or where it has none by a signal
 abbrev pub ending_of : ExitStatus → Ending

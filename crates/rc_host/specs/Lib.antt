@@ -1,6 +1,5 @@
 pub mod Answers
 pub mod Commands
-pub mod Faults
 pub mod Files
 pub mod Host
 pub mod Names

@@ -1,12 +1,12 @@
 //! What Linux says, as what a world answers.
-ghost use Rattle.std.specs.Prelude.{◌≡◌, ◌≢◌, ◌↔◌, Ok, Err, IfOk, IsSomeAnd, MatchResult};
+ghost use Rattle.std.specs.Prelude.{◌≡◌, ◌≢◌, ◌↔◌, Ok, Err, IfOk, IfSome, IsSomeAnd, MatchResult};
 ghost use Rattle.std.specs.Fs.{IsDir, file_type};
 ghost use Rattle.std.specs.Process.{child_status};
 ghost use Rattle.rc_model.specs.declared.call.Fault.TheVariants.{Halt};
-ghost use Rattle.rc_host.specs.Answers.{fault_at, ending_of, IsProgram};
+ghost use Rattle.rc_host.specs.Answers.{ending_of, IsProgram};
+ghost use Rattle.rc_world.specs.Faults.{fault_at};
 
-use crate::fault::fault_of;
-use rc_world::{Ending, Fault, Kind};
+use rc_world::{Ending, Fault, Kind, fault_of};
 use std::fs::Metadata;
 use std::io;
 use std::os::unix::fs::PermissionsExt;
@@ -19,6 +19,7 @@ const EXECUTE: u32 = 0o111;
 pub fn end_of(child: &mut Child) -> Result<Ending, Fault>
     ensures recorded { IfOk result (λ ending.
         IsSomeAnd (child_status child.new) (λ status. ending ≡ ending_of status)) }
+    ensures again { IfSome (child_status child.old) (λ status. result ≡ Ok (ending_of status)) }
     ensures answered { result ≢ Err Halt }
 {
     ended(child.wait())

@@ -3,11 +3,10 @@ ghost use Rattle.std.specs.Prelude.{◌≡◌, ◌≢◌, ◌↔◌, ◌++◌, �
 ghost use Rattle.std.specs.Prelude.{map, string_bytes};
 ghost use Rattle.std.specs.IoError.{os_error_kind};
 ghost use Rattle.rc_model.specs.declared.call.Fault.TheVariants.{Halt};
-ghost use Rattle.rc_host.specs.Faults.{fault_of};
+ghost use Rattle.rc_world.specs.Faults.{fault_of};
 ghost use Rattle.rc_host.specs.Names.{named, names_in, IsLast};
 
-use crate::fault::fault_of;
-use rc_world::Fault;
+use rc_world::{Fault, fault_of};
 use std::alloc::AllocError;
 use std::fs::File;
 use std::io::ErrorKind;

@@ -4,9 +4,8 @@ ghost use Rattle.std.specs.Io.KnownBytes.{Appends, Consumes, IsAtEnd, Keeps};
 ghost use Rattle.rc_model.specs.declared.call.Fault.TheVariants.{Halt, Other};
 ghost use Rattle.rc_host.specs.Files.{options_of, IsReadEnd, IsWriteEnd};
 
-use crate::fault::fault_of;
 use rc_model::limits::LONGEST_READ;
-use rc_world::{Fault, Mode};
+use rc_world::{Fault, Mode, fault_of};
 use std::alloc::Global;
 use std::fs::{File, OpenOptions};
 use std::io::{ErrorKind, PipeReader, PipeWriter, Read, Write};

@@ -15,12 +15,11 @@ ghost use Rattle.rc_host.specs.Host.{AddsFile, AddsPipe, AddsChild, IsThere, Are
 use crate::answers::{end_of, kind_of};
 use crate::command::command_of;
 use crate::directory::names_in;
-use crate::fault::fault_of;
 use crate::files::{OpenFile, here_file, options_of, write_text};
 use crate::planning::plan;
 use crate::streams::{Connected, Stream, own_copy, set_errors, set_input, set_output};
 use crate::table::Table;
-use rc_world::{ChildNo, Ending, Fault, Handle, Kind, Launch, Mode, Slot, Slots, World};
+use rc_world::{ChildNo, Ending, Fault, Handle, Kind, Launch, Mode, Slot, Slots, World, fault_of};
 use std::fs::File;
 use std::io::{PipeReader, PipeWriter, Write};
 use std::os::fd::AsRawFd;

@@ -4,7 +4,6 @@
 mod answers;
 mod command;
 mod directory;
-mod fault;
 mod files;
 mod host;
 mod planned;

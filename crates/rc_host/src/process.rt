@@ -1,15 +1,15 @@
 //! What a program takes from its process.
 ghost use Rattle.std.specs.Prelude.{◌≡◌, ◌++◌, None, IfOk, OnErr, codes, drop, string_bytes};
 ghost use Rattle.std.specs.Fmt.{decimal};
-ghost use Rattle.std.specs.IoError.{error_kind, raw_os_error};
 ghost use Rattle.std.specs.Path.{path_buf_bytes};
 ghost use Rattle.rc_host.specs.Process.{arguments_error};
+ghost use Rattle.rc_world.specs.Faults.{fault_at};
 
 use rc_model::InputError;
+use rc_world::{Fault, fault_of};
 use std::alloc::{AllocError, AllocGlobal, Global};
 use std::env::FillError;
 use std::fs::File;
-use std::io::ErrorKind;
 use std::os::fd::{AsFd, IntoRawFd};
 use std::path::PathBuf;
 use std::rt::{Env, HostRuntime};
@@ -48,10 +48,10 @@ fn after_name(mut all: Vec<String>) -> Vec<String>
 }
 
 fn arguments_error(error: &io::Error) -> InputError<ArgumentsFault>
-    ensures { result ≡ arguments_error (error_kind error.now) (raw_os_error error.now) }
+    ensures { result ≡ arguments_error (fault_at error.now) }
 {
-    match error.kind() {
-        ErrorKind::OutOfMemory if error.raw_os_error().is_none() => InputError::NoMemory,
+    match fault_of(error) {
+        Fault::NoMemory => InputError::NoMemory,
         _ => InputError::Fault(ArgumentsFault::NotText),
     }
 }

@@ -8,6 +8,7 @@ use Rattle.rc_model.specs.Mirrors.Reading.{Step}
 use Rattle.rc_lexer.specs.declared.TokenKind.{TokenKind}
 use Rattle.rc_lexer.specs.Answers.{ScriptError}
 use Rattle.rc_model.specs.declared.fault.InputError.TheVariants.{Fault, NoMemory}
+use Rattle.rc_model.specs.declared.syntax.Class.{Class}
 use Rattle.rc_model.specs.declared.syntax.Place.{Place}
 use Rattle.rc_model.specs.declared.syntax.Previous.{Previous}
 use Rattle.rc_model.specs.declared.syntax.Previous.TheVariants as previous
@@ -112,6 +113,10 @@ abbrev pub after_step : List model.Token → List (List ℕ) → Step → Step
 after_step ts bodies (Ok x) = Ok (ts ++ x.0, bodies ++ x.1, x.2, x.3)
 after_step ts bodies (Err f) = Err f
 
+-- what stands in the script between two places
+abbrev pub between : List ℕ → Place → Place → List ℕ
+between script p q = slice_range script p.byte q.byte
+
 -- the lexer does this step of the machine, or memory ran out
 abbrev pub TakesStep : List ℕ → ℕ → Lexer → Lexer → Result State ScriptError → Step → Type 0
 TakesStep script end old new (Ok s) x =
@@ -119,6 +124,20 @@ TakesStep script end old new (Ok s) x =
     ≡ Ok (tokens_in script new, bodies_in script new, state_in script end new s, pending_left new s)
 TakesStep script end old new (Err (Fault f)) x = x ≡ Err f
 TakesStep script end old new (Err NoMemory) x = Unit {0}
+
+-- the lexer does what the machine does with its pending here documents and the current character
+abbrev pub Takes : List ℕ → CurrentChar → Lexer → Lexer → Result State ScriptError →
+    (List model.PendingHereDoc → Place → ℕ → Class → Step) → Type 0
+Takes script current old new result step =
+    TakesStep script current.next.byte old new result
+    (step (pending_in old) current.place current.character current.class)
+
+-- the lexer does the machine's step from this state
+abbrev pub StepsFrom : List ℕ → CurrentChar → Lexer → Lexer → Result State ScriptError → State → Type 0
+StepsFrom script current old new result state =
+    TakesStep script current.next.byte old new result
+    (reading.step (state_in script current.place.byte old state) (pending_left old state)
+    current.place current.character current.class)
 
 -- the lexer has put a lexeme between two places after its tokens, and this stands after it
 pub record Pushed (script : List ℕ) (previous after : Previous) (l : model.Lexeme) (p q : Place)

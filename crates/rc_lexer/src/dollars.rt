@@ -4,8 +4,8 @@ ghost use Rattle.std.specs.Prelude.{◌||◌, ◌==◌, ◌≡◌, ℕ, List, �
 ghost use Rattle.rc_model.specs.Syntax.Tokens as model;
 ghost use Rattle.rc_model.specs.Mirrors.Reading as reading;
 ghost use Rattle.rc_lexer.specs.Views.{tokens_of};
-ghost use Rattle.rc_lexer.specs.Machine.{IsCurrent, PushedDollars, Stands, TakesStep};
-ghost use Rattle.rc_lexer.specs.Machine.{dollars_in, pending_in};
+ghost use Rattle.rc_lexer.specs.Machine.{IsCurrent, PushedDollars, Stands, Takes};
+ghost use Rattle.rc_lexer.specs.Machine.{dollars_in};
 
 use crate::state::{CurrentChar, Lexer, State, TokenStart};
 use crate::{ScriptError, Token, TokenKind};
@@ -61,9 +61,8 @@ impl Lexer {
         current: CurrentChar,
     ) -> Result<State, ScriptError>
         requires { IsCurrent script.now current }
-        ensures does { TakesStep script.now current.next.byte self.old self.new result
-            (reading.after_dollars (dollars_in script.now self.old) (pending_in self.old) current.place
-            current.character current.class) }
+        ensures does { Takes script.now current self.old self.new result
+            (reading.after_dollars (dollars_in script.now self.old)) }
         ensures stands { IfOk result (λ s. Stands script.now current.next.byte s) }
     {
         if begins_dollar_name(current.character) {

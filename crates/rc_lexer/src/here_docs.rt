@@ -5,7 +5,7 @@ ghost use Rattle.rc_model.specs.Syntax.Tokens as model;
 ghost use Rattle.rc_model.specs.Mirrors.Reading as reading;
 ghost use Rattle.rc_model.specs.declared.syntax.Place.{Place};
 ghost use Rattle.rc_lexer.specs.Views.{slice_at, token_of, tokens_of};
-ghost use Rattle.rc_lexer.specs.Machine.{Ends, IsClosed, IsCurrent, Stands, TakesStep};
+ghost use Rattle.rc_lexer.specs.Machine.{Ends, IsClosed, IsCurrent, Stands, StepsFrom};
 ghost use Rattle.rc_lexer.specs.Machine.{bodies_in, line_of, pending_in, pending_left, state_in, tokens_in};
 
 use crate::state::{CurrentChar, Lexer, State};
@@ -75,9 +75,7 @@ impl Lexer {
         requires current { IsCurrent script.now current }
         requires order { body ≤ line }
         requires within { line ≤ current.place.byte }
-        ensures does { TakesStep script.now current.next.byte self.old self.new result
-            (reading.step (state_in script.now current.place.byte self.old (State.Body body line))
-            (pending_left self.old (State.Body body line)) current.place current.character current.class) }
+        ensures does { StepsFrom script.now current self.old self.new result (State.Body body line) }
         ensures stands { IfOk result (λ s. Stands script.now current.next.byte s) }
     {
         let Some(first) = self.pending.front() else {

@@ -2,7 +2,7 @@
 
 ghost use Rattle.std.specs.Prelude.{◌≤◌, length, IfOk};
 ghost use Rattle.rc_model.specs.Mirrors.Reading as reading;
-ghost use Rattle.rc_lexer.specs.Machine.{Ends, IsCurrent, Stands, TakesStep, pending_left, state_in};
+ghost use Rattle.rc_lexer.specs.Machine.{Ends, IsCurrent, Stands, StepsFrom, pending_left, state_in};
 
 use crate::state::{CurrentChar, Lexer, State};
 use crate::{ScriptError, TokenKind, fault};
@@ -18,9 +18,7 @@ impl Lexer {
     ) -> Result<State, ScriptError>
         requires current { IsCurrent script.now current }
         requires stands { Stands script.now current.place.byte state }
-        ensures does { TakesStep script.now current.next.byte self.old self.new result
-            (reading.step (state_in script.now current.place.byte self.old state) (pending_left self.old state)
-            current.place current.character current.class) }
+        ensures does { StepsFrom script.now current self.old self.new result state }
         ensures stands { IfOk result (λ s. Stands script.now current.next.byte s) }
     {
         match state {

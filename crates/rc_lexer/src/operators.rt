@@ -1,12 +1,12 @@
 //! Operators: how they are written, and where they end.
 
-ghost use Rattle.std.specs.Prelude.{false, ◌≡◌, ℕ, ◌≤◌, List, MatchOption, Some, None, length, slice_range, IfOk};
+ghost use Rattle.std.specs.Prelude.{false, ◌≡◌, ℕ, ◌≤◌, List, MatchOption, Some, None, length, IfOk};
 ghost use Rattle.rc_model.specs.Syntax.Tokens.{begins_operator, operator};
 ghost use Rattle.rc_model.specs.Syntax.Tokens as model;
 ghost use Rattle.rc_model.specs.Mirrors.Reading as reading;
 ghost use Rattle.rc_lexer.specs.Views.{lexeme_of};
-ghost use Rattle.rc_lexer.specs.Machine.{Ends, IsCurrent, Stands, TakesStep};
-ghost use Rattle.rc_lexer.specs.Machine.{dollars_in, pending_in};
+ghost use Rattle.rc_lexer.specs.Machine.{Ends, IsCurrent, Stands, Takes};
+ghost use Rattle.rc_lexer.specs.Machine.{between, dollars_in, pending_in};
 
 use crate::previous::{after_token, meaning_after};
 use crate::state::{CurrentChar, Lexer, State, TokenStart};
@@ -82,10 +82,9 @@ impl Lexer {
     ) -> Result<State, ScriptError>
         requires current { IsCurrent script.now current }
         requires stands { Stands script.now current.place.byte (State.Operator start) }
-        ensures does { TakesStep script.now current.next.byte self.old self.new result
-            (reading.step (reading.Operator start.previous (dollars_in script.now self.old)
-            start.place (slice_range script.now start.place.byte current.place.byte))
-            (pending_in self.old) current.place current.character current.class) }
+        ensures does { Takes script.now current self.old self.new result
+            (reading.step (reading.Operator start.previous (dollars_in script.now self.old) start.place
+            (between script.now start.place current.place))) }
         ensures stands { IfOk result (λ s. Stands script.now current.next.byte s) }
     {
         if begins_operator(&script[start.place.byte..current.next.byte]) {
@@ -103,10 +102,9 @@ impl Lexer {
     ) -> Result<State, ScriptError>
         requires current { IsCurrent script.now current }
         requires stands { Stands script.now current.place.byte (State.Operator start) }
-        ensures does { TakesStep script.now current.next.byte self.old self.new result
+        ensures does { Takes script.now current self.old self.new result
             (reading.end_operator start.previous (dollars_in script.now self.old) start.place
-            (model.operator (slice_range script.now start.place.byte current.place.byte)) (pending_in self.old)
-            current.place current.character current.class) }
+            (model.operator (between script.now start.place current.place))) }
         ensures stands { IfOk result (λ s. Stands script.now current.next.byte s) }
     {
         let TokenStart { previous, place } = start;
@@ -147,7 +145,7 @@ impl Lexer {
         requires apart { model.awaits_mark start.previous ≡ false }
         ensures { Ends script.now self.old self.new result
             (reading.finish_operator start.previous (dollars_in script.now self.old)
-            start.place (model.operator (slice_range script.now start.place.byte place.byte))
+            start.place (model.operator (between script.now start.place place))
             (pending_in self.old) place) }
     {
         let Some(kind) = operator(&script[start.place.byte..place.byte]) else {

@@ -1,11 +1,11 @@
 //! Tokens that are put after those that are read so far.
 
-ghost use Rattle.std.specs.Prelude.{◌≡◌, ℕ, ◌≤◌, List, ◌++◌, length, slice_range, OnOk};
+ghost use Rattle.std.specs.Prelude.{◌≡◌, ℕ, ◌≤◌, List, ◌++◌, length, OnOk};
 ghost use Rattle.rc_model.specs.Syntax.Tokens as model;
 ghost use Rattle.rc_model.specs.Mirrors.Reading as reading;
 ghost use Rattle.rc_lexer.specs.Views.{lexeme_of};
 ghost use Rattle.rc_lexer.specs.Machine.{IfPushed, Keeps, PushedHereDoc};
-ghost use Rattle.rc_lexer.specs.Machine.{lexeme_tokens, tokens_in};
+ghost use Rattle.rc_lexer.specs.Machine.{between, lexeme_tokens, tokens_in};
 
 use crate::previous::{after_token, wants_caret};
 use crate::state::{Lexer, PendingHereDoc, TokenStart};
@@ -108,7 +108,7 @@ impl Lexer {
         requires order { start.place.byte ≤ stop.byte }
         requires within { stop.byte ≤ length script.now }
         ensures { IfPushed script.now start.previous
-            (model.Word (slice_range script.now start.place.byte stop.byte)) start.place stop self.old self.new
+            (model.Word (between script.now start.place stop)) start.place stop self.old self.new
             result }
     {
         if let Previous::Here(here, _) = start.previous {
@@ -130,7 +130,7 @@ impl Lexer {
         requires order { start.place.byte ≤ stop.byte }
         requires within { stop.byte ≤ length script.now }
         ensures { IfPushed script.now start.previous
-            (model.Quoted (model.unquoted_text (slice_range script.now start.place.byte stop.byte))) start.place stop
+            (model.Quoted (model.unquoted_text (between script.now start.place stop))) start.place stop
             self.old self.new result }
     {
         if let Previous::Here(here, _) = start.previous {

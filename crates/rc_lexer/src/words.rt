@@ -1,10 +1,10 @@
 //! What a character begins, and what goes on with it or ends before it: words, names, quoted words and backslashes.
 
-ghost use Rattle.std.specs.Prelude.{◌≤◌, length, slice_range, IfOk};
+ghost use Rattle.std.specs.Prelude.{◌≤◌, length, IfOk};
 ghost use Rattle.rc_model.specs.Syntax.Tokens as model;
 ghost use Rattle.rc_model.specs.Mirrors.Reading as reading;
-ghost use Rattle.rc_lexer.specs.Machine.{Ends, IsCurrent, Stands, TakesStep};
-ghost use Rattle.rc_lexer.specs.Machine.{pending_in, pending_left, state_in};
+ghost use Rattle.rc_lexer.specs.Machine.{Ends, IsCurrent, Stands, StepsFrom, Takes};
+ghost use Rattle.rc_lexer.specs.Machine.{between, pending_in};
 
 use crate::previous::{after_blank, begins_name, without_here};
 use crate::state::{CurrentChar, Lexer, State, TokenStart};
@@ -22,8 +22,7 @@ impl Lexer {
         current: CurrentChar,
     ) -> Result<State, ScriptError>
         requires { IsCurrent script.now current }
-        ensures does { TakesStep script.now current.next.byte self.old self.new result
-            (reading.begin previous (pending_in self.old) current.place current.character current.class) }
+        ensures does { Takes script.now current self.old self.new result (reading.begin previous) }
         ensures stands { IfOk result (λ s. Stands script.now current.next.byte s) }
     {
         let place = current.place;
@@ -61,9 +60,7 @@ impl Lexer {
     ) -> Result<State, ScriptError>
         requires current { IsCurrent script.now current }
         requires stands { Stands script.now current.place.byte (State.Backslash start) }
-        ensures does { TakesStep script.now current.next.byte self.old self.new result
-            (reading.step (state_in script.now current.place.byte self.old (State.Backslash start))
-            (pending_left self.old (State.Backslash start)) current.place current.character current.class) }
+        ensures does { StepsFrom script.now current self.old self.new result (State.Backslash start) }
         ensures stands { IfOk result (λ s. Stands script.now current.next.byte s) }
     {
         match current.class {
@@ -82,9 +79,7 @@ impl Lexer {
     ) -> Result<State, ScriptError>
         requires current { IsCurrent script.now current }
         requires stands { Stands script.now current.place.byte (State.WordBackslash start stop) }
-        ensures does { TakesStep script.now current.next.byte self.old self.new result
-            (reading.step (state_in script.now current.place.byte self.old (State.WordBackslash start stop))
-            (pending_left self.old (State.WordBackslash start stop)) current.place current.character current.class) }
+        ensures does { StepsFrom script.now current self.old self.new result (State.WordBackslash start stop) }
         ensures stands { IfOk result (λ s. Stands script.now current.next.byte s) }
     {
         match current.class {
@@ -105,10 +100,8 @@ impl Lexer {
     ) -> Result<State, ScriptError>
         requires current { IsCurrent script.now current }
         requires order { start.place.byte ≤ current.place.byte }
-        ensures does { TakesStep script.now current.next.byte self.old self.new result
-            (reading.in_word start.previous start.place
-            (slice_range script.now start.place.byte current.place.byte) (pending_in self.old)
-            current.place current.character current.class) }
+        ensures does { Takes script.now current self.old self.new result
+            (reading.in_word start.previous start.place (between script.now start.place current.place)) }
         ensures stands { IfOk result (λ s. Stands script.now current.next.byte s) }
     {
         match current.class {
@@ -130,9 +123,8 @@ impl Lexer {
     ) -> Result<State, ScriptError>
         requires current { IsCurrent script.now current }
         requires order { start.byte ≤ current.place.byte }
-        ensures does { TakesStep script.now current.next.byte self.old self.new result
-            (reading.step (reading.Name start (slice_range script.now start.byte current.place.byte))
-            (pending_in self.old) current.place current.character current.class) }
+        ensures does { Takes script.now current self.old self.new result
+            (reading.step (reading.Name start (between script.now start current.place))) }
         ensures stands { IfOk result (λ s. Stands script.now current.next.byte s) }
     {
         if is_name_char(current.character) {
@@ -151,10 +143,9 @@ impl Lexer {
     ) -> Result<State, ScriptError>
         requires current { IsCurrent script.now current }
         requires order { start.place.byte ≤ current.place.byte }
-        ensures does { TakesStep script.now current.next.byte self.old self.new result
+        ensures does { Takes script.now current self.old self.new result
             (reading.ends start.previous
-            (model.Quoted (model.unquoted_text (slice_range script.now start.place.byte current.place.byte)))
-            start.place (pending_in self.old) current.place current.character current.class) }
+            (model.Quoted (model.unquoted_text (between script.now start.place current.place))) start.place) }
         ensures stands { IfOk result (λ s. Stands script.now current.next.byte s) }
     {
         let after = self.push_quoted(script, start, current.place)?;
@@ -172,7 +163,7 @@ impl Lexer {
         requires within { place.byte ≤ length script.now }
         ensures { Ends script.now self.old self.new result
             (reading.ended start.previous
-            (model.Word (slice_range script.now start.place.byte place.byte)) start.place
+            (model.Word (between script.now start.place place)) start.place
             (pending_in self.old) place) }
     {
         let _ = self.push_word(script, start, place)?;

@@ -1,6 +1,6 @@
 //! Backquotes: what a command writes.
 
-ghost use Rattle.std.specs.Prelude.{◌≡◌, IfOk, map, string_bytes};
+ghost use Rattle.std.specs.Prelude.{◌≡◌, IfOk, OnErr, map, string_bytes};
 ghost use Rattle.std.specs.List.{concat};
 ghost use Rattle.rc_model.specs.Run.Acts.{backquote, back_child, members_of};
 ghost use Rattle.rc_tree_types.specs.View.{cmd_tree};
@@ -49,9 +49,10 @@ fn back_child<W: World>(
     write_end: Handle,
     started: Started,
 ) -> Result<Output, Stop>
-    ensures { let act = back_child read_end.0 write_end.0 (started_of started) in
+    ensures does { let act = back_child read_end.0 write_end.0 (started_of started) in
         Does W.events world.old world.new state_of state.old state.new act
         (λ output. output) result }
+    ensures err { OnErr result (state_of state.new ≡ state_of state.old) }
 {
     calls::close(world, write_end)?;
     let child = match started {
@@ -65,8 +66,8 @@ fn back_child<W: World>(
     let read = read_all(alloc, world, read_end, LONGEST_OUTPUT)?;
     calls::close(world, read_end)?;
     let status = wait_child(alloc, world, child)?;
-    state.set_status(read.why.unwrap_or(&status))?;
     let output = output_of(alloc, state, read.bytes)?;
+    state.set_status(read.why.unwrap_or(&status))?;
     Ok(output)
 }
 
@@ -79,8 +80,9 @@ pub fn backquote<W: World>(
     slots: Slots,
     body: &Cmd,
 ) -> Result<Output, Stop>
-    ensures { Does W.events world.old world.new state_of state.old state.new
+    ensures does { Does W.events world.old world.new state_of state.old state.new
         (backquote slots (cmd_tree body.now)) (λ output. output) result }
+    ensures err { OnErr result (state_of state.new ≡ state_of state.old) }
 {
     let Some((read_end, write_end)) = calls::pipe(world)? else {
         state.set_status("cannot pipe")?;

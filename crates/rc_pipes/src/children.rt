@@ -1,6 +1,6 @@
 //! Children: they are waited for, and how they ended is a status.
 
-ghost use Rattle.std.specs.Prelude.{◌≡◌, ◌++◌, ◌∷◌, [], None, IfOk, map, string_bytes};
+ghost use Rattle.std.specs.Prelude.{◌≡◌, ◌++◌, ◌∷◌, [], None, IfOk, OnErr, map, string_bytes};
 ghost use Rattle.rc_model.specs.Run.Acts.{waited, wait_each};
 ghost use Rattle.rc_model.specs.Run.Acts.{stages_status, end_stages, no_stages, Refused};
 ghost use Rattle.rc_model.specs.Run.State as model;
@@ -61,9 +61,10 @@ pub fn end_stages<W: World>(
     state: &mut State,
     children: &[ChildNo],
 ) -> Result<(), Stop>
-    ensures { let numbers = child_numbers children.now in
+    ensures does { let numbers = child_numbers children.now in
         Does W.events world.old world.new state_of state.old state.new
         (end_stages None numbers) (λ x. x) result }
+    ensures err { OnErr result (state_of state.new ≡ state_of state.old) }
 {
     let statuses = wait_stages(alloc, world, children)?;
     let status = stages_status(alloc, &statuses, state.status())?;
@@ -80,9 +81,10 @@ pub fn end_refused<W: World>(
     children: &[ChildNo],
     why: &str,
 ) -> Result<(), Stop>
-    ensures { let numbers = child_numbers children.now in
+    ensures does { let numbers = child_numbers children.now in
         Does W.events world.old world.new state_of state.old state.new
         (no_stages None numbers why.now) (λ x. Refused) result }
+    ensures err { OnErr result (state_of state.new ≡ state_of state.old) }
 {
     let statuses = wait_stages(alloc, world, children)?;
     let status = stages_status(alloc, &statuses, why)?;

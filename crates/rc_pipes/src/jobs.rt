@@ -1,6 +1,6 @@
 //! Commands in the background: they are started, and waited for.
 
-ghost use Rattle.std.specs.Prelude.{◌≡◌, ◌==◌, [], Some, IfErr, OnOk};
+ghost use Rattle.std.specs.Prelude.{◌≡◌, ◌==◌, [], Some, OnErr, OnOk, string_bytes};
 ghost use Rattle.std.specs.List.{list_any};
 ghost use Rattle.rc_model.specs.Run.Acts.{background, background_with, kept_child};
 ghost use Rattle.rc_model.specs.Run.Builtins.{Finished, wait_child, wait_all, wait_one, wait_for};
@@ -8,11 +8,10 @@ ghost use Rattle.rc_model.specs.Run.State as model;
 ghost use Rattle.rc_model.specs.Run.Plans.{done_with};
 ghost use Rattle.rc_model.specs.Run.Shell.{Next};
 ghost use Rattle.rc_tree_types.specs.View.{cmd_tree};
-ghost use Rattle.rc_world.specs.Comes.{Does};
-ghost use Rattle.rc_world.specs.declared.types.Stop.TheVariants.{NoMemory};
+ghost use Rattle.rc_world.specs.Comes.{Comes, Does};
 ghost use Rattle.rc_builtin.specs.Starts.{started_of};
 ghost use Rattle.rc_scope.specs.States.{child_numbers, state_of};
-ghost use Rattle.rc_pipes.specs.Jobs.{arguments_of};
+ghost use Rattle.rc_pipes.specs.Jobs.{arguments_of, with_jobs};
 
 use crate::children::wait_child;
 use crate::launches::start_shell;
@@ -21,28 +20,18 @@ use rc_scope::State;
 use rc_text::number_of;
 use rc_tree_types::Cmd;
 use rc_world::{ChildNo, Handle, Mode, Slot, Slots, Stop, World, calls};
-use std::alloc::Global;
+use std::alloc::{AllocError, Global};
 
 /// A child that was started is kept among those in the background, and `$apid` is its number; else the
 /// status is why there is none.
-fn keep_child(alloc: Global, state: &mut State, started: Started) -> Result<(), Stop>
+fn keep_child(state: &mut State, started: Started) -> Result<(), AllocError>
     ensures ok { OnOk result
         (kept_child (started_of started) (state_of state.old) ≡ done_with (Next tt (state_of state.new))) }
-    ensures err { IfErr result (λ stop. stop ≡ NoMemory) }
+    ensures err { OnErr result (state_of state.new ≡ state_of state.old) }
 {
-    let child = match started {
-        Started::Child(child) => child,
-        Started::NoChild(why) => {
-            state.set_status(why)?;
-            return Ok(());
-        }
-    };
-    let mut value = Vec::new(alloc);
-    value.push(child.0.to_string(alloc)?)?;
-    state.add_child(child)?;
-    match state.set("apid", value) {
-        Ok(()) => Ok(()),
-        Err(_) => Err(Stop::NoMemory),
+    match started {
+        Started::Child(child) => state.add_child(child),
+        Started::NoChild(why) => state.set_status(why),
     }
 }
 
@@ -56,8 +45,9 @@ fn background_with<W: World>(
     file: Handle,
     body: &Cmd,
 ) -> Result<(), Stop>
-    ensures { Does W.events world.old world.new state_of state.old state.new
+    ensures does { Does W.events world.old world.new state_of state.old state.new
         (background_with slots (cmd_tree body.now) (Some file.0)) (λ x. x) result }
+    ensures err { OnErr result (state_of state.new ≡ state_of state.old) }
 {
     let inner = Slots {
         input: Slot::To(file),
@@ -65,7 +55,7 @@ fn background_with<W: World>(
     };
     let started = start_shell(alloc, world, state, inner, body)?;
     calls::close(world, file)?;
-    keep_child(alloc, state, started)?;
+    keep_child(state, started)?;
     Ok(())
 }
 
@@ -79,8 +69,9 @@ pub fn background<W: World>(
     slots: Slots,
     body: &Cmd,
 ) -> Result<(), Stop>
-    ensures { Does W.events world.old world.new state_of state.old state.new
+    ensures does { Does W.events world.old world.new state_of state.old state.new
         (background slots (cmd_tree body.now)) (λ x. x) result }
+    ensures err { OnErr result (state_of state.new ≡ state_of state.old) }
 {
     let Some(file) = calls::open(world, "/dev/null", Mode::Read)? else {
         state.set_status("cannot open")?;
@@ -89,35 +80,33 @@ pub fn background<W: World>(
     background_with(alloc, world, state, slots, file, body)
 }
 
-/// Waits for a child in the background, which is taken out of the list first: the status is how it ended.
+/// Waits for a child in the background, which is taken out of the list: the status is how it ended.
 fn wait_job<W: World>(
     alloc: Global,
     world: &mut W,
     state: &mut State,
     child: ChildNo,
 ) -> Result<(), Stop>
-    ensures { Does W.events world.old world.new state_of state.old state.new (wait_child child.0) (λ x. x) result }
+    ensures does { Does W.events world.old world.new state_of state.old state.new (wait_child child.0) (λ x. x) result }
+    ensures err { OnErr result (state_of state.new ≡ state_of state.old) }
 {
-    state.drop_child(child);
     let status = wait_child(alloc, world, child)?;
     state.set_status(&status)?;
+    state.drop_child(child);
     Ok(())
 }
 
-/// Waits for these children in their order.
-fn wait_all<W: World>(
-    alloc: Global,
-    world: &mut W,
-    state: &mut State,
-    children: &[ChildNo],
-) -> Result<(), Stop>
-    ensures { Does W.events world.old world.new state_of state.old state.new
-        (wait_all (child_numbers children.now)) (λ x. x) result }
+/// Waits for these children in their order: how the last of them ended, null where there is none.
+fn wait_all<W: World>(alloc: Global, world: &mut W, children: &[ChildNo]) -> Result<String, Stop>
+    ensures { (s : model.State) → let numbers = child_numbers children.now in
+        Comes (W.events world.old) (W.events world.new) (wait_all numbers (with_jobs s [] numbers))
+        (λ status. Next tt (with_jobs s (string_bytes status) [])) result }
 {
+    let mut status = String::new(alloc);
     for child in children {
-        wait_job(alloc, world, state, *child)?;
+        status = wait_child(alloc, world, *child)?;
     }
-    Ok(())
+    Ok(status)
 }
 
 /// Whether this child is one of those in the background.
@@ -134,8 +123,9 @@ fn wait_one<W: World>(
     state: &mut State,
     child: ChildNo,
 ) -> Result<(), Stop>
-    ensures { Does W.events world.old world.new state_of state.old state.new
+    ensures does { Does W.events world.old world.new state_of state.old state.new
         (wait_one child.0 (state_of state.old)) (λ x. x) result }
+    ensures err { OnErr result (state_of state.new ≡ state_of state.old) }
 {
     if is_in_background(state, child) {
         return wait_job(alloc, world, state, child);
@@ -146,11 +136,13 @@ fn wait_one<W: World>(
 
 /// Waits for all children in the background, in the order of their starts.
 fn wait_every<W: World>(alloc: Global, world: &mut W, state: &mut State) -> Result<(), Stop>
-    ensures { Does W.events world.old world.new state_of state.old state.new (wait_for []) (λ x. Finished) result }
+    ensures does { Does W.events world.old world.new state_of state.old state.new (wait_for []) (λ x. Finished) result }
+    ensures err { OnErr result (state_of state.new ≡ state_of state.old) }
 {
-    state.set_status("")?;
-    let children = Vec::from_slice(alloc, state.children())?;
-    wait_all(alloc, world, state, &children)
+    let status = wait_all(alloc, world, state.children())?;
+    state.set_status(&status)?;
+    state.clear_children();
+    Ok(())
 }
 
 /// Waits for the child of this number in the background, or for all of them. The status is how that child ended, or the
@@ -162,8 +154,9 @@ pub fn wait_for<W: World>(
     state: &mut State,
     number: Option<&str>,
 ) -> Result<(), Stop>
-    ensures { Does W.events world.old world.new state_of state.old state.new
+    ensures does { Does W.events world.old world.new state_of state.old state.new
         (wait_for (arguments_of number.entry)) (λ x. Finished) result }
+    ensures err { OnErr result (state_of state.new ≡ state_of state.old) }
 {
     let Some(text) = number else {
         return wait_every(alloc, world, state);

@@ -1,6 +1,6 @@
 //! Launches of shells, and subshells.
 
-ghost use Rattle.std.specs.Prelude.{◌≡◌, IfOk, option_map};
+ghost use Rattle.std.specs.Prelude.{◌≡◌, IfOk, OnErr, option_map};
 ghost use Rattle.rc_model.specs.Handed.Image.{shell_launch};
 ghost use Rattle.rc_model.specs.Run.Acts.{start_shell, subshell, wait_subshell};
 ghost use Rattle.rc_tree_types.specs.View.{cmd_tree};
@@ -66,8 +66,9 @@ fn wait_subshell<W: World>(
     state: &mut State,
     started: Started,
 ) -> Result<(), Stop>
-    ensures { Does W.events world.old world.new state_of state.old state.new
+    ensures does { Does W.events world.old world.new state_of state.old state.new
         (wait_subshell (started_of started)) (λ x. x) result }
+    ensures err { OnErr result (state_of state.new ≡ state_of state.old) }
 {
     let child = match started {
         Started::Child(child) => child,
@@ -90,8 +91,9 @@ pub fn subshell<W: World>(
     slots: Slots,
     body: &Cmd,
 ) -> Result<(), Stop>
-    ensures { Does W.events world.old world.new state_of state.old state.new
+    ensures does { Does W.events world.old world.new state_of state.old state.new
         (subshell slots (cmd_tree body.now)) (λ x. x) result }
+    ensures err { OnErr result (state_of state.new ≡ state_of state.old) }
 {
     let started = start_shell(alloc, world, state, slots, body)?;
     wait_subshell(alloc, world, state, started)

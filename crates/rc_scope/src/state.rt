@@ -2,6 +2,7 @@
 
 ghost use Rattle.std.specs.Prelude.{◌≡◌, ◌↔◌, ◌∷◌, [], IfOk, OnOk, OnErr, false, map};
 ghost use Rattle.std.specs.Prelude.{string_bytes, option_map, codes, drop};
+ghost use Rattle.std.specs.Fmt.{decimal};
 ghost use Rattle.std.specs.Option.{option_copied};
 ghost use Rattle.std.specs.Result.{IsErrOf};
 ghost use Rattle.rc_model.specs.Run.State.{new_state, value_of, set_value, with_status, with_flag, is_name};
@@ -299,13 +300,18 @@ impl State {
         self.background.as_slice()
     }
 
-    /// Adds a child that runs in the background. An `Err` changes nothing.
+    /// Adds a child that runs in the background, whose number becomes `$apid`. An `Err` changes nothing.
     #[tactic(auto, unfolding(crate::specs::States::state_of))]
     pub fn add_child(&mut self, child: ChildNo) -> Result<(), AllocError>
-        ensures ok { OnOk result (state_of self.new ≡ add_child (state_of self.old) child.0) }
+        ensures ok { OnOk result (state_of self.new
+            ≡ set_value (add_child (state_of self.old) child.0) (codes "apid") (decimal child.0 ∷ [])) }
         ensures err { OnErr result (state_of self.new ≡ state_of self.old) }
     {
-        self.background.push(child)?;
+        let alloc = *self.status.allocator();
+        let value = vec![in alloc; child.0.to_string(alloc)?]?;
+        self.background.reserve(1)?;
+        self.variables.set(alloc, "apid", value)?;
+        self.background.push_reserved(child);
         Ok(())
     }
 
@@ -318,5 +324,13 @@ impl State {
             return;
         };
         let _ = self.background.remove(place);
+    }
+
+    /// Takes out all children.
+    #[tactic(auto, unfolding(crate::specs::States::state_of))]
+    pub fn clear_children(&mut self)
+        ensures { state_of self.new ≡ record (state_of self.old) { background = [] } }
+    {
+        self.background.clear();
     }
 }

@@ -94,6 +94,7 @@ fn out_of_memory_adds_no_child(rt: HostRuntime) -> Result<(), Fail> {
     let added = state.add_child(ChildNo(7));
     let wanted = if added.is_ok() { 1 } else { 0 };
     assert_eq!(rt; state.children().len(), wanted);
+    assert_eq!(rt; state.value("apid").len(), wanted);
     added?;
     Ok(())
 }

@@ -30,3 +30,19 @@ fn out_of_memory_is_answered(rt: HostRuntime) -> Result<(), Fail> {
     granted(host.write(Slot::Own(1), b"text\n"))?;
     Ok(())
 }
+
+#[test]
+fn out_of_memory_starts_nothing(rt: HostRuntime) -> Result<(), Fail> {
+    let alloc = rt.alloc();
+    let mut host = host(rt)?;
+    let (reader, writer) = granted(host.pipe())?;
+    let mut child = launch(alloc, "/bin/echo", &["started"], &[], PLAIN_SLOTS)?;
+    child.slots.output = Slot::To(writer);
+    let started = host.start(&child);
+    granted(host.close(writer))?;
+    // What is in the pipe is what a child has written.
+    let wanted = if started.is_ok() { "started\n" } else { "" };
+    assert_eq!(rt; read_all(alloc, &mut host, reader)?.as_str(), wanted);
+    assert!(rt; granted(host.wait(granted(started)?))? == Ending::Code(0));
+    Ok(())
+}

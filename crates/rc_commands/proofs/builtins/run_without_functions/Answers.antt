@@ -10,8 +10,8 @@ run_builtin-requires g c =
     let builtin : builtin_named (string_bytes c.in-Some.name) ≡ Some c.in-Some-named.builtin = search rules in
     λ e. subst (λ ws. BeginsOther (map string_bytes ws)) c.in-Some.ensures.some c.past_builtins.ensures.other (builtin ∙ ap Some e)
 
-pub returns-in-Some-named : goal.returns-in-Some-named
-returns-in-Some-named g c =
+pub returns-in-Some-named-clause-runs : goal.returns-in-Some-named-clause-runs
+returns-in-Some-named-clause-runs g c =
     let s = state_of c.args.state.now in
     let slots = c.args.slots in
     let words = map string_bytes c.args.words.items in
@@ -23,8 +23,8 @@ returns-in-Some-named g c =
     (ap (λ m. m s) (unnamed_past slots words left name args _ (c.past_builtins.ensures.same slots) (ap (map string_bytes) c.in-Some.ensures.some) builtin))
     (c.run_builtin.ensures.runs (without_functions slots args))
 
-pub returns : goal.returns
-returns g c =
+pub returns-clause-runs : goal.returns-clause-runs
+returns-clause-runs g c =
     let s = state_of c.args.state.now in
     let slots = c.args.slots in
     let words = map string_bytes c.args.words.items in

@@ -16,16 +16,16 @@ no_texts : (ss : List (String Global)) → length ss ≡ 0 → map string_bytes 
 no_texts [] h = refl
 no_texts (s ∷ ss) h = absurd (omega (arith, h))
 
-pub returns-in_err-fault : goal.returns-in_err-fault
-returns-in_err-fault g c =
+pub returns-in_err-fault-clause-runs : goal.returns-in_err-fault-clause-runs
+returns-in_err-fault-clause-runs g c =
     let s = state_of c.args.state.now in
     let none : length c.args.words.items ≡ 0 = search rules in
     words_left _ _ _ _ c.from_residual.result c.in_err-fault.field-0.0 c.from_residual.ensures.1
     (left_as _ _ _ _ _ (ap (λ ws. run_words c.args.slots ws s) (no_texts c.args.words.items none))
     (left_under _ _ _ (fault c.args.slots (codes "empty argument list") s) (λ x. exits) leaves c.in_err-fault.ensures.does))
 
-pub returns-in_default : goal.returns-in_default
-returns-in_default g c =
+pub returns-in_default-clause-runs : goal.returns-in_default-clause-runs
+returns-in_default-clause-runs g c =
     let s = state_of c.args.state.now in
     let none : length c.args.words.items ≡ 0 = search rules in
     ran_as _ _ _ _ _ (ap (λ ws. run_words c.args.slots ws s) (no_texts c.args.words.items none))

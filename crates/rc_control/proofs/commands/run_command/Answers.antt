@@ -37,7 +37,7 @@ returns-in_err-run_words g c =
     step_left _ _ _ _ c.from_residual-in_err-run_words.result c.in_err-run_words.field-0.0 c.from_residual-in_err-run_words.ensures.1
     (left_as _ _ _ _ _ (runs_top (config_of m) m.words refl top rest c.in_ok-texts.ensures.below)
     (left_under _ _ _ (run_words m.redirs.slots (word_texts v) (state_of m.state)) (λ d s. enter (config_of m) rest d s) (unwind (config_of m).scopes)
-    (rw (texts, own) at c.in_err-run_words.ensures)))
+    (rw (texts, own) at c.in_err-run_words.ensures.runs)))
 
 pub returns-in-Finished : goal.returns-in-Finished
 returns-in-Finished g c =
@@ -50,7 +50,7 @@ returns-in-Finished g c =
     let own : c.slots.result ≡ m.redirs.slots = search rules in
     ran_as _ _ _ _ _ (runs_top (config_of m) m.words refl top rest c.in_ok-texts.ensures.below)
     (ran_next _ _ _ (run_words m.redirs.slots (word_texts v) (state_of m.state)) Finished (state_of c.run_words.new.state) (λ d s. enter (config_of m) rest d s) (unwind (config_of m).scopes) _
-    (rw (c.in-Finished.is, texts, own) at c.in_ok-run_words.ensures) (ran_none _ _))
+    (rw (c.in-Finished.is, texts, own) at c.in_ok-run_words.ensures.runs) (ran_none _ _))
 
 pub returns-in-Exit : goal.returns-in-Exit
 returns-in-Exit g c =
@@ -68,7 +68,7 @@ returns-in-Exit g c =
     steps_after before after (g.W.World.events c.unwind.new.world) (act (Some op.Run) (config_of m)) left (config_of c.unwind.new.self) c.unwind.result
     (ran_as before after _ _ _ (runs_top (config_of m) m.words refl top rest c.in_ok-texts.ensures.below)
     (ran_exit before after after (run_words m.redirs.slots (word_texts v) (state_of m.state)) t [] (λ d s. enter (config_of m) rest d s) (unwind (config_of m).scopes) (unwind (config_of m).scopes t [])
-    (rw (c.in-Exit.is, texts, own) at c.in_ok-run_words.ensures) (ran_none after left)))
+    (rw (c.in-Exit.is, texts, own) at c.in_ok-run_words.ensures.runs) (ran_none after left)))
     c.unwind.ensures
 
 pub returns-in_ok-enter-in-Body : goal.returns-in_ok-enter-in-Body
@@ -80,7 +80,7 @@ returns-in_ok-enter-in-Body g c =
     let top : top_of m.words ≡ Some v = top_is m.words c.top.result c.top.ensures there in
     let texts : map string_bytes c.in_ok-texts.texts.items ≡ word_texts v = search rules in
     let own : c.slots.result ≡ m.redirs.slots = search rules in
-    let f = rw (c.in-Body.is, texts, own) at c.in_ok-run_words.ensures in
+    let f = rw (c.in-Body.is, texts, own) at c.in_ok-run_words.ensures.runs in
     let t = state_of c.run_words.new.state in
     let d = record (config_of m) { words = rest; state = t } in
     let now : config_of c.enter.new.machine ≡ entered d false (code_of c.in-Body.body) = search rules in
@@ -100,7 +100,7 @@ returns-in_err-enter-in-Body g c =
     let top : top_of m.words ≡ Some v = top_is m.words c.top.result c.top.ensures there in
     let texts : map string_bytes c.in_ok-texts.texts.items ≡ word_texts v = search rules in
     let own : c.slots.result ≡ m.redirs.slots = search rules in
-    let f = rw (c.in-Body.is, texts, own) at c.in_ok-run_words.ensures in
+    let f = rw (c.in-Body.is, texts, own) at c.in_ok-run_words.ensures.runs in
     step_left _ _ _ _ c.from_residual-in_err-enter-in-Body.result NoMemory c.from_residual-in_err-enter-in-Body.ensures.1
     (for_memory _ (ran_as _ _ _ _ _ (runs_top (config_of m) m.words refl top rest c.in_ok-texts.ensures.below)
     (ran_next _ _ _ (run_words m.redirs.slots (word_texts v) (state_of m.state)) (Body f.0) (state_of c.run_words.new.state) (λ x s. enter (config_of m) rest x s)
@@ -115,7 +115,7 @@ returns-in_ok-call-in-Call g c =
     let top : top_of m.words ≡ Some v = top_is m.words c.top.result c.top.ensures there in
     let texts : map string_bytes c.in_ok-texts.texts.items ≡ word_texts v = search rules in
     let own : c.slots.result ≡ m.redirs.slots = search rules in
-    let f = rw (c.in-Call.is, texts, own) at c.in_ok-run_words.ensures in
+    let f = rw (c.in-Call.is, texts, own) at c.in_ok-run_words.ensures.runs in
     let t = state_of c.run_words.new.state in
     let args = map string_bytes c.in-Call.args.items in
     let d = record (config_of m) { words = rest; state = t } in
@@ -136,7 +136,7 @@ returns-in_err-call-in-Call g c =
     let top : top_of m.words ≡ Some v = top_is m.words c.top.result c.top.ensures there in
     let texts : map string_bytes c.in_ok-texts.texts.items ≡ word_texts v = search rules in
     let own : c.slots.result ≡ m.redirs.slots = search rules in
-    let f = rw (c.in-Call.is, texts, own) at c.in_ok-run_words.ensures in
+    let f = rw (c.in-Call.is, texts, own) at c.in_ok-run_words.ensures.runs in
     let args = map string_bytes c.in-Call.args.items in
     step_left _ _ _ _ c.from_residual-in_err-call-in-Call.result NoMemory c.from_residual-in_err-call-in-Call.ensures.1
     (for_memory _ (ran_as _ _ _ _ _ (runs_top (config_of m) m.words refl top rest c.in_ok-texts.ensures.below)

@@ -30,7 +30,7 @@ returns-in_err-end_stages g c =
     let all : c.deref.result.now ≡ children.items = c.deref.ensures.value in
     step_left _ _ _ _ c.from_residual-in_err-end_stages.result c.in_err-end_stages.field-0.0 c.from_residual-in_err-end_stages.ensures.1
     (left_waits _ _ (config_of m) (newest_file m.redirs.scopes) (child_numbers children.items) outer.slots (scopes_of c.close.new.self outer) (ap (λ ss. scopes_of ss m.redirs) is)
-    _ c.in_ok-pop.ensures.closed c.in_err-end_stages.field-0.0 (rw all at c.in_err-end_stages.ensures))
+    _ c.in_ok-pop.ensures.closed c.in_err-end_stages.field-0.0 (rw all at c.in_err-end_stages.ensures.does))
 
 pub returns : goal.returns
 returns g c =
@@ -44,4 +44,4 @@ returns g c =
     let now = λ (r : Redirections). record (next before before.words t) { scopes = scopes_of c.close.new.self r; slots = r.slots } in
     subst (λ (r : Redirections). Ran (g.W.World.events c.args.world.now) (g.W.World.events c.end_stages.new.world) (act (Some EndPipe) before) (done_with (On (now r)))) (sym c.in_ok-pop.ensures.ok)
     (ended_pipe _ _ before (newest_file m.redirs.scopes) (child_numbers children.items) outer.slots (scopes_of c.close.new.self outer) (ap (λ ss. scopes_of ss m.redirs) is)
-    _ c.in_ok-pop.ensures.closed t (rw all at c.in_ok-end_stages.ensures))
+    _ c.in_ok-pop.ensures.closed t (rw all at c.in_ok-end_stages.ensures.does))

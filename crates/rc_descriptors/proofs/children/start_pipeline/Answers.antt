@@ -32,7 +32,7 @@ returns-in_err-end_refused g c =
     let all : c.deref.result.now ≡ started.children.items = c.deref.ensures.value in
     step_left _ _ _ _ c.from_residual-in_err-end_refused.result c.in_err-end_refused.field-0.0 c.from_residual-in_err-end_refused.ensures.1
     (left_refused _ _ (config_of m) c.args.number c.args.end stages are started (rw own at c.in_ok-started.ensures) _ c.in-Some-refused.why.now because
-    c.in_err-end_refused.field-0.0 (rw all at c.in_err-end_refused.ensures))
+    c.in_err-end_refused.field-0.0 (rw all at c.in_err-end_refused.ensures.does))
 
 pub returns-in-Some-refused : goal.returns-in-Some-refused
 returns-in-Some-refused g c =
@@ -44,7 +44,7 @@ returns-in-Some-refused g c =
     let because : option_map (λ why. why.now) started.refused ≡ Some c.in-Some-refused.why.now = search rules in
     let all : c.deref.result.now ≡ started.children.items = c.deref.ensures.value in
     refused _ _ (config_of m) c.args.number c.args.end stages are started (rw own at c.in_ok-started.ensures) _ c.in-Some-refused.why.now because
-    (state_of c.end_refused.new.state) (rw all at c.in_ok-end_refused.ensures)
+    (state_of c.end_refused.new.state) (rw all at c.in_ok-end_refused.ensures.does)
 
 pub returns-in_err-begin_last : goal.returns-in_err-begin_last
 returns-in_err-begin_last g c =

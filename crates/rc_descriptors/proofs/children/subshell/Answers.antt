@@ -15,7 +15,7 @@ returns-in_err-subshell g c =
     let same : cmd_tree c.deref.result.now ≡ body = search rules in
     let own : c.slots-slots.result ≡ m.redirs.slots = search rules in
     step_left _ _ _ _ c.from_residual.result c.in_err-subshell.field-0.0 c.from_residual.ensures.1
-    (left_subshell _ _ (config_of m) c.args.number body tree c.in_err-subshell.field-0.0 (rw (own, same) at c.in_err-subshell.ensures))
+    (left_subshell _ _ (config_of m) c.args.number body tree c.in_err-subshell.field-0.0 (rw (own, same) at c.in_err-subshell.ensures.does))
 
 pub returns : goal.returns
 returns g c =
@@ -24,4 +24,4 @@ returns g c =
     let tree : tree_at (config_of m).code c.args.number ≡ Some body = search rules in
     let same : cmd_tree c.deref.result.now ≡ body = search rules in
     let own : c.slots-slots.result ≡ m.redirs.slots = search rules in
-    ran_subshell _ _ (config_of m) c.args.number body tree (state_of c.subshell.new.state) (rw (own, same) at c.in_ok-subshell.ensures)
+    ran_subshell _ _ (config_of m) c.args.number body tree (state_of c.subshell.new.state) (rw (own, same) at c.in_ok-subshell.ensures.does)

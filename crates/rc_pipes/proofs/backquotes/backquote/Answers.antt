@@ -9,31 +9,31 @@ use Rattle.rc_world.proofs.Shells.{comes_do, left_do}
 use Rattle.law_plans.proofs.Runs.{ran_none}
 use Rattle.rc_pipes.proofs.backquotes.backquote.Goals as goal
 
-pub returns-in_err-read_end : goal.returns-in_err-read_end
-returns-in_err-read_end g c =
+pub returns-in_err-read_end-clause-does : goal.returns-in_err-read_end-clause-does
+returns-in_err-read_end-clause-does g c =
     let body = cmd_tree c.args.body.now in
     let s = state_of c.args.state.now in
     passed_up _ _ _ _ c.from_residual.result c.in_err-read_end.field-0.0 c.from_residual.ensures.1
     (left_asked _ _ _ make_pipe as_pair (λ ends. back_pipe c.args.slots body ends s) c.in_err-read_end.ensures)
 
-pub returns-in_err-set_status : goal.returns-in_err-set_status
-returns-in_err-set_status g c =
+pub returns-in_err-set_status-clause-does : goal.returns-in_err-set_status-clause-does
+returns-in_err-set_status-clause-does g c =
     let body = cmd_tree c.args.body.now in
     let s = state_of c.args.state.now in
     passed_up _ _ _ _ c.from_residual-in_err-set_status.result NoMemory c.from_residual-in_err-set_status.ensures.1
     (left_answered _ _ _ _ make_pipe as_pair None (λ ends. back_pipe c.args.slots body ends s)
     (rw c.in_default.is at c.in_ok-read_end.ensures) (left_here _ _ _ _ (ran_none _ _)))
 
-pub returns-in_default : goal.returns-in_default
-returns-in_default g c =
+pub returns-in_default-clause-does : goal.returns-in_default-clause-does
+returns-in_default-clause-does g c =
     let body = cmd_tree c.args.body.now in
     let s = state_of c.args.state.now in
     rw (c.empty.ensures, c.in_ok-set_status.ensures.ok)
     (ran_answered _ _ _ make_pipe as_pair None (λ ends. back_pipe c.args.slots body ends s) _
     (rw c.in_default.is at c.in_ok-read_end.ensures) (ran_none _ _))
 
-pub returns-in_err-started : goal.returns-in_err-started
-returns-in_err-started g c =
+pub returns-in_err-started-clause-does : goal.returns-in_err-started-clause-does
+returns-in_err-started-clause-does g c =
     let body = cmd_tree c.args.body.now in
     let s = state_of c.args.state.now in
     let r = c.in-Some.read_end.0 in
@@ -43,8 +43,8 @@ returns-in_err-started g c =
     (rw c.in-Some.is at c.in_ok-read_end.ensures)
     (left_do {s = s} (start_shell (with_slot c.args.slots 1 (to_file w)) body) (λ child. back_child r w child) (c.in_err-started.ensures)))
 
-pub returns : goal.returns
-returns g c =
+pub returns-clause-does : goal.returns-clause-does
+returns-clause-does g c =
     let body = cmd_tree c.args.body.now in
     let s = state_of c.args.state.now in
     let r = c.in-Some.read_end.0 in
@@ -52,4 +52,4 @@ returns g c =
     comes_answered _ _ _ make_pipe as_pair (Some (r, w)) (λ ends. back_pipe c.args.slots body ends s) _ c.back_child.result
     (rw c.in-Some.is at c.in_ok-read_end.ensures)
     (comes_do {s = s} (start_shell (with_slot c.args.slots 1 (to_file w)) body) (λ child. back_child r w child) _ _ c.back_child.result
-    (c.in_ok-started.ensures) c.back_child.ensures)
+    (c.in_ok-started.ensures) c.back_child.ensures.does)

@@ -11,29 +11,29 @@ use Rattle.rc_pipes.proofs.children.end_refused.Goals as goal
 abbrev joined : List ℕ → List (List ℕ) → Shell StartedStages
 joined why statuses = set_status (stages_status (statuses ++ why ∷ [])) >> pure Refused
 
-pub returns-in_err-statuses : goal.returns-in_err-statuses
-returns-in_err-statuses g c =
+pub returns-in_err-statuses-clause-does : goal.returns-in_err-statuses-clause-does
+returns-in_err-statuses-clause-does g c =
     let s = state_of c.args.state.now in
     let numbers = child_numbers c.args.children.now in
     passed_up _ _ _ _ c.from_residual.result c.in_err-statuses.field-0.0 c.from_residual.ensures.1
     (left_do {s = s} (wait_each numbers) (joined c.args.why.now) (c.in_err-statuses.ensures s))
 
-pub returns-in_err-status : goal.returns-in_err-status
-returns-in_err-status g c =
+pub returns-in_err-status-clause-does : goal.returns-in_err-status-clause-does
+returns-in_err-status-clause-does g c =
     let s = state_of c.args.state.now in
     let numbers = child_numbers c.args.children.now in
     passed_up _ _ _ _ c.from_residual-in_err-status.result NoMemory c.from_residual-in_err-status.ensures.1
     (left_done {s = s} {t = s} (wait_each numbers) (joined c.args.why.now) (c.in_ok-statuses.ensures s) (left_here _ _ _ _ (ran_none _ _)))
 
-pub returns-in_err-set_status : goal.returns-in_err-set_status
-returns-in_err-set_status g c =
+pub returns-in_err-set_status-clause-does : goal.returns-in_err-set_status-clause-does
+returns-in_err-set_status-clause-does g c =
     let s = state_of c.args.state.now in
     let numbers = child_numbers c.args.children.now in
     passed_up _ _ _ _ c.from_residual-in_err-set_status.result NoMemory c.from_residual-in_err-set_status.ensures.1
     (left_done {s = s} {t = s} (wait_each numbers) (joined c.args.why.now) (c.in_ok-statuses.ensures s) (left_here _ _ _ _ (ran_none _ _)))
 
-pub returns : goal.returns
-returns g c =
+pub returns-clause-does : goal.returns-clause-does
+returns-clause-does g c =
     let s = state_of c.args.state.now in
     let numbers = child_numbers c.args.children.now in
     let text : c.deref-2.result.now ≡ stages_status (map string_bytes c.in_ok-statuses.statuses.items ++ c.args.why.now ∷ []) = search rules in

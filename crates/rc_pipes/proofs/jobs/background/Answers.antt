@@ -10,32 +10,32 @@ use Rattle.rc_world.proofs.Joins.{comes_answered, left_answered, left_asked, lef
 use Rattle.law_plans.proofs.Runs.{ran_none}
 use Rattle.rc_pipes.proofs.jobs.background.Goals as goal
 
-pub returns-in_err-file : goal.returns-in_err-file
-returns-in_err-file g c =
+pub returns-in_err-file-clause-does : goal.returns-in_err-file-clause-does
+returns-in_err-file-clause-does g c =
     let body = cmd_tree c.args.body.now in
     let s = state_of c.args.state.now in
     passed_up _ _ _ _ c.from_residual.result c.in_err-file.field-0.0 c.from_residual.ensures.1
     (left_asked _ _ _ (open_file (codes "/dev/null") Read) as_file (λ file. background_with c.args.slots body file s) c.in_err-file.ensures)
 
-pub returns-in_err-set_status : goal.returns-in_err-set_status
-returns-in_err-set_status g c =
+pub returns-in_err-set_status-clause-does : goal.returns-in_err-set_status-clause-does
+returns-in_err-set_status-clause-does g c =
     let body = cmd_tree c.args.body.now in
     let s = state_of c.args.state.now in
     passed_up _ _ _ _ c.from_residual-in_err-set_status.result NoMemory c.from_residual-in_err-set_status.ensures.1
     (left_answered _ _ _ _ (open_file (codes "/dev/null") Read) as_file None (λ file. background_with c.args.slots body file s)
     (rw c.in_default.is at c.in_ok-file.ensures) (left_here _ _ _ _ (ran_none _ _)))
 
-pub returns-in_default : goal.returns-in_default
-returns-in_default g c =
+pub returns-in_default-clause-does : goal.returns-in_default-clause-does
+returns-in_default-clause-does g c =
     let body = cmd_tree c.args.body.now in
     let s = state_of c.args.state.now in
     rw c.in_ok-set_status.ensures.ok
     (ran_answered _ _ _ (open_file (codes "/dev/null") Read) as_file None (λ file. background_with c.args.slots body file s) _
     (rw c.in_default.is at c.in_ok-file.ensures) (ran_none _ _))
 
-pub returns : goal.returns
-returns g c =
+pub returns-clause-does : goal.returns-clause-does
+returns-clause-does g c =
     let body = cmd_tree c.args.body.now in
     let s = state_of c.args.state.now in
     comes_answered _ _ _ (open_file (codes "/dev/null") Read) as_file (Some c.in-Some.file.0) (λ file. background_with c.args.slots body file s) _ c.background_with.result
-    (rw c.in-Some.is at c.in_ok-file.ensures) (c.background_with.ensures)
+    (rw c.in-Some.is at c.in_ok-file.ensures) (c.background_with.ensures.does)

@@ -1,20 +1,20 @@
-use Rattle.rc_scope.specs.States.{child_numbers, state_of}
+use Rattle.std.proofs.Common.{string_bytes}
 use Rattle.rc_world.proofs.Joins.{passed_up}
 use Rattle.rc_pipes.proofs.InOrder.{waited_more, left_waiting, waited_all}
 use Rattle.rc_pipes.proofs.jobs.wait_all.Goals as goal
 
-pub returns-in_err-wait_job : goal.returns-in_err-wait_job
-returns-in_err-wait_job g c =
-    passed_up _ _ _ _ c.from_residual.result c.in_err-wait_job.field-0.0 c.from_residual.ensures.1
-    (left_waiting (state_of c.args.state.now) (state_of c.loop-child.state) _ _ (child_numbers c.args.children.now) c.args.children.now c.loop-child.child-index
-    c.loop-child.invariant _ _ c.loop-child-test.true _ c.in_err-wait_job.ensures)
+pub returns-in_err-status : goal.returns-in_err-status
+returns-in_err-status g c = λ s.
+    passed_up _ _ _ _ c.from_residual.result c.in_err-status.field-0.0 c.from_residual.ensures.1
+    (left_waiting s _ _ c.args.children.now c.loop-child.child-index (string_bytes c.loop-child.status)
+    (c.loop-child.invariant s) _ _ c.loop-child-test.true _ c.in_err-status.ensures)
 
 pub loop-child-preserved : goal.loop-child-preserved
-loop-child-preserved g c =
-    waited_more (state_of c.args.state.now) (state_of c.loop-child.state) _ _ (child_numbers c.args.children.now) c.args.children.now c.loop-child.child-index
-    c.loop-child.invariant _ _ c.loop-child-test.true _ c.in_ok-wait_job.ensures
+loop-child-preserved g c = λ s.
+    waited_more s _ _ c.args.children.now c.loop-child.child-index (string_bytes c.loop-child.status)
+    (c.loop-child.invariant s) _ _ c.loop-child-test.true _ c.in_ok-status.ensures
 
 pub returns : goal.returns
-returns g c =
-    waited_all (state_of c.args.state.now) (state_of c.loop-child.state) _ _ (child_numbers c.args.children.now) c.args.children.now c.loop-child.child-index
-    c.loop-child.invariant c.loop-child-test.false
+returns g c = λ s.
+    waited_all s _ _ c.args.children.now c.loop-child.child-index (string_bytes c.loop-child.status)
+    (c.loop-child.invariant s) c.loop-child-test.false

@@ -8,21 +8,21 @@ use Rattle.rc_world.proofs.Shells.{left_do, ran_do}
 use Rattle.law_plans.proofs.Runs.{ran_none}
 use Rattle.rc_pipes.proofs.jobs.wait_job.Goals as goal
 
-pub returns-in_err-status : goal.returns-in_err-status
-returns-in_err-status g c =
+pub returns-in_err-status-clause-does : goal.returns-in_err-status-clause-does
+returns-in_err-status-clause-does g c =
     let s = drop_child (state_of c.args.state.now) c.args.child.0 in
     passed_up _ _ _ _ c.from_residual.result c.in_err-status.field-0.0 c.from_residual.ensures.1
     (left_do {s = s} (waited c.args.child.0) (λ status. set_status status) (c.in_err-status.ensures s))
 
-pub returns-in_err-set_status : goal.returns-in_err-set_status
-returns-in_err-set_status g c =
+pub returns-in_err-set_status-clause-does : goal.returns-in_err-set_status-clause-does
+returns-in_err-set_status-clause-does g c =
     let s = drop_child (state_of c.args.state.now) c.args.child.0 in
     passed_up _ _ _ _ c.from_residual-in_err-set_status.result NoMemory c.from_residual-in_err-set_status.ensures.1
     (left_here _ _ _ _ (ran_do {s = s} {t = s} (waited c.args.child.0) (λ status. set_status status) (c.in_ok-status.ensures s) (ran_none _ _)))
 
-pub returns : goal.returns
-returns g c =
+pub returns-clause-does : goal.returns-clause-does
+returns-clause-does g c =
     let s = drop_child (state_of c.args.state.now) c.args.child.0 in
     let text : c.deref.result.now ≡ string_bytes c.in_ok-status.status = search rules in
-    rw (c.in_ok-set_status.ensures.ok, c.drop_child.ensures, text)
+    rw (c.drop_child.ensures, c.in_ok-set_status.ensures.ok, text)
     (ran_do {s = s} {t = s} (waited c.args.child.0) (λ status. set_status status) (c.in_ok-status.ensures s) (ran_none _ _))

@@ -1,16 +1,15 @@
-//! What an error of the system is to a shell.
+//! What an error of the system is to a world.
 ghost use Rattle.std.specs.Prelude.{◌≡◌, ◌≢◌};
-ghost use Rattle.std.specs.IoError.{error_kind, raw_os_error};
 ghost use Rattle.rc_model.specs.declared.call.Fault.TheVariants.{Halt};
-ghost use Rattle.rc_host.specs.Faults.{fault_of as meant};
+ghost use Rattle.rc_world.specs.Faults.{fault_at};
 
-use rc_world::Fault;
+use rc_model::Fault;
 use std::io;
 use std::io::ErrorKind;
 
 /// The fault that an error of the system stands for.
 pub fn fault_of(error: &io::Error) -> Fault
-    ensures meant { result ≡ meant (error_kind error.now) (raw_os_error error.now) }
+    ensures meant { result ≡ fault_at error.now }
     ensures answered { result ≢ Halt }
 {
     match error.kind() {

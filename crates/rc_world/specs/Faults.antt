@@ -1,5 +1,7 @@
--- What an error of the system is to a shell.
+-- What an error of the system is to a world.
+use Rattle.std.specs.IoError.{error_kind, raw_os_error}
 use Rattle.std.specs.Prelude.{ℤ, Option, None}
+use Rattle.std.specs.declared.io.Error.{Error}
 use Rattle.std.specs.declared.io.ErrorKind.{ErrorKind}
 use Rattle.std.specs.declared.io.ErrorKind.TheVariants as kind
 use Rattle.rc_model.specs.declared.call.Fault.{Fault}
@@ -14,3 +16,7 @@ fault_of kind.BrokenPipe number = Broken
 fault_of kind.StorageFull number = Full
 fault_of kind.OutOfMemory None = NoMemory
 fault_of _ number = Other
+
+-- the fault that an error stands for
+abbrev pub fault_at : Error → Fault
+fault_at error = fault_of (error_kind error) (raw_os_error error)
