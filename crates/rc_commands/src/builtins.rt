@@ -74,7 +74,7 @@ fn wait<W: World>(
     }
 }
 
-/// Runs a built-in command other than `builtin`.
+/// Runs a built-in command other than `builtin`. An `Err` leaves the state as it was.
 #[tactic(auto, using(crate::proofs::Left::words_refused))]
 fn run_builtin<W: World>(
     alloc: Global,

@@ -15,7 +15,7 @@ use std::process::{Child, ExitStatus};
 /// The bits of a file's mode by which its owner, its group or all others may execute it.
 const EXECUTE: u32 = 0o111;
 
-/// Waits until the child has ended, and says how it did.
+/// Waits until the child has ended, and says how it did. A child whose ending is known ends as it did.
 pub fn end_of(child: &mut Child) -> Result<Ending, Fault>
     ensures recorded { IfOk result (λ ending.
         IsSomeAnd (child_status child.new) (λ status. ending ≡ ending_of status)) }

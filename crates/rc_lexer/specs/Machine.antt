@@ -125,7 +125,7 @@ TakesStep script end old new (Ok s) x =
 TakesStep script end old new (Err (Fault f)) x = x ≡ Err f
 TakesStep script end old new (Err NoMemory) x = Unit {0}
 
--- the lexer does what the machine does with its pending here documents and the current character
+-- the lexer takes this step of the machine, given its own pending here documents and the current character
 abbrev pub Takes : List ℕ → CurrentChar → Lexer → Lexer → Result State ScriptError →
     (List model.PendingHereDoc → Place → ℕ → Class → Step) → Type 0
 Takes script current old new result step =
