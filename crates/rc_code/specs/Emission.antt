@@ -3,8 +3,7 @@ use Rattle.std.specs.Prelude.{ℕ, Bool, true, false, codes}
 use Rattle.rc_model.specs.Syntax.Tree.{Node, Many, cmd, arg, pair, redir, branch, Pair, Branch, none, more}
 use Rattle.rc_model.specs.Syntax.Tree.{has_no_items}
 use Rattle.rc_model.specs.Syntax.Tree as tree
-use Rattle.rc_model.specs.Code.Layout.{Nil, Word, Value, Glob, For, Next, Open, Copy, Here, Jump, IfFalse, Case}
-use Rattle.rc_model.specs.Code.Layout.{If, WasTrue, Stages, EndPipe, Subject}
+use Rattle.rc_model.specs.Code.Layout.{Nil, Word, Value, Glob, For, Next, Open, Copy, Here, Jump, Case, Subject}
 use Rattle.rc_model.specs.Code.Layout.{KeptPieces, Part, Nothing, Do, Keep, Past, Loop, ◌⨾◌}
 use Rattle.rc_model.specs.Code.Layout.{assign_by, condition_code, cmd_code, arg_code, args_code}
 
@@ -27,18 +26,6 @@ turns_code body = Do For ⨾ Loop Nothing Next body
 -- the condition of a `while`
 abbrev pub test_code : (test : Node cmd) → Part
 test_code test = condition_code (has_no_items test) (cmd_code test true)
-
--- the body of a `while`, which goes back to the condition
-abbrev pub repeat_code : (start : ℕ) → (body : Part) → Part
-repeat_code start body = Past IfFalse (body ⨾ Do (Jump start))
-
--- the body of an `if`
-abbrev pub body_code : (body : Part) → Part
-body_code body = Past If (body ⨾ Do WasTrue)
-
--- the last stage of a pipeline, after the start of the others
-abbrev pub last_stage_code : (stages : ℕ) → (last : Part) → Part
-last_stage_code stages last = Past (Stages stages) (last ⨾ Do EndPipe)
 
 -- the word of a `switch` or a match
 abbrev pub subject_code : Node arg → Part

@@ -1,12 +1,13 @@
 //! The code of commands.
 
 ghost use Rattle.std.specs.Prelude.{◌≡◌, ◌+◌, IfOk, OnOk, length};
-ghost use Rattle.rc_model.specs.Code.Layout.{Past, IfNot, cmd_code, items_code, links_code, branches_code};
-ghost use Rattle.rc_tree_types.specs.View.{cmd_tree, items_tree, links_tree, branch_tree, branches_tree};
+ghost use Rattle.rc_model.specs.Syntax.Tree as tree;
+ghost use Rattle.rc_model.specs.Code.Layout.{Past, IfNot, cmd_code, items_code, branches_code};
+ghost use Rattle.rc_tree_types.specs.View.{cmd_tree, arg_tree, pairs_tree, redirs_tree, items_tree};
+ghost use Rattle.rc_tree_types.specs.View.{stages_tree, links_tree, branch_tree, branches_tree};
 ghost use Rattle.rc_listing.specs.Views.{listing_of};
 ghost use Rattle.rc_listing.specs.Writing.{Writes};
-ghost use Rattle.rc_code.specs.Emission.{last_stage_code, body_code, test_code, repeat_code, turns_code};
-ghost use Rattle.rc_code.specs.Emission.{branch_to};
+ghost use Rattle.rc_code.specs.Emission.{test_code, turns_code, branch_to};
 
 use crate::args::emit_list;
 use crate::forms::{guards, has_no_items, skip};
@@ -16,7 +17,7 @@ use crate::plain::{
 };
 use rc_form::is_empty;
 use rc_listing::{Listing, Op, kept_stages, kept_tree};
-use rc_tree::{Branch, Cmd, Item, Logic};
+use rc_tree::{Arg, Branch, Cmd, Item, Logic, Redir, Stage};
 use std::alloc::{AllocError, Global};
 
 #[cycle(emit)]
@@ -33,40 +34,18 @@ pub fn emit_cmd(
         Cmd::Empty => Ok(()),
         Cmd::Seq(items) => emit_items(alloc, code, items, guarded),
         Cmd::Simple(words) => emit_simple(alloc, code, words, guarded),
-        Cmd::Assign(pairs, body) => {
-            let bare = is_empty(body);
-            emit_pairs(alloc, code, pairs, bare)?;
-            emit_cmd(alloc, code, body, guarded)?;
-            emit_unlocal(code, bare, pairs.len())
-        }
-        Cmd::Redirect(redirs, body) => {
-            emit_redirs(alloc, code, redirs)?;
-            emit_cmd(alloc, code, body, guarded)?;
-            code.put(Op::Unredir(redirs.len()))
-        }
-        Cmd::Pipeline(stages, last) => {
-            let number = code.keep(kept_stages(alloc, stages)?)?;
-            emit_last_stage(alloc, code, number, last, guarded)
-        }
-        Cmd::AndOr(first, links) => {
-            emit_cmd(alloc, code, first, guards(links, guarded))?;
-            emit_links(alloc, code, links, guarded)
-        }
+        Cmd::Assign(pairs, body) => emit_assign(alloc, code, pairs, body, guarded),
+        Cmd::Redirect(redirs, body) => emit_redirect(alloc, code, redirs, body, guarded),
+        Cmd::Pipeline(stages, last) => emit_pipeline(alloc, code, stages, last, guarded),
+        Cmd::AndOr(first, links) => emit_and_or(alloc, code, first, links, guarded),
         Cmd::Not(body) => {
             emit_cmd(alloc, code, body, true)?;
             code.put(Op::Invert)
         }
         Cmd::Subshell(body) => emit_subshell(alloc, code, body),
-        Cmd::If(condition, body) => {
-            emit_cmd(alloc, code, condition, true)?;
-            emit_if_body(alloc, code, body, guarded)
-        }
+        Cmd::If(condition, body) => emit_if(alloc, code, condition, body, guarded),
         Cmd::IfNot(body) => emit_if_not(alloc, code, body, guarded),
-        Cmd::While(condition, body) => {
-            let start = code.end();
-            emit_condition(alloc, code, condition)?;
-            emit_while_body(alloc, code, start, body, guarded)
-        }
+        Cmd::While(condition, body) => emit_while(alloc, code, condition, body, guarded),
         Cmd::ForAll(name, body) => {
             emit_star(alloc, code, name)?;
             emit_turns(alloc, code, body, guarded)
@@ -75,16 +54,47 @@ pub fn emit_cmd(
             emit_members(alloc, code, words, name)?;
             emit_turns(alloc, code, body, guarded)
         }
-        Cmd::Switch(subject, branches) => {
-            emit_subject(alloc, code, subject)?;
-            emit_branches(alloc, code, branches, guarded)?;
-            code.put(Op::Drop)
-        }
+        Cmd::Switch(subject, branches) => emit_switch(alloc, code, subject, branches, guarded),
         Cmd::Match(subject, patterns) => emit_match(alloc, code, subject, patterns),
         Cmd::Define(names, body) => emit_define(alloc, code, names, body),
         Cmd::Undefine(names) => emit_undefine(alloc, code, names),
         Cmd::Brace(body) => emit_cmd(alloc, code, body, guarded),
     }
+}
+
+#[cycle(emit)]
+#[tactic(auto, using(crate::proofs::Parts::emitting))]
+fn emit_assign(
+    alloc: Global,
+    code: &mut Listing,
+    pairs: &[(Arg, Arg)],
+    body: &Cmd,
+    guarded: bool,
+) -> Result<(), AllocError>
+    ensures { OnOk result (Writes code.old code.new
+        (cmd_code (tree.Assign (pairs_tree pairs.now) (cmd_tree body.now)) guarded)) }
+{
+    let bare = is_empty(body);
+    emit_pairs(alloc, code, pairs, bare)?;
+    emit_cmd(alloc, code, body, guarded)?;
+    emit_unlocal(code, bare, pairs.len())
+}
+
+#[cycle(emit)]
+#[tactic(auto, using(crate::proofs::Parts::emitting))]
+fn emit_redirect(
+    alloc: Global,
+    code: &mut Listing,
+    redirs: &[Redir],
+    body: &Cmd,
+    guarded: bool,
+) -> Result<(), AllocError>
+    ensures { OnOk result (Writes code.old code.new
+        (cmd_code (tree.Redirect (redirs_tree redirs.now) (cmd_tree body.now)) guarded)) }
+{
+    emit_redirs(alloc, code, redirs)?;
+    emit_cmd(alloc, code, body, guarded)?;
+    code.put(Op::Unredir(redirs.len()))
 }
 
 /// Items in the background are kept.
@@ -109,18 +119,20 @@ fn emit_items(
     Ok(())
 }
 
-/// The start of the stages of this number, and the last stage.
+/// The start of the stages before the last one, which are kept, and then the last one.
 #[cycle(emit)]
 #[tactic(auto, using(crate::proofs::Parts::emitting))]
-fn emit_last_stage(
+fn emit_pipeline(
     alloc: Global,
     code: &mut Listing,
-    stages: usize,
+    stages: &[Stage],
     last: &Cmd,
     guarded: bool,
 ) -> Result<(), AllocError>
-    ensures { OnOk result (Writes code.old code.new (last_stage_code stages (cmd_code (cmd_tree last.now) guarded))) }
+    ensures { OnOk result (Writes code.old code.new
+        (cmd_code (tree.Pipeline (stages_tree stages.now) (cmd_tree last.now)) guarded)) }
 {
+    let stages = code.keep(kept_stages(alloc, stages)?)?;
     let start = code.put_later()?;
     emit_cmd(alloc, code, last, guarded)?;
     code.put(Op::EndPipe)?;
@@ -129,17 +141,20 @@ fn emit_last_stage(
     Ok(())
 }
 
-/// What `&&` and `||` skip.
+/// The first command, and what each `&&` and `||` skips.
 #[cycle(emit)]
 #[tactic(auto, using(crate::proofs::Parts::emitting))]
-fn emit_links(
+fn emit_and_or(
     alloc: Global,
     code: &mut Listing,
+    first: &Cmd,
     links: &[(Logic, Cmd)],
     guarded: bool,
 ) -> Result<(), AllocError>
-    ensures { OnOk result (Writes code.old code.new (links_code (links_tree links.now) guarded)) }
+    ensures { OnOk result (Writes code.old code.new
+        (cmd_code (tree.AndOr (cmd_tree first.now) (links_tree links.now)) guarded)) }
 {
+    emit_cmd(alloc, code, first, guards(links, guarded))?;
     for (index, link) in links.iter().enumerate() {
         let place = code.put_later()?;
         emit_cmd(alloc, code, &link.1, guards(&links[index + 1..], guarded))?;
@@ -151,14 +166,17 @@ fn emit_links(
 
 #[cycle(emit)]
 #[tactic(auto, using(crate::proofs::Parts::emitting))]
-fn emit_if_body(
+fn emit_if(
     alloc: Global,
     code: &mut Listing,
+    condition: &Cmd,
     body: &Cmd,
     guarded: bool,
 ) -> Result<(), AllocError>
-    ensures { OnOk result (Writes code.old code.new (body_code (cmd_code (cmd_tree body.now) guarded))) }
+    ensures { OnOk result (Writes code.old code.new
+        (cmd_code (tree.If (cmd_tree condition.now) (cmd_tree body.now)) guarded)) }
 {
+    emit_cmd(alloc, code, condition, true)?;
     let place = code.put_later()?;
     emit_cmd(alloc, code, body, guarded)?;
     code.put(Op::WasTrue)?;
@@ -196,18 +214,20 @@ fn emit_condition(alloc: Global, code: &mut Listing, condition: &Cmd) -> Result<
     }
 }
 
-/// The body of a `while` whose condition starts at a place.
 #[cycle(emit)]
 #[tactic(auto, using(crate::proofs::Parts::emitting))]
-fn emit_while_body(
+fn emit_while(
     alloc: Global,
     code: &mut Listing,
-    start: usize,
+    condition: &Cmd,
     body: &Cmd,
     guarded: bool,
 ) -> Result<(), AllocError>
-    ensures { OnOk result (Writes code.old code.new (repeat_code start (cmd_code (cmd_tree body.now) guarded))) }
+    ensures { OnOk result (Writes code.old code.new
+        (cmd_code (tree.While (cmd_tree condition.now) (cmd_tree body.now)) guarded)) }
 {
+    let start = code.end();
+    emit_condition(alloc, code, condition)?;
     let place = code.put_later()?;
     emit_cmd(alloc, code, body, guarded)?;
     code.put(Op::Jump(start))?;
@@ -234,6 +254,23 @@ fn emit_turns(
     let end = code.end();
     code.patch(turn, Op::Next(end));
     Ok(())
+}
+
+#[cycle(emit)]
+#[tactic(auto, using(crate::proofs::Parts::emitting))]
+fn emit_switch(
+    alloc: Global,
+    code: &mut Listing,
+    subject: &Arg,
+    branches: &[Branch],
+    guarded: bool,
+) -> Result<(), AllocError>
+    ensures { OnOk result (Writes code.old code.new
+        (cmd_code (tree.Switch (arg_tree subject.now) (branches_tree branches.now)) guarded)) }
+{
+    emit_subject(alloc, code, subject)?;
+    emit_branches(alloc, code, branches, guarded)?;
+    code.put(Op::Drop)
 }
 
 #[cycle(emit)]

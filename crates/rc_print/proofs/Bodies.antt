@@ -5,7 +5,6 @@ use Rattle.std.proofs.Common.{◌≡◌, refl, sym, ◌∙◌, ℕ, false, List,
 use Rattle.rc_model.specs.Syntax.Printing.{body_lines, Line}
 use Rattle.rc_tree_types.specs.declared.Cmd.{Cmd}
 use Rattle.rc_tree_types.specs.declared.Cmd.TheVariants as c
-use Rattle.rc_tree_types.specs.declared.Arg.TheVariants as a
 use Rattle.rc_tree_types.specs.declared.Item.{Item}
 use Rattle.rc_tree_types.specs.View.{cmd_tree}
 use Rattle.rc_tree_types.specs.declared.Arg.TheBlock as rows

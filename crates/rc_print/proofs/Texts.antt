@@ -103,6 +103,12 @@ pub cmd_text_For : (name : Node t.arg) (words : Many t.arg) (body : Node t.cmd) 
 unfolding cmd_text
 cmd_text_For name words body begins = rw led-joined refl
 
+-- whatever is said of what begins with it
+pub cmd_text_For_begins : (name : Node t.arg) (words : Many t.arg) (body : Node t.cmd) (begins : Bool) →
+    cmd_text (t.For name words body) begins ≡ cmd_text (t.For name words body) false
+unfolding cmd_text
+cmd_text_For_begins name words body begins = refl
+
 pub cmd_text_Switch : (subject : Node t.arg) (branches : Many t.branch) (begins : Bool) → cmd_text (t.Switch subject branches) begins ≡
     codes "switch " ++ (arg_text subject ++ (codes " {" ++ (lines_after [] (branch_lines branches) ++ codes "}")))
 unfolding cmd_text

@@ -1,8 +1,8 @@
-//! A tree as text.
+//! What is written for each form of a tree.
 
-ghost use Rattle.std.specs.Prelude.{◌≡◌, ◌++◌, [], OnOk, IfOk, IsErrOf, true, false, string_bytes, codes};
-ghost use Rattle.rc_model.specs.Syntax.Printing.{printed, has_here, cmd_text, arg_text, redir_text, arg_texts};
-ghost use Rattle.rc_model.specs.Syntax.Printing.{pair_texts, redir_texts};
+ghost use Rattle.std.specs.Prelude.{◌≡◌, ◌++◌, [], OnOk, IfOk, true, false, string_bytes, codes};
+ghost use Rattle.rc_model.specs.Syntax.Tree as t;
+ghost use Rattle.rc_model.specs.Syntax.Printing.{cmd_text, arg_text, redir_text, arg_texts, pair_texts, redir_texts};
 ghost use Rattle.rc_model.specs.Syntax.Printing.{stages_text, links_text, item_lines, branch_lines, branch_items};
 ghost use Rattle.rc_model.specs.Syntax.Printing.{body_lines};
 ghost use Rattle.rc_print.specs.Lines.{led, trailed, lines_after, parting_after};
@@ -10,40 +10,15 @@ ghost use Rattle.rc_tree_types.specs.View.{cmd_tree, arg_tree, redir_tree};
 ghost use Rattle.rc_tree_types.specs.View.{args_tree, items_tree, pairs_tree, redirs_tree, stages_tree, links_tree};
 ghost use Rattle.rc_tree_types.specs.View.{branches_tree};
 
-use rc_form::{
-    bar, copying, has_here, is_empty, opening, print_literal, separator, sign, stands_first,
-};
-use rc_model::{InputError, Logic};
+use rc_form::{bar, copying, is_empty, opening, print_literal, separator, sign, stands_first};
+use rc_model::Logic;
 use rc_tree_types::{Arg, Branch, Cmd, Item, Redir, Stage};
 use std::alloc::{AllocError, Global};
-use thiserror::Error;
-
-/// Why a tree has no text.
-#[derive(Clone, Copy, Debug, Error)]
-pub enum PrintFault {
-    #[error("a here document is inside")]
-    HereInside,
-}
-
-/// The text of the tree. What is read back from it is the tree, if that was read from a script and the text is
-/// no longer than a script may be.
-pub fn print(alloc: Global, cmd: &Cmd) -> Result<String, InputError<PrintFault>>
-    ensures text { IfOk result (λ text. string_bytes text ≡ printed (cmd_tree cmd.now)) }
-    ensures without { OnOk result (has_here (cmd_tree cmd.now) ≡ false) }
-    ensures inside { IsErrOf result (InputError.Fault PrintFault.HereInside) → has_here (cmd_tree cmd.now) ≡ true }
-{
-    if has_here(cmd) {
-        return Err(InputError::Fault(PrintFault::HereInside));
-    }
-    let mut out = String::new(alloc);
-    print_cmd(&mut out, cmd, false)?;
-    Ok(out)
-}
 
 /// Writes a command. `begins` says that an item of a branch begins with it.
 #[cycle(print)]
 #[tactic(auto, using(crate::proofs::Texts::writing))]
-fn print_cmd(out: &mut String, cmd: &Cmd, begins: bool) -> Result<(), AllocError>
+pub(crate) fn print_cmd(out: &mut String, cmd: &Cmd, begins: bool) -> Result<(), AllocError>
     ensures { OnOk result (string_bytes out.new ≡ string_bytes out.old ++ cmd_text (cmd_tree cmd.now) begins) }
 {
     match cmd {
@@ -61,67 +36,138 @@ fn print_cmd(out: &mut String, cmd: &Cmd, begins: bool) -> Result<(), AllocError
                 print_after(out, " ", body)
             }
         }
-        Cmd::Redirect(redirs, body) => {
-            if is_empty(body) {
-                print_redirs(out, redirs, "")
-            } else if stands_first(body, begins) {
-                print_cmd(out, body, false)?;
-                print_redirs(out, redirs, " ")
-            } else {
-                print_redirs_before(out, redirs)?;
-                print_cmd(out, body, false)
-            }
-        }
-        Cmd::Pipeline(stages, last) => {
-            print_stages(out, stages, begins)?;
-            print_cmd(out, last, false)
-        }
-        Cmd::AndOr(first, links) => {
-            print_cmd(out, first, begins)?;
-            print_links(out, links)
-        }
+        Cmd::Redirect(redirs, body) => print_redirect(out, redirs, body, begins),
+        Cmd::Pipeline(stages, last) => print_pipeline(out, stages, last, begins),
+        Cmd::AndOr(first, links) => print_and_or(out, first, links, begins),
         Cmd::Not(body) => print_after(out, "! ", body),
         Cmd::Subshell(body) => print_after(out, "@ ", body),
-        Cmd::If(condition, body) => {
-            print_after(out, "if(", condition)?;
-            print_after(out, ") ", body)
-        }
+        Cmd::If(condition, body) => print_conditional(out, "if(", condition, body),
         Cmd::IfNot(body) => print_after(out, "if not ", body),
-        Cmd::While(condition, body) => {
-            print_after(out, "while(", condition)?;
-            print_after(out, ") ", body)
-        }
+        Cmd::While(condition, body) => print_conditional(out, "while(", condition, body),
         Cmd::ForAll(name, body) => {
             print_arg_after(out, "for(", name)?;
             print_after(out, ") ", body)
         }
-        Cmd::For(name, words, body) => {
-            print_arg_after(out, "for(", name)?;
-            out.push_str(" in ")?;
-            print_args(out, words, "", " ")?;
-            print_after(out, ") ", body)
-        }
-        Cmd::Switch(subject, branches) => {
-            print_arg_after(out, "switch ", subject)?;
-            out.push_str(" {")?;
-            print_branches(out, branches)?;
-            out.push_str("}")
-        }
-        Cmd::Match(subject, patterns) => {
-            print_arg_after(out, "~ ", subject)?;
-            print_args(out, patterns, " ", " ")
-        }
+        Cmd::For(name, words, body) => print_for(out, name, words, body),
+        Cmd::Switch(subject, branches) => print_switch(out, subject, branches),
+        Cmd::Match(subject, patterns) => print_match(out, subject, patterns),
         Cmd::Define(names, body) => {
-            out.push_str("fn ")?;
-            print_args(out, names, "", " ")?;
+            print_words_after(out, "fn ", names)?;
             print_braced(out, " {", body)
         }
-        Cmd::Undefine(names) => {
-            out.push_str("fn ")?;
-            print_args(out, names, "", " ")
-        }
+        Cmd::Undefine(names) => print_words_after(out, "fn ", names),
         Cmd::Brace(body) => print_braced(out, "{", body),
     }
+}
+
+/// Writes redirections and their command, whichever stands first.
+#[cycle(print)]
+#[tactic(auto, using(crate::proofs::Texts::writing))]
+fn print_redirect(
+    out: &mut String,
+    redirs: &[Redir],
+    body: &Cmd,
+    begins: bool,
+) -> Result<(), AllocError>
+    ensures { OnOk result (string_bytes out.new
+        ≡ string_bytes out.old ++ cmd_text (t.Redirect (redirs_tree redirs.now) (cmd_tree body.now)) begins) }
+{
+    if is_empty(body) {
+        print_redirs(out, redirs, "")
+    } else if stands_first(body, begins) {
+        print_cmd(out, body, false)?;
+        print_redirs(out, redirs, " ")
+    } else {
+        print_redirs_before(out, redirs)?;
+        print_cmd(out, body, false)
+    }
+}
+
+#[cycle(print)]
+#[tactic(auto, using(crate::proofs::Texts::writing))]
+fn print_pipeline(
+    out: &mut String,
+    stages: &[Stage],
+    last: &Cmd,
+    begins: bool,
+) -> Result<(), AllocError>
+    ensures { OnOk result (string_bytes out.new
+        ≡ string_bytes out.old ++ cmd_text (t.Pipeline (stages_tree stages.now) (cmd_tree last.now)) begins) }
+{
+    print_stages(out, stages, begins)?;
+    print_cmd(out, last, false)
+}
+
+#[cycle(print)]
+#[tactic(auto, using(crate::proofs::Texts::writing))]
+fn print_and_or(
+    out: &mut String,
+    first: &Cmd,
+    links: &[(Logic, Cmd)],
+    begins: bool,
+) -> Result<(), AllocError>
+    ensures { OnOk result (string_bytes out.new
+        ≡ string_bytes out.old ++ cmd_text (t.AndOr (cmd_tree first.now) (links_tree links.now)) begins) }
+{
+    print_cmd(out, first, begins)?;
+    print_links(out, links)
+}
+
+/// Writes `opening`, which ends in a parenthesis, a condition, and what it governs.
+#[cycle(print)]
+fn print_conditional(
+    out: &mut String,
+    opening: &str,
+    condition: &Cmd,
+    body: &Cmd,
+) -> Result<(), AllocError>
+    ensures { OnOk result (string_bytes out.new ≡ string_bytes out.old ++ (opening.now
+        ++ (cmd_text (cmd_tree condition.now) false ++ (codes ") " ++ cmd_text (cmd_tree body.now) false)))) }
+{
+    print_after(out, opening, condition)?;
+    print_after(out, ") ", body)
+}
+
+#[cycle(print)]
+#[tactic(auto, using(crate::proofs::Texts::writing))]
+fn print_for(out: &mut String, name: &Arg, words: &[Arg], body: &Cmd) -> Result<(), AllocError>
+    ensures { OnOk result (string_bytes out.new ≡ string_bytes out.old
+        ++ cmd_text (t.For (arg_tree name.now) (args_tree words.now) (cmd_tree body.now)) false) }
+{
+    print_arg_after(out, "for(", name)?;
+    print_words_after(out, " in ", words)?;
+    print_after(out, ") ", body)
+}
+
+#[cycle(print)]
+#[tactic(auto, using(crate::proofs::Texts::writing))]
+fn print_switch(out: &mut String, subject: &Arg, branches: &[Branch]) -> Result<(), AllocError>
+    ensures { OnOk result (string_bytes out.new
+        ≡ string_bytes out.old ++ cmd_text (t.Switch (arg_tree subject.now) (branches_tree branches.now)) false) }
+{
+    print_arg_after(out, "switch ", subject)?;
+    out.push_str(" {")?;
+    print_branches(out, branches)?;
+    out.push_str("}")
+}
+
+#[cycle(print)]
+#[tactic(auto, using(crate::proofs::Texts::writing))]
+fn print_match(out: &mut String, subject: &Arg, patterns: &[Arg]) -> Result<(), AllocError>
+    ensures { OnOk result (string_bytes out.new
+        ≡ string_bytes out.old ++ cmd_text (t.Match (arg_tree subject.now) (args_tree patterns.now)) false) }
+{
+    print_arg_after(out, "~ ", subject)?;
+    print_args(out, patterns, " ", " ")
+}
+
+#[cycle(print)]
+fn print_words_after(out: &mut String, text: &str, words: &[Arg]) -> Result<(), AllocError>
+    ensures { OnOk result (string_bytes out.new
+        ≡ string_bytes out.old ++ (text.now ++ led [] (codes " ") (arg_texts (args_tree words.now)))) }
+{
+    out.push_str(text)?;
+    print_args(out, words, "", " ")
 }
 
 #[cycle(print)]

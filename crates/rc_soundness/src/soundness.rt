@@ -2,7 +2,7 @@
 
 ghost use Rattle.std.specs.Prelude.{◌≡◌};
 ghost use Rattle.rc_model.specs.Syntax.Text.{without_zero};
-ghost use Rattle.rc_model.specs.Syntax.WellFormed.{well_formed, is_output, opens, copies, are_sound};
+ghost use Rattle.rc_model.specs.Syntax.WellFormed.{well_formed, has_stages, is_output, opens, copies, are_sound};
 ghost use Rattle.rc_tree_types.specs.View.{cmd_tree, arg_tree, redir_tree, pieces_tree};
 ghost use Rattle.rc_tree_types.specs.View.{args_tree, items_tree, pairs_tree, redirs_tree, stages_tree, links_tree};
 ghost use Rattle.rc_tree_types.specs.View.{branches_tree};
@@ -18,6 +18,14 @@ pub fn well_formed(cmd: &Cmd) -> bool
     ensures { result ≡ well_formed (cmd_tree cmd.now) }
 {
     fit_cmd(cmd, MOST_LEVELS)
+}
+
+/// Whether a pipeline may have so many stages before its last one.
+#[tactic(auto, using(crate::proofs::Fitting::fitting))]
+fn has_stages(stages: &[Stage]) -> bool
+    ensures { result ≡ has_stages (stages_tree stages.now) }
+{
+    !stages.is_empty() && stages.len() < MOST_STAGES
 }
 
 /// Whether the command is well formed with at most `left` levels.
@@ -40,12 +48,9 @@ fn fit_cmd(cmd: &Cmd, left: usize) -> bool
         Cmd::Redirect(redirs, body) => !redirs.is_empty()
             && fit_redirs(redirs, left)
             && fit_cmd(body, left),
-        Cmd::Pipeline(stages, last) => {
-            !stages.is_empty()
-                && stages.len() < MOST_STAGES
-                && fit_stages(stages, left)
-                && fit_cmd(last, left)
-        }
+        Cmd::Pipeline(stages, last) => has_stages(stages)
+            && fit_stages(stages, left)
+            && fit_cmd(last, left),
         Cmd::AndOr(first, links) => !links.is_empty()
             && fit_cmd(first, left)
             && fit_links(links, left),

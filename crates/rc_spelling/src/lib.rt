@@ -4,6 +4,7 @@
 ghost use Rattle.std.specs.Prelude.{◌≡◌, ◌++◌, [], OnOk, string_bytes};
 ghost use Rattle.std.specs.Fmt.{decimal};
 ghost use Rattle.rc_model.specs.Syntax.Tree.{count};
+ghost use Rattle.rc_model.specs.Syntax.Tree as t;
 ghost use Rattle.rc_model.specs.Handed.Image.{node_image, many_image, list_image, text_image, literal_mark};
 ghost use Rattle.rc_model.specs.Handed.Image.{item_mark, logic_mark, opening_mark};
 ghost use Rattle.rc_tree_types.specs.View.{cmd_tree, arg_tree, redir_tree, piece_tree, pieces_tree};
@@ -121,50 +122,21 @@ pub fn push_spelling(out: &mut String, cmd: &Cmd) -> Result<(), AllocError>
             out.push_str("s")?;
             push_items(out, items)
         }
-        Cmd::Simple(words) => {
-            out.push_str("c")?;
-            push_args(out, words)
-        }
-        Cmd::Assign(pairs, body) => {
-            out.push_str("=")?;
-            push_pairs(out, pairs)?;
-            push_spelling(out, body)
-        }
-        Cmd::Redirect(redirs, body) => {
-            out.push_str("r")?;
-            push_redirs(out, redirs)?;
-            push_spelling(out, body)
-        }
-        Cmd::Pipeline(stages, last) => {
-            out.push_str("p")?;
-            push_stages(out, stages)?;
-            push_spelling(out, last)
-        }
-        Cmd::AndOr(first, links) => {
-            out.push_str("a")?;
-            push_spelling(out, first)?;
-            push_links(out, links)
-        }
+        Cmd::Simple(words) => push_marked_args(out, "c", words),
+        Cmd::Assign(pairs, body) => push_assign(out, pairs, body),
+        Cmd::Redirect(redirs, body) => push_redirect(out, redirs, body),
+        Cmd::Pipeline(stages, last) => push_pipeline(out, stages, last),
+        Cmd::AndOr(first, links) => push_and_or(out, first, links),
         Cmd::Not(body) => push_marked(out, "!", body),
         Cmd::Subshell(body) => push_marked(out, "@", body),
-        Cmd::If(condition, body) => {
-            push_marked(out, "i", condition)?;
-            push_spelling(out, body)
-        }
+        Cmd::If(condition, body) => push_conditional(out, "i", condition, body),
         Cmd::IfNot(body) => push_marked(out, "n", body),
-        Cmd::While(condition, body) => {
-            push_marked(out, "w", condition)?;
-            push_spelling(out, body)
-        }
+        Cmd::While(condition, body) => push_conditional(out, "w", condition, body),
         Cmd::ForAll(name, body) => {
             push_marked_arg(out, "f", name)?;
             push_spelling(out, body)
         }
-        Cmd::For(name, words, body) => {
-            push_marked_arg(out, "F", name)?;
-            push_args(out, words)?;
-            push_spelling(out, body)
-        }
+        Cmd::For(name, words, body) => push_for(out, name, words, body),
         Cmd::Switch(subject, branches) => {
             push_marked_arg(out, "S", subject)?;
             push_branches(out, branches)
@@ -174,16 +146,81 @@ pub fn push_spelling(out: &mut String, cmd: &Cmd) -> Result<(), AllocError>
             push_args(out, patterns)
         }
         Cmd::Define(names, body) => {
-            out.push_str("d")?;
-            push_args(out, names)?;
+            push_marked_args(out, "d", names)?;
             push_spelling(out, body)
         }
-        Cmd::Undefine(names) => {
-            out.push_str("u")?;
-            push_args(out, names)
-        }
+        Cmd::Undefine(names) => push_marked_args(out, "u", names),
         Cmd::Brace(body) => push_marked(out, "b", body),
     }
+}
+
+#[cycle(spell)]
+#[tactic(auto, using(crate::proofs::Spelling::spelling))]
+fn push_assign(out: &mut String, pairs: &[(Arg, Arg)], body: &Cmd) -> Result<(), AllocError>
+    ensures { OnOk result (string_bytes out.new ≡ string_bytes out.old
+        ++ node_image (t.Assign (pairs_tree pairs.now) (cmd_tree body.now))) }
+{
+    out.push_str("=")?;
+    push_pairs(out, pairs)?;
+    push_spelling(out, body)
+}
+
+#[cycle(spell)]
+#[tactic(auto, using(crate::proofs::Spelling::spelling))]
+fn push_redirect(out: &mut String, redirs: &[Redir], body: &Cmd) -> Result<(), AllocError>
+    ensures { OnOk result (string_bytes out.new ≡ string_bytes out.old
+        ++ node_image (t.Redirect (redirs_tree redirs.now) (cmd_tree body.now))) }
+{
+    out.push_str("r")?;
+    push_redirs(out, redirs)?;
+    push_spelling(out, body)
+}
+
+#[cycle(spell)]
+#[tactic(auto, using(crate::proofs::Spelling::spelling))]
+fn push_pipeline(out: &mut String, stages: &[Stage], last: &Cmd) -> Result<(), AllocError>
+    ensures { OnOk result (string_bytes out.new ≡ string_bytes out.old
+        ++ node_image (t.Pipeline (stages_tree stages.now) (cmd_tree last.now))) }
+{
+    out.push_str("p")?;
+    push_stages(out, stages)?;
+    push_spelling(out, last)
+}
+
+#[cycle(spell)]
+#[tactic(auto, using(crate::proofs::Spelling::spelling))]
+fn push_and_or(out: &mut String, first: &Cmd, links: &[(Logic, Cmd)]) -> Result<(), AllocError>
+    ensures { OnOk result (string_bytes out.new ≡ string_bytes out.old
+        ++ node_image (t.AndOr (cmd_tree first.now) (links_tree links.now))) }
+{
+    push_marked(out, "a", first)?;
+    push_links(out, links)
+}
+
+#[cycle(spell)]
+#[tactic(auto, using(crate::proofs::Spelling::spelling))]
+fn push_for(out: &mut String, name: &Arg, words: &[Arg], body: &Cmd) -> Result<(), AllocError>
+    ensures { OnOk result (string_bytes out.new ≡ string_bytes out.old
+        ++ node_image (t.For (arg_tree name.now) (args_tree words.now) (cmd_tree body.now))) }
+{
+    push_marked_arg(out, "F", name)?;
+    push_args(out, words)?;
+    push_spelling(out, body)
+}
+
+/// Writes a tag, a condition and what it governs.
+#[cycle(spell)]
+fn push_conditional(
+    out: &mut String,
+    tag: &str,
+    condition: &Cmd,
+    body: &Cmd,
+) -> Result<(), AllocError>
+    ensures { OnOk result (string_bytes out.new ≡ string_bytes out.old
+        ++ (tag.now ++ (node_image (cmd_tree condition.now) ++ node_image (cmd_tree body.now)))) }
+{
+    push_marked(out, tag, condition)?;
+    push_spelling(out, body)
 }
 
 /// Writes a tag and a command.
@@ -204,6 +241,16 @@ fn push_marked_arg(out: &mut String, tag: &str, arg: &Arg) -> Result<(), AllocEr
     push_arg(out, arg)
 }
 
+/// Writes a tag and a list of arguments.
+#[cycle(spell)]
+fn push_marked_args(out: &mut String, tag: &str, args: &[Arg]) -> Result<(), AllocError>
+    ensures { OnOk result (string_bytes out.new ≡ string_bytes out.old
+        ++ (tag.now ++ list_image (count (args_tree args.now)) (many_image (args_tree args.now)))) }
+{
+    out.push_str(tag)?;
+    push_args(out, args)
+}
+
 #[cycle(spell)]
 #[tactic(auto, using(crate::proofs::Spelling::spelling))]
 fn push_arg(out: &mut String, arg: &Arg) -> Result<(), AllocError>
@@ -214,14 +261,8 @@ fn push_arg(out: &mut String, arg: &Arg) -> Result<(), AllocError>
             out.push_str(literal_mark(*quoted))?;
             push_text(out, text)
         }
-        Arg::Concat(parts) => {
-            out.push_str("^")?;
-            push_args(out, parts)
-        }
-        Arg::Paren(words) => {
-            out.push_str("(")?;
-            push_args(out, words)
-        }
+        Arg::Concat(parts) => push_marked_args(out, "^", parts),
+        Arg::Paren(words) => push_marked_args(out, "(", words),
         Arg::Var(name) => push_marked_arg(out, "$", name),
         Arg::Count(name) => push_marked_arg(out, "#", name),
         Arg::Flat(name) => push_marked_arg(out, "\"", name),

@@ -55,18 +55,9 @@ fn dump_parts(out: &mut String, cmd: &Cmd) -> Result<(), AllocError> {
     match cmd {
         Cmd::Empty | Cmd::Seq(_) => Ok(()),
         Cmd::Simple(words) | Cmd::Undefine(words) => dump_args(out, words),
-        Cmd::Assign(pairs, body) => {
-            dump_pairs(out, pairs)?;
-            dump_last(out, body)
-        }
-        Cmd::Redirect(redirs, body) => {
-            dump_redirs(out, redirs)?;
-            dump_last(out, body)
-        }
-        Cmd::Pipeline(stages, last) => {
-            dump_stages(out, stages)?;
-            dump_last(out, last)
-        }
+        Cmd::Assign(pairs, body) => dump_assign(out, pairs, body),
+        Cmd::Redirect(redirs, body) => dump_redirect(out, redirs, body),
+        Cmd::Pipeline(stages, last) => dump_pipeline(out, stages, last),
         Cmd::AndOr(first, links) => {
             dump_cmd(out, first)?;
             dump_links(out, links)
@@ -82,13 +73,7 @@ fn dump_parts(out: &mut String, cmd: &Cmd) -> Result<(), AllocError> {
             dump_arg(out, name)?;
             dump_last(out, body)
         }
-        Cmd::For(name, words, body) => {
-            dump_arg(out, name)?;
-            out.push_str(" (list")?;
-            dump_args(out, words)?;
-            out.push(')')?;
-            dump_last(out, body)
-        }
+        Cmd::For(name, words, body) => dump_for(out, name, words, body),
         Cmd::Switch(subject, branches) => {
             dump_arg(out, subject)?;
             dump_branches(out, branches)
@@ -136,7 +121,7 @@ fn dump_args(out: &mut String, args: &[Arg]) -> Result<(), AllocError> {
 }
 
 #[cycle(dump)]
-fn dump_pairs(out: &mut String, pairs: &[(Arg, Arg)]) -> Result<(), AllocError> {
+fn dump_assign(out: &mut String, pairs: &[(Arg, Arg)], body: &Cmd) -> Result<(), AllocError> {
     for pair in pairs {
         out.push_str(" (")?;
         dump_arg(out, &pair.0)?;
@@ -144,28 +129,35 @@ fn dump_pairs(out: &mut String, pairs: &[(Arg, Arg)]) -> Result<(), AllocError> 
         dump_arg(out, &pair.1)?;
         out.push(')')?;
     }
-    Ok(())
+    dump_last(out, body)
 }
 
 #[cycle(dump)]
-fn dump_redirs(out: &mut String, redirs: &[Redir]) -> Result<(), AllocError> {
+fn dump_redirect(out: &mut String, redirs: &[Redir], body: &Cmd) -> Result<(), AllocError> {
     for redir in redirs {
         out.push_str(" (")?;
         dump_redir(out, redir)?;
         out.push(')')?;
     }
-    Ok(())
+    dump_last(out, body)
 }
 
 #[cycle(dump)]
-fn dump_stages(out: &mut String, stages: &[Stage]) -> Result<(), AllocError> {
+fn dump_pipeline(out: &mut String, stages: &[Stage], last: &Cmd) -> Result<(), AllocError> {
     for stage in stages {
         out.push(' ')?;
         dump_cmd(out, &stage.cmd)?;
         out.push_str(" |")?;
         out.push_str(slot(stage.slot))?;
     }
-    Ok(())
+    dump_last(out, last)
+}
+
+#[cycle(dump)]
+fn dump_for(out: &mut String, name: &Arg, words: &[Arg], body: &Cmd) -> Result<(), AllocError> {
+    dump_arg(out, name)?;
+    dump_group(out, " (list", words)?;
+    dump_last(out, body)
 }
 
 #[cycle(dump)]

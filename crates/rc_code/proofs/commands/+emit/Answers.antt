@@ -11,22 +11,22 @@ use Rattle.rc_code.proofs.commands.+emit.Goals as goal
 
 -- a jump stands where it was put
 
-pub emit_last_stage-patch-requires : goal.emit_last_stage-patch-requires
-emit_last_stage-patch-requires t c =
+pub emit_pipeline-patch-requires : goal.emit_pipeline-patch-requires
+emit_pipeline-patch-requires t c =
     stays _ _ _ _ c.in_ok-put.ensures (stays _ _ _ _ c.in_ok-emit_cmd.ensures (starts _ _ _ _ c.in_ok-start.ensures.place c.in_ok-start.ensures.put))
 
-pub emit_links-patch-requires : goal.emit_links-patch-requires
-emit_links-patch-requires t c = stays _ _ _ _ c.in_ok-emit_cmd.ensures (starts _ _ _ _ c.in_ok-place.ensures.place c.in_ok-place.ensures.put)
+pub emit_and_or-patch-requires : goal.emit_and_or-patch-requires
+emit_and_or-patch-requires t c = stays _ _ _ _ c.in_ok-emit_cmd-2.ensures (starts _ _ _ _ c.in_ok-place.ensures.place c.in_ok-place.ensures.put)
 
-pub emit_if_body-patch-requires : goal.emit_if_body-patch-requires
-emit_if_body-patch-requires t c =
-    stays _ _ _ _ c.in_ok-put.ensures (stays _ _ _ _ c.in_ok-emit_cmd.ensures (starts _ _ _ _ c.in_ok-place.ensures.place c.in_ok-place.ensures.put))
+pub emit_if-patch-requires : goal.emit_if-patch-requires
+emit_if-patch-requires t c =
+    stays _ _ _ _ c.in_ok-put.ensures (stays _ _ _ _ c.in_ok-emit_cmd-2.ensures (starts _ _ _ _ c.in_ok-place.ensures.place c.in_ok-place.ensures.put))
 
 pub emit_if_not-patch-requires : goal.emit_if_not-patch-requires
 emit_if_not-patch-requires t c = stays _ _ _ _ c.in_ok-emit_cmd.ensures (starts _ _ _ _ c.in_ok-place.ensures.place c.in_ok-place.ensures.put)
 
-pub emit_while_body-patch-requires : goal.emit_while_body-patch-requires
-emit_while_body-patch-requires t c =
+pub emit_while-patch-requires : goal.emit_while-patch-requires
+emit_while-patch-requires t c =
     stays _ _ _ _ c.in_ok-put.ensures (stays _ _ _ _ c.in_ok-emit_cmd.ensures (starts _ _ _ _ c.in_ok-place.ensures.place c.in_ok-place.ensures.put))
 
 pub emit_turns-patch-requires : goal.emit_turns-patch-requires

@@ -3,11 +3,8 @@ use Rattle.rc_model.specs.Syntax.Printing.{branch_items, cmd_text}
 use Rattle.std.proofs.lemmas.Grind.{common_steps}
 use Rattle.rc_tree_types.specs.View.{cmd_tree, tree_For}
 use Rattle.rc_print.proofs.Bodies.{not_listed}
-use Rattle.rc_print.proofs.Texts.{cmd_text_For, space_is_text, writing}
+use Rattle.rc_print.proofs.Texts.{cmd_text_For_begins, space_is_text, writing}
 use Rattle.rc_print.proofs.printing.+print.Goals as goal
-
-pub print_cmd-returns-in_ok-print_args-in-For : goal.print_cmd-returns-in_ok-print_args-in-For
-print_cmd-returns-in_ok-print_args-in-For t c = rw (c.in-For.is, tree_For, cmd_text_For) (grind (arith, common_steps))
 
 pub print_body-returns-in_ok-print_cmd-in_default : goal.print_body-returns-in_ok-print_cmd-in_default
 print_body-returns-in_ok-print_cmd-in_default t c =
@@ -19,3 +16,6 @@ print_pairs-loop-pair-preserved t c = (space_is_text, grind (arith, writing))
 
 pub print_redirs-loop-redir-preserved : goal.print_redirs-loop-redir-preserved
 print_redirs-loop-redir-preserved t c = (space_is_text, grind (arith, writing))
+
+pub print_cmd-returns-in-For : goal.print_cmd-returns-in-For
+print_cmd-returns-in-For t c = rw (c.in-For.is, tree_For, cmd_text_For_begins, ← c.deref-in-For.ensures.value, ← c.deref-in-For-2.ensures) c.print_for.ensures

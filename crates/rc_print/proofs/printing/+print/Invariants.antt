@@ -1,9 +1,13 @@
-use Rattle.std.proofs.Common.{◌≡◌, ◌++◌, [], drop, codes, string_bytes}
+use Rattle.std.proofs.Common.{◌≡◌, ◌+◌, ◌*◌, ◌++◌, [], drop, max, codes, string_bytes}
 use denote.Shadow.{shadow}
 use denote.Text.{Utf8}
+use denote.Param.Weighed.{most}
 use Rattle.rc_model.specs.Syntax.Printing.{arg_texts, pair_texts, redir_texts, stages_text, links_text, item_lines, branch_lines}
 use Rattle.rc_print.specs.Lines.{led, trailed, lines_after, parting_after}
 use Rattle.rc_tree_types.specs.View.{args_tree, items_tree, pairs_tree, redirs_tree, stages_tree, links_tree, branches_tree}
+use Rattle.rc_tree_types.proofs.Cmd.TheLaws as command
+use Rattle.rc_tree_types.proofs.Arg.TheLaws as argument
+use Rattle.rc_tree_types.proofs.Branch.TheLaws as branch
 use Rattle.rc_print.proofs.printing.+print.Given as goal
 
 -- in each loop: what is written, and what is left, is the whole
@@ -53,3 +57,75 @@ invariant-print_branches-loop-branch l =
     shadow (Utf8 l.between)
     × (string_bytes l.out ++ lines_after l.between (branch_lines (branches_tree (drop l.branch-index l.branches)))
     ≡ string_bytes l.fn.out ++ lines_after [] (branch_lines (branches_tree l.branches)))
+
+-- how far each function is from its leaves: parts are smaller than what they are of
+
+abbrev pub decreases-print_redirect : goal.decreases-print_redirect
+decreases-print_redirect l = 4 * (max (goal.size-print_redirect l) (command.the_size l.body.now)) + 3
+
+abbrev pub decreases-print_pipeline : goal.decreases-print_pipeline
+decreases-print_pipeline l = 4 * (max (goal.size-print_pipeline l) (command.the_size l.last.now)) + 3
+
+abbrev pub decreases-print_and_or : goal.decreases-print_and_or
+decreases-print_and_or l = 4 * (max (goal.size-print_and_or l) (most (λ link. max 0 (command.the_size link.1)) l.links.now)) + 3
+
+abbrev pub decreases-print_conditional : goal.decreases-print_conditional
+decreases-print_conditional l = 4 * (max (goal.size-print_conditional l) (command.the_size l.body.now)) + 3
+
+abbrev pub decreases-print_for : goal.decreases-print_for
+decreases-print_for l =
+    4 * (max (max (goal.size-print_for l) (most argument.the_size l.words.now)) (command.the_size l.body.now)) + 3
+
+abbrev pub decreases-print_switch : goal.decreases-print_switch
+decreases-print_switch l = 4 * (max (goal.size-print_switch l) (most branch.the_size l.branches.now)) + 3
+
+abbrev pub decreases-print_match : goal.decreases-print_match
+decreases-print_match l = 4 * (max (goal.size-print_match l) (most argument.the_size l.patterns.now)) + 3
+
+abbrev pub decreases-print_cmd : goal.decreases-print_cmd
+decreases-print_cmd l = 4 * goal.size-print_cmd l
+
+abbrev pub decreases-print_arg : goal.decreases-print_arg
+decreases-print_arg l = 4 * goal.size-print_arg l
+
+abbrev pub decreases-print_redir : goal.decreases-print_redir
+decreases-print_redir l = 4 * goal.size-print_redir l
+
+abbrev pub decreases-print_words_after : goal.decreases-print_words_after
+decreases-print_words_after l = 4 * goal.size-print_words_after l + 2
+
+abbrev pub decreases-print_after : goal.decreases-print_after
+decreases-print_after l = 4 * goal.size-print_after l + 1
+
+abbrev pub decreases-print_braced : goal.decreases-print_braced
+decreases-print_braced l = 4 * goal.size-print_braced l + 1
+
+abbrev pub decreases-print_arg_after : goal.decreases-print_arg_after
+decreases-print_arg_after l = 4 * goal.size-print_arg_after l + 1
+
+abbrev pub decreases-print_args : goal.decreases-print_args
+decreases-print_args l = 4 * goal.size-print_args l + 1
+
+abbrev pub decreases-print_pairs : goal.decreases-print_pairs
+decreases-print_pairs l = 4 * goal.size-print_pairs l + 2
+
+abbrev pub decreases-print_redirs : goal.decreases-print_redirs
+decreases-print_redirs l = 4 * goal.size-print_redirs l + 1
+
+abbrev pub decreases-print_redirs_before : goal.decreases-print_redirs_before
+decreases-print_redirs_before l = 4 * goal.size-print_redirs_before l + 1
+
+abbrev pub decreases-print_stages : goal.decreases-print_stages
+decreases-print_stages l = 4 * goal.size-print_stages l + 1
+
+abbrev pub decreases-print_links : goal.decreases-print_links
+decreases-print_links l = 4 * goal.size-print_links l + 2
+
+abbrev pub decreases-print_items : goal.decreases-print_items
+decreases-print_items l = 4 * goal.size-print_items l + 1
+
+abbrev pub decreases-print_branches : goal.decreases-print_branches
+decreases-print_branches l = 4 * goal.size-print_branches l + 1
+
+abbrev pub decreases-print_body : goal.decreases-print_body
+decreases-print_body l = 4 * goal.size-print_body l + 1
