@@ -62,6 +62,28 @@ pub fn emit_cmd(
     }
 }
 
+/// Items in the background are kept.
+#[cycle(emit)]
+#[tactic(auto, using(crate::proofs::Parts::emitting))]
+fn emit_items(
+    alloc: Global,
+    code: &mut Listing,
+    items: &[Item],
+    guarded: bool,
+) -> Result<(), AllocError>
+    ensures { OnOk result (Writes code.old code.new (items_code (items_tree items.now) guarded)) }
+{
+    for item in items {
+        if item.background {
+            let number = code.keep(kept_tree(alloc, &item.cmd)?)?;
+            code.put(Op::Background(number))?;
+        } else {
+            emit_cmd(alloc, code, &item.cmd, guarded)?;
+        }
+    }
+    Ok(())
+}
+
 #[cycle(emit)]
 #[tactic(auto, using(crate::proofs::Parts::emitting))]
 fn emit_assign(
@@ -95,28 +117,6 @@ fn emit_redirect(
     emit_redirs(alloc, code, redirs)?;
     emit_cmd(alloc, code, body, guarded)?;
     code.put(Op::Unredir(redirs.len()))
-}
-
-/// Items in the background are kept.
-#[cycle(emit)]
-#[tactic(auto, using(crate::proofs::Parts::emitting))]
-fn emit_items(
-    alloc: Global,
-    code: &mut Listing,
-    items: &[Item],
-    guarded: bool,
-) -> Result<(), AllocError>
-    ensures { OnOk result (Writes code.old code.new (items_code (items_tree items.now) guarded)) }
-{
-    for item in items {
-        if item.background {
-            let number = code.keep(kept_tree(alloc, &item.cmd)?)?;
-            code.put(Op::Background(number))?;
-        } else {
-            emit_cmd(alloc, code, &item.cmd, guarded)?;
-        }
-    }
-    Ok(())
 }
 
 /// The start of the stages before the last one, which are kept, and then the last one.

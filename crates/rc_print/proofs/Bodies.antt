@@ -1,4 +1,4 @@
--- Commands and arguments that are none of some forms.
+-- Commands that are none of some forms.
 use Rattle.std.specs.declared.alloc.Global.{Global}
 use Rattle.std.specs.declared.vec.Vec.{Vec}
 use Rattle.std.proofs.Common.{◌≡◌, refl, sym, ◌∙◌, ℕ, false, List, [], ◌∷◌}

@@ -103,7 +103,7 @@ pub cmd_text_For : (name : Node t.arg) (words : Many t.arg) (body : Node t.cmd) 
 unfolding cmd_text
 cmd_text_For name words body begins = rw led-joined refl
 
--- whatever is said of what begins with it
+-- the text of a `for` is the same whether or not an item of a branch begins with it
 pub cmd_text_For_begins : (name : Node t.arg) (words : Many t.arg) (body : Node t.cmd) (begins : Bool) →
     cmd_text (t.For name words body) begins ≡ cmd_text (t.For name words body) false
 unfolding cmd_text

@@ -7,7 +7,7 @@ ghost use Rattle.rc_tree_types.specs.View.{cmd_tree};
 
 mod printing;
 
-use crate::printing::print_cmd;
+use printing::print_cmd;
 use rc_form::has_here;
 use rc_model::InputError;
 use rc_tree_types::Cmd;

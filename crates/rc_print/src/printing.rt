@@ -13,7 +13,7 @@ ghost use Rattle.rc_tree_types.specs.View.{branches_tree};
 use rc_form::{bar, copying, is_empty, opening, print_literal, separator, sign, stands_first};
 use rc_model::Logic;
 use rc_tree_types::{Arg, Branch, Cmd, Item, Redir, Stage};
-use std::alloc::{AllocError, Global};
+use std::alloc::AllocError;
 
 /// Writes a command. `begins` says that an item of a branch begins with it.
 #[cycle(print)]
@@ -113,18 +113,18 @@ fn print_and_or(
     print_links(out, links)
 }
 
-/// Writes `opening`, which ends in a parenthesis, a condition, and what it governs.
+/// Writes a text that ends with a parenthesis, a condition, the closing parenthesis, and what the condition governs.
 #[cycle(print)]
 fn print_conditional(
     out: &mut String,
-    opening: &str,
+    text: &str,
     condition: &Cmd,
     body: &Cmd,
 ) -> Result<(), AllocError>
-    ensures { OnOk result (string_bytes out.new ≡ string_bytes out.old ++ (opening.now
+    ensures { OnOk result (string_bytes out.new ≡ string_bytes out.old ++ (text.now
         ++ (cmd_text (cmd_tree condition.now) false ++ (codes ") " ++ cmd_text (cmd_tree body.now) false)))) }
 {
-    print_after(out, opening, condition)?;
+    print_after(out, text, condition)?;
     print_after(out, ") ", body)
 }
 

@@ -20,7 +20,7 @@ pub fn well_formed(cmd: &Cmd) -> bool
     fit_cmd(cmd, MOST_LEVELS)
 }
 
-/// Whether a pipeline may have so many stages before its last one.
+/// Whether a pipeline may have this many stages before its last one.
 #[tactic(auto, using(crate::proofs::Fitting::fitting))]
 fn has_stages(stages: &[Stage]) -> bool
     ensures { result ≡ has_stages (stages_tree stages.now) }

@@ -197,17 +197,6 @@ fn push_and_or(out: &mut String, first: &Cmd, links: &[(Logic, Cmd)]) -> Result<
     push_links(out, links)
 }
 
-#[cycle(spell)]
-#[tactic(auto, using(crate::proofs::Spelling::spelling))]
-fn push_for(out: &mut String, name: &Arg, words: &[Arg], body: &Cmd) -> Result<(), AllocError>
-    ensures { OnOk result (string_bytes out.new ≡ string_bytes out.old
-        ++ node_image (t.For (arg_tree name.now) (args_tree words.now) (cmd_tree body.now))) }
-{
-    push_marked_arg(out, "F", name)?;
-    push_args(out, words)?;
-    push_spelling(out, body)
-}
-
 /// Writes a tag, a condition and what it governs.
 #[cycle(spell)]
 fn push_conditional(
@@ -220,6 +209,17 @@ fn push_conditional(
         ++ (tag.now ++ (node_image (cmd_tree condition.now) ++ node_image (cmd_tree body.now)))) }
 {
     push_marked(out, tag, condition)?;
+    push_spelling(out, body)
+}
+
+#[cycle(spell)]
+#[tactic(auto, using(crate::proofs::Spelling::spelling))]
+fn push_for(out: &mut String, name: &Arg, words: &[Arg], body: &Cmd) -> Result<(), AllocError>
+    ensures { OnOk result (string_bytes out.new ≡ string_bytes out.old
+        ++ node_image (t.For (arg_tree name.now) (args_tree words.now) (cmd_tree body.now))) }
+{
+    push_marked_arg(out, "F", name)?;
+    push_args(out, words)?;
     push_spelling(out, body)
 }
 

@@ -154,13 +154,6 @@ fn dump_pipeline(out: &mut String, stages: &[Stage], last: &Cmd) -> Result<(), A
 }
 
 #[cycle(dump)]
-fn dump_for(out: &mut String, name: &Arg, words: &[Arg], body: &Cmd) -> Result<(), AllocError> {
-    dump_arg(out, name)?;
-    dump_group(out, " (list", words)?;
-    dump_last(out, body)
-}
-
-#[cycle(dump)]
 fn dump_links(out: &mut String, links: &[(Logic, Cmd)]) -> Result<(), AllocError> {
     for link in links {
         out.push_str(match link.0 {
@@ -170,6 +163,13 @@ fn dump_links(out: &mut String, links: &[(Logic, Cmd)]) -> Result<(), AllocError
         dump_cmd(out, &link.1)?;
     }
     Ok(())
+}
+
+#[cycle(dump)]
+fn dump_for(out: &mut String, name: &Arg, words: &[Arg], body: &Cmd) -> Result<(), AllocError> {
+    dump_arg(out, name)?;
+    dump_group(out, " (list", words)?;
+    dump_last(out, body)
 }
 
 #[cycle(dump)]

@@ -44,7 +44,7 @@ invariant-push_branches-loop-branch l =
     string_bytes l.out ++ many_image (branches_tree (drop l.branch-index l.branches))
     ≡ string_bytes l.fn.out ++ list_image (count (branches_tree l.branches)) (many_image (branches_tree l.branches))
 
--- how far each function is from its leaves: parts are smaller than what they are of
+-- what gets smaller at each call: a part of a tree is smaller than the tree
 
 abbrev pub decreases-push_assign : goal.decreases-push_assign
 decreases-push_assign l = 3 * (max (goal.size-push_assign l) (command.the_size l.body.now)) + 2
@@ -58,12 +58,12 @@ decreases-push_pipeline l = 3 * (max (goal.size-push_pipeline l) (command.the_si
 abbrev pub decreases-push_and_or : goal.decreases-push_and_or
 decreases-push_and_or l = 3 * (max (goal.size-push_and_or l) (most (λ link. max 0 (command.the_size link.1)) l.links.now)) + 2
 
+abbrev pub decreases-push_conditional : goal.decreases-push_conditional
+decreases-push_conditional l = 3 * (max (goal.size-push_conditional l) (command.the_size l.body.now)) + 2
+
 abbrev pub decreases-push_for : goal.decreases-push_for
 decreases-push_for l =
     3 * (max (max (goal.size-push_for l) (most argument.the_size l.words.now)) (command.the_size l.body.now)) + 2
-
-abbrev pub decreases-push_conditional : goal.decreases-push_conditional
-decreases-push_conditional l = 3 * (max (goal.size-push_conditional l) (command.the_size l.body.now)) + 2
 
 abbrev pub decreases-push_spelling : goal.decreases-push_spelling
 decreases-push_spelling l = 3 * goal.size-push_spelling l

@@ -22,7 +22,7 @@ abbrev pub invariant-emit_branches-loop-branch : goal.invariant-emit_branches-lo
 invariant-emit_branches-loop-branch l =
     Leaves (listing_of l.initial.code) (listing_of l.code) l.ends.items l.guarded (branches_tree l.branches) (branches_tree (drop l.branch-index l.branches))
 
--- how far each function is from its leaves: parts are smaller than what they are of
+-- what gets smaller at each call: a part of a tree is smaller than the tree
 
 abbrev pub decreases-emit_assign : goal.decreases-emit_assign
 decreases-emit_assign l = 4 * command.the_size l.body.now + 1

@@ -6,6 +6,9 @@ use Rattle.rc_print.proofs.Bodies.{not_listed}
 use Rattle.rc_print.proofs.Texts.{cmd_text_For_begins, space_is_text, writing}
 use Rattle.rc_print.proofs.printing.+print.Goals as goal
 
+pub print_cmd-returns-in-For : goal.print_cmd-returns-in-For
+print_cmd-returns-in-For t c = rw (c.in-For.is, tree_For, cmd_text_For_begins, ← c.deref-in-For.ensures.value, ← c.deref-in-For-2.ensures) c.print_for.ensures
+
 pub print_body-returns-in_ok-print_cmd-in_default : goal.print_body-returns-in_ok-print_cmd-in_default
 print_body-returns-in_ok-print_cmd-in_default t c =
     let lines = not_listed c.args.body.now (branch_items (cmd_tree c.args.body.now)) (cmd_text (cmd_tree c.args.body.now) true) c.in_default.not-Seq in
@@ -16,6 +19,3 @@ print_pairs-loop-pair-preserved t c = (space_is_text, grind (arith, writing))
 
 pub print_redirs-loop-redir-preserved : goal.print_redirs-loop-redir-preserved
 print_redirs-loop-redir-preserved t c = (space_is_text, grind (arith, writing))
-
-pub print_cmd-returns-in-For : goal.print_cmd-returns-in-For
-print_cmd-returns-in-For t c = rw (c.in-For.is, tree_For, cmd_text_For_begins, ← c.deref-in-For.ensures.value, ← c.deref-in-For-2.ensures) c.print_for.ensures

@@ -58,7 +58,7 @@ invariant-print_branches-loop-branch l =
     × (string_bytes l.out ++ lines_after l.between (branch_lines (branches_tree (drop l.branch-index l.branches)))
     ≡ string_bytes l.fn.out ++ lines_after [] (branch_lines (branches_tree l.branches)))
 
--- how far each function is from its leaves: parts are smaller than what they are of
+-- what gets smaller at each call: a part of a tree is smaller than the tree
 
 abbrev pub decreases-print_redirect : goal.decreases-print_redirect
 decreases-print_redirect l = 4 * (max (goal.size-print_redirect l) (command.the_size l.body.now)) + 3

@@ -4,7 +4,7 @@ use Rattle.rc_tree_types.proofs.Cmd.TheLaws as command
 use Rattle.rc_tree_types.proofs.Arg.TheLaws as argument
 use Rattle.test_scripts.proofs.dump.+dump.Given as goal
 
--- how far each function is from its leaves: parts are smaller than what they are of
+-- what gets smaller at each call: a part of a tree is smaller than the tree
 
 abbrev pub decreases-dump_assign : goal.decreases-dump_assign
 decreases-dump_assign l = 4 * (max (goal.size-dump_assign l) (command.the_size l.body.now)) + 3
