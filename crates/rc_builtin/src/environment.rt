@@ -11,7 +11,7 @@ ghost use Rattle.rc_builtin.specs.Additions.{texts_of, with_named, added, is_han
 
 use rc_scope::{Binding, State};
 use rc_spelling::push_spelling;
-use rc_tree_types::Cmd;
+use rc_tree::Cmd;
 use std::alloc::{AllocError, Global};
 use std::cmp::Ordering;
 use std::collections::BTreeMap;

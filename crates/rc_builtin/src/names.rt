@@ -16,9 +16,8 @@ ghost use Rattle.rc_scope.specs.States.{state_of};
 use crate::programs::find_program;
 use crate::shown::value_line;
 use rc_model::{Builtin, InputError};
-use rc_print::{PrintFault, print};
 use rc_scope::State;
-use rc_tree_types::Cmd;
+use rc_tree::{Cmd, PrintFault, print};
 use rc_world::{Slots, Stop, World, calls};
 use std::alloc::{AllocError, Global};
 

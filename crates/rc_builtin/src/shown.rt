@@ -6,7 +6,6 @@ ghost use Rattle.rc_model.specs.Syntax.Grammar.{keyword, is_plain};
 ghost use Rattle.rc_model.specs.Syntax.Text.{spaced};
 ghost use Rattle.rc_model.specs.Run.Builtins.{is_plain_char, shown, shown_value, value_line};
 
-use rc_lexemes::keyword_named;
 use rc_model::Keyword;
 use rc_scope::is_name;
 use rc_text::push_quoted;
@@ -30,7 +29,7 @@ fn is_bare(text: &str) -> bool
     ensures { result ≡ (not (length text.now == 0)
         && (list_all is_plain_char text.now && is_plain (keyword text.now))) }
 {
-    !text.is_empty() && has_plain_bytes(text) && matches!(keyword_named(text), Keyword::Plain)
+    !text.is_empty() && has_plain_bytes(text) && matches!(Keyword::named(text), Keyword::Plain)
 }
 
 /// Writes a member, in quotes where it needs them.

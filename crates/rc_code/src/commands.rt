@@ -15,9 +15,8 @@ use crate::plain::{
     emit_define, emit_match, emit_members, emit_pairs, emit_redirs, emit_simple, emit_star,
     emit_subject, emit_subshell, emit_undefine, emit_unlocal,
 };
-use rc_form::is_empty;
 use rc_listing::{Listing, Op, kept_stages, kept_tree};
-use rc_tree::{Arg, Branch, Cmd, Item, Logic, Redir, Stage};
+use rc_tree::{Arg, Branch, Cmd, Item, Logic, Redir, Stage, is_empty};
 use std::alloc::{AllocError, Global};
 
 #[cycle(emit)]

@@ -16,7 +16,7 @@ use rc_code::Code;
 use rc_configuration::{Configuration, Frame, Move, Scope, texts};
 use rc_model::InputError;
 use rc_scope::{NameFault, State};
-use rc_tree_types::Cmd;
+use rc_tree::Cmd;
 use rc_world::{Stop, World};
 use std::alloc::{AllocError, Global};
 use std::mem::replace;

@@ -10,10 +10,10 @@ use crate::controls::parse_control;
 use crate::prefixes::{parse_assigned, parse_redirected};
 use crate::stages::{Opening, parse_opening};
 use rc_lexemes::{
-    Lexeme, TokenError, allows_stage, and_or, begins_leading, fault_at, keyword_named,
-    past_newlines, pipeline, push_link, push_stage,
+    Lexeme, TokenError, allows_stage, and_or, begins_leading, fault_at, past_newlines, pipeline,
+    push_link, push_stage,
 };
-use rc_model::{DescentFault, Logic};
+use rc_model::{DescentFault, Keyword, Logic};
 use rc_tree::Cmd;
 use std::alloc::Global;
 
@@ -96,7 +96,7 @@ pub fn parse_leading(
             alloc,
             below,
             after_if,
-            keyword_named(text),
+            Keyword::named(text),
             rest,
         ),
         _ => parse_redirected(alloc, below, lexemes),

@@ -15,7 +15,7 @@ use crate::commands::{parse_command, parse_inner_operand};
 use crate::lists::parse_paren;
 use rc_lexemes::{
     Lexeme, TokenError, begins_command, begins_link, conditional, empty, fault_at, for_all,
-    for_each, if_not, keyword_named, not, past_caret, past_newlines, repeated, subshell,
+    for_each, if_not, not, past_caret, past_newlines, repeated, subshell,
 };
 use rc_model::{DescentFault, Keyword};
 use rc_tree::{Arg, Cmd};
@@ -57,7 +57,7 @@ fn parse_if(
     let [Lexeme::Word(text), rest @ ..] = lexemes else {
         return parse_condition(alloc, below, lexemes);
     };
-    let Keyword::Not = keyword_named(text) else {
+    let Keyword::Not = Keyword::named(text) else {
         return Err(fault_at(DescentFault::Unexpected, lexemes));
     };
     if !after_if {
@@ -128,7 +128,7 @@ fn parse_over(
     match lexemes {
         [Lexeme::RightParen, rest @ ..] => parse_for_all(alloc, below, name, rest),
         [Lexeme::Word(text), rest @ ..] => {
-            let Keyword::In = keyword_named(text) else {
+            let Keyword::In = Keyword::named(text) else {
                 return Err(fault_at(DescentFault::Unexpected, lexemes));
             };
             parse_for_each(alloc, below, name, rest)

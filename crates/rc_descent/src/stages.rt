@@ -18,8 +18,7 @@ use crate::redirections::{parse_redirection, parse_redirections};
 use crate::switches::parse_switch;
 use rc_lexemes::{
     Lexeme, TokenError, begins_arg, begins_brace, begins_redir, block, defined, fault_at,
-    insert_arg, keyword_named, matching, past_caret, push_arg, push_redir, redirect, simple,
-    undefined,
+    insert_arg, matching, past_caret, push_arg, push_redir, redirect, simple, undefined,
 };
 use rc_model::{DescentFault, Keyword};
 use rc_tree::{Arg, Cmd, Redir};
@@ -183,7 +182,7 @@ pub fn parse_opening(
         (opening_by (read below) (lexemes_of lexemes.now)) }
 {
     let (command, rest) = match lexemes {
-        [Lexeme::Word(text), rest @ ..] => match keyword_named(text) {
+        [Lexeme::Word(text), rest @ ..] => match Keyword::named(text) {
             Keyword::Switch => parse_switch(alloc, below, past_caret(rest))?,
             Keyword::Match => parse_match(alloc, below, past_caret(rest))?,
             Keyword::Fn => parse_define(alloc, below, past_caret(rest))?,

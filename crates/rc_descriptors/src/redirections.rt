@@ -15,7 +15,7 @@ use rc_configuration::{Configuration, Move, Scope, got, texts};
 use rc_redir::RedirError;
 use rc_scope::{State, is_readable};
 use rc_text::flat;
-use rc_tree_types::Piece;
+use rc_tree::Piece;
 use rc_world::{Mode, Stop, World};
 use std::alloc::{AllocError, Global};
 

@@ -1,7 +1,7 @@
 //! What the grammar sees of the tokens, the tests of the next one, and what ends an item.
 
 ghost use Rattle.std.specs.Prelude.{◌≡◌, Option, option_map};
-ghost use Rattle.rc_model.specs.Syntax.Grammar.{keyword, is_case, begins_arg, begins_redir, begins_brace};
+ghost use Rattle.rc_model.specs.Syntax.Grammar.{is_case, begins_arg, begins_redir, begins_brace};
 ghost use Rattle.rc_model.specs.Syntax.Grammar.{begins_command, begins_link, closes, ends, ends_case, past_newlines};
 ghost use Rattle.rc_model.specs.Syntax.Grammar.{past_blanks, past_caret, after_caret};
 ghost use Rattle.rc_model.specs.Mirrors.Descent.{begins_leading, item_end};
@@ -43,35 +43,6 @@ pub enum Lexeme {
     Subscript,
     BareDollar,
     BareHere,
-}
-
-/// Which keyword an unquoted word is.
-pub fn keyword_named(text: &str) -> Keyword
-    ensures { result ≡ keyword text.now }
-{
-    if text == "for" {
-        Keyword::For
-    } else if text == "in" {
-        Keyword::In
-    } else if text == "while" {
-        Keyword::While
-    } else if text == "if" {
-        Keyword::If
-    } else if text == "not" {
-        Keyword::Not
-    } else if text == "switch" {
-        Keyword::Switch
-    } else if text == "fn" {
-        Keyword::Fn
-    } else if text == "~" {
-        Keyword::Match
-    } else if text == "!" {
-        Keyword::Bang
-    } else if text == "@" {
-        Keyword::At
-    } else {
-        Keyword::Plain
-    }
 }
 
 /// Whether a word begins a case line.
@@ -142,7 +113,7 @@ pub fn begins_leading(lexemes: &[Lexeme]) -> bool
     ensures { result ≡ begins_leading (lexemes_of lexemes.now) }
 {
     match lexemes {
-        [Lexeme::Word(text), ..] => match keyword_named(text) {
+        [Lexeme::Word(text), ..] => match Keyword::named(text) {
             Keyword::For => true,
             Keyword::While => true,
             Keyword::If => true,

@@ -20,8 +20,8 @@ pub use commands::{
 pub use fault::{TokenError, TokenFault, fault_at};
 pub use lexeme::{
     Lexeme, after_caret, begins_arg, begins_brace, begins_command, begins_leading, begins_link,
-    begins_redir, closes, ends, ends_case, is_case, item_end, keyword_named, past_blanks,
-    past_caret, past_newlines,
+    begins_redir, closes, ends, ends_case, is_case, item_end, past_blanks, past_caret,
+    past_newlines,
 };
 pub use lists::{
     allows_stage, insert_arg, insert_redir, push_arg, push_branch, push_item, push_link, push_pair,

@@ -1,5 +1,8 @@
 //! Small parts of the language.
 
+ghost use Rattle.std.specs.Prelude.{◌≡◌};
+ghost use Rattle.rc_model.specs.Syntax.Ahead.{keyword};
+
 /// Whether a command runs where the one before was true, or where it was not.
 #[derive(Clone, Copy, PartialEq)]
 pub enum Logic {
@@ -54,4 +57,25 @@ pub enum Keyword {
     Bang,
     At,
     Plain,
+}
+
+impl Keyword {
+    /// Which keyword an unquoted word is.
+    pub fn named(word: &str) -> Keyword
+        ensures { result ≡ keyword word.now }
+    {
+        match word {
+            "for" => Keyword::For,
+            "in" => Keyword::In,
+            "while" => Keyword::While,
+            "if" => Keyword::If,
+            "not" => Keyword::Not,
+            "switch" => Keyword::Switch,
+            "fn" => Keyword::Fn,
+            "~" => Keyword::Match,
+            "!" => Keyword::Bang,
+            "@" => Keyword::At,
+            _ => Keyword::Plain,
+        }
+    }
 }

@@ -15,7 +15,7 @@ use rc_builtin::Started;
 use rc_model::limits::LONGEST_OUTPUT;
 use rc_scope::State;
 use rc_text::{Output, into_lossy};
-use rc_tree_types::Cmd;
+use rc_tree::Cmd;
 use rc_world::{Handle, Slot, Slots, Stop, World, calls};
 use std::alloc::{AllocError, Global};
 

@@ -18,7 +18,7 @@ use crate::launches::start_shell;
 use rc_builtin::{Started, misuse};
 use rc_scope::State;
 use rc_text::number_of;
-use rc_tree_types::Cmd;
+use rc_tree::Cmd;
 use rc_world::{ChildNo, Handle, Mode, Slot, Slots, Stop, World, calls};
 use std::alloc::{AllocError, Global};
 

@@ -14,7 +14,7 @@ use crate::children::wait_child;
 use rc_builtin::{Started, start_child};
 use rc_image::{Handover, InputError, handed};
 use rc_scope::State;
-use rc_tree_types::Cmd;
+use rc_tree::Cmd;
 use rc_world::{Launch, Program, Slots, Stop, World};
 use std::alloc::{AllocError, Global};
 

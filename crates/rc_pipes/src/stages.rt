@@ -12,7 +12,7 @@ ghost use Rattle.rc_pipes.specs.Stages.{StartsStage, after_stages};
 use crate::launches::start_shell;
 use rc_builtin::Started;
 use rc_scope::State;
-use rc_tree_types::Stage;
+use rc_tree::Stage;
 use rc_world::{ChildNo, Handle, Slot, Slots, Stop, World, calls};
 use std::alloc::Global;
 

@@ -7,7 +7,7 @@ ghost use Rattle.rc_listing.specs.Views.{code_of};
 ghost use Rattle.rc_scope.specs.Bodies.{functions_of};
 
 use rc_code::{Code, compile};
-use rc_tree_types::Cmd;
+use rc_tree::Cmd;
 use std::alloc::{AllocError, Global};
 use std::collections::BTreeMap;
 use std::marker::Model;

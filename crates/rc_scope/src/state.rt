@@ -22,7 +22,7 @@ use crate::variables::{Binding, Variables};
 use rc_code::Code;
 use rc_model::{ChildNo, InputError};
 use rc_text::flat;
-use rc_tree_types::Cmd;
+use rc_tree::Cmd;
 use std::alloc::{AllocError, Global};
 use std::collections::BTreeMap;
 use std::rc::Rc;

@@ -2,7 +2,7 @@
 
 use crate::support::{failure, list, state_with};
 use rc_builtin::whatis;
-use rc_tree_types::Cmd;
+use rc_tree::Cmd;
 use rc_world::{Answer, Call, Kind, PLAIN_SLOTS, Tape};
 use std::test::Fail;
 

@@ -2,7 +2,7 @@
 
 use crate::support::{list, state_with};
 use rc_scope::State;
-use rc_tree_types::Cmd;
+use rc_tree::Cmd;
 use rc_world::ChildNo;
 use std::rc::Rc;
 use std::test::Fail;

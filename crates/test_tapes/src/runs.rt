@@ -11,7 +11,7 @@ use rc_machine::{Machine, Progress};
 use rc_parser::{ScriptError, parse};
 use rc_scope::State;
 use rc_shell::{Ran, ShellFault, execute, execute_image};
-use rc_tree_types::Cmd;
+use rc_tree::Cmd;
 use rc_world::Tape;
 use std::alloc::{AllocError, Global};
 
