@@ -46,6 +46,7 @@ test:
 	tests/check $(BUILT)
 	tests/memory $(BUILT)
 	tests/descriptors $(BUILT)
+	tests/refusals
 	if [ -e $(RELEASE) ]; then cmp $(BUILT) $(RELEASE); fi
 
 install: rc

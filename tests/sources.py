@@ -115,3 +115,14 @@ def said_alone(function, text):
     named = rf"(^(?:abbrev )?(?:pub )?|goal\.)(invariant-)?(?:\w+::)*{function.path[-1]}-"
     text = re.sub(named, r"\1\2", text, flags=re.M)
     return re.sub(r"^([^\s:]+(?: g)?) t c\b", r"\1 c", text, flags=re.M)
+
+
+def dependencies_of(tree):
+    """The libraries that each crate names in crates.txt."""
+    found = {}
+    with open(f"{tree}/crates.txt", encoding="utf-8") as lines:
+        for line in lines:
+            name, colon, below = line.partition("#")[0].partition(":")
+            if colon:
+                found[name.split()[0]] = below.split()
+    return found

@@ -31,7 +31,7 @@ use Rattle.rc_model.specs.Mirrors.Descent.{leading_by as Descent_leading_by, lin
 use Rattle.rc_model.specs.Mirrors.Descent.{links_from as Descent_links_from, match_by as Descent_match_by}
 use Rattle.rc_model.specs.Mirrors.Descent.{members_by as Descent_members_by, members_from as Descent_members_from}
 use Rattle.rc_model.specs.Mirrors.Descent.{name_by as Descent_name_by, opening_by as Descent_opening_by}
-use Rattle.rc_model.specs.Mirrors.Descent.{operand_by as Descent_operand_by, optional_by as Descent_optional_by}
+use Rattle.rc_model.specs.Mirrors.Descent.{operand_by as Descent_operand_by, optional_operand_by as Descent_optional_by}
 use Rattle.rc_model.specs.Mirrors.Descent.{over_by as Descent_over_by, paren_by as Descent_paren_by}
 use Rattle.rc_model.specs.Mirrors.Descent.{part_by as Descent_part_by, parts_by as Descent_parts_by}
 use Rattle.rc_model.specs.Mirrors.Descent.{parts_from as Descent_parts_from, pipe_by as Descent_pipe_by}

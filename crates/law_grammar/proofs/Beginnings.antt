@@ -1,9 +1,9 @@
--- How phrases begin.
-use Rattle.std.proofs.Common.{◌≡◌, Bool, true, false, List, ◌∷◌, refl}
-use Rattle.rc_model.specs.Syntax.Tokens.{Lexeme, Redirection, CopyTo, HereDoc}
+-- How phrases begin and end.
+use Rattle.std.proofs.Common.{◌≡◌, Bool, true, false, List, [], ◌∷◌, refl}
+use Rattle.rc_model.specs.Syntax.Tokens.{Lexeme, Word, RightParen, RightBrace, Redirection, CopyTo, HereDoc}
 use Rattle.rc_model.specs.Syntax.Tree.{Node}
 use Rattle.rc_model.specs.Syntax.Tree as t
-use Rattle.rc_model.specs.Syntax.Grammar.{Phrase, is_plain, begins_arg, begins_redir, begins_brace, begins_command}
+use Rattle.rc_model.specs.Syntax.Grammar.{Phrase, is_plain, begins_arg, begins_redir, begins_brace, begins_command, closes, ends}
 use Rattle.rc_model.specs.Syntax.Grammar as g
 use Rattle.rc_model.specs.declared.syntax.Keyword.{Keyword}
 use Rattle.rc_model.specs.declared.syntax.Keyword.TheVariants.{Plain as NoKeyword}
@@ -36,6 +36,15 @@ redir_no_arg ts h = absurd cc
 
 pub brace_begins : {ts : List Lexeme} {c : Node t.cmd} {rest : List Lexeme} → Phrase g.brace ts c rest → begins_brace ts ≡ true
 brace_begins (g.braced q) = refl
+
+-- where a list is closed it ends, inside a switch too
+pub closes_ends : (in_switch : Bool) (ts : List Lexeme) → closes ts ≡ true → ends in_switch ts ≡ true
+closes_ends true (Word text ∷ ts) h = absurd cc
+closes_ends true [] h = refl
+closes_ends true (RightParen ∷ ts) h = refl
+closes_ends true (RightBrace ∷ ts) h = refl
+closes_ends true ts h = absurd cc
+closes_ends false ts h = h
 
 -- a plain word has no keyword
 pub plain_is : (k : Keyword) → is_plain k ≡ true → k ≡ NoKeyword

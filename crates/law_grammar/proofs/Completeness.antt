@@ -1,6 +1,6 @@
 -- Each phrase is read, unless its tree has too many levels or a pipeline in it too many stages: commands, lists of them, and all that is read.
 use Rattle.std.proofs.Common.{◌≡◌, ℕ, zero, suc, ◌<◌, ◌≤◌, Bool, true, false, not, ◌&&◌, List, [], ◌∷◌, length, Ok, refl, sym, ap, subst, ◌∙◌, arith}
-use Rattle.rc_model.specs.Syntax.Tokens.{Lexeme, Word, Semicolon, Ampersand, Newline, AndAnd, OrOr, RightParen, RightBrace}
+use Rattle.rc_model.specs.Syntax.Tokens.{Lexeme, Semicolon, Ampersand, Newline, AndAnd, OrOr, RightParen, RightBrace}
 use Rattle.rc_model.specs.Syntax.Tree.{Node, Many, none, more, snoc}
 use Rattle.rc_model.specs.Syntax.Tree as t
 use Rattle.rc_model.specs.Syntax.WellFormed.{depth, depths, most_stages, most_stages_in}
@@ -12,7 +12,7 @@ use Rattle.law_grammar.proofs.Shorter.{Phrase-shorter, past_newlines-shorter}
 use Rattle.law_grammar.proofs.Lists.{append, append_snoc, append_none}
 use Rattle.rc_model.specs.declared.syntax.Logic.TheVariants.{And, Or}
 use Rattle.law_grammar.proofs.CompletenessOfArguments.{Meets, deepen, bind, Good, name_meets, part_meets}
-use Rattle.law_grammar.proofs.Beginnings.{command_commands}
+use Rattle.law_grammar.proofs.Beginnings.{closes_ends, command_commands}
 use Rattle.law_grammar.proofs.CompletenessOfPipelines.{operand_meets, piped_stage_meets, piped_leading_meets, piped_assigned_meets}
 
 -- commands and lists
@@ -61,14 +61,6 @@ item_turn_command r go_on f front (Semicolon ∷ ts) h = absurd cc
 item_turn_command r go_on f front (Newline ∷ ts) h = absurd cc
 item_turn_command r go_on f front ts h = refl
 
-ends_closed : (s : Bool) (ts : List Lexeme) → closes ts ≡ true → ends s ts ≡ true
-ends_closed true (Word text ∷ ts) h = absurd cc
-ends_closed true [] h = refl
-ends_closed true (RightParen ∷ ts) h = refl
-ends_closed true (RightBrace ∷ ts) h = refl
-ends_closed true ts h = absurd cc
-ends_closed false ts h = h
-
 item_end_closed : (ts : List Lexeme) → closes ts ≡ true → d.item_end ts ≡ Ok (false, ts)
 unfolding d.item_end
 item_end_closed [] h = refl
@@ -79,7 +71,7 @@ item_end_closed ts h = absurd cc
 items_closed : (r : Readers) (s : Bool) (k : ℕ) (f : Bool) (front : Many t.item) (ts : List Lexeme) → closes ts ≡ true → d.items_from r s k f front ts ≡ Ok (front, ts)
 unfolding d.items_from d.item_end
 items_closed r s zero f front ts h = refl
-items_closed r s (suc k) f front ts h = rw (ends_closed s ts h) refl
+items_closed r s (suc k) f front ts h = rw (closes_ends s ts h) refl
 
 not_ended : (s : Bool) (ts : List Lexeme) → ends s (Semicolon ∷ ts) ≡ false
 not_ended true ts = refl

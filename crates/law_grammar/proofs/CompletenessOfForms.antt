@@ -192,8 +192,8 @@ body_meets a T W r gr (g.one_body {ts = ts} {rest = rest} {c = c} q) dt dw =
     rw (command_commands q) (deepen (r (d.a_command false) (past_newlines ts)) (c, rest) (gr.command q) (omega arith) (omega arith))
 
 optional_meets : (a T W : ℕ) (r : Readers) → Good a r → {ts : List Lexeme} {c : Node t.cmd} {rest : List Lexeme} → Phrase g.optional ts c rest → suc (depth c) ≤ T → most_stages c ≤ W →
-    Meets (suc a) T W (d.optional_by r ts) (c, rest)
-unfolding d.optional_by
+    Meets (suc a) T W (d.optional_operand_by r ts) (c, rest)
+unfolding d.optional_operand_by
 optional_meets a T W r gr (g.no_operand h) dt dw = rw h (record { met = refl })
 optional_meets a T W r gr (g.one_operand {ts = ts} {rest = rest} {c = c} q) dt dw =
     rw (operand_commands q) (deepen (r d.an_operand ts) (c, rest) (gr.operand q) (omega arith) (omega arith))
@@ -224,7 +224,7 @@ leading_meets a T W r gr (g.redir_leading {after_if = f} {ts = ts} {mid = mid} {
     (deepen (d.redir_by (r (d.a_part false)) ts) (n, mid) (redir_meets a (depth n) (most_stages n) (r (d.a_part false)) (good_part a r gr false) q (omega arith) (omega arith)) (omega arith) (omega arith))
     (bind (d.redirs_by (r (d.a_part false)) mid) _ (ns, next) (t.Redirect (more n ns) c, rest)
     (deepen (d.redirs_by (r (d.a_part false)) mid) (ns, next) (redirs_meets a (depths ns) (most_stages_in ns) (r (d.a_part false)) (good_part a r gr false) s (omega arith) (omega arith)) (omega arith) (omega arith))
-    (bind (d.optional_by r next) _ (c, rest) (t.Redirect (more n ns) c, rest) (optional_meets a T W r gr v (omega arith) (omega arith)) (record { met = refl }))))
+    (bind (d.optional_operand_by r next) _ (c, rest) (t.Redirect (more n ns) c, rest) (optional_meets a T W r gr v (omega arith) (omega arith)) (record { met = refl }))))
 leading_meets a T W r gr (g.if_leading {after_if = f} {ts = ts} {mid = mid} {rest = rest} {c = c} {d = e} h q s) dt dw =
     rw (h, paren_conditions r f q) (bind (d.paren_by r (past_caret ts)) _ (c, mid) (t.If c e, rest) (paren_meets a T W r gr q (omega arith) (omega arith))
     (bind (d.body_by r mid) _ (e, rest) (t.If c e, rest) (body_meets a T W r gr s (omega arith) (omega arith)) (record { met = refl })))

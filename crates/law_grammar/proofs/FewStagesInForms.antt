@@ -105,14 +105,14 @@ body_few r s ts =
     either (begins_command (past_newlines ts)) _ _ (λ e. s.command false (past_newlines ts))
     (either (begins_link (past_newlines ts)) (Err descent.Unexpected) _ (λ e. record { few = tt }) (record { few = omega arith }))
 
-optional_few : (r : Readers) → Small r → (ts : List Lexeme) → Few most_stages (d.optional_by r ts)
-unfolding d.optional_by
+optional_few : (r : Readers) → Small r → (ts : List Lexeme) → Few most_stages (d.optional_operand_by r ts)
+unfolding d.optional_operand_by
 optional_few r s ts = either (begins_command ts) _ _ (λ e. s.operand ts) (record { few = omega arith })
 
 condition_few : (r : Readers) → Small r → (ts : List Lexeme) → Few most_stages (d.condition_by r ts)
 condition_few r s ts = bind (d.paren_by r ts) _ (paren_few r s ts) (λ c h. bind (d.body_by r c.1) _ (body_few r s c.1) (λ b k. record { few = omega arith }))
 
-not_few : (r : Readers) → Small r → (f : Bool) (k : Keyword) (ts : List Lexeme) → Few most_stages (d.not_by r f k ts)
+not_few : (r : Readers) → Small r → (f : Bool) (k : Keyword) (ts : List Lexeme) → Few most_stages (d.if_not_by r f k ts)
 not_few r s true NotWord ts = bind (d.body_by r (past_caret ts)) _ (body_few r s (past_caret ts)) (λ c h. record { few = h })
 not_few r s false NotWord ts = record { few = tt }
 not_few r s f k ts = record { few = tt }
@@ -126,7 +126,7 @@ while_few : (r : Readers) → Small r → (ts : List Lexeme) → Few most_stages
 unfolding d.while_by
 while_few r s ts = bind (d.paren_by r ts) _ (paren_few r s ts) (λ c h. bind (d.body_by r c.1) _ (body_few r s c.1) (λ b k. record { few = omega arith }))
 
-in_few : (r : Readers) → Small r → (a : Node t.arg) (k : Keyword) (ts : List Lexeme) → most_stages a ≤ 64 → Few most_stages (d.in_by r a k ts)
+in_few : (r : Readers) → Small r → (a : Node t.arg) (k : Keyword) (ts : List Lexeme) → most_stages a ≤ 64 → Few most_stages (d.for_each_by r a k ts)
 in_few r s a InWord ts h =
     bind (d.members_by (r (d.a_part true)) (past_caret ts)) _ (members_few (r (d.a_part true)) (s.part true) (past_caret ts)) (λ as' j.
     bind (d.body_by r as'.1) _ (body_few r s as'.1) (λ b k. record { few = omega arith }))
@@ -158,7 +158,7 @@ unfolding d.redirected_by
 redirected_few r s ts =
     bind (d.redir_by (r (d.a_part false)) ts) _ (redir_few (r (d.a_part false)) (s.part false) ts) (λ x h.
     bind (d.redirs_by (r (d.a_part false)) x.1) _ (redirs_few (r (d.a_part false)) (s.part false) x.1) (λ rs k.
-    bind (d.optional_by r rs.1) _ (optional_few r s rs.1) (λ c j. record { few = omega arith })))
+    bind (d.optional_operand_by r rs.1) _ (optional_few r s rs.1) (λ c j. record { few = omega arith })))
 
 pub leading_few : (r : Readers) → Small r → (f : Bool) (ts : List Lexeme) → Few most_stages (d.leading_by r f ts)
 unfolding d.leading_by

@@ -1,6 +1,6 @@
 -- What the descent reads is a phrase: commands, lists of them, and all that is read, however many levels are left.
 use Rattle.std.proofs.Common.{◌≡◌, ℕ, zero, suc, ◌≤◌, Bool, true, false, not, ◌&&◌, List, [], ◌∷◌, length, Ok, Err, ◌⊎◌, inl, inr, refl, sym, ap, subst, arith}
-use Rattle.rc_model.specs.Syntax.Tokens.{Lexeme, Word, Semicolon, Ampersand, Newline, AndAnd, OrOr, RightParen, RightBrace}
+use Rattle.rc_model.specs.Syntax.Tokens.{Lexeme, Semicolon, Ampersand, Newline, AndAnd, OrOr}
 use Rattle.rc_model.specs.Syntax.Tree.{Node, Many, none, snoc}
 use Rattle.rc_model.specs.Syntax.Tree as t
 use Rattle.rc_model.specs.Syntax.Grammar.{Phrase, past_newlines, and_or, is_if, closes, ends}
@@ -8,6 +8,7 @@ use Rattle.rc_model.specs.Syntax.Grammar as g
 use Rattle.rc_model.specs.Mirrors.Descent as d
 use Rattle.rc_model.specs.Mirrors.Descent.{Reader, Readers}
 use Rattle.law_grammar.proofs.Shorter.{Phrase-shorter, past_newlines-shorter}
+use Rattle.law_grammar.proofs.Beginnings.{closes_ends}
 use Rattle.law_grammar.proofs.Lists.{done, ok_same, bind_ok, if_ok, Adds, adds_none, adds_more, adds_same, all_added}
 use Rattle.rc_model.specs.declared.syntax.Logic.TheVariants.{And, Or}
 use Rattle.law_grammar.proofs.SoundnessOfArguments.{Sound, found, name_sound, part_sound}
@@ -43,14 +44,6 @@ command_sound r s f ts x h =
     found (g.command f) ts (and_or w.0.0 v.0.0, v.0.1) x (g.linked (operand_sound r s f ts w.0 w.1) q) v.2
 
 -- a list that ends at once has no command
-closes_ends : (in_switch : Bool) (ts : List Lexeme) → closes ts ≡ true → ends in_switch ts ≡ true
-closes_ends true (Word text ∷ ts) h = absurd cc
-closes_ends true [] h = refl
-closes_ends true (RightParen ∷ ts) h = refl
-closes_ends true (RightBrace ∷ ts) h = refl
-closes_ends true ts h = absurd cc
-closes_ends false ts h = h
-
 closed_items : {in_switch f : Bool} {ts : List Lexeme} {is : Many t.item} {rest : List Lexeme} → Phrase (g.items in_switch f) ts is rest → closes ts ≡ true → (none ≡ is) × (ts ≡ rest)
 closed_items (g.no_item h) c = (refl, refl)
 closed_items (g.semicolon_item p) c = absurd cc

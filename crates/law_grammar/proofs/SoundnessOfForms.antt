@@ -159,8 +159,8 @@ body_sound r s ts x h = elim (if_ok (begins_command (past_newlines ts)) _ _ x h)
   ]
 ]
 
-optional_sound : (r : Readers) → Sound r → (ts : List Lexeme) (x : Node t.cmd × List Lexeme) → d.optional_by r ts ≡ Ok x → Phrase g.optional ts x.0 x.1
-unfolding d.optional_by
+optional_sound : (r : Readers) → Sound r → (ts : List Lexeme) (x : Node t.cmd × List Lexeme) → d.optional_operand_by r ts ≡ Ok x → Phrase g.optional ts x.0 x.1
+unfolding d.optional_operand_by
 optional_sound r s ts x h = elim (if_ok (begins_command ts) _ _ x h) [
   | inl b ↦ g.one_operand (s.operand ts x b.1)
   | inr b ↦ found g.optional ts (t.Empty, ts) x (g.no_operand b.0) b.1
@@ -168,7 +168,7 @@ optional_sound r s ts x h = elim (if_ok (begins_command ts) _ _ x h) [
 
 -- the control forms
 not_sound : (r : Readers) → Sound r → (f : Bool) (text : List ℕ) (ts : List Lexeme) (next_text : List ℕ) (k : Keyword) (next : List Lexeme) (x : Node t.cmd × List Lexeme) →
-    keyword text ≡ IfWord → past_caret ts ≡ Word next_text ∷ next → keyword next_text ≡ k → d.not_by r f k next ≡ Ok x → Phrase (g.leading f) (Word text ∷ ts) x.0 x.1
+    keyword text ≡ IfWord → past_caret ts ≡ Word next_text ∷ next → keyword next_text ≡ k → d.if_not_by r f k next ≡ Ok x → Phrase (g.leading f) (Word text ∷ ts) x.0 x.1
 not_sound r s true text ts next_text NotWord next x e e2 e3 h =
     let w = bind_ok (d.body_by r (past_caret next)) _ x h in
     found (g.leading true) (Word text ∷ ts) (t.IfNot w.0.0, w.0.1) x (g.if_not_leading e e2 e3 (body_sound r s (past_caret next) w.0 w.1)) w.2
@@ -199,7 +199,7 @@ while_sound r s f text ts x e h =
 
 in_sound : (r : Readers) → Sound r → (f : Bool) (text : List ℕ) (ts head : List Lexeme) (a : Node t.arg) (mid : List Lexeme) (next_text : List ℕ) (k : Keyword) (list : List Lexeme)
     (x : Node t.cmd × List Lexeme) → keyword text ≡ ForWord → past_caret ts ≡ LeftParen ∷ head → Phrase (g.arg true) (past_newlines head) a mid →
-    past_newlines mid ≡ Word next_text ∷ list → keyword next_text ≡ k → d.in_by r a k list ≡ Ok x → Phrase (g.leading f) (Word text ∷ ts) x.0 x.1
+    past_newlines mid ≡ Word next_text ∷ list → keyword next_text ≡ k → d.for_each_by r a k list ≡ Ok x → Phrase (g.leading f) (Word text ∷ ts) x.0 x.1
 in_sound r s f text ts head a mid next_text InWord list x e e2 p e3 e4 h =
     let w = bind_ok (d.members_by (r (d.a_part true)) (past_caret list)) _ x h in
     let v = bind_ok (d.body_by r w.0.1) _ x w.2 in
@@ -243,7 +243,7 @@ unfolding d.redirected_by
 redirected_sound r s f ts x h =
     let w = bind_ok (d.redir_by (r (d.a_part false)) ts) _ x h in
     let v = bind_ok (d.redirs_by (r (d.a_part false)) w.0.1) _ x w.2 in
-    let u = bind_ok (d.optional_by r v.0.1) _ x v.2 in
+    let u = bind_ok (d.optional_operand_by r v.0.1) _ x v.2 in
     found (g.leading f) ts (t.Redirect (more w.0.0 v.0.0) u.0.0, u.0.1) x
     (g.redir_leading (redir_sound (r (d.a_part false)) (s.part false) ts w.0 w.1) (redirs_sound (r (d.a_part false)) (s.part false) w.0.1 v.0 v.1) (optional_sound r s v.0.1 u.0 u.1)) u.2
 

@@ -205,7 +205,7 @@ components_by : (m : ℕ × Bool) (w : Word) (b : Bool) → (m.0 == 47) ≡ b �
 components_by m w true h k = k ∙ ap (λ b. b || has_pattern w) (sym (slash_plain m h))
 components_by m w false h k = first_pattern m (components w) ∙ ap (λ b. is_pattern m || b) k
 
-components_pattern : (w : Word) → list_any has_pattern (components w) ≡ has_pattern w
+pub components_pattern : (w : Word) → list_any has_pattern (components w) ≡ has_pattern w
 components_pattern [] = refl
 components_pattern (m ∷ w) = components_by m w (m.0 == 47) refl (components_pattern w)
 

@@ -13,7 +13,7 @@ use Rattle.std.proofs.lemmas.List.{length-append}
 use Rattle.std.proofs.lemmas.Slice.Eq.{bytes_eq-Decides}
 use Rattle.rc_model.specs.Syntax.Text.{text_cmp}
 use Rattle.rc_model.specs.Syntax.Words.{Word, word_text, has_pattern}
-use Rattle.rc_model.specs.Run.Patterns.{matches}
+use Rattle.rc_model.specs.Run.Patterns.{is_dots, matches}
 use Rattle.rc_model.specs.Run.Calls.{Call, Answer, list_names, probe, as_names, Event, refused}
 use Rattle.rc_model.specs.declared.call.Fault.TheVariants.{Other}
 use Rattle.rc_model.specs.Run.Plans.{Plan, done_with, ask, cut, Goes}
@@ -111,10 +111,8 @@ slashed n = list_any (λ c. (c == 47) || (c == 0)) n
 
 clean_name : (n : List ℕ) → clean n → ((length n == 0) ≡ false) × (slashed n ≡ false)
 clean_name n h =
-    let a = or_parts (length n == 0) (bytes_eq n (codes ".") || (bytes_eq n (codes "..") || slashed n)) h in
-    let b = or_parts (bytes_eq n (codes ".")) (bytes_eq n (codes "..") || slashed n) a.1 in
-    let c = or_parts (bytes_eq n (codes "..")) (slashed n) b.1 in
-    (a.0, c.1)
+    let a = or_parts (length n == 0) (is_dots n || slashed n) h in
+    (a.0, (or_parts (is_dots n) (slashed n) a.1).1)
 
 slash_there : (c : ℕ) (n : List ℕ) → c ≡ 47 → slashed (c ∷ n) ≡ false → ⊥
 slash_there c n q h = no_way (sym (or_parts (c == 47) (c == 0) (or_parts ((c == 47) || (c == 0)) (slashed n) h).0).0 ∙ eq-eqb c 47 q)

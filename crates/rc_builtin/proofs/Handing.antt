@@ -1,5 +1,5 @@
 -- The entries of a launch, variable by variable.
-use Rattle.std.proofs.Common.{◌≡◌, ℕ, Bool, true, false, not, cond, List, [], ◌∷◌, ◌++◌, length, map, refl, sym, ap, ◌∙◌, suc, arith, string_bytes, append_assoc, ◌&&◌, ◌==◌, ◌<◌, ◌+◌, drop, get_or, drop-cons, add-one, subst}
+use Rattle.std.proofs.Common.{◌≡◌, ℕ, Bool, true, false, not, cond, List, [], ◌∷◌, ◌++◌, length, map, refl, sym, ap, ◌∙◌, arith, string_bytes, append_assoc, ◌&&◌, ◌==◌, ◌<◌, ◌+◌, drop, get_or, drop-cons, add-one, subst}
 use Rattle.std.proofs.lemmas.Bool.{ne_eqb}
 use Rattle.std.proofs.lemmas.Map.Keys.{sorted_tail}
 use mathlib.Core.Bool.{true≢false}
@@ -15,7 +15,8 @@ use Rattle.rc_model.specs.Handed.Environment.{Bindings}
 use Rattle.rc_model.specs.Handed.Image.{entry, entries, value_text, with_binding, with_functions, is_kept, handed_values}
 use Rattle.rc_scope.specs.Bindings.{binding_of, bindings_of, visible_values}
 use Rattle.rc_scope.specs.declared.variables.Binding.{Binding}
-use Rattle.rc_builtin.specs.Additions.{added, handed, is_handed, put_all, texts_of, AreAfter}
+use Rattle.rc_model.specs.Handed.Proper.{Above}
+use Rattle.rc_builtin.specs.Additions.{added, handed, is_handed, put_all, texts_of}
 use Rattle.rc_builtin.proofs.Insertions.{BeginsAfter, comes_first, first_key, functions_among, passes_first, takes_place}
 
 -- the values that are handed over are those of the state
@@ -46,10 +47,6 @@ off_by name (m ∷ ms) others false h e = absurd (true≢false (sym (ap (λ b. n
 pub handed_off : (v : Binding) (vs : List Binding) → is_handed (binding_of v) ≡ false → handed (v ∷ vs) ≡ handed vs
 handed_off v vs h = off_by (v.name.now) (map string_bytes v.value.now) (handed vs) (is_kept v.name.now) refl h
 
-pub length_texts : (xs : List (String Global)) → length (map string_bytes xs) ≡ length xs
-length_texts [] = refl
-length_texts (x ∷ xs) = ap (λ n. suc n) (length_texts xs)
-
 -- ** the variables that are left
 
 variable_left : (vs : List Binding) (i : ℕ) (v : Binding) → i < length vs → v ≡ get_or vs i v → drop i vs ≡ v ∷ drop (i + 1) vs
@@ -72,7 +69,7 @@ entry_on w all e b bs more is h inv = append_assoc w (e ∷ []) (map entry bs) �
 
 -- what has this name, and others after it, are still to come among the variables
 abbrev pub Keeps : List ℕ → (bs rest : Bindings) → (before after : List (List ℕ)) → Type 0
-Keeps name bs rest before after = (text : List ℕ) (others : Bindings) → AreAfter name others →
+Keeps name bs rest before after = (text : List ℕ) (others : Bindings) → Above name others →
     before ++ map entry (put_all ((name, text) ∷ others) bs) ≡ after ++ map entry (put_all ((name, text) ∷ others) rest)
 
 -- a variable before the name
@@ -84,19 +81,19 @@ keeps_on name bs more rest b e before after gt is h k = λ text others a.
 
 -- one after it
 pub ends_before : (name : List ℕ) (bs more rest : Bindings) (b : List ℕ × List ℕ) (before after : List (List ℕ)) → text_cmp name b.0 ≡ Less → more ≡ b ∷ rest → Keeps name bs more before after
-    → (text : List ℕ) (others : Bindings) → AreAfter name others → before ++ map entry (put_all ((name, text) ∷ others) bs) ≡ after ++ (entry (name, text) ∷ map entry (put_all others more))
+    → (text : List ℕ) (others : Bindings) → Above name others → before ++ map entry (put_all ((name, text) ∷ others) bs) ≡ after ++ (entry (name, text) ∷ map entry (put_all others more))
 ends_before name bs more rest b before after lt h k = λ text others a.
     k text others a ∙ ap (λ l. after ++ map entry l) (comes_first others more name text a (subst (λ l. BeginsAfter name l) (sym h) lt))
 
 -- one of this name
 pub ends_at : (name : List ℕ) (bs more rest : Bindings) (b : List ℕ × List ℕ) (before after : List (List ℕ)) → text_cmp name b.0 ≡ Equal → more ≡ b ∷ rest → Keeps name bs more before after
-    → (text : List ℕ) (others : Bindings) → AreAfter name others → before ++ map entry (put_all ((name, text) ∷ others) bs) ≡ after ++ (entry (name, text) ∷ map entry (put_all others rest))
+    → (text : List ℕ) (others : Bindings) → Above name others → before ++ map entry (put_all ((name, text) ∷ others) bs) ≡ after ++ (entry (name, text) ∷ map entry (put_all others rest))
 ends_at name bs more rest b before after eq h k = λ text others a.
     k text others a ∙ ap (λ l. after ++ map entry l) (ap (put_all ((name, text) ∷ others)) h ∙ takes_place others rest b name text eq a)
 
 -- no more
 pub ends_all : (name : List ℕ) (bs more last : Bindings) (before after : List (List ℕ)) → more ≡ [] → last ≡ [] → Keeps name bs more before after
-    → (text : List ℕ) (others : Bindings) → AreAfter name others → before ++ map entry (put_all ((name, text) ∷ others) bs) ≡ after ++ (entry (name, text) ∷ map entry (put_all others last))
+    → (text : List ℕ) (others : Bindings) → Above name others → before ++ map entry (put_all ((name, text) ∷ others) bs) ≡ after ++ (entry (name, text) ∷ map entry (put_all others last))
 ends_all name bs more last before after h i k = λ text others a.
     k text others a ∙ ap (λ l. after ++ map entry (put_all ((name, text) ∷ others) l)) (h ∙ sym i) ∙ ap (λ l. after ++ map entry l) (comes_first others last name text a (subst (λ l. BeginsAfter name l) (sym i) tt))
 
@@ -111,10 +108,10 @@ all_to_come m vs s h k =
 
 -- what was added under its name, and the others
 pub turn : (w v all : List (List ℕ)) (x : List ℕ) (e : String Global × String Global) (es more : List (String Global × String Global)) (bs rest : Bindings) → more ≡ e ∷ es →
-    ((text : List ℕ) (others : Bindings) → AreAfter (string_bytes e.0) others → w ++ map entry (put_all ((string_bytes e.0, text) ∷ others) bs) ≡ v ++ (entry (string_bytes e.0, text) ∷ map entry (put_all others rest)))
+    ((text : List ℕ) (others : Bindings) → Above (string_bytes e.0) others → w ++ map entry (put_all ((string_bytes e.0, text) ∷ others) bs) ≡ v ++ (entry (string_bytes e.0, text) ∷ map entry (put_all others rest)))
     → x ≡ entry (string_bytes e.0, string_bytes e.1) → IsStrictlySortedBy string_cmp (keys_of more) → w ++ map entry (put_all (texts_of more) bs) ≡ all → (v ++ x ∷ []) ++ map entry (put_all (texts_of es) rest) ≡ all
 turn w v all x e es more bs rest is pushes h sorted inv =
-    let after : AreAfter (string_bytes e.0) (texts_of es) = first_key e es (subst (λ l. IsStrictlySortedBy string_cmp (keys_of l)) is sorted) in
+    let after : Above (string_bytes e.0) (texts_of es) = first_key e es (subst (λ l. IsStrictlySortedBy string_cmp (keys_of l)) is sorted) in
     append_assoc v (x ∷ []) (map entry (put_all (texts_of es) rest)) ∙ ap (λ y. v ++ y ∷ map entry (put_all (texts_of es) rest)) h
     ∙ sym (pushes (string_bytes e.1) (texts_of es) after) ∙ ap (λ l. w ++ map entry (put_all (texts_of l) bs)) (sym is) ∙ inv
 

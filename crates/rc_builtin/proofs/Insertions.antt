@@ -20,7 +20,8 @@ use Rattle.rc_model.specs.Syntax.Text.{text_cmp}
 use Rattle.rc_model.specs.Syntax.Tree.{Node, cmd}
 use Rattle.rc_model.specs.Handed.Environment.{Bindings, Functions}
 use Rattle.rc_model.specs.Handed.Image.{image, with_functions}
-use Rattle.rc_builtin.specs.Additions.{put_all, AreAfter, texts_of, with_named}
+use Rattle.rc_model.specs.Handed.Proper.{Above}
+use Rattle.rc_builtin.specs.Additions.{put_all, texts_of, with_named}
 
 abbrev Entry : Type 0
 Entry = List ℕ × List ℕ
@@ -127,32 +128,32 @@ after_in : (l : Bindings) (k y w : List ℕ) → text_cmp k y ≡ Less → Begin
 after_in [] k y w h i = h
 after_in (e ∷ es) k y w h i = after_by e es k y w (text_cmp y e.0) h i
 
-after_all : (m l : Bindings) (k : List ℕ) → AreAfter k m → BeginsAfter k l → BeginsAfter k (put_all m l)
+after_all : (m l : Bindings) (k : List ℕ) → Above k m → BeginsAfter k l → BeginsAfter k (put_all m l)
 after_all [] l k h i = i
 after_all (x ∷ m) l k h i = after_in (put_all m l) k x.0 x.1 h.0 (after_all m l k h.1 i)
 
 -- one before all others comes first
-pub comes_first : (m l : Bindings) (k v : List ℕ) → AreAfter k m → BeginsAfter k l → put_all ((k, v) ∷ m) l ≡ (k, v) ∷ put_all m l
+pub comes_first : (m l : Bindings) (k v : List ℕ) → Above k m → BeginsAfter k l → put_all ((k, v) ∷ m) l ≡ (k, v) ∷ put_all m l
 comes_first m l k v h i = first_in (put_all m l) k v (after_all m l k h i)
 
 -- those after an entry leave it first
-pub stays_first : (m l : Bindings) (b : Entry) → AreAfter b.0 m → put_all m (b ∷ l) ≡ b ∷ put_all m l
+pub stays_first : (m l : Bindings) (b : Entry) → Above b.0 m → put_all m (b ∷ l) ≡ b ∷ put_all m l
 stays_first [] l b h = refl
 stays_first (x ∷ m) l b h = ap (λ t. ins t x.0 x.1) (stays_first m l b h.1) ∙ greater_in b (put_all m l) x.0 x.1 (turned b.0 x.0 h.0)
 
 -- what is after one name is after any name before it
-pub after_before : (m : Bindings) (y k : List ℕ) → text_cmp y k ≡ Less → AreAfter k m → AreAfter y m
+pub after_before : (m : Bindings) (y k : List ℕ) → text_cmp y k ≡ Less → Above k m → Above y m
 after_before [] y k h i = tt
 after_before (x ∷ m) y k h i = (nat_list_cmp_total.trans y k x.0 h i.0, after_before m y k h i.1)
 
 -- one of the name of the first takes its place
-pub takes_place : (m l : Bindings) (b : Entry) (k v : List ℕ) → text_cmp k b.0 ≡ Equal → AreAfter k m → put_all ((k, v) ∷ m) (b ∷ l) ≡ (k, v) ∷ put_all m l
+pub takes_place : (m l : Bindings) (b : Entry) (k v : List ℕ) → text_cmp k b.0 ≡ Equal → Above k m → put_all ((k, v) ∷ m) (b ∷ l) ≡ (k, v) ∷ put_all m l
 takes_place m l b k v h i =
     let same : k ≡ b.0 = same_name k b.0 h in
-    ap (λ t. ins t k v) (stays_first m l b (subst (λ n. AreAfter n m) same i)) ∙ equal_in b (put_all m l) k v h ∙ ap (λ n. (n, v) ∷ put_all m l) (sym same)
+    ap (λ t. ins t k v) (stays_first m l b (subst (λ n. Above n m) same i)) ∙ equal_in b (put_all m l) k v h ∙ ap (λ n. (n, v) ∷ put_all m l) (sym same)
 
 -- one after the first leaves it first
-pub passes_first : (m l : Bindings) (b : Entry) (k v : List ℕ) → text_cmp k b.0 ≡ Greater → AreAfter k m → put_all ((k, v) ∷ m) (b ∷ l) ≡ b ∷ put_all ((k, v) ∷ m) l
+pub passes_first : (m l : Bindings) (b : Entry) (k v : List ℕ) → text_cmp k b.0 ≡ Greater → Above k m → put_all ((k, v) ∷ m) (b ∷ l) ≡ b ∷ put_all ((k, v) ∷ m) l
 passes_first m l b k v h i = stays_first ((k, v) ∷ m) l b (turned_back k b.0 h, after_before m b.0 k (turned_back k b.0 h) i)
 
 -- ** functions
@@ -231,10 +232,10 @@ pub put_text : (es : List (String Global × String Global)) (k v : String Global
 put_text [] k v = refl
 put_text (e ∷ es) k v = text_by e es (insert_entry string_cmp es k v) k v (string_cmp k e.0) _ (put_text es k v)
 
-keys_after : (k : String Global) (es : List (String Global × String Global)) → AllByRecursion (λ y. string_cmp k y ≡ Less) (keys_of es) → AreAfter (string_bytes k) (texts_of es)
+keys_after : (k : String Global) (es : List (String Global × String Global)) → AllByRecursion (λ y. string_cmp k y ≡ Less) (keys_of es) → Above (string_bytes k) (texts_of es)
 keys_after k [] h = tt
 keys_after k (e ∷ es) h = (h.0, keys_after k es h.1)
 
 -- the other names of a map come after its first
-pub first_key : (e : String Global × String Global) (es : List (String Global × String Global)) → IsStrictlySortedBy string_cmp (keys_of (e ∷ es)) → AreAfter (string_bytes e.0) (texts_of es)
+pub first_key : (e : String Global × String Global) (es : List (String Global × String Global)) → IsStrictlySortedBy string_cmp (keys_of (e ∷ es)) → Above (string_bytes e.0) (texts_of es)
 first_key e es h = keys_after e.0 es (sorted_head string_cmp e.0 (keys_of es) h)

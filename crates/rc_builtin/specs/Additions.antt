@@ -3,13 +3,13 @@ use Rattle.std.specs.Prelude.{◌≡◌, ℕ, List, [], ◌∷◌, ◌++◌, Boo
 use Rattle.std.specs.Prelude.{Option, Some, None}
 use Rattle.std.specs.BTreeMap.{insert_entry}
 use Rattle.std.specs.declared.alloc.Global.{Global}
-use Rattle.std.specs.declared.cmp.Ordering.TheVariants.{Less}
 use Rattle.std.specs.declared.string.String.{String}
 use Rattle.rc_model.specs.Syntax.Text.{text_cmp}
 use Rattle.rc_model.specs.Syntax.Tree.{Node, cmd}
 use Rattle.rc_model.specs.Run.State.{State, status_name}
 use Rattle.rc_model.specs.Handed.Environment.{Bindings}
 use Rattle.rc_model.specs.Handed.Image.{entry, handed_values, image, is_kept, value_text, with_functions}
+use Rattle.rc_model.specs.Handed.Proper.{Above}
 use Rattle.rc_scope.specs.Bindings.{bindings_of}
 use Rattle.rc_scope.specs.declared.variables.Binding.{Binding}
 
@@ -39,13 +39,8 @@ abbrev pub put_all : Bindings → Bindings → Bindings
 put_all [] others = others
 put_all (b ∷ bs) others = insert_entry text_cmp (put_all bs others) b.0 b.1
 
--- each of these names comes after another
-abbrev pub AreAfter : List ℕ → Bindings → Type 0
-AreAfter name [] = Unit {0}
-AreAfter name (b ∷ bs) = (text_cmp name b.0 ≡ Less) × AreAfter name bs
-
 -- the entries of the first variables were written: what has this name, and others after it, comes next
 abbrev pub PushesBelow : List ℕ → (variables rest : List Binding) → (before after : List (List ℕ)) → Type 0
-PushesBelow name variables rest before after = (text : List ℕ) (others : Bindings) → AreAfter name others →
+PushesBelow name variables rest before after = (text : List ℕ) (others : Bindings) → Above name others →
     before ++ map entry (put_all ((name, text) ∷ others) (handed variables))
     ≡ after ++ (entry (name, text) ∷ map entry (put_all others (handed rest)))

@@ -66,7 +66,7 @@ fn is_kept(name: &str) -> bool
 }
 
 /// Whether a variable is handed over.
-#[tactic(auto, using(crate::proofs::Handing::length_texts))]
+#[tactic(auto, using(rc_scope::proofs::Stacks::length_texts))]
 fn is_handed(variable: &Binding) -> bool
     ensures { result ≡ is_handed (binding_of variable.now) }
 {

@@ -84,7 +84,7 @@ abbrev pub RunsScript : Option (List Event) → Option (List Event) → Request 
 RunsScript before after r entries script result =
     RunsAsMeant before after (text_from script (first_state r entries)) result
 
--- a run of what the words and the entries denote
+-- a run of what the arguments and the entries denote
 abbrev pub RunsImage : Option (List Event) → Option (List Event) → Request → (entries : List (List ℕ)) →
     Result ℕ RunError → Type 0
 RunsImage before after r entries result =

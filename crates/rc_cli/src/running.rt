@@ -106,12 +106,11 @@ fn run_image<'a, W: World>(
     ensures meant { RunsImage (W.events world.old) (W.events world.new)
         (asked request.entry) (map string_bytes entries.now) result }
 {
-    let words = request.arguments;
     answer(execute_image(
         alloc,
         world,
         request.strict,
-        words,
+        request.arguments,
         entries,
         MOST_INSTRUCTIONS,
     ))

@@ -5,6 +5,7 @@ use Rattle.rc_model.specs.Syntax.Tokens.{Lexeme}
 use Rattle.rc_model.specs.Mirrors.Descent as d
 use Rattle.rc_model.specs.Mirrors.Descent.{Nested}
 use Rattle.rc_model.specs.declared.fault.DescentFault.TheVariants as descent
+use Rattle.rc_tree_types.specs.View.{tree_lists}
 
 pub read_none : (left : ℕ) (n : Nested) (ts : List Lexeme) → left ≡ 0 → d.read left n ts ≡ Err descent.TooDeep
 unfolding d.read
@@ -38,3 +39,9 @@ unfolding d.read d.read_by
 read_list left s ts h = ap (λ k. d.read k (d.a_list s) ts) (left_is left h)
 
 pub ruleset levels = (read_none, read_name, read_part, read_operand, read_piped, read_command, read_list, common_steps)
+
+-- a step of a function whose lists are made by others
+pub ruleset steps = (common_steps)
+
+-- a step at which a list grows
+pub ruleset lists = (tree_lists)

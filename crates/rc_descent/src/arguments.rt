@@ -22,7 +22,7 @@ use std::alloc::Global;
 
 /// A part of an argument. Inside parentheses newlines are blanks.
 #[cycle(parse)]
-#[tactic(auto, using(crate::proofs::Steps::levels, std::proofs::lemmas::Grind::common_steps), unfolding(rc_model::specs::Mirrors::Descent::part_by))]
+#[tactic(auto, using(crate::proofs::Steps::levels), unfolding(rc_model::specs::Mirrors::Descent::part_by))]
 fn parse_part(
     alloc: Global,
     left: usize,
@@ -80,7 +80,7 @@ fn parse_backquote(
 
 /// What follows a `$`: a name, perhaps with subscripts.
 #[cycle(parse)]
-#[tactic(auto, using(std::proofs::lemmas::Grind::common_steps), unfolding(rc_model::specs::Mirrors::Descent::dollar_by))]
+#[tactic(auto, using(crate::proofs::Steps::steps), unfolding(rc_model::specs::Mirrors::Descent::dollar_by))]
 fn parse_dollar(
     alloc: Global,
     below: usize,

@@ -2,8 +2,8 @@
 
 ghost use Rattle.std.specs.Prelude.{true};
 ghost use Rattle.rc_model.specs.Syntax.Tree as t;
-ghost use Rattle.rc_model.specs.Mirrors.Descent.{read, an_operand, body_by, not_by, condition_by, if_by, while_by};
-ghost use Rattle.rc_model.specs.Mirrors.Descent.{in_by, over_by, for_by, control_by};
+ghost use Rattle.rc_model.specs.Mirrors.Descent.{read, an_operand, body_by, if_not_by, condition_by, if_by, while_by};
+ghost use Rattle.rc_model.specs.Mirrors.Descent.{for_each_by, over_by, for_by, control_by};
 ghost use Rattle.rc_model.specs.declared.syntax.Keyword.TheVariants as keyword;
 ghost use Rattle.rc_tree_types.specs.View.{cmd_tree, arg_tree};
 ghost use Rattle.rc_lexemes.specs.Lexemes.{lexemes_of};
@@ -75,7 +75,7 @@ fn parse_if_not(
     lexemes: &[Lexeme],
 ) -> Result<(Box<Cmd>, &[Lexeme]), TokenError>
     ensures { Gives (λ x. (cmd_tree x.0.value, lexemes_of x.1.now)) result
-        (not_by (read below) true keyword.Not (lexemes_of lexemes.now)) }
+        (if_not_by (read below) true keyword.Not (lexemes_of lexemes.now)) }
 {
     let (body, rest) = parse_body(alloc, below, past_caret(lexemes))?;
     Ok((if_not(alloc, body)?, rest))
@@ -163,7 +163,7 @@ fn parse_for_each(
     lexemes: &[Lexeme],
 ) -> Result<(Box<Cmd>, &[Lexeme]), TokenError>
     ensures { Gives (λ x. (cmd_tree x.0.value, lexemes_of x.1.now)) result
-        (in_by (read below) (arg_tree name.value) keyword.In (lexemes_of lexemes.now)) }
+        (for_each_by (read below) (arg_tree name.value) keyword.In (lexemes_of lexemes.now)) }
 {
     let (words, rest) = parse_members(alloc, below, past_caret(lexemes))?;
     let (body, rest) = parse_body(alloc, below, rest)?;
@@ -220,7 +220,7 @@ fn parse_subshell(
 
 /// What follows `!`, `@` and the control words.
 #[cycle(parse)]
-#[tactic(auto, using(std::proofs::lemmas::Grind::common_steps), unfolding(rc_model::specs::Mirrors::Descent::control_by))]
+#[tactic(auto, using(crate::proofs::Steps::steps), unfolding(rc_model::specs::Mirrors::Descent::control_by))]
 pub fn parse_control(
     alloc: Global,
     below: usize,

@@ -13,7 +13,7 @@ use rc_tree::Arg;
 use std::alloc::Global;
 
 /// A name after a `$`.
-#[tactic(auto, using(crate::proofs::Steps::levels, std::proofs::lemmas::Grind::common_steps), unfolding(rc_model::specs::Mirrors::Descent::name_by))]
+#[tactic(auto, using(crate::proofs::Steps::levels), unfolding(rc_model::specs::Mirrors::Descent::name_by))]
 pub fn parse_name(
     alloc: Global,
     left: usize,

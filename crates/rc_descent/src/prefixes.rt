@@ -2,7 +2,7 @@
 
 ghost use Rattle.std.specs.Prelude.{◌≡◌, IfOk, false};
 ghost use Rattle.rc_model.specs.Syntax.Tree as t;
-ghost use Rattle.rc_model.specs.Mirrors.Descent.{read, optional_by, redirected_by, values_by, assigned_by};
+ghost use Rattle.rc_model.specs.Mirrors.Descent.{read, optional_operand_by, redirected_by, values_by, assigned_by};
 ghost use Rattle.rc_model.specs.Mirrors.Descent.{leading_by, pipe_by};
 ghost use Rattle.rc_tree_types.specs.View.{cmd_tree, arg_tree, pairs_tree};
 ghost use Rattle.rc_lexemes.specs.Lexemes.{lexemes_of};
@@ -22,14 +22,14 @@ use std::alloc::{AllocError, Global};
 
 /// An operand that may be absent.
 #[cycle(parse)]
-#[tactic(auto, using(std::proofs::lemmas::Grind::common_steps), unfolding(rc_model::specs::Mirrors::Descent::optional_by))]
+#[tactic(auto, using(crate::proofs::Steps::steps), unfolding(rc_model::specs::Mirrors::Descent::optional_operand_by))]
 fn parse_optional_operand(
     alloc: Global,
     below: usize,
     lexemes: &[Lexeme],
 ) -> Result<(Box<Cmd>, &[Lexeme]), TokenError>
     ensures { Gives (λ x. (cmd_tree x.0.value, lexemes_of x.1.now)) result
-        (optional_by (read below) (lexemes_of lexemes.now)) }
+        (optional_operand_by (read below) (lexemes_of lexemes.now)) }
 {
     if begins_command(lexemes) {
         parse_inner_operand(alloc, below, lexemes)
@@ -40,7 +40,7 @@ fn parse_optional_operand(
 
 /// Redirections with the operand after them.
 #[cycle(parse)]
-#[tactic(auto, using(std::proofs::lemmas::Grind::common_steps), unfolding(rc_model::specs::Mirrors::Descent::redirected_by))]
+#[tactic(auto, using(crate::proofs::Steps::steps), unfolding(rc_model::specs::Mirrors::Descent::redirected_by))]
 pub fn parse_redirected(
     alloc: Global,
     below: usize,
@@ -58,7 +58,7 @@ pub fn parse_redirected(
 
 /// The value after a `=`, further assignments and the command after them.
 #[cycle(parse)]
-#[tactic(auto, using(rc_tree_types::specs::View::tree_lists), unfolding(rc_model::specs::Mirrors::Descent::assigned_by))]
+#[tactic(auto, using(crate::proofs::Steps::lists), unfolding(rc_model::specs::Mirrors::Descent::assigned_by))]
 pub fn parse_assigned(
     alloc: Global,
     below: usize,

@@ -82,7 +82,7 @@ fn parse_match(
 
 /// What follows `fn`.
 #[cycle(parse)]
-#[tactic(auto, using(std::proofs::lemmas::Grind::common_steps), unfolding(rc_model::specs::Mirrors::Descent::define_by))]
+#[tactic(auto, using(crate::proofs::Steps::steps), unfolding(rc_model::specs::Mirrors::Descent::define_by))]
 fn parse_define(
     alloc: Global,
     below: usize,

@@ -18,7 +18,7 @@ use std::alloc::Global;
 
 /// The words of a case line, and the commands that follow it.
 #[cycle(parse)]
-#[tactic(auto, using(std::proofs::lemmas::Grind::common_steps), unfolding(rc_model::specs::Mirrors::Descent::branch_by))]
+#[tactic(auto, using(crate::proofs::Steps::steps), unfolding(rc_model::specs::Mirrors::Descent::branch_by))]
 fn parse_case(
     alloc: Global,
     below: usize,
@@ -71,7 +71,7 @@ fn parse_cases(
 
 /// What follows `switch`.
 #[cycle(parse)]
-#[tactic(auto, using(std::proofs::lemmas::Grind::common_steps), unfolding(rc_model::specs::Mirrors::Descent::switch_by))]
+#[tactic(auto, using(crate::proofs::Steps::steps), unfolding(rc_model::specs::Mirrors::Descent::switch_by))]
 pub fn parse_switch(
     alloc: Global,
     below: usize,

@@ -7,8 +7,9 @@ use Rattle.std.specs.Borrow.{Bor}
 use Rattle.std.specs.List.{list_any, onto_first, join_with_byte}
 use Rattle.std.specs.Char.{encode_utf8}
 use Rattle.std.proofs.lemmas.Str.{encode_ascii}
-use Rattle.rc_model.specs.Syntax.Words.{Word, has_pattern, is_pattern, word_text}
+use Rattle.rc_model.specs.Syntax.Words.{Word, has_pattern, word_text}
 use Rattle.rc_model.specs.Run.FileNames.{components, if_there, listed, paths_of, step, walk}
+use Rattle.law_patterns.proofs.Found.{components_pattern}
 use Rattle.rc_literal.specs.declared.Ch.{Ch}
 use Rattle.rc_literal.specs.Views.{mark_of, marks}
 use Rattle.rc_glob.specs.Paths.{paths_from}
@@ -56,31 +57,11 @@ module _ (word : List Ch) (i : ℕ) (d : Ch) (l : i < length word) where
       ∙ (ap (onto (marks (take i word))) (split_here ∙ ap (λ b. cond b ([] ∷ rest) (onto_first (mark_of (get_or word i d)) rest)) (eq-eqb (get_or word i d).c 47 h))
       ∙ ap (λ w. w ∷ rest) (append-nil (marks (take i word))))
 
--- ** which components hold a pattern character
-
-or_assoc : (a b c : Bool) → (a || b) || c ≡ a || (b || c)
-or_assoc true b c = refl
-or_assoc false b c = refl
-
--- a slash is no pattern character
-slash_plain : (m : ℕ × Bool) → m.0 ≡ 47 → is_pattern m ≡ false
-slash_plain (c, true) h = ap (λ z. is_pattern (z, true)) h
-slash_plain (c, false) h = refl
-
-any_by : (b : Bool) (m : ℕ × Bool) (ps : List Word) (x : Bool) → (m.0 == 47) ≡ b → list_any has_pattern ps ≡ x → list_any has_pattern (cond b ([] ∷ ps) (onto_first m ps)) ≡ is_pattern m || x
-any_by true m ps x h k = k ∙ ap (λ y. y || x) (sym (slash_plain m (eqb-true m.0 47 h)))
-any_by false m [] x h k = ap (λ y. (is_pattern m || false) || y) k ∙ or_assoc (is_pattern m) false x
-any_by false m (p ∷ ps) x h k = or_assoc (is_pattern m) (has_pattern p) (list_any has_pattern ps) ∙ ap (λ y. is_pattern m || y) k
-
-pub any_component : (w : Word) → list_any has_pattern (components w) ≡ has_pattern w
-any_component [] = refl
-any_component (m ∷ w) = any_by (m.0 == 47) m (components w) (has_pattern w) refl (any_component w)
-
 -- ** past the components without one
 
 rest_has : (w c : Word) (cs : List Word) → components w ≡ c ∷ cs → has_pattern w ≡ true → has_pattern c ≡ false → list_any has_pattern cs ≡ true
 rest_has w c cs e h k =
-    ap (λ b. b || list_any has_pattern cs) (sym k) ∙ (ap (list_any has_pattern) (sym e) ∙ (any_component w ∙ h))
+    ap (λ b. b || list_any has_pattern cs) (sym k) ∙ (ap (list_any has_pattern) (sym e) ∙ (components_pattern w ∙ h))
 
 pub here : (w c : Word) (cs : List Word) (path : List ℕ) (b : Bool) → components w ≡ c ∷ cs → b ≡ has_pattern c → b ≡ true → paths_from (components w) path ≡ listed c (walk cs) path
 here w c cs path b e h k = ap (λ l. paths_from l path) e ∙ ap (λ x. cond x (listed c (walk cs) path) (walk cs (path ++ word_text c))) (sym h ∙ k)
@@ -89,7 +70,7 @@ pub nowhere : {A : Type 0} (w c : Word) (cs : List Word) (b : Bool) → componen
 nowhere w c cs b e n h k p = let x : false ≡ true = ap (list_any has_pattern) (sym n) ∙ rest_has w c cs e p (sym h ∙ k) in absurd cc
 
 pub further_has : (w c : Word) (cs : List Word) (v : Word) (b : Bool) → components w ≡ c ∷ cs → cs ≡ components v → b ≡ has_pattern c → b ≡ false → has_pattern w ≡ true → has_pattern v ≡ true
-further_has w c cs v b e n h k p = sym (any_component v) ∙ (ap (list_any has_pattern) (sym n) ∙ rest_has w c cs e p (sym h ∙ k))
+further_has w c cs v b e n h k p = sym (components_pattern v) ∙ (ap (list_any has_pattern) (sym n) ∙ rest_has w c cs e p (sym h ∙ k))
 
 walk_from : (v d : Word) (ds : List Word) (path : List ℕ) → components v ≡ d ∷ ds → list_any has_pattern (components v) ≡ true → walk (components v) path ≡ paths_from (components v) (path ++ codes "/")
 walk_from v d ds path e h =
@@ -98,7 +79,7 @@ walk_from v d ds path e h =
     ∙ ap (λ l. paths_from l (path ++ codes "/")) (sym e))
 
 pub walk_pattern : (v : Word) (path : List ℕ) → has_pattern v ≡ true → walk (components v) path ≡ paths_from (components v) (path ++ codes "/")
-walk_pattern v path h = let f = first_of_all v in walk_from v f.0 f.1 path f.2 (any_component v ∙ h)
+walk_pattern v path h = let f = first_of_all v in walk_from v f.0 f.1 path f.2 (components_pattern v ∙ h)
 
 pub further : (w c : Word) (cs : List Word) (v : Word) (path new newer : List ℕ) (b : Bool) → components w ≡ c ∷ cs → cs ≡ components v → b ≡ has_pattern c → b ≡ false → has_pattern w ≡ true →
     new ≡ path ++ word_text c → newer ≡ new ++ 47 ∷ [] → paths_from (components w) path ≡ paths_from (components v) newer
@@ -133,7 +114,7 @@ text_of_all (m ∷ w) = let f = first_of_all w in text_by (m.0 == 47) m w f.0 f.
 walk_rest : (v d : Word) (ds : List Word) (path : List ℕ) → components v ≡ d ∷ ds → has_pattern v ≡ false → walk (components v) path ≡ if_there (path ++ 47 ∷ word_text v)
 walk_rest v d ds path e h =
     ap (λ l. walk l path) e
-    ∙ (ap (λ b. cond b (step d (walk ds) (path ++ codes "/")) (if_there (path ++ 47 ∷ join_with_byte 47 (map word_text (d ∷ ds))))) (ap (list_any has_pattern) (sym e) ∙ (any_component v ∙ h))
+    ∙ (ap (λ b. cond b (step d (walk ds) (path ++ codes "/")) (if_there (path ++ 47 ∷ join_with_byte 47 (map word_text (d ∷ ds))))) (ap (list_any has_pattern) (sym e) ∙ (components_pattern v ∙ h))
     ∙ ap (λ t. if_there (path ++ 47 ∷ t)) (ap (λ l. join_with_byte 47 (map word_text l)) (sym e) ∙ text_of_all v))
 
 pub walk_plain : (v : Word) (path new newer : List ℕ) (b : Bool) → b ≡ has_pattern v → b ≡ false → new ≡ path ++ 47 ∷ [] → newer ≡ new ++ word_text v → walk (components v) path ≡ if_there newer

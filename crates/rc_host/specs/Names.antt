@@ -3,11 +3,11 @@ use Rattle.std.specs.Prelude.{◌≡◌, ◌⊎◌, ◌==◌, ◌||◌, ◌&&◌
 use Rattle.std.specs.IoError.{os_error_kind}
 use Rattle.std.specs.Str.{bytes_eq, is_utf8}
 use Rattle.std.specs.declared.io.ErrorKind.TheVariants as kind
+use Rattle.rc_model.specs.Run.Patterns.{is_dots}
 
 -- the name, where it is UTF-8 and neither `.` nor `..`
 abbrev pub named : List ℕ → List (List ℕ)
-named name =
-    if is_utf8 name && not (bytes_eq name (codes ".") || bytes_eq name (codes "..")) then name ∷ [] else []
+named name = if is_utf8 name && not (is_dots name) then name ∷ [] else []
 
 -- the names in bytes in which a byte 0 ends each name, after these bytes of the first one
 abbrev pub names_from : List ℕ → List ℕ → List (List ℕ)

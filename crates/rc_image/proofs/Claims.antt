@@ -17,14 +17,11 @@ use Rattle.rc_model.specs.Handed.Pieces.{longest_word, words_of}
 use Rattle.rc_model.specs.Handed.TreeReading.{read_spelling, read_tree, beginning_fault}
 use Rattle.rc_model.specs.Handed.WordsReading.{Taken, counted, from_one, from_pieces, are_these, read_pieces}
 use Rattle.rc_model.specs.Syntax.Faults.{Fails}
+use Rattle.rc_leaves.proofs.Digits.{grows}
 use Rattle.rc_leaves.specs.Faults.{ImageError}
 use Rattle.rc_image.specs.Images.{Refuses, written, in_one, in_pieces, fault_here}
 use Rattle.rc_model.specs.declared.fault.ImageFault.{ImageFault}
 use Rattle.rc_model.specs.declared.fault.ImageFault.TheVariants as image_fault
-
-grows : (ds : List ℕ) (n : ℕ) → n ≤ digits_value n ds
-grows [] n = omega arith
-grows (d ∷ ds) n = let h : n * 10 + (d - 48) ≤ digits_value (n * 10 + (d - 48)) ds = grows ds (n * 10 + (d - 48)) in omega (arith, h)
 
 -- a number that is too large stays so
 capped : (ds : List ℕ) (x most : ℕ) → most < x → min (digits_value (min x most) ds) most ≡ min (digits_value x ds) most

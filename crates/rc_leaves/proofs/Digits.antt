@@ -85,7 +85,7 @@ pub after_step : (b : ℕ) (rest : List ℕ) → is_digit b ≡ true → after_d
 unfolding after_digits
 after_step b rest h = ap (λ (c : Bool). if c then past_digits rest else b ∷ rest) h
 
-grows : (ds : List ℕ) (n : ℕ) → n ≤ digits_value n ds
+pub grows : (ds : List ℕ) (n : ℕ) → n ≤ digits_value n ds
 grows [] n = omega arith
 grows (d ∷ ds) n = let h : n * 10 + (d - 48) ≤ digits_value (n * 10 + (d - 48)) ds = grows ds (n * 10 + (d - 48)) in omega (arith, h)
 

@@ -71,7 +71,7 @@ pub fn back(alloc: Global, body: Box<Cmd>) -> Result<Box<Arg>, AllocError>
 }
 
 /// One part stands alone, and several are joined.
-#[tactic(auto, using(crate::proofs::Parts::concat_one, crate::proofs::Parts::concat_several, rc_tree_types::specs::View::tree_Concat, std::proofs::lemmas::Grind::common_steps))]
+#[tactic(auto, using(crate::proofs::Parts::concats))]
 pub fn concat(alloc: Global, first: Box<Arg>, mut others: Vec<Arg>) -> Result<Box<Arg>, AllocError>
     ensures { IfOk result (λ b. arg_tree b.value ≡ concat_of (arg_tree first.value) (args_tree others.items)) }
 {

@@ -57,7 +57,7 @@ pub fn redirected(alloc: Global, redirs: Vec<Redir>, body: Box<Cmd>) -> Result<B
 }
 
 /// A command with the redirections after it.
-#[tactic(auto, using(crate::proofs::Parts::redirect_none, crate::proofs::Parts::redirect_some, rc_tree_types::specs::View::tree_Redirect, std::proofs::lemmas::Grind::common_steps))]
+#[tactic(auto, using(crate::proofs::Parts::redirects))]
 pub fn redirect(alloc: Global, redirs: Vec<Redir>, body: Box<Cmd>) -> Result<Box<Cmd>, AllocError>
     ensures { IfOk result (λ b. cmd_tree b.value ≡ redirect (redirs_tree redirs.items) (cmd_tree body.value)) }
 {
@@ -68,7 +68,7 @@ pub fn redirect(alloc: Global, redirs: Vec<Redir>, body: Box<Cmd>) -> Result<Box
 }
 
 /// A pipeline of stages before a last one.
-#[tactic(auto, using(crate::proofs::Parts::pipeline_none, crate::proofs::Parts::pipeline_some, rc_tree_types::specs::View::tree_Pipeline, std::proofs::lemmas::Grind::common_steps))]
+#[tactic(auto, using(crate::proofs::Parts::pipelines))]
 pub fn pipeline(alloc: Global, stages: Vec<Stage>, last: Box<Cmd>) -> Result<Box<Cmd>, AllocError>
     ensures { IfOk result (λ b. cmd_tree b.value ≡ pipeline_of (stages_tree stages.items) (cmd_tree last.value)) }
 {
@@ -79,7 +79,7 @@ pub fn pipeline(alloc: Global, stages: Vec<Stage>, last: Box<Cmd>) -> Result<Box
 }
 
 /// A command of one operand or several.
-#[tactic(auto, using(crate::proofs::Parts::and_or_none, crate::proofs::Parts::and_or_some, rc_tree_types::specs::View::tree_AndOr, std::proofs::lemmas::Grind::common_steps))]
+#[tactic(auto, using(crate::proofs::Parts::conditionals))]
 pub fn and_or(
     alloc: Global,
     first: Box<Cmd>,

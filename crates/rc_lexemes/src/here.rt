@@ -20,7 +20,7 @@ pub enum Begun {
 }
 
 /// The pieces of a body, whose mark is quoted or not.
-#[tactic(auto, using(crate::proofs::Pieces::pieces_next, crate::proofs::Pieces::pieces_end, std::proofs::lemmas::Grind::common_steps))]
+#[tactic(auto, using(crate::proofs::Pieces::pieces))]
 pub fn pieces(alloc: Global, quoted: bool, body: &str) -> Result<Vec<Piece>, AllocError>
     ensures { IfOk result (λ v. pieces_tree v.items ≡ pieces_of quoted body.now) }
 {
@@ -92,7 +92,7 @@ fn next(alloc: Global, pieces: &mut Vec<Piece>, begun: Begun, c: char) -> Result
 }
 
 /// A text is a piece unless it is empty.
-#[tactic(auto, using(crate::proofs::Pieces::with_text_empty, crate::proofs::Pieces::with_text_some, rc_tree_types::specs::View::tree_lists))]
+#[tactic(auto, using(crate::proofs::Pieces::texts))]
 fn push_text(pieces: &mut Vec<Piece>, text: String) -> Result<(), AllocError>
     ensures { OnOk result (pieces_tree pieces.new.items
         ≡ with_text (pieces_tree pieces.old.items) (string_bytes text)) }

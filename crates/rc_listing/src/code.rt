@@ -110,7 +110,7 @@ pub struct Code(Rc<Listing>);
 
 impl Code {
     /// The code of a listing, if all of it was written. That is asked here and not by who writes it, since a crate that
-    /// lets a listing go has to prove that trees are let go.
+    /// may drop a listing has to prove the dropping of trees.
     #[tactic(auto, unfolding(crate::specs::Views::code_of))]
     pub fn of(
         alloc: Global,

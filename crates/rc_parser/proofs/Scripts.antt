@@ -1,5 +1,6 @@
 -- The tree of a script, and what the laws say of it.
 use Rattle.std.proofs.Common.{◌≡◌, ℕ, ◌<◌, true, false, List, [], ◌∷◌, length, Result, Ok, Err, IfOk, ◌⊎◌, inl, inr, refl, ap, subst, ◌∙◌, arith, nat_le}
+use Rattle.std.proofs.lemmas.Grind.{common_steps}
 use Rattle.rc_model.specs.Syntax.Tokens as model
 use Rattle.rc_model.specs.Syntax.Tree.{Node, Many}
 use Rattle.rc_model.specs.Syntax.Tree as t
@@ -45,6 +46,8 @@ script_goes_on levels ts is (x ∷ xs) h e = ap (λ o. d.whole o) h
 pub script_fails : (levels : ℕ) (ts : List model.Lexeme) (e : DescentFault) → d.read levels (d.a_list false) ts ≡ Err e → d.script_tree levels ts ≡ Err e
 unfolding d.script_tree
 script_fails levels ts e h = ap (λ o. d.whole o) h
+
+pub ruleset scripts = (script_fits, script_unfit, script_fails, script_goes_on, common_steps)
 
 -- what the laws say of an answer
 pub found_by : (o : Result Cmd TokenError) (ts : List model.Lexeme) → Gives (λ c. cmd_tree c) o (d.script_tree 200 ts) → IfOk o (λ c. HaveAcceptedTree ts (cmd_tree c))

@@ -14,6 +14,7 @@ mod lexemes;
 mod text;
 mod trees;
 
+pub use rc_lexemes::{Lexeme, TokenError, TokenFault};
 pub use rc_lexer::ScriptError;
 use rc_lexer::Token;
 pub use rc_model::{FaultKind, InputError, SyntaxFault};

@@ -38,7 +38,7 @@ pub fn script(alloc: Global, lexemes: &[Lexeme]) -> Result<Cmd, TokenError>
 }
 
 /// The tree that the descent finds.
-#[tactic(auto, using(crate::proofs::Scripts::script_fits, crate::proofs::Scripts::script_unfit, crate::proofs::Scripts::script_fails, crate::proofs::Scripts::script_goes_on, std::proofs::lemmas::Grind::common_steps))]
+#[tactic(auto, using(crate::proofs::Scripts::scripts))]
 fn parse_script(alloc: Global, lexemes: &[Lexeme]) -> Result<Cmd, TokenError>
     ensures { Gives (λ c. cmd_tree c) result (script_tree MOST_LEVELS (lexemes_of lexemes.now)) }
 {

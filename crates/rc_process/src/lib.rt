@@ -4,7 +4,7 @@
 ghost use Rattle.std.specs.Prelude.{◌≡◌, Err, None, map, string_bytes};
 ghost use Rattle.std.specs.Process.{exit_status};
 ghost use Rattle.rc_cli.specs.Requests.{request_of};
-ghost use Rattle.rc_cli.specs.declared.fault.RunError.TheVariants.{Usage};
+ghost use Rattle.rc_cli.specs.declared.fault.RunError.TheVariants.{NoMemory, Usage};
 
 use rc_cli::{RunError, Source, report, request_of, run_rc};
 use rc_host::{ArgumentsFault, HostWorld, InputError, entries, open_standard, own_path};
@@ -22,11 +22,18 @@ pub fn run(rt: HostRuntime, arguments: &[String]) -> ExitCode
 pub fn refuse(rt: &HostRuntime, error: InputError<ArgumentsFault>) -> ExitCode
     ensures { exit_status result ≡ 1 }
 {
-    let error = match error {
+    report(rt, Err(error_of(error)))
+}
+
+/// The error of a run whose arguments the process cannot have.
+fn error_of(error: InputError<ArgumentsFault>) -> RunError<'static>
+    ensures not_text { error ≡ InputError.Fault ArgumentsFault.NotText → result ≡ Usage }
+    ensures no_memory { error ≡ InputError.NoMemory → result ≡ NoMemory }
+{
+    match error {
         InputError::Fault(ArgumentsFault::NotText) => RunError::Usage,
         InputError::NoMemory => RunError::NoMemory,
-    };
-    report(rt, Err(error))
+    }
 }
 
 /// The number that the process ends with, by a run of what the arguments ask for.

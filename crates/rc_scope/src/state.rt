@@ -110,25 +110,25 @@ impl State {
     #[tactic(auto, unfolding(crate::specs::States::state_of))]
     pub fn push_local(
         &mut self,
-        name: &str,
+        variable: &str,
         value: Vec<String>,
     ) -> Result<(), InputError<NameFault>>
         ensures ok { OnOk result (state_of self.new
-            ≡ push_local (state_of self.old) name.now (map string_bytes value.items)) }
-        ensures bad_name { IsErrOf result (InputError.Fault NameFault.BadName) ↔ (is_name name.now ≡ false) }
+            ≡ push_local (state_of self.old) variable.now (map string_bytes value.items)) }
+        ensures bad_name { IsErrOf result (InputError.Fault NameFault.BadName) ↔ (is_name variable.now ≡ false) }
         ensures err { OnErr result (state_of self.new ≡ state_of self.old) }
     {
-        if !is_name(name) {
+        if !is_name(variable) {
             return Err(InputError::Fault(NameFault::BadName));
         }
         let alloc = *self.status.allocator();
-        if is_status(name) {
+        if is_status(variable) {
             let status = flat(alloc, value.as_slice())?;
             self.variables.push_status(alloc)?;
             self.status = status;
             return Ok(());
         }
-        self.variables.push(alloc, name, value)?;
+        self.variables.push(alloc, variable, value)?;
         Ok(())
     }
 

@@ -98,7 +98,7 @@ impl Variables {
     }
 
     /// Changes the visible value. An `Err` changes nothing.
-    #[tactic(auto, using(crate::proofs::Stacks::variables), unfolding(crate::specs::Stacks::stacks_of, crate::specs::Stacks::locals_of))]
+    #[tactic(auto, using(crate::proofs::Stacks::variables), unfolding(crate::specs::Stacks::stacks_of))]
     pub fn set(&mut self, alloc: Global, name: &str, texts: Vec<String>) -> Result<(), AllocError>
         ensures ok { OnOk result (stacks_of self.new
             ≡ put_values (stacks_of self.old) name.now (map string_bytes texts.items
@@ -118,7 +118,7 @@ impl Variables {
     }
 
     /// Takes the first members of the visible value away. An `Err` changes nothing.
-    #[tactic(auto, using(crate::proofs::Stacks::variables), unfolding(crate::specs::Stacks::stacks_of, crate::specs::Stacks::locals_of))]
+    #[tactic(auto, using(crate::proofs::Stacks::variables), unfolding(crate::specs::Stacks::stacks_of))]
     pub fn drop_first(&mut self, alloc: Global, name: &str, count: usize) -> Result<(), AllocError>
         ensures ok { OnOk result (stacks_of self.new
             ≡ put_values (stacks_of self.old) name.now (drop count (visible (stack_in (stacks_of self.old) name.now))
@@ -176,7 +176,7 @@ impl Variables {
     }
 
     /// A new local with this value. An `Err` changes nothing.
-    #[tactic(auto, using(crate::proofs::Stacks::variables), unfolding(crate::specs::Stacks::stacks_of, crate::specs::Stacks::locals_of))]
+    #[tactic(auto, using(crate::proofs::Stacks::variables), unfolding(crate::specs::Stacks::stacks_of))]
     pub fn push(&mut self, alloc: Global, name: &str, texts: Vec<String>) -> Result<(), AllocError>
         requires { bytes_eq name.now status_name ≡ false }
         ensures ok { OnOk result (stacks_of self.new
@@ -197,7 +197,7 @@ impl Variables {
     }
 
     /// A new local of the status, which covers nothing. An `Err` changes nothing.
-    #[tactic(auto, using(crate::proofs::Stacks::variables), unfolding(crate::specs::Stacks::stacks_of, crate::specs::Stacks::locals_of))]
+    #[tactic(auto, using(crate::proofs::Stacks::variables), unfolding(crate::specs::Stacks::stacks_of))]
     pub fn push_status(&mut self, alloc: Global) -> Result<(), AllocError>
         ensures stacks { stacks_of self.new ≡ stacks_of self.old }
         ensures ok { OnOk result (locals_of self.new ≡ status_name ∷ locals_of self.old) }
@@ -244,7 +244,7 @@ impl Variables {
     }
 
     /// The newest local ends.
-    #[tactic(auto, using(crate::proofs::Stacks::variables), unfolding(crate::specs::Stacks::stacks_of, crate::specs::Stacks::locals_of))]
+    #[tactic(auto, using(crate::proofs::Stacks::variables), unfolding(crate::specs::Stacks::stacks_of))]
     pub fn pop(&mut self)
         ensures stacks { stacks_of self.new ≡ uncovered (locals_of self.old) (stacks_of self.old) }
         ensures locals { locals_of self.new ≡ without_newest (locals_of self.old) }

@@ -6,6 +6,15 @@ use rc_world::{Answer, Fault, Handle, Mode, PLAIN_SLOTS, Slot, Stop, Tape};
 use std::alloc::AllocError;
 use std::test::Fail;
 
+/// The name that could not be opened.
+fn refused_name(opened: Result<(), RedirError>) -> Result<String, Fail> {
+    match opened {
+        Err(RedirError::Fault(RedirFault::CannotOpen(name))) => Ok(name),
+        Err(RedirError::Stopped(Stop::NoMemory)) => Err(Fail::from(AllocError)),
+        _ => Err(Fail::new("another answer")),
+    }
+}
+
 #[test]
 fn out_of_memory_opens_nothing(rt: HostRuntime) -> Result<(), Fail> {
     let alloc = rt.alloc();
@@ -36,14 +45,8 @@ fn out_of_memory_after_a_refused_open_changes_nothing(rt: HostRuntime) -> Result
     let mut stack = RedirStack::new(alloc, PLAIN_SLOTS);
     let opened = stack.push_open(&mut tape, Mode::Write, 1, &names);
     assert!(rt; stack.slots() == PLAIN_SLOTS);
-    match opened {
-        Err(RedirError::Fault(RedirFault::CannotOpen(name))) => {
-            assert_eq!(rt; name.as_str(), "f");
-            Ok(())
-        }
-        Err(RedirError::Stopped(Stop::NoMemory)) => Err(Fail::from(AllocError)),
-        _ => Err(Fail::new("another answer")),
-    }
+    assert_eq!(rt; refused_name(opened)?.as_str(), "f");
+    Ok(())
 }
 
 #[test]
@@ -68,14 +71,8 @@ fn out_of_memory_after_a_refused_document_changes_nothing(rt: HostRuntime) -> Re
     let mut stack = RedirStack::new(alloc, PLAIN_SLOTS);
     let opened = stack.push_here(&mut tape, "a\n");
     assert!(rt; stack.slots() == PLAIN_SLOTS);
-    match opened {
-        Err(RedirError::Fault(RedirFault::CannotOpen(name))) => {
-            assert_eq!(rt; name.as_str(), "here document");
-            Ok(())
-        }
-        Err(RedirError::Stopped(Stop::NoMemory)) => Err(Fail::from(AllocError)),
-        _ => Err(Fail::new("another answer")),
-    }
+    assert_eq!(rt; refused_name(opened)?.as_str(), "here document");
+    Ok(())
 }
 
 #[test]

@@ -1,16 +1,7 @@
 //! A text and a pattern.
-use rc_glob::{matched, matches};
+use rc_glob::matches;
 use rc_text::Word;
 use std::test::Fail;
-
-#[test]
-fn a_star_stands_for_any_characters(rt: HostRuntime) -> Result<(), Fail> {
-    let alloc = rt.alloc();
-    let subject = [Word::written(alloc, "a text that takes memory", true)?];
-    let patterns = [Word::written(alloc, "a*memory", false)?];
-    assert!(rt; matched(&subject, &patterns));
-    Ok(())
-}
 
 #[test]
 fn a_star_stands_for_no_directory_of_a_path(rt: HostRuntime) -> Result<(), Fail> {

@@ -2,7 +2,7 @@
 
 use crate::fault::RowError;
 use crate::images::{add_pieces, add_taken, tree};
-use crate::rows::{list, unescaped};
+use crate::rows::{list, text};
 use crate::states::begun;
 use std::alloc::{AllocError, Global};
 
@@ -33,10 +33,10 @@ impl Layer {
     fn answer(self, alloc: Global, out: &mut String, written: &str) -> Result<(), RowError> {
         match self {
             Layer::Trees => {
-                let shown = tree(alloc, &unescaped(alloc, written)?)?;
+                let shown = tree(alloc, &text(alloc, written)?)?;
                 Ok(out.push_str(shown)?)
             }
-            Layer::Pieces => add_pieces(alloc, out, &unescaped(alloc, written)?),
+            Layer::Pieces => add_pieces(alloc, out, &text(alloc, written)?),
             Layer::Words => add_taken(alloc, out, &list(alloc, written)?),
             Layer::States => begun(alloc, out, written),
         }

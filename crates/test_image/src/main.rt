@@ -12,24 +12,26 @@ use anyhow::Result;
 use layers::Layer;
 use std::alloc::{AllocError, Global};
 use std::fs;
+use test_rows::Tally;
 
-/// Adds what comes of a row in place of what is wanted, and says whether nothing does.
-fn is_as_wanted(
+/// Compares a row, and writes what comes of it where that is not wanted.
+fn compare_row(
     alloc: Global,
     out: &mut String,
+    tally: &mut Tally,
     layer: Layer,
     written: &str,
     wanted: &str,
-) -> Result<bool, AllocError> {
+) -> Result<(), AllocError> {
     let came = layer.show(alloc, written)?;
     if came.trim_end_matches('\n') == wanted.trim_end_matches('\n') {
-        return Ok(true);
+        tally.add_equal();
+        return Ok(());
     }
-    write!(out, "{written}: {came} in place of {wanted}\n")?;
-    Ok(false)
+    tally.add_differing(out, written, came.as_str(), wanted)
 }
 
-/// Compares the rows of a file, and adds those that differ and how many there are. What has no arrow is a comment.
+/// Compares the rows of a file, and writes those that differ and how many there are. What has no arrow is a comment.
 fn compare(
     alloc: Global,
     out: &mut String,
@@ -38,17 +40,13 @@ fn compare(
     name: &str,
 ) -> Result<(), AllocError> {
     let (between, arrow) = layer.separators();
-    let mut count = 0_usize;
-    let mut differing = 0_usize;
+    let mut tally = Tally::new();
     for row in rows.split(between) {
         if let Some((written, wanted)) = row.split_once(arrow) {
-            count = count.saturating_add(1);
-            if !is_as_wanted(alloc, out, layer, written, wanted)? {
-                differing = differing.saturating_add(1);
-            }
+            compare_row(alloc, out, &mut tally, layer, written, wanted)?;
         }
     }
-    write!(out, "{name}: {count} rows, {differing} differ\n")
+    tally.report(out, name)
 }
 
 fn main(rt: HostRuntime) -> Result<()> {

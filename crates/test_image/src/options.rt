@@ -1,7 +1,7 @@
 //! The options of a row, each on a line: its kind, and after a space what it says.
 
 use crate::fault::RowError;
-use crate::rows::unescaped;
+use crate::rows::text;
 use std::alloc::Global;
 
 /// The kind of an option, and what it says.
@@ -31,7 +31,7 @@ pub fn all(alloc: Global, options: &str, wanted: &str) -> Result<Vec<String>, Ro
     for option in options.lines() {
         let (kind, said) = cut(option);
         if kind == wanted {
-            texts.push(unescaped(alloc, said)?)?;
+            texts.push(text(alloc, said)?)?;
         }
     }
     Ok(texts)

@@ -10,7 +10,7 @@
 use crate::fault::RowError;
 use crate::images::tree_of;
 use crate::options::{all, cut, first, has};
-use crate::rows::{list, unescaped};
+use crate::rows::{list, text};
 use rc_image::{
     Handover, ImageError, handed, read_env, read_image, read_state, write_env, write_tree,
 };
@@ -119,7 +119,7 @@ fn add_answer(
     state: &State,
 ) -> Result<(), RowError> {
     if let Some(image) = first(options, "tree") {
-        return add_launch(alloc, out, &unescaped(alloc, image)?, state);
+        return add_launch(alloc, out, &text(alloc, image)?, state);
     }
     if has(options, "entries") {
         return Ok(add_texts(out, "entry", &write_env(alloc, state)?)?);

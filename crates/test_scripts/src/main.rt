@@ -1,23 +1,29 @@
-//! Compares what comes of scripts with what is wanted, row by row, and reads the examples that lie here.
+//! Compares what comes of scripts with what is wanted, row by row, and reads the examples that lie here. A row is a
+//! script, an arrow and what is wanted, or one of several things that are.
 #![tactic(auto)]
 
 mod dump;
 mod examples;
 mod layers;
-mod rows;
 mod tokens;
 mod trees;
 
 use anyhow::Result;
 use layers::Layer;
-use rows::{ARROW, OR, unescaped};
 use std::alloc::{AllocError, Global};
 use std::fs;
+use test_rows::{Tally, bytes};
+
+/// What stands between a script and what is wanted.
+const ARROW: &str = "  ==>  ";
+
+/// What stands between things one of which is wanted.
+const OR: &str = "  or  ";
 
 /// Whether what came is one of the things that are wanted.
 fn is_wanted(alloc: Global, came: &str, wanted: &str) -> Result<bool, AllocError> {
     for one in wanted.split(OR) {
-        if let Some(one) = unescaped(alloc, one)?
+        if let Some(one) = bytes(alloc, one)?
             && one.as_slice() == came.as_bytes()
         {
             return Ok(true);
@@ -28,32 +34,32 @@ fn is_wanted(alloc: Global, came: &str, wanted: &str) -> Result<bool, AllocError
 
 /// What comes of the script that is written so.
 fn shown(alloc: Global, layer: Layer, written: &str) -> Result<String, AllocError> {
-    match unescaped(alloc, written)? {
+    match bytes(alloc, written)? {
         Some(script) => layer.show(alloc, script.as_slice()),
         None => String::from_str(alloc, "this is no row"),
     }
 }
 
-/// Adds what comes of a row in place of what is wanted, and says whether nothing does.
-fn is_as_wanted(
+/// Compares a row, and writes what comes of it where that is not wanted.
+fn compare_row(
     alloc: Global,
     out: &mut String,
+    tally: &mut Tally,
     layer: Layer,
     row: &str,
-) -> Result<bool, AllocError> {
+) -> Result<(), AllocError> {
     let Some((written, wanted)) = row.split_once(ARROW) else {
-        write!(out, "{row}: this is no row\n")?;
-        return Ok(false);
+        return tally.add_differing(out, row, "no arrow", "one");
     };
     let came = shown(alloc, layer, written)?;
     if is_wanted(alloc, came.as_str(), wanted)? {
-        return Ok(true);
+        tally.add_equal();
+        return Ok(());
     }
-    write!(out, "{written}: {came} in place of {wanted}\n")?;
-    Ok(false)
+    tally.add_differing(out, written, came.as_str(), wanted)
 }
 
-/// Compares the rows of a file, and adds those that differ and how many there are.
+/// Compares the rows of a file, and writes those that differ and how many there are.
 fn compare(
     alloc: Global,
     out: &mut String,
@@ -61,15 +67,11 @@ fn compare(
     layer: Layer,
     name: &str,
 ) -> Result<(), AllocError> {
-    let mut count = 0_usize;
-    let mut differing = 0_usize;
+    let mut tally = Tally::new();
     for row in rows.lines() {
-        count = count.saturating_add(1);
-        if !is_as_wanted(alloc, out, layer, row)? {
-            differing = differing.saturating_add(1);
-        }
+        compare_row(alloc, out, &mut tally, layer, row)?;
     }
-    write!(out, "{name}: {count} rows, {differing} differ\n")
+    tally.report(out, name)
 }
 
 fn main(rt: HostRuntime) -> Result<()> {

@@ -1,4 +1,4 @@
-//! Runs of a script: the greatest output of a backquote, and refused memory.
+//! Runs of a script where memory is refused.
 
 use crate::support::one_program;
 use rc_scope::State;
@@ -7,38 +7,6 @@ use rc_world::{Answer, Call, ChildNo, Ending, Handle, Program, Tape};
 use std::alloc::{AllocError, Global};
 use std::process::Abort;
 use std::test::Fail;
-
-/// The answers to a backquote that reads as much as it may, and then this.
-fn longest_output(alloc: Global, last: &[u8]) -> Result<Vec<Answer>, AllocError> {
-    let mut answers = vec![in alloc;
-        Answer::Pair(Handle(3), Handle(4)),
-        Answer::Child(ChildNo(1)),
-        Answer::Done,
-    ]?;
-    for _ in 0..4096_u32 {
-        answers.push(Answer::Bytes(vec![in alloc; 0; 4096]?))?;
-    }
-    answers.push(Answer::Bytes(Vec::from_slice(alloc, last)?))?;
-    answers.push(Answer::Done)?;
-    answers.push(Answer::Ended(Ending::Code(5)))?;
-    Ok(answers)
-}
-
-/// The greatest output has the child's status; with one byte more, there is no further read.
-#[test]
-fn output_has_the_most_bytes(rt: HostRuntime) -> Result<(), Fail> {
-    let alloc = rt.alloc();
-    for (last, status) in [(b"".as_slice(), "5"), (b"a".as_slice(), "too large")] {
-        let mut tape = Tape::new(longest_output(alloc, last)?);
-        let ran = execute(alloc, &mut tape, b"y=`{c}", State::new(alloc), 100)?;
-        assert_eq!(rt; tape.calls().len(), 4102);
-        let Ran::Ended { state } = ran else {
-            panic!(rt; "no end");
-        };
-        assert_eq!(rt; state.status(), status);
-    }
-    Ok(())
-}
 
 /// Whether the call at a place is that of `/bin/echo` with one word.
 fn is_of_echo_hello(place: usize, call: &Call) -> bool {

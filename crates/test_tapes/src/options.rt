@@ -3,17 +3,16 @@
 //! - `strict`: a strict shell;
 //! - `image`: the lines of the script are the words that a shell is handed, and each `entry x=a` is one of its entries;
 //! - `program`: a run of the program: each `word a` is one of its arguments and each `entry x=a` one of its
-//!   environment, with the backslashes of a member, and the script is what it reads; with `broken` an error follows
-//!   that, and with `unopened` there is nothing to read;
+//!   environment, and the script is what it reads; with `broken` an error follows that, and with `unopened` there is
+//!   nothing to read;
 //! - `limit 12`: at most 12 instructions;
 //! - `set x a b`: a variable before the run, and `args a b` and `ifs a b`: the variables `*` and `ifs`. `''` is an
-//!   empty member; after a backslash stand `n` for a newline, `t` for a tab, `s` for a space, `1` and `2` for these
-//!   bytes;
+//!   empty member;
 //! - `each 12 word a#`: the 12 options `word a1` to `word a12`, and `each 12 entry x#=a` likewise;
-//! - `repeat MARK 12 ab`: the mark stands in the script, the calls, the words and the entries for 12 times `ab`, with
-//!   the same backslashes, where each `#` is the number of the turn, from 1 on. Marks are replaced in the order of
-//!   their lines.
+//! - `repeat MARK 12 ab`: the mark stands in the script, the calls, the words and the entries for 12 times `ab`, where
+//!   each `#` is the number of the turn, from 1 on. Marks are replaced in the order of their lines.
 //!
+//! Members, words, entries and what is repeated are written as the texts of `test_rows`.
 //! Before the options `path` is `/bin`.
 
 use crate::fault::RowError;
@@ -159,7 +158,7 @@ fn replaced(alloc: Global, text: &str, repeat: &str) -> Result<String, RowError>
 }
 
 /// A text this many times, each with its number.
-fn many_times(alloc: Global, times: usize, written: &str) -> Result<String, AllocError> {
+fn many_times(alloc: Global, times: usize, written: &str) -> Result<String, RowError> {
     let once = unescaped(alloc, written)?;
     let mut many = String::new(alloc);
     for turn in 0..times {
@@ -169,40 +168,17 @@ fn many_times(alloc: Global, times: usize, written: &str) -> Result<String, Allo
 }
 
 /// The members that are written so.
-fn members(alloc: Global, written: &str) -> Result<Vec<String>, AllocError> {
-    let mut members = Vec::new(alloc);
-    for word in written.split_whitespace() {
-        let member = if word == "''" { "" } else { word };
-        members.push(unescaped(alloc, member)?)?;
-    }
-    Ok(members)
-}
-
-/// The character that one after a backslash stands for.
-fn escaped(character: char) -> char {
-    match character {
-        'n' => '\n',
-        't' => '\t',
-        's' => ' ',
-        '1' => '\u{1}',
-        '2' => '\u{2}',
-        _ => character,
+fn members(alloc: Global, written: &str) -> Result<Vec<String>, RowError> {
+    match test_rows::list(alloc, written)? {
+        Some(members) => Ok(members),
+        None => Err(RowError::BadRow),
     }
 }
 
 /// What is written so.
-fn unescaped(alloc: Global, written: &str) -> Result<String, AllocError> {
-    let mut text = String::new(alloc);
-    let mut is_escaped = false;
-    for character in written.chars() {
-        if is_escaped {
-            text.push(escaped(character))?;
-            is_escaped = false;
-        } else if character == '\\' {
-            is_escaped = true;
-        } else {
-            text.push(character)?;
-        }
+fn unescaped(alloc: Global, written: &str) -> Result<String, RowError> {
+    match test_rows::text(alloc, written)? {
+        Some(text) => Ok(text),
+        None => Err(RowError::BadRow),
     }
-    Ok(text)
 }

@@ -66,14 +66,14 @@ body_by deeper ts =
     else Ok (t.Empty, past_newlines ts)
 
 -- an operand that may be absent
-unfoldable pub optional_by : Readers → Reader (Node t.cmd)
-optional_by deeper ts = if begins_command ts then deeper an_operand ts else Ok (t.Empty, ts)
+unfoldable pub optional_operand_by : Readers → Reader (Node t.cmd)
+optional_operand_by deeper ts = if begins_command ts then deeper an_operand ts else Ok (t.Empty, ts)
 
 -- what follows `if` where that is a word: it is `not`, and an `if` comes before
-abbrev pub not_by : Readers → (after_if : Bool) → Keyword → Reader (Node t.cmd)
-not_by deeper true NotWord ts = body_by deeper (past_caret ts) >>= λ d. Ok (t.IfNot d.0, d.1)
-not_by deeper false NotWord ts = Err IfNot
-not_by deeper after_if _ ts = Err Unexpected
+abbrev pub if_not_by : Readers → (after_if : Bool) → Keyword → Reader (Node t.cmd)
+if_not_by deeper true NotWord ts = body_by deeper (past_caret ts) >>= λ d. Ok (t.IfNot d.0, d.1)
+if_not_by deeper false NotWord ts = Err IfNot
+if_not_by deeper after_if _ ts = Err Unexpected
 
 -- what follows `if` where that is a condition: it, and a body
 abbrev pub condition_by : Readers → Reader (Node t.cmd)
@@ -84,7 +84,7 @@ condition_by deeper ts = do
 
 -- what follows `if`: `not` or a condition
 unfoldable pub if_by : Readers → (after_if : Bool) → Reader (Node t.cmd)
-if_by deeper after_if (Word text ∷ ts) = not_by deeper after_if (keyword text) ts
+if_by deeper after_if (Word text ∷ ts) = if_not_by deeper after_if (keyword text) ts
 if_by deeper after_if ts = condition_by deeper ts
 
 -- what follows `while`: a condition and a body
@@ -95,17 +95,17 @@ while_by deeper ts = do
   Ok (t.While c.0 d.0, d.1)
 
 -- what follows the name of a `for` where that is a word: `in`, a list and the body
-abbrev pub in_by : Readers → Node t.arg → Keyword → Reader (Node t.cmd)
-in_by deeper a InWord ts = do
+abbrev pub for_each_by : Readers → Node t.arg → Keyword → Reader (Node t.cmd)
+for_each_by deeper a InWord ts = do
   as' ← members_by (deeper (a_part true)) (past_caret ts)
   d ← body_by deeper as'.1
   Ok (t.For a as'.0 d.0, d.1)
-in_by deeper a _ ts = Err Unexpected
+for_each_by deeper a _ ts = Err Unexpected
 
 -- what follows the name of a `for`: the `)`, or `in` with a list
 unfoldable pub over_by : Readers → Node t.arg → Reader (Node t.cmd)
 over_by deeper a (RightParen ∷ ts) = body_by deeper ts >>= λ d. Ok (t.ForAll a d.0, d.1)
-over_by deeper a (Word text ∷ ts) = in_by deeper a (keyword text) ts
+over_by deeper a (Word text ∷ ts) = for_each_by deeper a (keyword text) ts
 over_by deeper a _ = Err Unexpected
 
 -- what follows `for`: a name, perhaps a list, and a body
@@ -142,7 +142,7 @@ unfoldable pub redirected_by : Readers → Reader (Node t.cmd)
 redirected_by deeper ts = do
   r ← redir_by (deeper (a_part false)) ts
   rs ← redirs_by (deeper (a_part false)) r.1
-  c ← optional_by deeper rs.1
+  c ← optional_operand_by deeper rs.1
   Ok (t.Redirect (more r.0 rs.0) c.0, c.1)
 
 -- an operand that begins with `!`, `@`, a control word or a redirection

@@ -8,6 +8,7 @@ use Rattle.rc_model.specs.Syntax.Tokens.{quoted_text}
 use Rattle.rc_model.specs.Syntax.Grammar.{keyword, is_plain}
 use Rattle.rc_model.specs.Syntax.Printing.{printed, has_here}
 use Rattle.rc_model.specs.Run.Numbers.{is_digit, number_of}
+use Rattle.rc_model.specs.Run.Patterns.{is_dots}
 use Rattle.rc_model.specs.Run.Calls.{Slots, Read, open_file, close, write, change_dir, as_file, as_done}
 use Rattle.rc_model.specs.Syntax.Tree.{Node, cmd}
 use Rattle.rc_model.specs.Mirrors.TreeOfText.{tree_of}
@@ -104,7 +105,7 @@ first_dir (d ∷ ds) = do
 
 -- a directory that is tried as it is
 abbrev pub is_own_dir : List ℕ → Bool
-is_own_dir dir = is_path dir || (bytes_eq dir (codes ".") || bytes_eq dir (codes ".."))
+is_own_dir dir = is_path dir || is_dots dir
 
 -- a directory under a member of `$cdpath`
 abbrev pub under_dir : List ℕ → List ℕ → List ℕ

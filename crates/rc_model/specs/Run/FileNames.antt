@@ -6,7 +6,7 @@ use Rattle.std.specs.Str.{chars, bytes_eq}
 use Rattle.std.specs.BTreeMap.{insert_entry}
 use Rattle.rc_model.specs.Syntax.Text.{text_cmp}
 use Rattle.rc_model.specs.Syntax.Words.{Word, word_text, plain_words, has_pattern}
-use Rattle.rc_model.specs.Run.Patterns.{matches}
+use Rattle.rc_model.specs.Run.Patterns.{is_dots, matches}
 use Rattle.rc_model.specs.Run.Calls.{list_names, probe, as_names, as_kind}
 use Rattle.rc_model.specs.Run.Shell.{Shell, ◌>>=◌, pure, call}
 
@@ -16,9 +16,7 @@ components w = slice_split (λ m. m.0 == 47) w
 
 -- a name that can't stand in a directory
 abbrev pub is_no_name : List ℕ → Bool
-is_no_name name =
-    (length name == 0) || (bytes_eq name (codes ".") || (bytes_eq name (codes "..") || list_any (λ c.
-    (c == 47) || (c == 0)) name))
+is_no_name name = (length name == 0) || (is_dots name || list_any (λ c. (c == 47) || (c == 0)) name)
 
 -- texts as the names of a map, which are in byte order and differ
 abbrev pub in_order : List (List ℕ) → List (List ℕ × Unit {0})

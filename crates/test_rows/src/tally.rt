@@ -1,0 +1,45 @@
+//! How many rows of a file there are, and which differ.
+
+use std::alloc::AllocError;
+
+/// How many rows of a file were compared, and how many of them differ.
+#[derive(Clone, Copy)]
+pub struct Tally {
+    rows: usize,
+    differing: usize,
+}
+
+impl Tally {
+    /// Before the first row.
+    pub fn new() -> Tally {
+        Tally {
+            rows: 0,
+            differing: 0,
+        }
+    }
+
+    /// Counts a row that is as wanted.
+    pub fn add_equal(&mut self) {
+        self.rows = self.rows.saturating_add(1);
+    }
+
+    /// Counts a row that differs, and writes what came of it in place of what is wanted.
+    pub fn add_differing(
+        &mut self,
+        out: &mut String,
+        written: &str,
+        came: &str,
+        wanted: &str,
+    ) -> Result<(), AllocError> {
+        self.rows = self.rows.saturating_add(1);
+        self.differing = self.differing.saturating_add(1);
+        write!(out, "{written}: {came} in place of {wanted}\n")
+    }
+
+    /// Writes how many rows the file has, and how many of them differ.
+    pub fn report(&self, out: &mut String, file: &str) -> Result<(), AllocError> {
+        let rows = self.rows;
+        let differing = self.differing;
+        write!(out, "{file}: {rows} rows, {differing} differ\n")
+    }
+}
