@@ -47,6 +47,7 @@ test:
 	tests/memory $(BUILT)
 	tests/descriptors $(BUILT)
 	tests/refusals
+	tests/refused_images
 	if [ -e $(RELEASE) ]; then cmp $(BUILT) $(RELEASE); fi
 
 install: rc
