@@ -20,7 +20,7 @@ use Rattle.rc_model.specs.declared.builtin.Builtin.TheVariants.{Dot, BuiltinWord
 use Rattle.rc_model.specs.Run.Builtins.{builtin_named, Called, Finished, Body, BodyWith, finished, usage, as_body, as_body_with, opened_or, open_first, whole_file, run_file, dot, first_dir, dirs_of, first_member, cd, exit_status, shifted, shift, wait_child, wait_all, wait_one, wait_numbered, wait_for, Known, value_line, function_line, program_line, other_line, command_line, known_of, known_each, met, write_lines, whatis, exec, run_builtin, run_command, without_functions, run_named, run_words}
 use Rattle.rc_model.specs.Handed.Proper.{IsProperTree, AllProperTrees}
 use Rattle.law_image.proofs.Proper.{proper_set, proper_same}
-use Rattle.law_acceptance.proofs.Found.{finds_the_tree}
+use Rattle.law_syntax.proofs.Found.{finds_the_tree}
 use Rattle.law_handed.proofs.Characters.{accepted_are_scripts}
 use Rattle.law_handed.proofs.Parts.{AreParts, without_first, one_many, script_of}
 use Rattle.law_handed.proofs.Safe.{Gives, Keeps, bind, next, gives_pure, keeps_pure, keeps_skip, gives_exits, keeps_call, keeps_say, keeps_change, keeps_other, keeps_status, gives_from, gives_if}

@@ -11,8 +11,8 @@ use Rattle.rc_model.specs.Syntax.Grammar as g
 use Rattle.rc_model.specs.Mirrors.Spelling.{IsText, IsWord, IsName, AreSpelled}
 use Rattle.rc_model.specs.Handed.TreeSpelling.{has_characters}
 use Rattle.rc_model.specs.Handed.HandedLaws.{AcceptedAreProper}
-use Rattle.law_grammar.proofs.Passed.{past_newlines_spelled, past_blanks_spelled, past_caret_spelled, after_caret_spelled}
-use Rattle.law_acceptance.proofs.Decided.{accepted_formed, are_spelled}
+use Rattle.law_syntax.proofs.Passed.{past_newlines_spelled, past_blanks_spelled, past_caret_spelled, after_caret_spelled}
+use Rattle.law_syntax.proofs.Decided.{accepted_formed, are_spelled}
 use Rattle.law_handed.proofs.Bodies.{all_have, name_utf8, pieces_whole}
 
 -- the texts of a tree are of whole characters, and those of each of several

@@ -7,7 +7,7 @@ use Rattle.rc_model.specs.Run.Plans.{Plan, done_with, Ran}
 use Rattle.rc_model.specs.Run.Shell.{Result, Next, under, leaves}
 use Rattle.rc_model.specs.Run.State.{State}
 use Rattle.rc_world.specs.Comes.{Left}
-use Rattle.rc_world.specs.declared.types.Stop.{Stop}
+use Rattle.rc_world.specs.declared.starts.Stop.{Stop}
 use Rattle.rc_world.proofs.Joins.{left_join}
 use Rattle.rc_world.proofs.Shells.{left_under}
 use Rattle.law_plans.proofs.Runs.{ran_join, ran_none, ran_under}

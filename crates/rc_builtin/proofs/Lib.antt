@@ -1,10 +1,5 @@
-pub mod Acts
-pub mod Changes
-pub mod Commands
-pub mod Escapes
-pub mod Fits
+pub mod Evals
+pub mod Left
+pub mod CommandLines
 pub mod Gathered
-pub mod Handing
-pub mod Insertions
-pub mod Search
 pub mod Written

@@ -8,7 +8,7 @@ use Rattle.rc_model.specs.Run.Plans.{done_with, asks, Ran}
 use Rattle.rc_model.specs.Run.Shell.{Next}
 use Rattle.rc_model.specs.Run.State.{State, with_status}
 use Rattle.rc_world.specs.Comes.{Left}
-use Rattle.rc_world.specs.declared.types.Stop.{Stop}
+use Rattle.rc_world.specs.declared.starts.Stop.{Stop}
 use Rattle.rc_world.proofs.Joins.{left_asked, ran_answered}
 use Rattle.law_plans.proofs.Runs.{ran_none}
 

@@ -2,7 +2,7 @@
 use Rattle.std.specs.Prelude.{ℕ, List, Option, option_map, string_bytes}
 use Rattle.std.specs.Borrow.{Bor}
 use Rattle.rc_model.specs.Run.Builtins as model
-use Rattle.rc_builtin.specs.declared.names.Known.{Known}
+use Rattle.rc_builtin.specs.declared.known_names.Known.{Known}
 
 -- the status that was met
 abbrev pub status_of : Option (Bor (List ℕ)) → Option (List ℕ)

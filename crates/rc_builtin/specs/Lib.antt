@@ -1,3 +1,4 @@
-pub mod Starts
-pub mod Additions
+pub mod Outcomes
+pub mod Scripts
+pub mod Words
 pub mod Known

@@ -7,8 +7,7 @@ ghost use Rattle.rc_model.specs.Run.State.{value_of};
 ghost use Rattle.rc_world.specs.Comes.{Does};
 ghost use Rattle.rc_scope.specs.States.{state_of};
 
-use crate::programs::is_path;
-use crate::statuses::misuse;
+use rc_pipes::{is_path, misuse};
 use rc_scope::State;
 use rc_world::{Stop, World, calls};
 use std::alloc::{AllocError, Global};
@@ -64,7 +63,7 @@ fn home_dirs(alloc: Global, state: &State) -> Result<Vec<String>, AllocError>
 }
 
 /// Changes to the first of these directories that there is.
-#[tactic(auto, using(crate::proofs::Acts::acting))]
+#[tactic(auto, using(rc_pipes::proofs::ProgramActs::acting))]
 fn first_dir<W: World>(world: &mut W, state: &mut State, dirs: &[String]) -> Result<(), Stop>
     ensures does { Does W.events world.old world.new state_of state.old state.new
         (first_dir (map string_bytes dirs.now)) (λ x. x) result }
@@ -82,7 +81,7 @@ fn first_dir<W: World>(world: &mut W, state: &mut State, dirs: &[String]) -> Res
 
 /// Changes the directory: to the one that the word names, and without words to the home directory. The status is null,
 /// or `cannot cd` where no directory could be changed to; with several words it is `usage`.
-#[tactic(auto, using(crate::proofs::Acts::acting))]
+#[tactic(auto, using(rc_pipes::proofs::ProgramActs::acting))]
 pub fn change_dir<W: World>(
     alloc: Global,
     world: &mut W,

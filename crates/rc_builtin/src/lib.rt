@@ -1,23 +1,18 @@
 //! Programs and built-in commands.
 #![tactic(auto)]
 
+mod builtins;
 mod directories;
-mod environment;
 mod exits;
-mod names;
-mod programs;
+mod known_names;
+mod scripts;
 mod shifts;
 mod shown;
-mod statuses;
+mod simple_commands;
 
 pub use directories::change_dir;
-pub use environment::entries;
 pub use exits::exit_status;
-pub use names::whatis;
-pub use programs::{
-    Started, are_short, candidate, ending_status, fault, find_program, is_path, run_program,
-    start_child,
-};
+pub use known_names::whatis;
 pub use rc_model::Builtin;
 pub use shifts::shift;
-pub use statuses::misuse;
+pub use simple_commands::{Outcome, run_words};

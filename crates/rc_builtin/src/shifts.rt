@@ -6,7 +6,7 @@ ghost use Rattle.rc_model.specs.Run.Plans.{done_with};
 ghost use Rattle.rc_model.specs.Run.Shell.{Next};
 ghost use Rattle.rc_scope.specs.States.{state_of};
 
-use crate::statuses::misuse;
+use rc_pipes::misuse;
 use rc_scope::State;
 use rc_text::number_of;
 use std::alloc::AllocError;

@@ -8,12 +8,12 @@ use Rattle.rc_model.specs.Run.State.{State}
 use Rattle.rc_model.specs.Syntax.Tree.{Node, cmd}
 use Rattle.rc_model.specs.declared.fault.SyntaxFault.{SyntaxFault}
 use Rattle.rc_scope.specs.States.{state_of}
-use Rattle.rc_run.specs.Outcome as outcome
+use Rattle.rc_shell.specs.Outcome as outcome
 use Rattle.rc_shell.specs.Executed.{IfDenoted, IfImage, IfSyntax}
-use Rattle.rc_run.specs.declared.Ran.{Ran}
-use Rattle.rc_run.specs.declared.Ran.TheVariants as ran
-use Rattle.rc_run.specs.declared.ShellFault.{ShellFault}
-use Rattle.rc_run.specs.declared.ShellFault.TheVariants as shell
+use Rattle.rc_shell.specs.declared.run.Ran.{Ran}
+use Rattle.rc_shell.specs.declared.run.Ran.TheVariants as ran
+use Rattle.rc_shell.specs.declared.run.ShellFault.{ShellFault}
+use Rattle.rc_shell.specs.declared.run.ShellFault.TheVariants as shell
 use Rattle.rc_cli.specs.Runs.{Answers, IsNotRun, IsRun, Program, RunsAsMeant, handed, most_instructions, text_from}
 use Rattle.rc_cli.specs.declared.fault.RunError.{RunError}
 use Rattle.rc_cli.specs.declared.fault.RunError.TheVariants.{Usage, CannotRead, Syntax, BadImage}

@@ -4,7 +4,7 @@ use Rattle.std.specs.Prelude.{IfOk, IfErr, Vec}
 use Rattle.std.specs.declared.alloc.Global.{Global}
 use Rattle.rc_model.specs.Run.Calls.{Event}
 use Rattle.rc_model.specs.Syntax.Accepted.{longest_script}
-use Rattle.rc_run.proofs.Runs.{recorded_nothing}
+use Rattle.rc_shell.proofs.Runs.{recorded_nothing}
 use Rattle.rc_cli.specs.Requests.{Request, name_of}
 use Rattle.rc_cli.specs.Runs.{IsScriptOf, IsUnread, Program, RunsAsMeant, RunsInput, RunsRead, most_instructions, text_from}
 use Rattle.rc_cli.specs.Start.{first_state}

@@ -8,11 +8,11 @@ use Rattle.rc_model.specs.Run.Script.{Recorded, StopsAtLimit}
 use Rattle.rc_model.specs.Run.State.{State}
 use Rattle.rc_model.specs.Syntax.Tree.{Node, cmd}
 use Rattle.rc_scope.specs.States.{state_of}
-use Rattle.rc_run.specs.Outcome.{EndsWithin, HaltsWithin, IsBegunWithin}
-use Rattle.rc_run.specs.declared.Ran.{Ran}
-use Rattle.rc_run.specs.declared.Ran.TheVariants as ran
-use Rattle.rc_run.specs.declared.ShellFault.{ShellFault}
-use Rattle.rc_run.specs.declared.ShellFault.TheVariants as shell
+use Rattle.rc_shell.specs.Outcome.{EndsWithin, HaltsWithin, IsBegunWithin}
+use Rattle.rc_shell.specs.declared.run.Ran.{Ran}
+use Rattle.rc_shell.specs.declared.run.Ran.TheVariants as ran
+use Rattle.rc_shell.specs.declared.run.ShellFault.{ShellFault}
+use Rattle.rc_shell.specs.declared.run.ShellFault.TheVariants as shell
 use Rattle.rc_cli.specs.Requests.{Request, Source, Input, Text, File, Image, name_of}
 use Rattle.rc_cli.specs.Start.{first_state}
 use Rattle.rc_cli.specs.Statuses.{IsProcessStatus}

@@ -7,9 +7,9 @@ use Rattle.std.proofs.lemmas.List.Elements.{All-nil, All-head, All-tail, All-pus
 use Rattle.std.proofs.Math.Seq.{set-append_seam}
 use Rattle.rc_model.specs.Syntax.Tree.{Node, Many, branch, Branch, none, more}
 use Rattle.rc_model.specs.Code.Layout.{Op, Nil, Case, Jump, Code, Part, Nothing, Do, Past, Either, ◌⨾◌, ops_of, kept_of, branches_code, cmd_code, args_code}
-use Rattle.rc_listing.specs.Writing.{with_part, patched, redirected}
+use Rattle.rc_code.specs.Writing.{with_part, patched, redirected}
 use Rattle.rc_code.specs.Emission.{branch_to, branches_to}
-use Rattle.rc_listing.proofs.Redirecting.{redirected-none, length_patched}
+use Rattle.rc_code.proofs.Redirecting.{redirected-none, length_patched}
 use Rattle.rc_code.proofs.Parts.{same_code, with_part-Nothing, with_part-then, length_part}
 
 -- jumps that are put in with a part after them

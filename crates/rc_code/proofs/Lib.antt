@@ -1,3 +1,4 @@
+pub mod Redirecting
 pub mod Parts
 pub mod Branches
 pub mod OtherForms

@@ -6,12 +6,12 @@ use Rattle.rc_model.specs.Syntax.Tree.{Node, item, link, nodes, has_no_items, gu
 use Rattle.rc_model.specs.Syntax.Tree as tree
 use Rattle.std.proofs.lemmas.Grind.{common_steps}
 use Rattle.std.proofs.lemmas.Bool.Decides.{nat_tests}
-use Rattle.rc_tree_types.specs.declared.Cmd.{Cmd}
-use Rattle.rc_tree_types.specs.declared.Cmd.TheVariants as c
-use Rattle.rc_tree_types.specs.declared.Item.{Item}
-use Rattle.rc_tree_types.specs.View.{cmd_tree}
-use Rattle.rc_tree_types.specs.declared.Arg.TheBlock as rows
-use Rattle.rc_tree_types.specs.declared.Arg.TheViews as views
+use Rattle.rc_tree.specs.declared.types.Cmd.{Cmd}
+use Rattle.rc_tree.specs.declared.types.Cmd.TheVariants as c
+use Rattle.rc_tree.specs.declared.types.Item.{Item}
+use Rattle.rc_tree.specs.View.{cmd_tree}
+use Rattle.rc_tree.specs.declared.types.Arg.TheBlock as rows
+use Rattle.rc_tree.specs.declared.types.Arg.TheViews as views
 
 pub not_listed : (x : Cmd) → ((v : Vec Item Global) → x ≡ c.Seq v → ⊥) → has_no_items (cmd_tree x) ≡ false
 unfolding cmd_tree views.out-Cmd views.roll-Cmd denote.Hole.Carrier.out

@@ -5,9 +5,9 @@ use Rattle.std.proofs.lemmas.Grind.{common_steps}
 use Rattle.rc_model.specs.Syntax.Tree.{Node, Many, cmd, arg, Pair, pair, redir, none, more}
 use Rattle.rc_model.specs.Syntax.Tree as tree
 use Rattle.rc_model.specs.Code.Layout.{Op, Kept, Code, Part, Nothing, Do, Keep, Past, PastKeep, Loop, ◌⨾◌, ops_of, kept_of, Jump, Return, code, cmd_code, pairs_code, redirs_code}
-use Rattle.rc_tree_types.specs.View.{tree_nodes}
-use Rattle.rc_tree_types.proofs.Numbers.{count_nodes}
-use Rattle.rc_listing.specs.Writing.{with_part, with_kept, patched}
+use Rattle.rc_tree.specs.View.{tree_nodes}
+use Rattle.rc_tree.proofs.Numbers.{count_nodes}
+use Rattle.rc_code.specs.Writing.{with_part, with_kept, patched}
 use Rattle.rc_code.specs.Emission.{pairs_alone, redirs_alone, members_code, turns_code}
 
 pub same_code : (a b : Code) → a.ops ≡ b.ops → a.kept ≡ b.kept → a ≡ b

@@ -3,10 +3,10 @@
 ghost use Rattle.std.specs.Prelude.{◌≡◌};
 ghost use Rattle.rc_model.specs.Syntax.Tree.{has_no_items, guards};
 ghost use Rattle.rc_model.specs.Code.Layout.{skip_by};
-ghost use Rattle.rc_tree_types.specs.View.{cmd_tree, links_tree};
-ghost use Rattle.rc_listing.specs.Views.{op_of};
+ghost use Rattle.rc_tree.specs.View.{cmd_tree, links_tree};
+ghost use Rattle.rc_code.specs.Views.{op_of};
 
-use rc_listing::Op;
+use crate::code::Op;
 use rc_tree::{Cmd, Logic};
 
 /// The instruction that skips a command.
@@ -28,7 +28,7 @@ pub fn guards(links: &[(Logic, Cmd)], guarded: bool) -> bool
 }
 
 /// Whether it is a sequence with no items.
-#[tactic(auto, using(crate::proofs::OtherForms::listed, rc_tree_types::specs::View::tree_walks))]
+#[tactic(auto, using(crate::proofs::OtherForms::listed, rc_tree::specs::View::tree_walks))]
 pub fn has_no_items(cmd: &Cmd) -> bool
     ensures { result ≡ has_no_items (cmd_tree cmd.now) }
 {

@@ -1,20 +1,23 @@
 //! The compiler: from the tree of a command to its instructions.
 #![tactic(auto)]
 
-mod args;
-mod commands;
+mod code;
+mod emit_args;
+mod emit_commands;
+mod emit_plain;
 mod forms;
-mod plain;
+mod kept;
+mod listing;
 
 ghost use Rattle.std.specs.Prelude.{◌≡◌, false, IfOk, OnOk};
 ghost use Rattle.rc_model.specs.Code.Layout.{code, cmd_code, Do, Return, ◌⨾◌};
-ghost use Rattle.rc_tree_types.specs.View.{cmd_tree};
-ghost use Rattle.rc_listing.specs.Views.{code_of};
-ghost use Rattle.rc_listing.specs.Writing.{Writes};
+ghost use Rattle.rc_tree.specs.View.{cmd_tree};
+ghost use Rattle.rc_code.specs.Views.{code_of};
+ghost use Rattle.rc_code.specs.Writing.{Writes};
 
-use commands::emit_cmd;
-use rc_listing::Listing;
-pub use rc_listing::{Code, Op};
+pub use code::{Code, Op};
+use emit_commands::emit_cmd;
+use listing::Listing;
 use rc_tree::Cmd;
 use std::alloc::{AllocError, Global};
 

@@ -6,10 +6,10 @@ use Rattle.std.proofs.lemmas.Option.{same_Some}
 use Rattle.rc_model.specs.Syntax.Words.{Word}
 use Rattle.rc_model.specs.Run.Patterns.{stands_for, parts_match, parts_from, Outside}
 use Rattle.rc_model.specs.Mirrors.Greedy.{after_one, after_star, Move, PastStar, PastOne, AtEnd, Miss, past_one, one_move, move_by, move, goes_back, after_move, greedy_from}
-use Rattle.law_patterns.proofs.Going.{greedy_from-is}
-use Rattle.law_patterns.proofs.Steps.{after_one-shorter}
-use Rattle.rc_literal.specs.declared.Ch.{Ch}
-use Rattle.rc_literal.specs.Views.{marks}
+use Rattle.law_values.proofs.Going.{greedy_from-is}
+use Rattle.law_values.proofs.Steps.{after_one-shorter}
+use Rattle.rc_text.specs.declared.literal.Ch.{Ch}
+use Rattle.rc_text.specs.Literals.{marks}
 use Rattle.std.specs.List.{list_all}
 
 -- ** which move it is

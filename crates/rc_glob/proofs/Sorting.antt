@@ -17,8 +17,8 @@ use Rattle.std.proofs.lemmas.Slice.Eq.{bytes_eq-Decides}
 use Rattle.rc_model.specs.Syntax.Text.{text_cmp}
 use Rattle.rc_model.specs.Run.FileNames.{ordered}
 use Rattle.rc_model.specs.Run.PathNames.{IsIn}
-use Rattle.law_patterns.proofs.Sorted.{from_ordered, ordered_sorted, to_ordered}
-use Rattle.law_patterns.proofs.Unique.{same_sorted}
+use Rattle.law_values.proofs.Sorted.{from_ordered, ordered_sorted, to_ordered}
+use Rattle.law_values.proofs.Unique.{same_sorted}
 
 abbrev Strings : Type 0
 Strings = List (String Global)

@@ -15,8 +15,8 @@ use Rattle.rc_model.specs.Run.FileNames.{components, each_name, expanded, expand
 use Rattle.rc_glob.specs.Paths.{paths_from}
 use Rattle.rc_glob.proofs.Cuts.{walk_pattern, walk_plain, whole}
 use Rattle.rc_world.specs.Comes.{Comes, Left}
-use Rattle.rc_world.specs.declared.types.Stop.{Stop}
-use Rattle.rc_world.specs.declared.types.Stop.TheVariants.{NoMemory}
+use Rattle.rc_world.specs.declared.starts.Stop.{Stop}
+use Rattle.rc_world.specs.declared.starts.Stop.TheVariants.{NoMemory}
 use Rattle.rc_world.proofs.Joins.{left_here, left_join, left_memory, left_asked, left_answered, ran_answered}
 use Rattle.rc_world.proofs.Shells.{ran_do, left_do, left_done}
 use Rattle.law_plans.proofs.Runs.{ran_none, ran_join}

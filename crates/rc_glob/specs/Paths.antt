@@ -4,8 +4,8 @@ use Rattle.std.specs.Borrow.{Bor}
 use Rattle.rc_model.specs.Syntax.Words.{Word, word_texts}
 use Rattle.rc_model.specs.Run.FileNames.{components, step, walk, expanded_word}
 use Rattle.rc_model.specs.Run.Shell.{Shell, ◌>>=◌, pure}
-use Rattle.rc_literal.specs.declared.Ch.{Ch}
-use Rattle.rc_literal.specs.Views.{marks}
+use Rattle.rc_text.specs.declared.literal.Ch.{Ch}
+use Rattle.rc_text.specs.Literals.{marks}
 
 -- the components that follow a slash, none where there is no slash
 abbrev pub components_of : Option (Bor (List Ch)) → List Word

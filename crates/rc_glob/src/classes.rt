@@ -2,7 +2,7 @@
 ghost use Rattle.std.specs.Prelude.{◌≡◌, ◌&&◌};
 ghost use Rattle.rc_model.specs.Run.Patterns.{holds, is_between, is_marked};
 ghost use Rattle.rc_model.specs.Mirrors.Greedy.{class_end, class_holds};
-ghost use Rattle.rc_literal.specs.Views.{mark_of, marks};
+ghost use Rattle.rc_text.specs.Literals.{mark_of, marks};
 ghost use Rattle.rc_glob.specs.Moves.{parts_of};
 
 use rc_text::Ch;

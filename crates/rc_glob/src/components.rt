@@ -2,11 +2,10 @@
 ghost use Rattle.std.specs.Prelude.{◌≡◌, ◌<◌, ◌++◌, ◌∷◌, [], true, length, map, string_bytes, IfOk, IfSome, OnOk};
 ghost use Rattle.rc_model.specs.Syntax.Words.{has_pattern, word_text};
 ghost use Rattle.rc_model.specs.Run.FileNames.{components, directory, listed, walk};
-ghost use Rattle.rc_literal.specs.Views.{marks};
+ghost use Rattle.rc_text.specs.Literals.{marks};
 ghost use Rattle.rc_glob.specs.Paths.{components_of, paths_from};
 
-use rc_literal::any_pattern;
-use rc_text::Ch;
+use rc_text::{Ch, any_pattern};
 use std::alloc::{AllocError, Global};
 
 /// The characters up to a slash, and what follows it.

@@ -1,20 +1,19 @@
 //! The file names that words stand for.
 ghost use Rattle.std.specs.Prelude.{◌≡◌, ◌∷◌, [], true, map, string_bytes, MatchResult};
-ghost use Rattle.rc_world.specs.declared.types.Stop.TheVariants.{NoMemory};
+ghost use Rattle.rc_world.specs.declared.starts.Stop.TheVariants.{NoMemory};
 ghost use Rattle.rc_model.specs.Syntax.Words.{has_pattern};
 ghost use Rattle.rc_model.specs.Run.Calls.{list_names, as_names};
 ghost use Rattle.rc_model.specs.Run.State.{State};
 ghost use Rattle.rc_model.specs.Run.Shell.{Next};
 ghost use Rattle.rc_model.specs.Run.FileNames.{components, expanded, expanded_word, fitting_names, directory, if_there};
 ghost use Rattle.rc_model.specs.Run.FileNames.{walk};
-ghost use Rattle.rc_literal.specs.Views.{marks};
+ghost use Rattle.rc_text.specs.Literals.{marks};
 ghost use Rattle.rc_world.specs.Comes.{Asks, Comes};
 ghost use Rattle.rc_glob.specs.Paths.{expanded_texts, paths_from};
 
 use crate::components::{advance, directory, only, paths_in, push_text};
-use crate::names::{fitting_names, ordered};
-use rc_literal::any_pattern;
-use rc_text::{Ch, List, Word, joined_text};
+use crate::file_names::{fitting_names, ordered};
+use rc_text::{Ch, List, Word, any_pattern, joined_text};
 use rc_world::{Stop, World, calls};
 use std::alloc::Global;
 

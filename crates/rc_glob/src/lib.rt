@@ -4,8 +4,8 @@
 mod classes;
 mod components;
 mod expansion;
+mod file_names;
 mod matching;
-mod names;
 
 pub use expansion::{expand, expand_all};
 pub use matching::{matched, matches};

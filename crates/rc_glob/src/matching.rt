@@ -4,13 +4,12 @@ ghost use Rattle.std.specs.List.{list_all, list_any};
 ghost use Rattle.std.specs.Str.{chars};
 ghost use Rattle.rc_model.specs.Run.Patterns.{is_dots, matched, matches, Outside, parts_from, parts_match, stands_for};
 ghost use Rattle.rc_model.specs.Mirrors.Greedy.{after_one, after_star, move};
-ghost use Rattle.rc_literal.specs.Views.{marks};
+ghost use Rattle.rc_text.specs.Literals.{marks};
 ghost use Rattle.rc_glob.specs.Moves.{move_of, LeavesLess};
 ghost use Rattle.rc_glob.specs.Subjects.{is_met};
 
 use crate::classes::{class_end, class_holds};
-use rc_literal::any_pattern;
-use rc_text::{Ch, Word, first_char};
+use rc_text::{Ch, Word, any_pattern, first_char};
 
 /// What comes next in a match.
 enum Move<'a> {

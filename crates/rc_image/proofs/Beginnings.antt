@@ -8,7 +8,7 @@ use Rattle.rc_model.specs.Syntax.Text.{begins_with}
 use Rattle.rc_model.specs.Run.Numbers.{digits_value, greatest_number}
 use Rattle.rc_model.specs.Handed.TreeSpelling.{is_numeral}
 use Rattle.rc_model.specs.Handed.TreeReading.{digit_run, past_digits, is_count, other_version, beginning_fault, read_spelling, read_tree}
-use Rattle.rc_leaves.specs.Steps.{number_here, value_from, after_digits}
+use Rattle.rc_spelling.specs.Steps.{number_here, value_from, after_digits}
 use Rattle.rc_image.specs.Images.{version_here, fault_here}
 use Rattle.rc_model.specs.declared.fault.ImageFault.TheVariants.{BadTag, Version}
 

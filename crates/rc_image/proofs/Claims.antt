@@ -17,8 +17,8 @@ use Rattle.rc_model.specs.Handed.Pieces.{longest_word, words_of}
 use Rattle.rc_model.specs.Handed.TreeReading.{read_spelling, read_tree, beginning_fault}
 use Rattle.rc_model.specs.Handed.WordsReading.{Taken, counted, from_one, from_pieces, are_these, read_pieces}
 use Rattle.rc_model.specs.Syntax.Faults.{Fails}
-use Rattle.rc_leaves.proofs.Digits.{grows}
-use Rattle.rc_leaves.specs.Faults.{ImageError}
+use Rattle.rc_spelling.proofs.Digits.{grows}
+use Rattle.rc_spelling.specs.Faults.{ImageError}
 use Rattle.rc_image.specs.Images.{Refuses, written, in_one, in_pieces, fault_here}
 use Rattle.rc_model.specs.declared.fault.ImageFault.{ImageFault}
 use Rattle.rc_model.specs.declared.fault.ImageFault.TheVariants as image_fault

@@ -14,7 +14,7 @@ use Rattle.rc_model.specs.Handed.Image.{image_words, node_image}
 use Rattle.law_image.proofs.Cuts.{cut_back, cut_here}
 use Rattle.rc_model.specs.declared.fault.InputError.TheVariants as error
 use Rattle.rc_model.specs.declared.fault.ImageFault.TheVariants as fault
-use Rattle.rc_leaves.specs.Faults.{ImageError}
+use Rattle.rc_spelling.specs.Faults.{ImageError}
 use Rattle.rc_image.specs.Images.{Refuses, written}
 
 -- ** where a text can be cut

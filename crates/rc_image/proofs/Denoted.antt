@@ -20,11 +20,11 @@ use Rattle.rc_model.specs.Handed.TreeReading.{◌>>=◌, read_tree}
 use Rattle.rc_model.specs.Handed.Environment.{Bindings, Functions, bindings, with_cut, cut_entry, is_function, functions_in, read_state}
 use Rattle.rc_model.specs.Handed.Environment as e
 use Rattle.rc_image.specs.Entries.{function_in, values_state, with_function, with_functions}
-use Rattle.rc_tree_types.specs.View.{cmd_tree}
-use Rattle.rc_tree_types.specs.declared.Cmd.{Cmd}
+use Rattle.rc_tree.specs.View.{cmd_tree}
+use Rattle.rc_tree.specs.declared.types.Cmd.{Cmd}
 use Rattle.rc_model.specs.declared.fault.InputError.TheVariants as error
 use Rattle.rc_model.specs.Syntax.Faults.{Fails, Gives}
-use Rattle.rc_leaves.specs.Faults.{ImageError}
+use Rattle.rc_spelling.specs.Faults.{ImageError}
 use Rattle.rc_image.proofs.Beginnings.{begun_split}
 use Rattle.rc_image.proofs.Puts.{found, swap}
 use Rattle.rc_model.specs.declared.fault.ImageFault.{ImageFault}

@@ -1,3 +1,6 @@
+pub mod Escaping
+pub mod Handing
+pub mod Insertions
 pub mod Escapes
 pub mod Beginnings
 pub mod Claims

@@ -8,7 +8,7 @@ use Rattle.rc_model.specs.Handed.TreeReading as m
 use Rattle.rc_model.specs.Handed.TreeReading.{digit_run, past_digits, is_count, other_version}
 use Rattle.rc_model.specs.declared.fault.InputError.TheVariants.{Fault, NoMemory}
 use Rattle.rc_model.specs.declared.fault.ImageFault.TheVariants.{TooLarge}
-use Rattle.rc_leaves.specs.Faults.{ImageError}
+use Rattle.rc_spelling.specs.Faults.{ImageError}
 use Rattle.rc_model.specs.declared.fault.ImageFault.{ImageFault}
 
 -- a text that an argument or an entry can be

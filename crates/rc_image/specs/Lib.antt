@@ -1,3 +1,4 @@
+pub mod Additions
 pub mod Images
 pub mod Entries
 pub mod Launches

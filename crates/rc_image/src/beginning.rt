@@ -3,8 +3,8 @@
 ghost use Rattle.std.specs.Prelude.{◌≡◌};
 ghost use Rattle.rc_image.specs.Images.{version_here, fault_here};
 
-use rc_leaves::{begins_number, number};
 use rc_model::ImageFault;
+use rc_spelling::{begins_number, number};
 
 /// What an image in one word begins with.
 pub const MARK: &str = "rc1;";

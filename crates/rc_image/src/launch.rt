@@ -2,15 +2,16 @@
 
 ghost use Rattle.std.specs.Prelude.{◌≡◌, IfOk, map, string_bytes};
 ghost use Rattle.rc_model.specs.Handed.Arguments.{handed};
-ghost use Rattle.rc_tree_types.specs.View.{cmd_tree};
+ghost use Rattle.rc_tree.specs.View.{cmd_tree};
 ghost use Rattle.rc_scope.specs.States.{state_of};
 ghost use Rattle.rc_image.specs.Images.{Writes};
 ghost use Rattle.rc_image.specs.Launches.{args_with, handed_of, short_entries};
 
+use crate::launch_environment::entries;
+use crate::launch_sizes::are_short;
 use crate::pieces::write_pieces;
-use crate::texts::push_copies;
+use crate::text_copies::push_copies;
 use crate::{ImageError, ImageFault, InputError};
-use rc_builtin::{are_short, entries};
 use rc_scope::State;
 use rc_tree::Cmd;
 use std::alloc::{AllocError, Global};

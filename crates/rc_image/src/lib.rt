@@ -1,34 +1,37 @@
 //! What a shell hands to another, as text: the image of a tree, and the state that arguments and entries denote.
 #![tactic(auto)]
 
+mod beginning;
+mod cut_entries;
+mod image_words;
+mod launch;
+mod launch_environment;
+mod launch_sizes;
+mod pieces;
+mod read_environment;
+mod read_handed;
+mod text_copies;
+
 ghost use Rattle.std.specs.Prelude.{string_bytes};
 ghost use Rattle.rc_model.specs.Handed.TreeReading.{read_tree};
-ghost use Rattle.rc_tree_types.specs.View.{cmd_tree};
+ghost use Rattle.rc_tree.specs.View.{cmd_tree};
 ghost use Rattle.rc_model.specs.Syntax.Faults.{Gives};
 ghost use Rattle.rc_image.specs.Images.{Writes, short_image};
 
-mod arguments;
-mod beginning;
-mod entries;
-mod environment;
-mod launch;
-mod pieces;
-mod texts;
-mod words;
-
-pub use arguments::{read_image, read_state};
 use beginning::{MARK, beginning_fault};
-pub use environment::read_env;
+pub use image_words::read_pieces;
 pub use launch::{Handover, handed, write_env};
+pub use launch_environment::entries;
+pub use launch_sizes::are_short;
 pub use pieces::write_pieces;
-pub use rc_leaves::ImageError;
 use rc_model::limits::LONGEST_ARGUMENT;
 pub use rc_model::{ImageFault, InputError};
-use rc_reading::read_spelling;
-use rc_spelling::push_spelling;
+pub use rc_spelling::ImageError;
+use rc_spelling::{push_spelling, read_spelling};
 use rc_tree::Cmd;
+pub use read_environment::read_env;
+pub use read_handed::{read_image, read_state};
 use std::alloc::Global;
-pub use words::read_pieces;
 
 /// The image of a tree. It is too large where an argument or an entry of a launch can't be so long.
 #[tactic(auto, using(crate::proofs::Lengths::lengths))]

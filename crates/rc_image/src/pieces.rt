@@ -3,7 +3,7 @@
 ghost use Rattle.std.specs.Prelude.{◌≡◌, IfOk, map, string_bytes};
 ghost use Rattle.rc_model.specs.Handed.Image.{image_words};
 ghost use Rattle.rc_model.specs.Handed.Pieces.{longest_word, most_pieces, one_word, several_words, pieces};
-ghost use Rattle.rc_tree_types.specs.View.{cmd_tree};
+ghost use Rattle.rc_tree.specs.View.{cmd_tree};
 ghost use Rattle.rc_image.specs.Images.{Writes, written};
 
 use crate::beginning::{MARK, PIECES_MARK};

@@ -5,7 +5,7 @@ use Rattle.rc_model.specs.Syntax.Tree as t
 use Rattle.rc_model.specs.Syntax.Grammar.{concat_of, redirect, and_or}
 use Rattle.rc_model.specs.Mirrors.Descent as d
 use Rattle.std.proofs.lemmas.Grind.{common_steps}
-use Rattle.rc_tree_types.specs.View.{tree_AndOr, tree_Concat, tree_Pipeline, tree_Redirect}
+use Rattle.rc_tree.specs.View.{tree_AndOr, tree_Concat, tree_Pipeline, tree_Redirect}
 
 pub concat_one : {X : Type 0} (f : X → Node t.arg) (a : Node t.arg) (xs : List X) → length xs ≡ 0 → concat_of a (nodes f xs) ≡ a
 concat_one f a [] h = refl

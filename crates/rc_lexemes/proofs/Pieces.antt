@@ -3,7 +3,7 @@ use Rattle.std.proofs.Common.{◌≡◌, ℕ, List, [], ◌∷◌, length, refl,
 use Rattle.rc_model.specs.Syntax.Tree.{Many, snoc}
 use Rattle.rc_model.specs.Syntax.Tree as t
 use Rattle.std.proofs.lemmas.Grind.{common_steps}
-use Rattle.rc_tree_types.specs.View.{tree_lists}
+use Rattle.rc_tree.specs.View.{tree_lists}
 use Rattle.rc_model.specs.Syntax.HereDocs.{Begun, begun_after, ended_by, with_text, with_last, pieces_from}
 
 pub pieces_next : (begun : Begun) (pieces : Many t.piece) (all cs : List ℕ) (c : ℕ) → all ≡ c ∷ cs → pieces_from begun pieces all ≡ pieces_from (begun_after begun c) (ended_by begun c pieces) cs

@@ -1,8 +1,8 @@
 -- How the definitions see what has begun in a here document.
 use Rattle.std.specs.Prelude.{string_bytes}
 use Rattle.rc_model.specs.Syntax.HereDocs as model
-use Rattle.rc_lexemes.specs.declared.here.Begun.{Begun}
-use Rattle.rc_lexemes.specs.declared.here.Begun.TheVariants.{Plain, Dollar, Naming}
+use Rattle.rc_lexemes.specs.declared.here_pieces.Begun.{Begun}
+use Rattle.rc_lexemes.specs.declared.here_pieces.Begun.TheVariants.{Plain, Dollar, Naming}
 
 -- what has begun, as the definitions have it
 abbrev pub begun_of : Begun → model.Begun

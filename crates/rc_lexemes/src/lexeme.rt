@@ -8,7 +8,7 @@ ghost use Rattle.rc_model.specs.Mirrors.Descent.{begins_leading, item_end};
 ghost use Rattle.rc_lexemes.specs.Lexemes.{lexemes_of};
 ghost use Rattle.rc_lexemes.specs.Reading.{Gives};
 
-use crate::fault::{TokenError, fault_at};
+use crate::token_faults::{TokenError, fault_at};
 use rc_model::{DescentFault, Keyword, Mode};
 
 /// A token with its text. A here document has its body.

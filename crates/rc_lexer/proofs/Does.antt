@@ -10,8 +10,8 @@ use Rattle.rc_model.specs.declared.syntax.Class.{Class}
 use Rattle.rc_model.specs.declared.syntax.Class.TheVariants as class
 use Rattle.rc_model.specs.declared.syntax.Previous.{Previous}
 use Rattle.rc_model.specs.declared.syntax.Place.{Place}
-use Rattle.rc_lexer.specs.declared.state.State.{State}
-use Rattle.rc_lexer.specs.declared.state.Lexer.{Lexer}
+use Rattle.rc_lexer.specs.declared.lexer_state.State.{State}
+use Rattle.rc_lexer.specs.declared.lexer_state.Lexer.{Lexer}
 use Rattle.rc_lexer.specs.Views.{slice_at}
 use Rattle.rc_model.specs.declared.syntax.Previous.TheVariants as previous
 use Rattle.rc_lexer.specs.Machine.{pending_of, pending_in, tokens_in, dollars_in, bodies_in, after_step, TakesStep}

@@ -8,18 +8,18 @@ use Rattle.rc_model.specs.Mirrors.Reading.{Step}
 use Rattle.rc_lexer.specs.Answers.{ScriptError}
 use Rattle.rc_model.specs.declared.syntax.Previous.{Previous}
 use Rattle.rc_model.specs.declared.syntax.Place.{Place}
-use Rattle.rc_lexer.specs.declared.state.State.{State}
-use Rattle.rc_lexer.specs.declared.state.Lexer.{Lexer}
+use Rattle.rc_lexer.specs.declared.lexer_state.State.{State}
+use Rattle.rc_lexer.specs.declared.lexer_state.Lexer.{Lexer}
 use Rattle.rc_lexer.proofs.Does.{along, emits, ends_does}
 use Rattle.rc_lexer.proofs.OperatorBytes.{goes_on}
 use Rattle.rc_lexer.specs.declared.Token.{Token}
 use Rattle.rc_lexer.specs.declared.TokenKind.{TokenKind}
 use Rattle.rc_lexer.specs.declared.TokenKind.TheVariants as tk
-use Rattle.rc_lexer.specs.declared.state.State.TheVariants as state
+use Rattle.rc_lexer.specs.declared.lexer_state.State.TheVariants as state
 use Rattle.rc_lexer.specs.Views.{token_of, tokens_of, lexeme_of}
 use Rattle.rc_lexer.specs.Machine.{lexeme_tokens, pending_of, pending_in, tokens_in, dollars_in, bodies_in, TakesStep, Keeps, PushedDollars}
 use Rattle.std.specs.Char.{encode_utf8}
-use Rattle.law_lexing.proofs.Operators.{same_due}
+use Rattle.law_syntax.proofs.Operators.{same_due}
 use Rattle.rc_model.specs.declared.syntax.Class.{Class}
 use Rattle.rc_model.specs.declared.syntax.Previous.TheVariants as previous
 

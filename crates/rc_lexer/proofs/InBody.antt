@@ -6,14 +6,14 @@ use Rattle.std.proofs.lemmas.List.{append-nil, map-append}
 use Rattle.rc_model.specs.Syntax.Tokens as model
 use Rattle.rc_model.specs.Mirrors.Reading as reading
 use Rattle.rc_model.specs.Mirrors.Reading.{Step}
-use Rattle.rc_lexer.specs.declared.state.State.{State}
+use Rattle.rc_lexer.specs.declared.lexer_state.State.{State}
 use Rattle.rc_lexer.specs.Views.{slice_at}
 use Rattle.rc_lexer.proofs.Steps.{line_step, slice_empty}
 use Rattle.std.proofs.Math.Seq.{take-add}
 use Rattle.std.proofs.lemmas.List.{drop-drop}
 use Rattle.std.specs.Str.{bytes_eq}
 use Rattle.rc_lexer.specs.declared.Span.{Span}
-use Rattle.rc_lexer.specs.declared.state.PendingHereDoc.{PendingHereDoc}
+use Rattle.rc_lexer.specs.declared.lexer_state.PendingHereDoc.{PendingHereDoc}
 use Rattle.rc_lexer.specs.Machine.{body_of, after_first, line_of, state_of, pending_after, pending_of, after_step}
 use Rattle.std.specs.Char.{encode_utf8}
 use Rattle.rc_model.specs.declared.syntax.Place.{Place}

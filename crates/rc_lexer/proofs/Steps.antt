@@ -6,8 +6,8 @@ use Rattle.std.proofs.lemmas.List.{append-nil, map-append}
 use Rattle.rc_model.specs.Syntax.Tokens as model
 use Rattle.rc_model.specs.Mirrors.Reading as reading
 use Rattle.rc_lexer.specs.declared.Token.{Token}
-use Rattle.rc_lexer.specs.declared.state.State.{State}
-use Rattle.rc_lexer.specs.declared.state.PendingHereDoc.{PendingHereDoc}
+use Rattle.rc_lexer.specs.declared.lexer_state.State.{State}
+use Rattle.rc_lexer.specs.declared.lexer_state.PendingHereDoc.{PendingHereDoc}
 use Rattle.rc_lexer.specs.Views.{token_of, tokens_of}
 use Rattle.rc_lexer.specs.Machine.{pending_of, state_of, pending_after, after_step, line_of}
 

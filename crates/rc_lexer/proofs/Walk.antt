@@ -12,14 +12,14 @@ use Rattle.rc_model.specs.Syntax.Tokens as model
 use Rattle.rc_model.specs.declared.fault.SyntaxFault.{SyntaxFault}
 use Rattle.rc_model.specs.Mirrors.Reading as reading
 use Rattle.rc_model.specs.Mirrors.Reading.{Step}
-use Rattle.law_lexing.proofs.Steps.{join_join}
-use Rattle.law_lexing.proofs.Lexing.{law}
+use Rattle.law_syntax.proofs.Steps.{join_join}
+use Rattle.law_syntax.proofs.Cutting.{law}
 use Rattle.rc_lexer.specs.Answers.{ScriptError}
 use Rattle.rc_model.specs.declared.fault.InputError.TheVariants.{Fault, NoMemory}
 use Rattle.rc_model.specs.declared.syntax.Class.{Class}
 use Rattle.rc_model.specs.declared.syntax.Place.{Place}
-use Rattle.rc_lexer.specs.declared.state.State.{State}
-use Rattle.rc_lexer.specs.declared.state.Lexer.{Lexer}
+use Rattle.rc_lexer.specs.declared.lexer_state.State.{State}
+use Rattle.rc_lexer.specs.declared.lexer_state.Lexer.{Lexer}
 use Rattle.rc_lexer.specs.declared.Token.{Token}
 use Rattle.rc_model.specs.declared.fault.FaultKind.TheVariants.{ZeroByte}
 use Rattle.rc_model.specs.Syntax.Faults.{fault}

@@ -1,7 +1,7 @@
 -- What it is to have read a script.
 use Rattle.std.specs.Prelude.{◌≡◌, ℕ, List, Result, Ok, Err}
 use Rattle.rc_model.specs.Syntax.Tokens.{Outcome}
-use Rattle.rc_lexer.specs.declared.state.Lexer.{Lexer}
+use Rattle.rc_lexer.specs.declared.lexer_state.Lexer.{Lexer}
 use Rattle.rc_lexer.specs.Answers.{ScriptError}
 use Rattle.rc_model.specs.declared.fault.InputError.TheVariants.{Fault, NoMemory}
 use Rattle.rc_lexer.specs.Machine.{tokens_in, bodies_in}

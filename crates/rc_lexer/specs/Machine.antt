@@ -12,12 +12,12 @@ use Rattle.rc_model.specs.declared.syntax.Class.{Class}
 use Rattle.rc_model.specs.declared.syntax.Place.{Place}
 use Rattle.rc_model.specs.declared.syntax.Previous.{Previous}
 use Rattle.rc_model.specs.declared.syntax.Previous.TheVariants as previous
-use Rattle.rc_lexer.specs.declared.state.State.{State}
-use Rattle.rc_lexer.specs.declared.state.State.TheVariants.{Between, Comment, Backslash, WordBackslash, Word, Name}
-use Rattle.rc_lexer.specs.declared.state.State.TheVariants.{Quoted, Closed, Operator, Body}
-use Rattle.rc_lexer.specs.declared.state.CurrentChar.{CurrentChar}
-use Rattle.rc_lexer.specs.declared.state.PendingHereDoc.{PendingHereDoc}
-use Rattle.rc_lexer.specs.declared.state.Lexer.{Lexer}
+use Rattle.rc_lexer.specs.declared.lexer_state.State.{State}
+use Rattle.rc_lexer.specs.declared.lexer_state.State.TheVariants.{Between, Comment, Backslash, WordBackslash, Word, Name}
+use Rattle.rc_lexer.specs.declared.lexer_state.State.TheVariants.{Quoted, Closed, Operator, Body}
+use Rattle.rc_lexer.specs.declared.lexer_state.CurrentChar.{CurrentChar}
+use Rattle.rc_lexer.specs.declared.lexer_state.PendingHereDoc.{PendingHereDoc}
+use Rattle.rc_lexer.specs.declared.lexer_state.Lexer.{Lexer}
 use Rattle.rc_lexer.specs.Views.{slice_at, tokens_of, lexeme_of}
 
 -- a pending here document, as the definitions have it

@@ -7,10 +7,10 @@ ghost use Rattle.rc_lexer.specs.Views.{tokens_of};
 ghost use Rattle.rc_lexer.specs.Machine.{IsCurrent, PushedDollars, Stands, Takes};
 ghost use Rattle.rc_lexer.specs.Machine.{dollars_in};
 
-use crate::state::{CurrentChar, Lexer, State, TokenStart};
+use crate::lexer_state::{CurrentChar, Lexer, State, TokenStart};
 use crate::{ScriptError, Token, TokenKind};
-use rc_characters::is_name_char;
 use rc_model::Previous;
+use rc_text::is_name_char;
 use std::alloc::AllocError;
 
 /// Whether the name of `$`s begins with the character, quoted or not.

@@ -8,7 +8,7 @@ ghost use Rattle.rc_lexer.specs.Views.{slice_at, token_of, tokens_of};
 ghost use Rattle.rc_lexer.specs.Machine.{Ends, IsClosed, IsCurrent, Stands, StepsFrom};
 ghost use Rattle.rc_lexer.specs.Machine.{bodies_in, line_of, pending_in, pending_left, state_in, tokens_in};
 
-use crate::state::{CurrentChar, Lexer, State};
+use crate::lexer_state::{CurrentChar, Lexer, State};
 use crate::{ScriptError, Span, Token, TokenKind, fault};
 use rc_model::{Class, FaultKind, Previous};
 

@@ -10,20 +10,20 @@ ghost use Rattle.rc_lexer.specs.Answers.{IsLexed};
 ghost use Rattle.rc_lexer.specs.Lexed.{ReadTo};
 ghost use Rattle.rc_model.specs.declared.syntax.Previous.TheVariants as previous;
 
-mod classes;
+mod character_classes;
 mod dollars;
 mod here_docs;
+mod lexer_state;
 mod machine;
 mod operators;
 mod previous;
-mod state;
 mod tokens;
-mod words;
+mod word_characters;
 
-use classes::class_of;
-use rc_characters::first_char;
+use character_classes::class_of;
+use lexer_state::{CurrentChar, Lexer, State};
 use rc_model::{FaultKind, InputError, Mode, Place, Previous, SyntaxFault};
-use state::{CurrentChar, Lexer, State};
+use rc_text::first_char;
 use std::alloc::Global;
 
 /// A part of the script, in bytes.

@@ -4,7 +4,7 @@ ghost use Rattle.std.specs.Prelude.{◌≤◌, length, IfOk};
 ghost use Rattle.rc_model.specs.Mirrors.Reading as reading;
 ghost use Rattle.rc_lexer.specs.Machine.{Ends, IsCurrent, Stands, StepsFrom, pending_left, state_in};
 
-use crate::state::{CurrentChar, Lexer, State};
+use crate::lexer_state::{CurrentChar, Lexer, State};
 use crate::{ScriptError, TokenKind, fault};
 use rc_model::{Class, FaultKind, Place, Previous};
 

@@ -8,8 +8,8 @@ ghost use Rattle.rc_lexer.specs.Views.{lexeme_of};
 ghost use Rattle.rc_lexer.specs.Machine.{Ends, IsCurrent, Stands, Takes};
 ghost use Rattle.rc_lexer.specs.Machine.{between, dollars_in, pending_in};
 
+use crate::lexer_state::{CurrentChar, Lexer, State, TokenStart};
 use crate::previous::{after_token, meaning_after};
-use crate::state::{CurrentChar, Lexer, State, TokenStart};
 use crate::tokens::token_between;
 use crate::{ScriptError, TokenKind, fault};
 use rc_model::{FaultKind, Mode, Place, Previous};

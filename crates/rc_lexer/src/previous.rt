@@ -6,8 +6,8 @@ ghost use Rattle.rc_model.specs.Mirrors.Reading as reading;
 ghost use Rattle.rc_lexer.specs.Views.{lexeme_of};
 
 use crate::TokenKind;
-use rc_characters::is_name_char;
 use rc_model::Previous;
+use rc_text::is_name_char;
 
 /// Whether a `^` is inserted before the token.
 pub fn wants_caret(previous: Previous, kind: TokenKind) -> bool

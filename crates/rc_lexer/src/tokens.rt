@@ -7,11 +7,11 @@ ghost use Rattle.rc_lexer.specs.Views.{lexeme_of};
 ghost use Rattle.rc_lexer.specs.Machine.{IfPushed, Keeps, PushedHereDoc};
 ghost use Rattle.rc_lexer.specs.Machine.{between, lexeme_tokens, tokens_in};
 
+use crate::lexer_state::{Lexer, PendingHereDoc, TokenStart};
 use crate::previous::{after_token, wants_caret};
-use crate::state::{Lexer, PendingHereDoc, TokenStart};
 use crate::{ScriptError, Span, Token, TokenKind};
-use rc_characters::unquote;
 use rc_model::{Place, Previous};
+use rc_text::unquote;
 use std::alloc::AllocError;
 
 /// The token of this kind between two places.

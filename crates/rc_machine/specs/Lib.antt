@@ -1,4 +1,14 @@
-pub mod Outcomes
-pub mod Configs
+pub mod Lists
+pub mod Steps
+pub mod Configurations
+pub mod Names
+pub mod Tops
+pub mod Subjects
+pub mod Calls
+pub mod EndOfLocals
+pub mod EndOfRedirections
+pub mod Pipelines
+pub mod Runs
+pub mod Machines
 pub mod Instructions
 pub mod Standings

@@ -1,3 +1,5 @@
+pub mod Steps
+pub mod Turns
 pub mod Texts
 pub mod Lines
 pub mod Spelled

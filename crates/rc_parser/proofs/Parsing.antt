@@ -11,7 +11,7 @@ use Rattle.rc_model.specs.Syntax.Accepted.{HasTokens, IsAccepted, IsRefused, lex
 use Rattle.rc_model.specs.Syntax.Accepted as script
 use Rattle.rc_model.specs.Syntax.Grammar.{HaveTree}
 use Rattle.rc_model.specs.Syntax.Grammar as grammar
-use Rattle.law_acceptance.proofs.Decided.{same_tokens}
+use Rattle.law_syntax.proofs.Decided.{same_tokens}
 use Rattle.rc_model.specs.declared.fault.SyntaxFault.{SyntaxFault}
 use Rattle.rc_model.specs.declared.fault.InputError.TheVariants as error
 use Rattle.rc_lexer.specs.declared.Token as lexer
@@ -19,9 +19,9 @@ use Rattle.rc_lexer.specs.Answers.{ScriptError, IsLexed}
 use Rattle.rc_lexer.specs.Views.{tokens_of}
 use Rattle.rc_model.specs.declared.fault.DescentFault.{DescentFault}
 use Rattle.rc_model.specs.declared.fault.DescentFault.TheVariants as descent
-use Rattle.rc_lexemes.specs.declared.fault.TokenFault.{TokenFault}
+use Rattle.rc_lexemes.specs.declared.token_faults.TokenFault.{TokenFault}
 use Rattle.rc_lexemes.specs.Reading.{HasFault, TokenError}
-use Rattle.rc_tree_types.specs.declared.Cmd.{Cmd}
+use Rattle.rc_tree.specs.declared.types.Cmd.{Cmd}
 use Rattle.rc_parser.specs.Faults.{IsPlaced, Refuses}
 
 -- the lexer's tokens and its fault are the script's

@@ -7,10 +7,10 @@ use Rattle.rc_model.specs.Syntax.Tree as t
 use Rattle.rc_model.specs.Syntax.WellFormed.{depth, most_stages}
 use Rattle.rc_model.specs.Syntax.Grammar.{HaveTree, HaveAcceptedTree}
 use Rattle.rc_model.specs.Mirrors.Descent as d
-use Rattle.law_grammar.proofs.Laws as laws
+use Rattle.law_syntax.proofs.Laws as laws
 use Rattle.rc_lexemes.specs.declared.lexeme.Lexeme.{Lexeme}
-use Rattle.rc_tree_types.specs.View.{cmd_tree}
-use Rattle.rc_tree_types.specs.declared.Cmd.{Cmd}
+use Rattle.rc_tree.specs.View.{cmd_tree}
+use Rattle.rc_tree.specs.declared.types.Cmd.{Cmd}
 use Rattle.rc_model.specs.declared.fault.DescentFault.{DescentFault}
 use Rattle.rc_model.specs.declared.fault.DescentFault.TheVariants as descent
 use Rattle.rc_lexemes.specs.Lexemes.{lexemes_of}

@@ -8,9 +8,9 @@ ghost use Rattle.rc_lexer.specs.Views.{slice_at, tokens_of};
 ghost use Rattle.rc_lexer.specs.Views as lexer;
 ghost use Rattle.rc_lexemes.specs.Lexemes.{lexeme_of, lexemes_of};
 
-use rc_characters::unquote;
-use rc_descent::Lexeme;
+use rc_lexemes::Lexeme;
 use rc_lexer::{Span, Token, TokenKind};
+use rc_text::unquote;
 use std::alloc::{AllocError, Global};
 use std::str;
 

@@ -2,17 +2,18 @@
 //! Tom Duff's paper "Rc - The Plan 9 Shell".
 #![tactic(auto)]
 
+mod descent;
+mod lexemes;
+mod syntax_faults;
+mod text;
+mod trees;
+
 ghost use Rattle.std.specs.Prelude.{◌≡◌, IfOk, IfErr};
 ghost use Rattle.rc_model.specs.Syntax.Accepted.{IsAccepted, HasTokens};
 ghost use Rattle.rc_model.specs.Syntax.Tree.{Node, cmd};
 ghost use Rattle.rc_lexer.specs.Views.{tokens_of};
 ghost use Rattle.rc_parser.specs.Faults.{Refuses};
-ghost use Rattle.rc_tree_types.specs.View.{cmd_tree};
-
-mod fault;
-mod lexemes;
-mod text;
-mod trees;
+ghost use Rattle.rc_tree.specs.View.{cmd_tree};
 
 pub use rc_lexemes::{Lexeme, TokenError, TokenFault};
 pub use rc_lexer::ScriptError;
@@ -35,7 +36,7 @@ pub fn parse(alloc: Global, script: &[u8]) -> Result<Cmd, ScriptError>
     let lexemes = lexemes::lexemes(alloc, script, &tokens)?;
     match trees::script(alloc, &lexemes) {
         Ok(cmd) => Ok(cmd),
-        Err(InputError::Fault(found)) => Err(InputError::Fault(fault::syntax_fault(
+        Err(InputError::Fault(found)) => Err(InputError::Fault(syntax_faults::syntax_fault(
             script, &tokens, found,
         ))),
         Err(InputError::NoMemory) => Err(InputError::NoMemory),

@@ -6,12 +6,12 @@ ghost use Rattle.rc_model.specs.Syntax.WellFormed.{depth, most_stages};
 ghost use Rattle.rc_model.specs.Syntax.Grammar.{HaveTree, HaveAcceptedTree};
 ghost use Rattle.rc_model.specs.Mirrors.Descent.{script_tree};
 ghost use Rattle.rc_model.specs.declared.limits.TheConstants.{MOST_STAGES};
-ghost use Rattle.rc_tree_types.specs.View.{cmd_tree};
+ghost use Rattle.rc_tree.specs.View.{cmd_tree};
 ghost use Rattle.rc_lexemes.specs.Lexemes.{lexemes_of};
 ghost use Rattle.rc_lexemes.specs.Reading.{Gives, HasFault};
 
-use rc_descent::{Lexeme, TokenError, parse_list};
-use rc_lexemes::{fault_at, seq};
+use crate::descent::command_lists::parse_list;
+use rc_lexemes::{Lexeme, TokenError, fault_at, seq};
 use rc_model::DescentFault;
 use rc_model::limits::MOST_LEVELS;
 use rc_tree::{Cmd, is_within};

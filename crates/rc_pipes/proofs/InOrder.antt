@@ -13,7 +13,7 @@ use Rattle.rc_model.specs.Run.State.{State, drop_child, with_status, without_chi
 use Rattle.law_plans.proofs.Runs.{ran_none, ran_join, ran_next}
 use Rattle.rc_scope.specs.States.{child_numbers}
 use Rattle.rc_world.specs.Comes.{Comes, Left}
-use Rattle.rc_world.specs.declared.types.Stop.{Stop}
+use Rattle.rc_world.specs.declared.starts.Stop.{Stop}
 use Rattle.rc_world.proofs.Joins.{left_join}
 use Rattle.rc_world.proofs.Shells.{left_do, left_under, ran_do}
 use Rattle.rc_pipes.specs.Jobs.{with_jobs}

@@ -1,3 +1,7 @@
+pub mod ProgramActs
+pub mod Changes
+pub mod Fits
+pub mod Search
 pub mod Acts
 pub mod InOrder
 pub mod Opening

@@ -8,7 +8,7 @@ use Rattle.rc_model.specs.Run.Shell.{Shell, Next, ◌>>=◌, ◌>>◌, pure, get
 use Rattle.rc_model.specs.Run.State.{State, with_status}
 use Rattle.law_plans.proofs.Runs.{ran_none, ran_join}
 use Rattle.rc_world.specs.Comes.{Left}
-use Rattle.rc_world.specs.declared.types.Stop.{Stop}
+use Rattle.rc_world.specs.declared.starts.Stop.{Stop}
 use Rattle.rc_world.proofs.Joins.{left_join}
 use Rattle.rc_world.proofs.Shells.{ran_do, left_do}
 use Rattle.rc_pipes.proofs.Steps.{ran_said, left_saying}

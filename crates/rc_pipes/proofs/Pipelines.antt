@@ -8,10 +8,10 @@ use Rattle.rc_model.specs.Run.Shell.{Next}
 use Rattle.rc_model.specs.Run.State.{State}
 use Rattle.rc_model.specs.Syntax.Tree.{Many, stage, more}
 use Rattle.law_plans.proofs.Runs.{ran_join}
-use Rattle.rc_tree_types.specs.View.{stage_tree, stages_tree}
-use Rattle.rc_tree_types.specs.declared.Stage.{Stage}
+use Rattle.rc_tree.specs.View.{stage_tree, stages_tree}
+use Rattle.rc_tree.specs.declared.types.Stage.{Stage}
 use Rattle.rc_world.specs.Comes.{Left}
-use Rattle.rc_world.specs.declared.types.Stop.{Stop}
+use Rattle.rc_world.specs.declared.starts.Stop.{Stop}
 use Rattle.rc_world.proofs.Joins.{left_join}
 use Rattle.rc_pipes.proofs.Rows
 use Rattle.rc_pipes.proofs.Rows.{past}

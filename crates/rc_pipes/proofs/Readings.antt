@@ -8,7 +8,7 @@ use Rattle.rc_model.specs.Run.State.{State}
 use Rattle.rc_model.specs.Run.Acts.{Got, got_all, read_on, reading, read_all}
 use Rattle.law_plans.proofs.Runs.{ran_none, ran_join}
 use Rattle.rc_world.specs.Comes.{Left}
-use Rattle.rc_world.specs.declared.types.Stop.{Stop}
+use Rattle.rc_world.specs.declared.starts.Stop.{Stop}
 use Rattle.rc_world.proofs.Joins.{left_asked, left_join, ran_answered}
 
 -- what is still to be done after these bytes, with `left` reads left

@@ -10,7 +10,7 @@ use Rattle.rc_model.specs.Run.Acts.{stages_from, stage_with, next_stage, no_stag
 use Rattle.rc_model.specs.Syntax.Tree.{Node, Many, cmd, stage, more, Stage}
 use Rattle.law_plans.proofs.Runs.{ran_none, ran_next, ran_join}
 use Rattle.rc_world.specs.Comes.{Left}
-use Rattle.rc_world.specs.declared.types.Stop.{Stop}
+use Rattle.rc_world.specs.declared.starts.Stop.{Stop}
 use Rattle.rc_world.proofs.Joins.{left_asked, left_join, ran_answered}
 use Rattle.rc_world.proofs.Shells.{left_under}
 use Rattle.rc_pipes.proofs.Steps.{ran_said, left_saying, ran_both, left_first}

@@ -6,7 +6,7 @@ use Rattle.rc_model.specs.Run.Shell.{Result, Shell, Next, ◌>>◌, say, leaves}
 use Rattle.rc_model.specs.Run.State.{State}
 use Rattle.law_plans.proofs.Runs.{ran_none, ran_next}
 use Rattle.rc_world.specs.Comes.{Left}
-use Rattle.rc_world.specs.declared.types.Stop.{Stop}
+use Rattle.rc_world.specs.declared.starts.Stop.{Stop}
 use Rattle.rc_world.proofs.Joins.{left_asked, ran_answered}
 use Rattle.rc_world.proofs.Shells.{left_under, left_next}
 

@@ -9,8 +9,8 @@ use Rattle.rc_model.specs.Run.State.{State}
 use Rattle.rc_model.specs.Run.Acts.{waited, wait_each}
 use Rattle.law_plans.proofs.Runs.{ran_none}
 use Rattle.rc_world.specs.Comes.{Left}
-use Rattle.rc_world.specs.declared.types.Stop.{Stop}
-use Rattle.rc_world.specs.declared.types.Stop.TheVariants.{NoMemory}
+use Rattle.rc_world.specs.declared.starts.Stop.{Stop}
+use Rattle.rc_world.specs.declared.starts.Stop.TheVariants.{NoMemory}
 use Rattle.rc_world.proofs.Joins.{left_memory}
 use Rattle.rc_world.proofs.Shells.{ran_do, left_do, left_done}
 use Rattle.rc_pipes.proofs.Rows

@@ -1,3 +1,4 @@
+pub mod Starts
 pub mod Jobs
 pub mod Launches
 pub mod Readings

@@ -5,7 +5,7 @@ use Rattle.rc_model.specs.Run.Builtins.{Called, run_file, whole_file}
 use Rattle.rc_model.specs.Run.Plans.{Plan}
 use Rattle.rc_model.specs.Run.Shell.{Result}
 use Rattle.rc_model.specs.Run.State.{State}
-use Rattle.rc_pipes.specs.declared.reading.ReadBytes.{ReadBytes}
+use Rattle.rc_pipes.specs.declared.output_reading.ReadBytes.{ReadBytes}
 
 -- the bytes, and why the reading stopped
 abbrev pub got_of : ReadBytes → Got

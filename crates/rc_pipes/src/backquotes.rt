@@ -3,15 +3,15 @@
 ghost use Rattle.std.specs.Prelude.{◌≡◌, IfOk, OnErr, map, string_bytes};
 ghost use Rattle.std.specs.List.{concat};
 ghost use Rattle.rc_model.specs.Run.Acts.{backquote, back_child, members_of};
-ghost use Rattle.rc_tree_types.specs.View.{cmd_tree};
+ghost use Rattle.rc_tree.specs.View.{cmd_tree};
 ghost use Rattle.rc_world.specs.Comes.{Does};
-ghost use Rattle.rc_builtin.specs.Starts.{started_of};
+ghost use Rattle.rc_pipes.specs.Starts.{started_of};
 ghost use Rattle.rc_scope.specs.States.{state_of};
 
-use crate::children::wait_child;
+use crate::child_statuses::wait_child;
 use crate::launches::start_shell;
-use crate::reading::read_all;
-use rc_builtin::Started;
+use crate::output_reading::read_all;
+use crate::programs::Started;
 use rc_model::limits::LONGEST_OUTPUT;
 use rc_scope::State;
 use rc_text::{Output, into_lossy};

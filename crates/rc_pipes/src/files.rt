@@ -1,7 +1,7 @@
 //! Files of commands: the first that a name stands for is read.
 
 ghost use Rattle.std.specs.Prelude.{◌≡◌, ◌∷◌, ℕ, List, Some, IfOk, map, option_map, string_bytes};
-ghost use Rattle.rc_builtin.specs.Starts.{paths_in};
+ghost use Rattle.rc_pipes.specs.Starts.{paths_in};
 ghost use Rattle.rc_model.specs.Run.Acts.{candidates};
 ghost use Rattle.rc_model.specs.Run.Builtins.{dot, open_first, run_file};
 ghost use Rattle.rc_model.specs.Run.State as model;
@@ -9,8 +9,8 @@ ghost use Rattle.rc_scope.specs.States.{state_of};
 ghost use Rattle.rc_pipes.specs.Readings.{after_file};
 ghost use Rattle.rc_world.specs.Comes.{GoesOn, Reads};
 
-use crate::reading::{ReadBytes, read_all};
-use rc_builtin::{candidate, is_path};
+use crate::output_reading::{ReadBytes, read_all};
+use crate::programs::{candidate, is_path};
 use rc_model::limits::LONGEST_SCRIPT;
 use rc_scope::State;
 use rc_world::{Handle, Mode, Stop, World, calls};

@@ -7,15 +7,16 @@ ghost use Rattle.rc_model.specs.Run.Builtins.{Finished, wait_child, wait_all, wa
 ghost use Rattle.rc_model.specs.Run.State as model;
 ghost use Rattle.rc_model.specs.Run.Plans.{done_with};
 ghost use Rattle.rc_model.specs.Run.Shell.{Next};
-ghost use Rattle.rc_tree_types.specs.View.{cmd_tree};
+ghost use Rattle.rc_tree.specs.View.{cmd_tree};
 ghost use Rattle.rc_world.specs.Comes.{Comes, Does};
-ghost use Rattle.rc_builtin.specs.Starts.{started_of};
+ghost use Rattle.rc_pipes.specs.Starts.{started_of};
 ghost use Rattle.rc_scope.specs.States.{child_numbers, state_of};
 ghost use Rattle.rc_pipes.specs.Jobs.{arguments_of, with_jobs};
 
-use crate::children::wait_child;
+use crate::child_statuses::wait_child;
 use crate::launches::start_shell;
-use rc_builtin::{Started, misuse};
+use crate::programs::Started;
+use crate::statuses::misuse;
 use rc_scope::State;
 use rc_text::number_of;
 use rc_tree::Cmd;

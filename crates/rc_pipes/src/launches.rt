@@ -3,15 +3,15 @@
 ghost use Rattle.std.specs.Prelude.{◌≡◌, IfOk, OnErr, option_map};
 ghost use Rattle.rc_model.specs.Handed.Image.{shell_launch};
 ghost use Rattle.rc_model.specs.Run.Acts.{start_shell, subshell, wait_subshell};
-ghost use Rattle.rc_tree_types.specs.View.{cmd_tree};
+ghost use Rattle.rc_tree.specs.View.{cmd_tree};
 ghost use Rattle.rc_world.specs.Comes.{Reads, Does};
 ghost use Rattle.rc_world.specs.Views.{launch_of};
-ghost use Rattle.rc_builtin.specs.Starts.{started_of};
+ghost use Rattle.rc_pipes.specs.Starts.{started_of};
 ghost use Rattle.rc_scope.specs.States.{state_of};
 ghost use Rattle.rc_pipes.specs.Launches.{if_fit};
 
-use crate::children::wait_child;
-use rc_builtin::{Started, start_child};
+use crate::child_statuses::wait_child;
+use crate::programs::{Started, start_child};
 use rc_image::{Handover, InputError, handed};
 use rc_scope::State;
 use rc_tree::Cmd;

@@ -2,17 +2,21 @@
 #![tactic(auto)]
 
 mod backquotes;
-mod children;
+mod child_statuses;
 mod files;
 mod jobs;
 mod launches;
-mod reading;
+mod output_reading;
+mod programs;
 mod stages;
+mod statuses;
 
 pub use backquotes::backquote;
-pub use children::{end_refused, end_stages, wait_stages};
+pub use child_statuses::{end_refused, end_stages, wait_stages};
 pub use files::read_file;
 pub use jobs::{background, wait_for};
 pub use launches::subshell;
-pub use reading::ReadBytes;
+pub use output_reading::ReadBytes;
+pub use programs::{fault, find_program, is_path, run_program};
 pub use stages::{StartedStages, start_stages};
+pub use statuses::misuse;

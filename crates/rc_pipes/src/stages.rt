@@ -4,13 +4,13 @@ ghost use Rattle.std.specs.Prelude.{◌≡◌, option_map};
 ghost use Rattle.rc_model.specs.Run.Acts.{close_end, from_pipe, start_stages};
 ghost use Rattle.rc_model.specs.Run.Calls.{with_slot, to_file};
 ghost use Rattle.rc_model.specs.Run.State as model;
-ghost use Rattle.rc_tree_types.specs.View.{stage_tree, stages_tree};
+ghost use Rattle.rc_tree.specs.View.{stage_tree, stages_tree};
 ghost use Rattle.rc_world.specs.Comes.{GoesOn, Reads};
 ghost use Rattle.rc_scope.specs.States.{state_of};
 ghost use Rattle.rc_pipes.specs.Stages.{StartsStage, after_stages};
 
 use crate::launches::start_shell;
-use rc_builtin::Started;
+use crate::programs::Started;
 use rc_scope::State;
 use rc_tree::Stage;
 use rc_world::{ChildNo, Handle, Slot, Slots, Stop, World, calls};

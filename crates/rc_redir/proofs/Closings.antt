@@ -4,7 +4,7 @@ use Rattle.rc_model.specs.Run.Calls.{Event, close, as_done}
 use Rattle.rc_model.specs.Run.Plans.{Plan, done_with, asks, Ran}
 use Rattle.rc_model.specs.Run.Acts.{closing}
 use Rattle.rc_world.specs.Comes.{Left}
-use Rattle.rc_world.specs.declared.types.Stop.{Stop}
+use Rattle.rc_world.specs.declared.starts.Stop.{Stop}
 use Rattle.rc_world.proofs.Joins.{ran_answered, left_asked, left_bind}
 use Rattle.law_plans.proofs.Runs.{ran_none, ran_then}
 

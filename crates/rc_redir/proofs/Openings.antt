@@ -9,8 +9,8 @@ use Rattle.rc_model.specs.Run.Shell.{Shell}
 use Rattle.rc_model.specs.Run.Acts.{fails, opened}
 use Rattle.law_plans.proofs.Runs.{ran_none}
 use Rattle.rc_world.specs.Comes.{Left}
-use Rattle.rc_world.specs.declared.types.Stop.{Stop}
-use Rattle.rc_world.specs.declared.types.Stop.TheVariants.{NoMemory}
+use Rattle.rc_world.specs.declared.starts.Stop.{Stop}
+use Rattle.rc_world.specs.declared.starts.Stop.TheVariants.{NoMemory}
 use Rattle.rc_world.proofs.Joins.{left_memory, left_asked, left_answered, ran_answered}
 use Rattle.rc_redir.specs.Redirections.{Redirections}
 use Rattle.rc_redir.specs.Opening.{HoldsNothing, Opens, open_by, with_file}

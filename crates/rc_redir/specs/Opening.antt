@@ -12,7 +12,7 @@ use Rattle.rc_redir.specs.declared.RedirFault.{RedirFault}
 use Rattle.rc_redir.specs.declared.RedirFault.TheVariants.{NotOneWord, CannotOpen}
 use Rattle.rc_redir.specs.declared.RedirError.{RedirError}
 use Rattle.rc_redir.specs.declared.RedirError.TheVariants.{Fault, Stopped}
-use Rattle.rc_world.specs.declared.types.Stop.TheVariants.{NoMemory}
+use Rattle.rc_world.specs.declared.starts.Stop.TheVariants.{NoMemory}
 
 -- a call that opens what has this name
 abbrev pub open_by : Call → Slots → (name : List ℕ) → Shell ℕ

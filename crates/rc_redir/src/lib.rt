@@ -57,7 +57,7 @@ impl From<Stop> for RedirError {
 
 impl From<AllocError> for RedirError {
     ghost use Rattle.rc_redir.specs.declared.RedirError.TheVariants.{Stopped};
-    ghost use Rattle.rc_world.specs.declared.types.Stop.TheVariants.{NoMemory};
+    ghost use Rattle.rc_world.specs.declared.starts.Stop.TheVariants.{NoMemory};
 
     ghost from_gives = { λ _ e. e ≡ Stopped NoMemory };
 

@@ -2,8 +2,8 @@
 
 ghost use Rattle.std.specs.Prelude.{◌≡◌, map, string_bytes, IfOk};
 ghost use Rattle.rc_model.specs.Code.Layout.{code};
-ghost use Rattle.rc_tree_types.specs.View.{cmd_tree};
-ghost use Rattle.rc_listing.specs.Views.{code_of};
+ghost use Rattle.rc_tree.specs.View.{cmd_tree};
+ghost use Rattle.rc_code.specs.Views.{code_of};
 ghost use Rattle.rc_scope.specs.Bodies.{functions_of};
 
 use rc_code::{Code, compile};
@@ -25,10 +25,10 @@ impl Model for Function {
     ghost use Rattle.std.specs.Prelude.{◌≡◌, IfSome};
     ghost use Rattle.std.specs.Coded.{codes};
     ghost use Rattle.rc_model.specs.Code.Layout as layout;
-    ghost use Rattle.rc_tree_types.specs.View.{cmd_tree};
-    ghost use Rattle.rc_tree_types.specs.contracts.Cmd as e;
-    ghost use Rattle.rc_tree_types.specs.declared.Cmd.{Cmd};
-    ghost use Rattle.rc_listing.specs.Views.{code_of};
+    ghost use Rattle.rc_tree.specs.View.{cmd_tree};
+    ghost use Rattle.rc_tree.specs.contracts.types.Cmd as e;
+    ghost use Rattle.rc_tree.specs.declared.types.Cmd.{Cmd};
+    ghost use Rattle.rc_code.specs.Views.{code_of};
 
     ghost Value = { Cmd };
 

@@ -3,7 +3,7 @@
 ghost use Rattle.std.specs.Prelude.{◌≡◌, IfOk};
 ghost use Rattle.rc_scope.specs.Locals.{name_of};
 
-use crate::values::Value;
+use crate::value_rows::Value;
 use std::alloc::{AllocError, Global};
 
 /// The name of a local. Those that the shell itself gives take no memory: each call of a function binds `$*`.

@@ -8,13 +8,13 @@ ghost use Rattle.std.specs.Result.{IsErrOf};
 ghost use Rattle.rc_model.specs.Run.State.{new_state, value_of, set_value, with_status, with_flag, is_name};
 ghost use Rattle.rc_model.specs.Run.State.{push_local, pop_local, is_function_name, define, undefine, function_of};
 ghost use Rattle.rc_model.specs.Run.State.{add_child, drop_child};
-ghost use Rattle.rc_tree_types.specs.View.{cmd_tree};
+ghost use Rattle.rc_tree.specs.View.{cmd_tree};
 ghost use Rattle.rc_scope.specs.Bindings.{bindings_of, visible_values};
 ghost use Rattle.rc_scope.specs.Bodies.{IsCodeOf};
 ghost use Rattle.rc_scope.specs.Stacks.{flat_names};
 ghost use Rattle.rc_scope.specs.States.{child_numbers};
 
-use crate::children::place_of;
+use crate::background_children::place_of;
 use crate::functions::{Function, names};
 use crate::names::{NameFault, is_function_name, is_name, is_status};
 use crate::texts::copy_texts;

@@ -13,7 +13,7 @@ ghost use Rattle.rc_scope.specs.Stacks.{names_in, uncovered, without_newest, fla
 use crate::locals::{Local, LocalName};
 use crate::names::is_status;
 use crate::texts::drop_first;
-use crate::values::{Value, Values};
+use crate::value_rows::{Value, Values};
 use std::alloc::{AllocError, Global};
 use std::collections::BTreeMap;
 

@@ -4,10 +4,10 @@ use Rattle.rc_model.specs.Run.Calls.{Event}
 use Rattle.rc_model.specs.Run.Script.{Recorded}
 use Rattle.rc_model.specs.Run.State as model
 use Rattle.rc_model.specs.Syntax.Tree.{Node, cmd}
-use Rattle.rc_run.specs.Outcome.{RunsAsMeant}
+use Rattle.rc_shell.specs.Outcome.{RunsAsMeant}
 use Rattle.rc_shell.specs.Executed.{IfDenoted}
-use Rattle.rc_run.specs.declared.Ran.{Ran}
-use Rattle.rc_run.specs.declared.ShellFault.{ShellFault}
+use Rattle.rc_shell.specs.declared.run.Ran.{Ran}
+use Rattle.rc_shell.specs.declared.run.ShellFault.{ShellFault}
 use Rattle.rc_model.specs.declared.fault.ImageFault.{ImageFault}
 
 abbrev Read : Type 0

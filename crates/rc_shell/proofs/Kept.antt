@@ -10,12 +10,12 @@ use Rattle.rc_model.specs.Run.State as model
 use Rattle.rc_scope.specs.States.{state_of}
 use Rattle.law_handed.proofs.Played.{traces_read_back, traces_end_proper}
 use Rattle.law_traces.proofs.Traces.{begun_loses_nothing, ended_leaves_nothing}
-use Rattle.rc_run.specs.Outcome.{RunsAsMeant}
+use Rattle.rc_shell.specs.Outcome.{RunsAsMeant}
 use Rattle.rc_shell.specs.Executed.{LosesNothing, LeavesNothing, HandsOver, IfEnded}
-use Rattle.rc_run.specs.declared.Ran.{Ran}
-use Rattle.rc_run.specs.declared.Ran.TheVariants.{Ended, Limit, Halted}
-use Rattle.rc_run.specs.declared.ShellFault.{ShellFault}
-use Rattle.rc_run.specs.declared.ShellFault.TheVariants.{Syntax, Image, NoMemory}
+use Rattle.rc_shell.specs.declared.run.Ran.{Ran}
+use Rattle.rc_shell.specs.declared.run.Ran.TheVariants.{Ended, Limit, Halted}
+use Rattle.rc_shell.specs.declared.run.ShellFault.{ShellFault}
+use Rattle.rc_shell.specs.declared.run.ShellFault.TheVariants.{Syntax, Image, NoMemory}
 
 -- the calls are the first ones of the meaning, however the run ended
 ended_begun : (t : Node cmd) (s end : model.State) (trace : List Event) → EndsAsMeant t s trace end → IsBegunAsMeant t s trace

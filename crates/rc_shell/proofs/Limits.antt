@@ -5,11 +5,11 @@ use Rattle.rc_model.specs.Run.Calls.{Event}
 use Rattle.rc_model.specs.Run.Script.{Recorded}
 use Rattle.rc_model.specs.Run.State as model
 use Rattle.rc_model.specs.Syntax.Tree.{Node, cmd}
-use Rattle.rc_run.specs.Outcome.{RunsAsMeant}
+use Rattle.rc_shell.specs.Outcome.{RunsAsMeant}
 use Rattle.rc_shell.specs.Executed.{IsNotCutShort}
-use Rattle.rc_run.specs.declared.Ran.{Ran}
-use Rattle.rc_run.specs.declared.Ran.TheVariants.{Ended, Limit, Halted}
-use Rattle.rc_run.specs.declared.ShellFault.{ShellFault}
+use Rattle.rc_shell.specs.declared.run.Ran.{Ran}
+use Rattle.rc_shell.specs.declared.run.Ran.TheVariants.{Ended, Limit, Halted}
+use Rattle.rc_shell.specs.declared.run.ShellFault.{ShellFault}
 
 not_cut : (limit : ℕ) (t : Node cmd) (s : model.State) (trace : List Event) (result : Result Ran ShellFault) → RunsAsMeant limit t s trace result → IsNotCutShort limit t s trace result
 not_cut limit t s trace (Ok Limit) r given count on enough le e = enough_is_no_limit t s given count limit trace enough le on r

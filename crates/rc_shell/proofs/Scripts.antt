@@ -6,10 +6,10 @@ use Rattle.rc_model.specs.Run.Script.{Recorded}
 use Rattle.rc_model.specs.Run.State as model
 use Rattle.rc_model.specs.Syntax.Tree.{Node, cmd}
 use Rattle.rc_model.specs.declared.fault.SyntaxFault.{SyntaxFault}
-use Rattle.law_acceptance.proofs.Decided.{never_both}
-use Rattle.rc_run.specs.Outcome.{RunsAsMeant}
-use Rattle.rc_run.specs.declared.Ran.{Ran}
-use Rattle.rc_run.specs.declared.ShellFault.{ShellFault}
+use Rattle.law_syntax.proofs.Decided.{never_both}
+use Rattle.rc_shell.specs.Outcome.{RunsAsMeant}
+use Rattle.rc_shell.specs.declared.run.Ran.{Ran}
+use Rattle.rc_shell.specs.declared.run.ShellFault.{ShellFault}
 
 -- what is known of an accepted script isn't known of a refused one
 pub not_refused : {P : Type 0} (script : List ℕ) (tree : Node cmd) → IsAccepted script tree → (fault : SyntaxFault) → IsRefused script fault → P

@@ -14,10 +14,10 @@ use Rattle.rc_model.specs.Family.Accounts.{IsFresh, NothingLost, NothingLeft}
 use Rattle.rc_model.specs.declared.fault.SyntaxFault.{SyntaxFault}
 use Rattle.rc_model.specs.declared.fault.ImageFault.{ImageFault}
 use Rattle.rc_scope.specs.States.{state_of}
-use Rattle.rc_run.specs.declared.Ran.{Ran}
-use Rattle.rc_run.specs.declared.Ran.TheVariants.{Ended, Limit}
-use Rattle.rc_run.specs.declared.ShellFault.{ShellFault}
-use Rattle.rc_run.specs.declared.ShellFault.TheVariants.{Syntax, Image, NoMemory}
+use Rattle.rc_shell.specs.declared.run.Ran.{Ran}
+use Rattle.rc_shell.specs.declared.run.Ran.TheVariants.{Ended, Limit}
+use Rattle.rc_shell.specs.declared.run.ShellFault.{ShellFault}
+use Rattle.rc_shell.specs.declared.run.ShellFault.TheVariants.{Syntax, Image, NoMemory}
 
 -- on a tape of answers for which the limit is enough, the run isn't cut short by it
 abbrev pub IsNotCutShort : (limit : ℕ) → Node cmd → model.State → List Event → Result Ran ShellFault → Type 0

@@ -7,13 +7,13 @@ ghost use Rattle.rc_model.specs.Run.Calls.{Answer, calls};
 ghost use Rattle.rc_model.specs.Run.Script.{Agrees};
 ghost use Rattle.rc_model.specs.Run.State as model;
 ghost use Rattle.rc_model.specs.Syntax.Tree.{Node, cmd};
-ghost use Rattle.rc_run.specs.Outcome.{RunsAsMeant};
+ghost use Rattle.rc_shell.specs.Outcome.{RunsAsMeant};
 ghost use Rattle.rc_shell.specs.Executed.{IfDenoted, IfEnded, IfImage, LeavesNothing, LosesNothing};
 ghost use Rattle.rc_shell.specs.Executed.{IsNotCutShort, denoted};
 ghost use Rattle.rc_model.specs.declared.fault.ImageFault.{ImageFault};
 
+use crate::run::{Ran, ShellFault, run_tree};
 use rc_image::{InputError, read_image};
-use rc_run::{Ran, ShellFault, run_tree};
 use rc_world::World;
 use std::alloc::Global;
 

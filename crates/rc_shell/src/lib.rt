@@ -5,8 +5,9 @@
 #![tactic(auto)]
 
 mod image;
+mod run;
 mod script;
 
 pub use image::execute_image;
-pub use rc_run::{Ran, ShellFault};
+pub use run::{Ran, ShellFault};
 pub use script::execute;

@@ -6,14 +6,14 @@ ghost use Rattle.rc_model.specs.Run.Calls.{Answer};
 ghost use Rattle.rc_model.specs.Syntax.Accepted.{IsAccepted, IsRefused};
 ghost use Rattle.rc_model.specs.Run.Script.{Agrees, Recorded};
 ghost use Rattle.rc_model.specs.Syntax.Tree.{Node, cmd};
-ghost use Rattle.rc_run.specs.Outcome.{RunsAsMeant};
+ghost use Rattle.rc_shell.specs.Outcome.{RunsAsMeant};
 ghost use Rattle.rc_scope.specs.States.{state_of};
 ghost use Rattle.rc_shell.specs.Executed.{HandsOver, IfAccepted, IfEnded, IfSyntax, LeavesNothing, LosesNothing};
 ghost use Rattle.rc_shell.specs.Executed.{IsNotCutShort};
 
+use crate::run::{Ran, ShellFault, run_tree};
 use rc_model::{InputError, SyntaxFault};
 use rc_parser::parse;
-use rc_run::{Ran, ShellFault, run_tree};
 use rc_scope::State;
 use rc_world::World;
 use std::alloc::Global;

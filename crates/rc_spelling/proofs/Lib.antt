@@ -1,1 +1,5 @@
+pub mod Digits
+pub mod Strings
+pub mod Turns
+mod Mirror
 pub mod Spelling

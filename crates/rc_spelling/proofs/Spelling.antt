@@ -7,8 +7,8 @@ use Rattle.rc_model.specs.declared.syntax.Logic.{Logic}
 use Rattle.rc_model.specs.Syntax.Tree.{Sort, Node, Many, none, more, count}
 use Rattle.rc_model.specs.Syntax.Tree as t
 use Rattle.rc_model.specs.Handed.Image.{node_image, many_image, list_image, text_image, literal_mark, item_mark, logic_mark, opening_mark}
-use Rattle.rc_tree_types.specs.View.{tree_nodes}
-use Rattle.rc_tree_types.proofs.Numbers.{count_nodes}
+use Rattle.rc_tree.specs.View.{tree_nodes}
+use Rattle.rc_tree.proofs.Numbers.{count_nodes}
 
 pub image_Empty : node_image t.Empty ≡ codes "e"
 unfolding node_image

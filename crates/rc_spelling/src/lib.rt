@@ -1,18 +1,30 @@
 //! Writes the spelling of a tree.
 #![tactic(auto)]
 
+mod image_error;
+mod image_numbers;
+mod leaves;
+mod marks;
+mod node_reader;
+mod nodes;
+mod shape;
+mod tree_reader;
+
 ghost use Rattle.std.specs.Prelude.{◌≡◌, ◌++◌, [], OnOk, string_bytes};
 ghost use Rattle.std.specs.Fmt.{decimal};
 ghost use Rattle.rc_model.specs.Syntax.Tree.{count};
 ghost use Rattle.rc_model.specs.Syntax.Tree as t;
 ghost use Rattle.rc_model.specs.Handed.Image.{node_image, many_image, list_image, text_image, literal_mark};
 ghost use Rattle.rc_model.specs.Handed.Image.{item_mark, logic_mark, opening_mark};
-ghost use Rattle.rc_tree_types.specs.View.{cmd_tree, arg_tree, redir_tree, piece_tree, pieces_tree};
-ghost use Rattle.rc_tree_types.specs.View.{args_tree, items_tree, pairs_tree, redirs_tree, stages_tree, links_tree};
-ghost use Rattle.rc_tree_types.specs.View.{branches_tree};
+ghost use Rattle.rc_tree.specs.View.{cmd_tree, arg_tree, redir_tree, piece_tree, pieces_tree};
+ghost use Rattle.rc_tree.specs.View.{args_tree, items_tree, pairs_tree, redirs_tree, stages_tree, links_tree};
+ghost use Rattle.rc_tree.specs.View.{branches_tree};
 
+pub use image_error::ImageError;
+pub use image_numbers::{begins_number, number};
 use rc_tree::{Arg, Branch, Cmd, Item, Logic, Mode, Piece, Redir, Stage};
 use std::alloc::AllocError;
+pub use tree_reader::read_spelling;
 
 /// Writes a number.
 fn push_number(out: &mut String, number: usize) -> Result<(), AllocError>

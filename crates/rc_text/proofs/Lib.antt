@@ -1,3 +1,5 @@
+pub mod Quotes
+pub mod LiteralMarks
 pub mod Cuts
 pub mod Decoding
 pub mod Digits

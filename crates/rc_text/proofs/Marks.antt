@@ -11,7 +11,7 @@ use Rattle.std.specs.Str.{chars, encode_utf8_all, IsUtf8}
 use Rattle.std.specs.declared.alloc.Global.{Global}
 use Rattle.std.specs.declared.string.String.{String}
 use Rattle.rc_model.specs.Syntax.Words.{Word, has_pattern, is_pattern, plain_words, spaced_words, unmarked, word_text, written}
-use Rattle.rc_literal.proofs.Marks.{unmarked_patterns}
+use Rattle.rc_text.proofs.LiteralMarks.{unmarked_patterns}
 use Rattle.std.specs.declared.boxed.Box.{Box}
 use Rattle.std.specs.declared.rc.Rc.{Rc}
 use Rattle.rc_text.specs.declared.words.Letters.{Letters}

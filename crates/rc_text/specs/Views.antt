@@ -2,7 +2,7 @@
 use Rattle.std.specs.Prelude.{◌≡◌, Bool, true, false, map, string_bytes}
 use Rattle.std.specs.Str.{chars}
 use Rattle.rc_model.specs.Syntax.Words.{Word, has_pattern, written}
-use Rattle.rc_literal.specs.Views.{marks}
+use Rattle.rc_text.specs.Literals.{marks}
 use Rattle.rc_text.specs.declared.words.Letters.{Letters}
 use Rattle.rc_text.specs.declared.words.Letters.TheVariants.{Plain, Marked, Mixed, Literal}
 

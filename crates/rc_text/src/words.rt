@@ -2,10 +2,10 @@
 ghost use Rattle.std.specs.Prelude.{◌≡◌, [], ◌++◌, true, false, map, string_bytes, IfOk, IfSome, OnOk, MatchOption};
 ghost use Rattle.std.specs.Str.{chars};
 ghost use Rattle.rc_model.specs.Syntax.Words.{has_pattern, unmarked, word_text, written};
-ghost use Rattle.rc_literal.specs.Views.{marks};
+ghost use Rattle.rc_text.specs.Literals.{marks};
 ghost use Rattle.rc_text.specs.Views.{word_of, AreMarked, HaveMark};
 
-use rc_literal::{Ch, Literal, any_pattern, push_text};
+use crate::literal::{Ch, Literal, any_pattern, push_text};
 use std::alloc::{AllocError, Global};
 use std::default::MadeWith;
 use std::marker::Model;

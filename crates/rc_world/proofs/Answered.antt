@@ -14,7 +14,7 @@ use Rattle.rc_world.specs.Views.{answer_or_refused, file_answer, pair_answer, do
 use Rattle.rc_world.specs.Views.{ending_answer, names_answer, kind_answer}
 use Rattle.rc_model.specs.declared.call.Fault.{Fault}
 use Rattle.rc_model.specs.declared.call.Fault.TheVariants.{NotFound, Denied, Exists, Broken, Full, Other, Halt, NoMemory}
-use Rattle.rc_world.specs.declared.types.Stop.{Stop}
+use Rattle.rc_world.specs.declared.starts.Stop.{Stop}
 use Rattle.rc_model.specs.declared.call.Handle.{Handle}
 use Rattle.rc_model.specs.declared.call.ChildNo.{ChildNo}
 use Rattle.rc_model.specs.declared.call.Ending.{Ending}

@@ -6,8 +6,8 @@ use Rattle.rc_model.specs.declared.call.Fault.TheVariants.{Halt as halt}
 use Rattle.rc_model.specs.Run.Plans.{Plan, done_with, ask, asks, and_then, Ran}
 use Rattle.law_plans.proofs.Runs.{ran_none, halted_call, ran_join, halted_join, ran_then, halted_then, ran_bind}
 use Rattle.rc_world.specs.Comes.{Left, for_memory, by_halt, GoesOn, Comes}
-use Rattle.rc_world.specs.declared.types.Stop.{Stop}
-use Rattle.rc_world.specs.declared.types.Stop.TheVariants.{NoMemory, Halt}
+use Rattle.rc_world.specs.declared.starts.Stop.{Stop}
+use Rattle.rc_world.specs.declared.starts.Stop.TheVariants.{NoMemory, Halt}
 
 -- ** left at once
 

@@ -7,8 +7,8 @@ use Rattle.rc_model.specs.Run.State.{State}
 use Rattle.rc_model.specs.Run.Shell.{Result, Next, Exit, Shell, under, leaves, ◌>>=◌}
 use Rattle.law_plans.proofs.Runs.{ran_under, halted_under, ran_next}
 use Rattle.rc_world.specs.Comes.{Left, for_memory, by_halt, Comes}
-use Rattle.rc_world.specs.declared.types.Stop.{Stop}
-use Rattle.rc_world.specs.declared.types.Stop.TheVariants.{NoMemory, Halt}
+use Rattle.rc_world.specs.declared.starts.Stop.{Stop}
+use Rattle.rc_world.specs.declared.starts.Stop.TheVariants.{NoMemory, Halt}
 use Rattle.rc_world.proofs.Joins.{left_join}
 
 -- the piece was left

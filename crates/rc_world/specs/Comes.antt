@@ -8,8 +8,8 @@ use Rattle.rc_model.specs.Run.Shell as shell
 use Rattle.rc_model.specs.Run.Shell.{Shell}
 use Rattle.rc_model.specs.declared.call.Fault.{Fault}
 use Rattle.rc_model.specs.declared.call.Fault.TheVariants as fault
-use Rattle.rc_world.specs.declared.types.Stop.{Stop}
-use Rattle.rc_world.specs.declared.types.Stop.TheVariants.{NoMemory, Halt}
+use Rattle.rc_world.specs.declared.starts.Stop.{Stop}
+use Rattle.rc_world.specs.declared.starts.Stop.TheVariants.{NoMemory, Halt}
 
 -- the events of a world so far: None where it does not record them
 abbrev pub Recording : Type 0 → Type 0

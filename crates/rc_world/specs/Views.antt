@@ -8,9 +8,9 @@ use Rattle.rc_model.specs.declared.call.Handle.{Handle}
 use Rattle.rc_model.specs.declared.call.ChildNo.{ChildNo}
 use Rattle.rc_model.specs.declared.call.Kind.{Kind}
 use Rattle.rc_model.specs.declared.call.Ending.{Ending}
-use Rattle.rc_world.specs.declared.types.Program.{Program}
-use Rattle.rc_world.specs.declared.types.Program.TheVariants as program
-use Rattle.rc_world.specs.declared.types.Launch.{Launch}
+use Rattle.rc_world.specs.declared.starts.Program.{Program}
+use Rattle.rc_world.specs.declared.starts.Program.TheVariants as program
+use Rattle.rc_world.specs.declared.starts.Launch.{Launch}
 use Rattle.rc_world.specs.declared.event.Call.{Call}
 use Rattle.rc_world.specs.declared.event.Call.TheVariants as call
 use Rattle.rc_world.specs.declared.event.Answer.{Answer}

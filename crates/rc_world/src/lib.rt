@@ -3,14 +3,14 @@
 
 pub mod calls;
 pub mod event;
-mod fault;
+pub mod starts;
+mod system_errors;
 pub mod tape;
-pub mod types;
 pub mod world;
 
 pub use event::{Answer, Call};
-pub use fault::fault_of;
 pub use rc_model::{ChildNo, Ending, Fault, Handle, Kind, Mode, PLAIN_SLOTS, Slot, Slots};
+pub use starts::{Launch, Program, Stop};
+pub use system_errors::fault_of;
 pub use tape::Tape;
-pub use types::{Launch, Program, Stop};
 pub use world::World;

@@ -1,7 +1,7 @@
 use Rattle.std.proofs.Common.{◌≡◌, Result, Ok, Err, IfOk, OnOk, IsOk, arith}
 use Rattle.rc_model.specs.Code.Layout.{code}
-use Rattle.rc_tree_types.specs.View.{cmd_tree}
-use Rattle.rc_listing.specs.Views.{code_of}
+use Rattle.rc_tree.specs.View.{cmd_tree}
+use Rattle.rc_code.specs.Views.{code_of}
 use Rattle.rc_code.proofs.Parts.{whole_code}
 use Rattle.rc_code.proofs.compile.Goals as goal
 

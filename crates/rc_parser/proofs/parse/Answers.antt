@@ -5,7 +5,7 @@ use Rattle.rc_model.specs.Syntax.Accepted.{lexemes}
 use Rattle.rc_model.specs.Mirrors.Spelling.{AreSpelled}
 use Rattle.rc_parser.specs.Faults.{IsPlaced}
 use Rattle.rc_parser.proofs.Parsing.{has_no_other, is_refused, says}
-use Rattle.law_acceptance.proofs.Decided.{are_spelled}
+use Rattle.law_syntax.proofs.Decided.{are_spelled}
 use Rattle.rc_parser.proofs.parse.Goals as goal
 
 pub lexemes-requires : goal.lexemes-requires

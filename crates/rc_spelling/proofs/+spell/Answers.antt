@@ -1,4 +1,4 @@
-use Rattle.rc_tree_types.specs.View.{tree_For}
+use Rattle.rc_tree.specs.View.{tree_For}
 use Rattle.rc_spelling.proofs.+spell.Goals as goal
 
 pub push_spelling-returns-in-For : goal.push_spelling-returns-in-For

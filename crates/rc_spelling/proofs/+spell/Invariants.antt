@@ -2,9 +2,9 @@ use Rattle.std.proofs.Common.{◌≡◌, ◌+◌, ◌*◌, ◌++◌, drop, max, 
 use denote.Param.Weighed.{most}
 use Rattle.rc_model.specs.Syntax.Tree.{count}
 use Rattle.rc_model.specs.Handed.Image.{many_image, list_image}
-use Rattle.rc_tree_types.specs.View.{args_tree, items_tree, pairs_tree, redirs_tree, stages_tree, links_tree, branches_tree}
-use Rattle.rc_tree_types.proofs.Cmd.TheLaws as command
-use Rattle.rc_tree_types.proofs.Arg.TheLaws as argument
+use Rattle.rc_tree.specs.View.{args_tree, items_tree, pairs_tree, redirs_tree, stages_tree, links_tree, branches_tree}
+use Rattle.rc_tree.proofs.types.Cmd.TheLaws as command
+use Rattle.rc_tree.proofs.types.Arg.TheLaws as argument
 use Rattle.rc_spelling.proofs.+spell.Given as goal
 
 -- in each loop: what is written, and what is left, is the whole

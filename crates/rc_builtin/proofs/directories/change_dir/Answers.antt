@@ -2,9 +2,9 @@ use Rattle.std.proofs.Common.{rules, ◌≡◌, [], ◌∷◌, ap, ◌∙◌, ma
 use Rattle.std.specs.Prelude.{codes}
 use Rattle.rc_model.specs.Run.Builtins.{dirs_of, first_dir, first_member}
 use Rattle.rc_model.specs.Run.State.{value_of}
-use Rattle.rc_world.specs.declared.types.Stop.TheVariants.{NoMemory}
+use Rattle.rc_world.specs.declared.starts.Stop.TheVariants.{NoMemory}
 use Rattle.rc_scope.specs.States.{state_of}
-use Rattle.rc_builtin.proofs.Changes.{comes_finished, cd_home, cd_one}
+use Rattle.rc_pipes.proofs.Changes.{comes_finished, cd_home, cd_one}
 use Rattle.rc_world.proofs.Joins.{comes_as, left_here, passed_up}
 use Rattle.law_plans.proofs.Runs.{ran_none}
 use Rattle.rc_builtin.proofs.directories.change_dir.Goals as goal

@@ -1,7 +1,7 @@
 use Rattle.std.proofs.Common.{rules, ◌≡◌, ◌+◌, true, false, drop, map, string_bytes}
-use Rattle.rc_world.specs.declared.types.Stop.TheVariants.{NoMemory}
+use Rattle.rc_world.specs.declared.starts.Stop.TheVariants.{NoMemory}
 use Rattle.rc_scope.specs.States.{state_of}
-use Rattle.rc_builtin.proofs.Changes.{texts_left, ran_changed, ran_refused, left_at_change}
+use Rattle.rc_pipes.proofs.Changes.{texts_left, ran_changed, ran_refused, left_at_change}
 use Rattle.rc_world.proofs.Joins.{left_here, left_join, passed_up}
 use Rattle.law_plans.proofs.Runs.{ran_join}
 use Rattle.rc_builtin.proofs.directories.first_dir.Goals as goal

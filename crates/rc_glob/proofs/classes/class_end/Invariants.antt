@@ -1,6 +1,6 @@
 use Rattle.std.proofs.Common.{◌≡◌, ◌≤◌, ◌-◌, length, take, drop}
 use Rattle.rc_model.specs.Mirrors.Greedy.{class_end}
-use Rattle.rc_literal.specs.Views.{marks}
+use Rattle.rc_text.specs.Literals.{marks}
 use Rattle.rc_glob.proofs.Members.{with_front}
 use Rattle.rc_glob.proofs.classes.class_end.Given as goal
 

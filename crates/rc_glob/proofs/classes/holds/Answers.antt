@@ -1,5 +1,5 @@
 use Rattle.std.proofs.Common.{ap, ◌∙◌}
-use Rattle.rc_literal.specs.Views.{marks}
+use Rattle.rc_text.specs.Literals.{marks}
 use Rattle.rc_glob.proofs.Members.{range_step, other_step}
 use Rattle.rc_glob.proofs.classes.holds.Goals as goal
 

@@ -1,6 +1,6 @@
 use Rattle.std.proofs.Common.{◌≡◌, length}
 use Rattle.rc_model.specs.Run.Patterns.{holds}
-use Rattle.rc_literal.specs.Views.{marks}
+use Rattle.rc_text.specs.Literals.{marks}
 use Rattle.rc_glob.proofs.classes.holds.Given as goal
 
 abbrev pub invariant-loop-first : goal.invariant-loop-first

@@ -1,5 +1,5 @@
 use Rattle.std.proofs.Common.{arith, ap, string_bytes, ◌∙◌, ◌<◌, length}
-use Rattle.rc_literal.specs.Views.{marks}
+use Rattle.rc_text.specs.Literals.{marks}
 use Rattle.rc_glob.specs.Paths.{components_of}
 use Rattle.rc_glob.proofs.Cuts.{further, further_has, here, nowhere, shorter_at, with_slash}
 use Rattle.rc_glob.proofs.components.advance.Goals as goal

@@ -1,7 +1,7 @@
 use Rattle.std.proofs.Common.{◌≡◌, ◌≤◌, true, length, string_bytes}
 use Rattle.rc_model.specs.Syntax.Words.{has_pattern}
 use Rattle.rc_model.specs.Run.FileNames.{components}
-use Rattle.rc_literal.specs.Views.{marks}
+use Rattle.rc_text.specs.Literals.{marks}
 use Rattle.rc_glob.specs.Paths.{paths_from}
 use Rattle.rc_glob.proofs.components.advance.Given as goal
 

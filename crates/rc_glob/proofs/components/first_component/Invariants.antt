@@ -1,6 +1,6 @@
 use Rattle.std.proofs.Common.{◌≡◌, ◌≤◌, ◌-◌, length, take, drop}
 use Rattle.rc_model.specs.Run.FileNames.{components}
-use Rattle.rc_literal.specs.Views.{marks}
+use Rattle.rc_text.specs.Literals.{marks}
 use Rattle.rc_glob.proofs.Cuts.{onto}
 use Rattle.rc_glob.proofs.components.first_component.Given as goal
 

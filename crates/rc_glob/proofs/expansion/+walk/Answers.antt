@@ -1,7 +1,7 @@
 use Rattle.std.proofs.Common.{ap, string_bytes, ◌∙◌}
 use Rattle.rc_model.specs.Run.FileNames.{components, listed, walk}
-use Rattle.rc_literal.specs.Views.{marks}
-use Rattle.rc_world.specs.declared.types.Stop.TheVariants.{NoMemory}
+use Rattle.rc_text.specs.Literals.{marks}
+use Rattle.rc_world.specs.declared.starts.Stop.TheVariants.{NoMemory}
 use Rattle.rc_world.proofs.Joins.{comes_as, left_memory, passed_up}
 use Rattle.rc_glob.specs.Paths.{components_of, paths_from}
 use Rattle.rc_glob.proofs.Cuts.{with_slash}

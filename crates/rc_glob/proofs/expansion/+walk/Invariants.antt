@@ -1,7 +1,7 @@
 use Rattle.std.proofs.Common.{◌+◌, ◌*◌, length, map, drop, string_bytes}
 use Rattle.rc_model.specs.Run.FileNames.{components, each_name, walk}
 use Rattle.rc_model.specs.Run.State.{State}
-use Rattle.rc_literal.specs.Views.{marks}
+use Rattle.rc_text.specs.Literals.{marks}
 use Rattle.rc_glob.specs.Paths.{paths_from}
 use Rattle.rc_glob.proofs.Walks.{Collected}
 use Rattle.rc_glob.proofs.expansion.+walk.Given as goal

@@ -1,7 +1,7 @@
 use Rattle.rc_model.specs.Syntax.Words.{word_texts}
 use Rattle.rc_model.specs.Run.FileNames.{expanded_word}
 use Rattle.rc_model.specs.Run.Shell.{pure}
-use Rattle.rc_world.specs.declared.types.Stop.TheVariants.{NoMemory}
+use Rattle.rc_world.specs.declared.starts.Stop.TheVariants.{NoMemory}
 use Rattle.rc_world.proofs.Joins.{left_memory, passed_up}
 use Rattle.rc_world.proofs.Shells.{left_do, left_done, ran_do}
 use Rattle.rc_glob.proofs.Walks.{ran_value}

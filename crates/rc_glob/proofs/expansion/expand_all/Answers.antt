@@ -1,5 +1,5 @@
 use Rattle.rc_model.specs.Run.FileNames.{expanded}
-use Rattle.rc_world.specs.declared.types.Stop.TheVariants.{NoMemory}
+use Rattle.rc_world.specs.declared.starts.Stop.TheVariants.{NoMemory}
 use Rattle.rc_world.proofs.Joins.{passed_up}
 use Rattle.rc_glob.proofs.Walks.{left_word, memory_after_word, next_word, no_words_left}
 use Rattle.rc_glob.proofs.expansion.expand_all.Goals as goal

@@ -1,6 +1,6 @@
 use Rattle.std.proofs.Common.{◌∷◌, [], map, string_bytes, refl}
 use Rattle.rc_model.specs.Run.FileNames.{or_itself}
-use Rattle.rc_world.specs.declared.types.Stop.TheVariants.{NoMemory}
+use Rattle.rc_world.specs.declared.starts.Stop.TheVariants.{NoMemory}
 use Rattle.rc_world.proofs.Joins.{left_here, passed_up}
 use Rattle.rc_glob.proofs.Walks.{comes_alone, left_names, no_paths, ran_names, ran_plain, some_paths}
 use Rattle.rc_glob.proofs.expansion.expand_word.Goals as goal

@@ -1,6 +1,6 @@
 use Rattle.std.proofs.Common.{map, string_bytes, option_map, sym, ap, ◌∙◌}
 use Rattle.rc_model.specs.Run.FileNames.{fitting_names}
-use Rattle.rc_literal.specs.Views.{marks}
+use Rattle.rc_text.specs.Literals.{marks}
 use Rattle.rc_world.proofs.Joins.{passed_up}
 use Rattle.rc_glob.proofs.Walks.{left_listing, ran_listing}
 use Rattle.rc_glob.proofs.expansion.listed.Goals as goal

@@ -1,5 +1,5 @@
 use Rattle.std.proofs.Common.{rules, arith, sym, ◌∙◌}
-use Rattle.rc_literal.specs.Views.{marks}
+use Rattle.rc_text.specs.Literals.{marks}
 use Rattle.std.specs.Str.{chars}
 use Rattle.rc_glob.proofs.Moves.{going_start, going_star, going_one, going_end, going_back, going_last_star}
 use Rattle.rc_glob.proofs.matching.fits.Goals as goal

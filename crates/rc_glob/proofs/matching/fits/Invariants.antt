@@ -3,7 +3,7 @@ use Rattle.std.specs.Str.{chars}
 use denote.Shadow.{shadow}
 use denote.Text.{Utf8}
 use Rattle.rc_model.specs.Run.Patterns.{parts_match, parts_from, Outside}
-use Rattle.rc_literal.specs.Views.{marks}
+use Rattle.rc_text.specs.Literals.{marks}
 use Rattle.rc_glob.proofs.Moves.{Going}
 use Rattle.rc_glob.proofs.matching.fits.Given as goal
 

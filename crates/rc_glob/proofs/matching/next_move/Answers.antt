@@ -1,6 +1,6 @@
 use Rattle.std.proofs.Common.{◌≡◌, Some, sym}
 use Rattle.rc_model.specs.Mirrors.Greedy.{after_one}
-use Rattle.rc_literal.specs.Views.{marks}
+use Rattle.rc_text.specs.Literals.{marks}
 use Rattle.rc_glob.proofs.Moves.{after_shorter}
 use Rattle.rc_glob.proofs.matching.next_move.Goals as goal
 

@@ -1,6 +1,6 @@
 use Rattle.std.proofs.Common.{◌≤◌, sym, ◌∙◌, arith}
 use Rattle.rc_model.specs.Run.Numbers.{greatest_number}
-use Rattle.rc_leaves.specs.Steps.{value_from}
+use Rattle.rc_spelling.specs.Steps.{value_from}
 use Rattle.rc_image.proofs.Beginnings.{version_some}
 use Rattle.rc_image.proofs.beginning.has_version.Goals as goal
 

@@ -1,7 +1,7 @@
 use Rattle.std.proofs.Common.{rules, ◌≡◌, true, false, map, string_bytes}
 use Rattle.std.specs.List.{list_all}
 use Rattle.rc_model.specs.Handed.Image.{is_short}
-use Rattle.rc_tree_types.specs.View.{cmd_tree}
+use Rattle.rc_tree.specs.View.{cmd_tree}
 use Rattle.rc_scope.specs.States.{state_of}
 use Rattle.rc_image.proofs.Launches.{is_handed, long_argument, long_entry}
 use Rattle.rc_image.proofs.launch.handed.Goals as goal

@@ -1,6 +1,6 @@
 use Rattle.std.proofs.Common.{◌≡◌, nat_le, true, false, ap, sym, subst, ◌∙◌}
 use Rattle.rc_model.specs.Syntax.WellFormed.{depth}
-use Rattle.rc_tree_types.specs.View.{cmd_tree, items_tree}
+use Rattle.rc_tree.specs.View.{cmd_tree, items_tree}
 use Rattle.rc_parser.proofs.Scripts.{script_fits, script_unfit}
 use Rattle.rc_parser.proofs.trees.parse_script.Goals as goal
 

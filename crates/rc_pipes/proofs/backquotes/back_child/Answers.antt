@@ -1,8 +1,8 @@
 use Rattle.std.proofs.Common.{◌≡◌, string_bytes}
-use Rattle.rc_builtin.specs.Starts.{started_of}
+use Rattle.rc_pipes.specs.Starts.{started_of}
 use Rattle.rc_model.specs.Run.Acts.{back_status, longest_output}
 use Rattle.rc_scope.specs.States.{state_of}
-use Rattle.rc_world.specs.declared.types.Stop.TheVariants.{NoMemory}
+use Rattle.rc_world.specs.declared.starts.Stop.TheVariants.{NoMemory}
 use Rattle.rc_world.proofs.Joins.{left_here, passed_up}
 use Rattle.rc_pipes.specs.Readings.{got_of}
 use Rattle.rc_pipes.proofs.Outputs.{left_closing, left_unread, ran_unread, left_reading, left_closing_read, left_waiting, ran_finished, why_or}

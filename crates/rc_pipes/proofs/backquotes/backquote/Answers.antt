@@ -2,8 +2,8 @@ use Rattle.std.proofs.Common.{Some, None}
 use Rattle.rc_model.specs.Run.Acts.{start_shell, back_child, back_pipe}
 use Rattle.rc_model.specs.Run.Calls.{make_pipe, as_pair, with_slot, to_file}
 use Rattle.rc_scope.specs.States.{state_of}
-use Rattle.rc_tree_types.specs.View.{cmd_tree}
-use Rattle.rc_world.specs.declared.types.Stop.TheVariants.{NoMemory}
+use Rattle.rc_tree.specs.View.{cmd_tree}
+use Rattle.rc_world.specs.declared.starts.Stop.TheVariants.{NoMemory}
 use Rattle.rc_world.proofs.Joins.{comes_answered, left_answered, left_asked, left_here, passed_up, ran_answered}
 use Rattle.rc_world.proofs.Shells.{comes_do, left_do}
 use Rattle.law_plans.proofs.Runs.{ran_none}

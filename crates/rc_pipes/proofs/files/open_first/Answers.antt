@@ -1,5 +1,5 @@
 use Rattle.std.proofs.Common.{rules, ◌≡◌, ◌+◌, drop, map, string_bytes}
-use Rattle.rc_builtin.proofs.Changes.{texts_left}
+use Rattle.rc_pipes.proofs.Changes.{texts_left}
 use Rattle.rc_world.proofs.Joins.{left_join, passed_up}
 use Rattle.law_plans.proofs.Runs.{ran_join}
 use Rattle.rc_pipes.proofs.Opening.{ran_opened, ran_unopened, left_opening}

@@ -1,5 +1,5 @@
 use Rattle.std.proofs.Common.{◌≡◌, map, string_bytes, take}
-use Rattle.rc_builtin.specs.Starts.{paths_in}
+use Rattle.rc_pipes.specs.Starts.{paths_in}
 use Rattle.rc_pipes.proofs.files.paths_in.Given as goal
 
 -- the paths by the directories so far

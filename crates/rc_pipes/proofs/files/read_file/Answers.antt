@@ -2,7 +2,7 @@ use Rattle.std.proofs.Common.{◌≡◌, ap, ◌∙◌, map, string_bytes}
 use Rattle.rc_model.specs.Run.Acts.{candidates}
 use Rattle.rc_model.specs.Run.Builtins.{open_first, run_file}
 use Rattle.rc_scope.specs.States.{state_of}
-use Rattle.rc_world.specs.declared.types.Stop.TheVariants.{NoMemory}
+use Rattle.rc_world.specs.declared.starts.Stop.TheVariants.{NoMemory}
 use Rattle.rc_world.proofs.Joins.{given_up, left_here}
 use Rattle.rc_world.proofs.Shells.{left_do, left_done, ran_do}
 use Rattle.law_plans.proofs.Runs.{ran_none}

@@ -4,8 +4,8 @@ use Rattle.rc_model.specs.Run.Acts.{background_with}
 use Rattle.rc_model.specs.Run.Calls.{open_file, as_file}
 use Rattle.rc_model.specs.declared.call.Mode.TheVariants.{Read}
 use Rattle.rc_scope.specs.States.{state_of}
-use Rattle.rc_tree_types.specs.View.{cmd_tree}
-use Rattle.rc_world.specs.declared.types.Stop.TheVariants.{NoMemory}
+use Rattle.rc_tree.specs.View.{cmd_tree}
+use Rattle.rc_world.specs.declared.starts.Stop.TheVariants.{NoMemory}
 use Rattle.rc_world.proofs.Joins.{comes_answered, left_answered, left_asked, left_here, passed_up, ran_answered}
 use Rattle.law_plans.proofs.Runs.{ran_none}
 use Rattle.rc_pipes.proofs.jobs.background.Goals as goal

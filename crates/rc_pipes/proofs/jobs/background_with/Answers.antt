@@ -1,10 +1,10 @@
-use Rattle.rc_builtin.specs.Starts.{started_of}
+use Rattle.rc_pipes.specs.Starts.{started_of}
 use Rattle.rc_model.specs.Run.Acts.{start_shell, kept_child}
 use Rattle.rc_model.specs.Run.Calls.{close, as_done, with_slot, to_file}
 use Rattle.rc_model.specs.Run.Shell.{◌>>◌, say}
 use Rattle.rc_scope.specs.States.{state_of}
-use Rattle.rc_tree_types.specs.View.{cmd_tree}
-use Rattle.rc_world.specs.declared.types.Stop.TheVariants.{NoMemory}
+use Rattle.rc_tree.specs.View.{cmd_tree}
+use Rattle.rc_world.specs.declared.starts.Stop.TheVariants.{NoMemory}
 use Rattle.rc_world.proofs.Joins.{left_here, passed_up, ran_as}
 use Rattle.rc_world.proofs.Shells.{left_do, left_done, ran_do}
 use Rattle.law_plans.proofs.Runs.{ran_none}

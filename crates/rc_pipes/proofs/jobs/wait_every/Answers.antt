@@ -1,6 +1,6 @@
 use Rattle.std.proofs.Common.{rules, ◌≡◌, string_bytes}
 use Rattle.rc_scope.specs.States.{state_of}
-use Rattle.rc_world.specs.declared.types.Stop.TheVariants.{NoMemory}
+use Rattle.rc_world.specs.declared.starts.Stop.TheVariants.{NoMemory}
 use Rattle.rc_world.proofs.Joins.{left_here, passed_up}
 use Rattle.rc_pipes.proofs.InOrder.{every_left, every_waited}
 use Rattle.rc_pipes.proofs.jobs.wait_every.Goals as goal

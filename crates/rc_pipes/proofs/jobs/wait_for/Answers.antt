@@ -2,7 +2,7 @@ use Rattle.std.proofs.Common.{rules, ◌≡◌, [], ◌∷◌, Some, ap, ◌∙�
 use Rattle.rc_model.specs.Run.Builtins.{finished, wait_for, wait_numbered, wait_one}
 use Rattle.rc_model.specs.Run.Numbers.{number_of}
 use Rattle.rc_scope.specs.States.{state_of}
-use Rattle.rc_world.specs.declared.types.Stop.TheVariants.{NoMemory}
+use Rattle.rc_world.specs.declared.starts.Stop.TheVariants.{NoMemory}
 use Rattle.rc_world.proofs.Joins.{comes_as, left_here, passed_up}
 use Rattle.law_plans.proofs.Runs.{ran_none}
 use Rattle.rc_pipes.specs.Jobs.{arguments_of}

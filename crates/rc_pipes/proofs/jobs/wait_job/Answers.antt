@@ -2,7 +2,7 @@ use Rattle.std.proofs.Common.{rules, ◌≡◌, string_bytes}
 use Rattle.rc_model.specs.Run.Acts.{waited, set_status}
 use Rattle.rc_model.specs.Run.State.{drop_child}
 use Rattle.rc_scope.specs.States.{state_of}
-use Rattle.rc_world.specs.declared.types.Stop.TheVariants.{NoMemory}
+use Rattle.rc_world.specs.declared.starts.Stop.TheVariants.{NoMemory}
 use Rattle.rc_world.proofs.Joins.{left_here, passed_up}
 use Rattle.rc_world.proofs.Shells.{left_do, ran_do}
 use Rattle.law_plans.proofs.Runs.{ran_none}

@@ -1,4 +1,4 @@
-use Rattle.rc_world.specs.declared.types.Stop.TheVariants.{NoMemory}
+use Rattle.rc_world.specs.declared.starts.Stop.TheVariants.{NoMemory}
 use Rattle.rc_world.proofs.Joins.{left_here, passed_up}
 use Rattle.law_plans.proofs.Runs.{ran_none}
 use Rattle.rc_pipes.proofs.launches.start_shell.Goals as goal

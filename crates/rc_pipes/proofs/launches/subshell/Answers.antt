@@ -1,6 +1,6 @@
 use Rattle.rc_model.specs.Run.Acts.{start_shell, wait_subshell}
 use Rattle.rc_scope.specs.States.{state_of}
-use Rattle.rc_tree_types.specs.View.{cmd_tree}
+use Rattle.rc_tree.specs.View.{cmd_tree}
 use Rattle.rc_world.proofs.Joins.{passed_up}
 use Rattle.rc_world.proofs.Shells.{comes_do, left_do}
 use Rattle.rc_pipes.proofs.launches.subshell.Goals as goal

@@ -1,7 +1,7 @@
 use Rattle.std.proofs.Common.{ℕ, List, [], ◌∷◌, ◌++◌, Option, Some, Bool, ◌≡◌, codes, option_map, ap, subst}
 use Rattle.rc_world.proofs.Joins.{given_up, left_join}
 use Rattle.rc_world.specs.Comes.{Left}
-use Rattle.rc_world.specs.declared.types.Stop.{Stop}
+use Rattle.rc_world.specs.declared.starts.Stop.{Stop}
 use Rattle.law_plans.proofs.Runs.{ran_join}
 use Rattle.rc_model.specs.Run.Acts as acts
 use Rattle.rc_model.specs.Run.Acts.{close_end, from_pipe, no_stages, stages_from, start_shell}
@@ -12,12 +12,12 @@ use Rattle.rc_model.specs.Run.State as model
 use Rattle.rc_model.specs.Syntax.Tree.{Node, Many, cmd, stage}
 use Rattle.rc_model.specs.declared.call.Handle.{Handle}
 use Rattle.rc_model.specs.declared.call.Slots.{Slots}
-use Rattle.rc_builtin.specs.Starts.{started_of}
-use Rattle.rc_builtin.specs.declared.programs.Started.{Started}
+use Rattle.rc_pipes.specs.Starts.{started_of}
+use Rattle.rc_pipes.specs.declared.programs.Started.{Started}
 use Rattle.rc_scope.specs.States.{state_of}
 use Rattle.rc_scope.specs.declared.state.State.{State}
-use Rattle.rc_tree_types.specs.View.{cmd_tree}
-use Rattle.rc_tree_types.specs.declared.Stage.{Stage}
+use Rattle.rc_tree.specs.View.{cmd_tree}
+use Rattle.rc_tree.specs.declared.types.Stage.{Stage}
 use Rattle.rc_pipes.proofs.StageSteps.{ran_refusal, left_refusal, left_at_pipe, no_pipe, left_at_start, with_start, started_stage, plan, cut_off, ran_cut_off, left_cut_off, ran_child, left_child, ran_no_child, left_no_child}
 use Rattle.rc_pipes.proofs.stages.start_stage.Goals as goal
 

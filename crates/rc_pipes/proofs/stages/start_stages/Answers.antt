@@ -1,8 +1,8 @@
 use Rattle.std.proofs.Common.{◌≡◌, ◌+◌, [], ◌∷◌, ◌++◌, drop, option_map, arith}
 use Rattle.std.proofs.lemmas.Grind.{common_steps}
 use Rattle.rc_scope.specs.States.{child_numbers, state_of}
-use Rattle.rc_tree_types.specs.View.{stages_tree}
-use Rattle.rc_world.specs.declared.types.Stop.TheVariants.{NoMemory}
+use Rattle.rc_tree.specs.View.{stages_tree}
+use Rattle.rc_world.specs.declared.starts.Stop.TheVariants.{NoMemory}
 use Rattle.rc_world.proofs.Joins.{given_up, left_here}
 use Rattle.law_plans.proofs.Runs.{ran_none}
 use Rattle.rc_pipes.proofs.Pipelines.{next_started, next_refused, next_left, row_started}

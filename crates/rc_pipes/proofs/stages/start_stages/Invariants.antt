@@ -2,7 +2,7 @@ use Rattle.std.proofs.Common.{drop, option_map}
 use Rattle.rc_model.specs.Run.Acts.{start_stages, stages_from}
 use Rattle.rc_model.specs.Run.Plans.{Ran}
 use Rattle.rc_scope.specs.States.{child_numbers, state_of}
-use Rattle.rc_tree_types.specs.View.{stages_tree}
+use Rattle.rc_tree.specs.View.{stages_tree}
 use Rattle.rc_pipes.proofs.stages.start_stages.Given as goal
 
 -- the stages before this one were started

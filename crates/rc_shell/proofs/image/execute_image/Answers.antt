@@ -1,13 +1,13 @@
 use Rattle.std.specs.Prelude.{Err, map, string_bytes}
 use Rattle.law_image.proofs.ReadProper.{reads_scripts}
-use Rattle.rc_tree_types.specs.View.{cmd_tree}
+use Rattle.rc_tree.specs.View.{cmd_tree}
 use Rattle.rc_scope.specs.States.{state_of}
 use Rattle.rc_shell.specs.Executed.{denoted}
 use Rattle.rc_shell.proofs.Images.{meant_by}
 use Rattle.rc_shell.proofs.Kept.{ended_proper, leaves_nothing, loses_nothing, reads_back}
 use Rattle.rc_shell.proofs.Limits.{not_cut_short}
-use Rattle.rc_run.proofs.Runs.{recorded_nothing}
-use Rattle.rc_run.specs.declared.ShellFault.TheVariants.{NoMemory}
+use Rattle.rc_shell.proofs.Runs.{recorded_nothing}
+use Rattle.rc_shell.specs.declared.run.ShellFault.TheVariants.{NoMemory}
 use Rattle.rc_shell.proofs.image.execute_image.Goals as goal
 
 pub returns-in-Ok-clause-meant : goal.returns-in-Ok-clause-meant

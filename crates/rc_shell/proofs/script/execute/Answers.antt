@@ -1,11 +1,11 @@
 use Rattle.std.specs.Prelude.{Err}
 use Rattle.law_handed.proofs.Characters.{accepted_are_scripts}
-use Rattle.rc_tree_types.specs.View.{cmd_tree}
+use Rattle.rc_tree.specs.View.{cmd_tree}
 use Rattle.rc_scope.specs.States.{state_of}
-use Rattle.rc_run.specs.declared.ShellFault.TheVariants.{NoMemory}
+use Rattle.rc_shell.specs.declared.run.ShellFault.TheVariants.{NoMemory}
 use Rattle.rc_shell.proofs.Kept.{ends_proper, hands_over, leaves_nothing, loses_nothing}
 use Rattle.rc_shell.proofs.Limits.{not_cut_short}
-use Rattle.rc_run.proofs.Runs.{recorded_nothing}
+use Rattle.rc_shell.proofs.Runs.{recorded_nothing}
 use Rattle.rc_shell.proofs.Scripts.{meant_by, not_refused}
 use Rattle.rc_shell.proofs.script.execute.Goals as goal
 

@@ -1,7 +1,7 @@
 use Rattle.std.proofs.Common.{◌∙◌, ◌++◌, ap, false, ◌∷◌, [], append_assoc}
 use Rattle.std.proofs.lemmas.Str.{IsUtf8-had}
 use Rattle.rc_model.specs.Syntax.Words.{unmarked}
-use Rattle.rc_literal.proofs.Marks.{at_ok, on_ok}
+use Rattle.rc_text.proofs.LiteralMarks.{at_ok, on_ok}
 use Rattle.rc_text.proofs.Marks.{pushed, space_added}
 use Rattle.rc_text.proofs.lists.push_spaced.Goals as goal
 

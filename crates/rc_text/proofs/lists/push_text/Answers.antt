@@ -1,5 +1,5 @@
 use Rattle.std.proofs.lemmas.Str.{IsUtf8-had}
-use Rattle.rc_literal.proofs.Marks.{on_ok}
+use Rattle.rc_text.proofs.LiteralMarks.{on_ok}
 use Rattle.rc_text.proofs.Marks.{pushed, text_added}
 use Rattle.rc_text.proofs.lists.push_text.Goals as goal
 

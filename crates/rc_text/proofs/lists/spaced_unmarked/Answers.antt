@@ -3,7 +3,7 @@ use Rattle.std.proofs.lemmas.List.{take_all}
 use Rattle.std.proofs.lemmas.Str.{chars-nil}
 use Rattle.std.specs.List.{flat_map}
 use Rattle.rc_model.specs.Syntax.Words.{unmarked, spaced_words, written}
-use Rattle.rc_literal.proofs.Marks.{at_ok}
+use Rattle.rc_text.proofs.LiteralMarks.{at_ok}
 use Rattle.rc_text.proofs.Marks.{spaced_others}
 use Rattle.rc_text.proofs.lists.spaced_unmarked.Goals as goal
 

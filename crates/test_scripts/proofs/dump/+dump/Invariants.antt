@@ -1,7 +1,7 @@
 use Rattle.std.proofs.Common.{◌+◌, ◌*◌, max}
 use denote.Param.Weighed.{most}
-use Rattle.rc_tree_types.proofs.Cmd.TheLaws as command
-use Rattle.rc_tree_types.proofs.Arg.TheLaws as argument
+use Rattle.rc_tree.proofs.types.Cmd.TheLaws as command
+use Rattle.rc_tree.proofs.types.Arg.TheLaws as argument
 use Rattle.test_scripts.proofs.dump.+dump.Given as goal
 
 -- what gets smaller at each call: a part of a tree is smaller than the tree

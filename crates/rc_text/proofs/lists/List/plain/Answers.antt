@@ -4,7 +4,7 @@ use Rattle.std.proofs.lemmas.Iterator.{YieldsList-from_map}
 use Rattle.std.proofs.lemmas.Iterator.Adapters.{YieldsList-from_vec, items_from_extend}
 use Rattle.std.proofs.lemmas.Iterator.Consumers.{YieldsList-at}
 use Rattle.rc_model.specs.Syntax.Words.{written}
-use Rattle.rc_literal.proofs.Marks.{at_ok}
+use Rattle.rc_text.proofs.LiteralMarks.{at_ok}
 use Rattle.rc_text.proofs.Marks.{plain_strings}
 use Rattle.rc_text.proofs.lists.List.plain.Goals as goal
 

@@ -1,7 +1,7 @@
 use Rattle.std.proofs.Common.{ap, sym, ◌∙◌}
 use Rattle.rc_model.specs.Syntax.Words.{has_pattern}
 use Rattle.rc_text.specs.declared.words.MixedText.{MixedText}
-use Rattle.rc_literal.specs.Views.{marks}
+use Rattle.rc_text.specs.Literals.{marks}
 use Rattle.rc_text.specs.Views.{word_of}
 use Rattle.rc_text.proofs.Marks.{no_patterns}
 use Rattle.rc_text.proofs.words.Word.pattern.Goals.{in_default-via-in-Mixed+else-any_pattern, in_default-via-in_default}

@@ -1,5 +1,0 @@
-use Rattle.law_grammar.proofs.Laws as laws
-use Rattle.law_grammar.proofs.has_too_many_stages.Goals as goal
-
-pub returns : goal.returns
-returns c = laws.has_too_many_stages

@@ -1,5 +1,0 @@
-use Rattle.law_grammar.proofs.Laws as laws
-use Rattle.law_grammar.proofs.is_too_deep.Goals as goal
-
-pub returns : goal.returns
-returns c = laws.is_too_deep

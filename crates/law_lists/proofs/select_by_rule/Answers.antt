@@ -1,5 +1,0 @@
-use Rattle.law_lists.proofs.Select.{selected_by-is}
-use Rattle.law_lists.proofs.select_by_rule.Goals as goal
-
-pub returns : goal.returns
-returns c = selected_by-is

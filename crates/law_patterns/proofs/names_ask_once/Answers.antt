@@ -1,5 +1,0 @@
-use Rattle.law_patterns.proofs.Once.{one_answer_each}
-use Rattle.law_patterns.proofs.names_ask_once.Goals as goal
-
-pub returns : goal.returns
-returns c = one_answer_each

@@ -1,5 +1,0 @@
-use Rattle.law_print_parsing.proofs.Round as round
-use Rattle.law_print_parsing.proofs.round_trip.Goals as goal
-
-pub returns : goal.returns
-returns c = round.round_trip

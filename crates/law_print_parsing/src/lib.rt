@@ -1,9 +1,0 @@
-//! The law that a printed tree is read again. The function does nothing: its contract is the law.
-#![tactic(auto)]
-
-ghost use Rattle.rc_model.specs.Mirrors.ParsingLaws.{RoundTrip};
-
-/// Each tree of a text is that of its print.
-pub fn round_trip()
-    ensures { RoundTrip }
-{}

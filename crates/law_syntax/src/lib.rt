@@ -1,0 +1,48 @@
+//! The laws of the grammar: the descent finds the trees of the grammar and no others, and a script has one at most.
+#![tactic(auto)]
+
+mod acceptance;
+mod tokens;
+mod uniqueness;
+
+ghost use Rattle.rc_model.specs.Mirrors.ParsingLaws.{FindsOnlyTrees, FindsEachTree, HasOneTree, HasNoTree};
+ghost use Rattle.rc_model.specs.Mirrors.ParsingLaws.{HasTooManyStages, IsTooDeep, HasSoundTrees};
+
+pub use acceptance::{accepted_are_well_formed, is_decided, is_never_both, tree_of_text};
+pub use tokens::{reading, spelling};
+pub use uniqueness::one_tree;
+
+/// What the descent finds is the tree of an accepted script.
+pub fn finds_only_trees()
+    ensures { FindsOnlyTrees }
+{}
+
+/// The descent finds the tree of each accepted script.
+pub fn finds_each_tree()
+    ensures { FindsEachTree }
+{}
+
+/// An accepted script has no other tree.
+pub fn has_one_tree()
+    ensures { HasOneTree }
+{}
+
+/// Where a token is unexpected, or an `if not` misplaced, there is no tree of any size.
+pub fn has_no_tree()
+    ensures { HasNoTree }
+{}
+
+/// Too many stages are found only where a pipeline has them.
+pub fn has_too_many_stages()
+    ensures { HasTooManyStages }
+{}
+
+/// Too many levels are found only where the tree has them.
+pub fn is_too_deep()
+    ensures { IsTooDeep }
+{}
+
+/// A tree of spelled lexemes is sound, unless it has too many stages.
+pub fn has_sound_trees()
+    ensures { HasSoundTrees }
+{}

@@ -1,0 +1,14 @@
+//! Laws of tokens. Each function does nothing: its contract is the law.
+
+ghost use Rattle.rc_model.specs.Mirrors.Reading.{ReadingLaw};
+ghost use Rattle.rc_model.specs.Mirrors.Spelling.{SpellingLaw};
+
+/// Each text is cut into one list of tokens or has one first fault, and the machine over characters finds it.
+pub fn reading()
+    ensures { ReadingLaw }
+{}
+
+/// Words are words, names are names, and descriptors are those of the language, in the tokens of each text.
+pub fn spelling()
+    ensures { SpellingLaw }
+{}

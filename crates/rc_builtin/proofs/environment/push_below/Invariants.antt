@@ -1,8 +1,0 @@
-use Rattle.std.proofs.Common.{drop, map, string_bytes}
-use Rattle.rc_builtin.specs.Additions.{handed}
-use Rattle.rc_builtin.proofs.Handing.{Keeps}
-use Rattle.rc_builtin.proofs.environment.push_below.Given as goal
-
--- the entries so far are those of the variables before this one
-abbrev pub invariant-loop-place : goal.invariant-loop-place
-invariant-loop-place l = Keeps l.bound (handed (drop l.start l.variables)) (handed (drop l.place l.variables)) (map string_bytes l.fn.out.items) (map string_bytes l.out.items)

@@ -1,0 +1,50 @@
+//! What the words of a simple command run.
+
+ghost use Rattle.std.specs.Prelude.{◌≡◌, ◌<◌, OnErr, Some, map, string_bytes};
+ghost use Rattle.rc_model.specs.Run.Builtins.{run_words};
+ghost use Rattle.rc_builtin.specs.Outcomes.{RunsWords};
+ghost use Rattle.rc_scope.specs.States.{state_of};
+
+use crate::builtins::run_without_functions;
+use rc_code::Code;
+use rc_pipes::fault;
+use rc_scope::State;
+use rc_world::{Slots, Stop, World};
+use std::alloc::Global;
+
+/// What became of the words of a simple command.
+#[derive(Drop)]
+pub enum Outcome {
+    /// They ran, and the shell goes on.
+    Finished,
+    /// A body is to be run.
+    Body(Code),
+    /// A body is to be run with these arguments as its `$*`.
+    Call { args: Vec<String>, body: Code },
+    /// The shell ends.
+    Exit,
+}
+
+/// Runs the words of a simple command. An `Err` leaves the state as it was.
+#[tactic(auto, using(crate::proofs::Left::words_refused))]
+pub fn run_words<W: World>(
+    alloc: Global,
+    world: &mut W,
+    state: &mut State,
+    slots: Slots,
+    mut words: Vec<String>,
+) -> Result<Outcome, Stop>
+    ensures runs { RunsWords (W.events world.old) (W.events world.new)
+        (run_words slots (map string_bytes words.items) (state_of state.old)) (state_of state.new) result }
+    ensures err { OnErr result (state_of state.new ≡ state_of state.old) }
+{
+    let Some(name) = words.first() else {
+        fault(alloc, world, state, slots, "empty argument list")?;
+        return Ok(Outcome::Exit);
+    };
+    if let Some(body) = state.code(name)? {
+        words.remove(0);
+        return Ok(Outcome::Call { args: words, body });
+    }
+    run_without_functions(alloc, world, state, slots, words)
+}

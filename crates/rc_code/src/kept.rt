@@ -1,0 +1,48 @@
+//! Copies of what is kept beside the code.
+
+ghost use Rattle.std.specs.Prelude.{◌≡◌, IfOk};
+ghost use Rattle.rc_model.specs.Code.Layout as model;
+ghost use Rattle.rc_tree.specs.View.{cmd_tree, stages_tree, pieces_tree};
+ghost use Rattle.rc_code.specs.Views.{kept_of};
+
+use crate::code::Kept;
+use rc_tree::{Cmd, Piece, Stage, clone_tree};
+use std::alloc::{AllocError, Global};
+use std::rc::Rc;
+
+/// A tree, which the code shares with those that it is handed to.
+pub fn kept_tree(alloc: Global, tree: &Cmd) -> Result<Kept, AllocError>
+    ensures { IfOk result (λ kept. kept_of kept ≡ model.KeptTree (cmd_tree tree.now)) }
+{
+    Ok(Kept::Tree(Rc::new(alloc, clone_tree(alloc, tree)?)?))
+}
+
+/// The stages of a pipeline before its last one.
+#[tactic(auto, using(rc_tree::specs::View::tree_lists))]
+pub fn kept_stages(alloc: Global, stages: &[Stage]) -> Result<Kept, AllocError>
+    ensures { IfOk result (λ kept. kept_of kept ≡ model.KeptStages (stages_tree stages.now)) }
+{
+    let mut copies = Vec::new(alloc);
+    for stage in stages {
+        copies.push(Stage {
+            cmd: clone_tree(alloc, &stage.cmd)?,
+            slot: stage.slot,
+        })?;
+    }
+    Ok(Kept::Stages(copies))
+}
+
+/// The pieces of a here document.
+#[tactic(auto, using(rc_tree::specs::View::tree_lists))]
+pub fn kept_pieces(alloc: Global, pieces: &[Piece]) -> Result<Kept, AllocError>
+    ensures { IfOk result (λ kept. kept_of kept ≡ model.KeptPieces (pieces_tree pieces.now)) }
+{
+    let mut copies = Vec::new(alloc);
+    for piece in pieces {
+        copies.push(match piece {
+            Piece::Text(text) => Piece::Text(text.clone()?),
+            Piece::Name(name) => Piece::Name(name.clone()?),
+        })?;
+    }
+    Ok(Kept::Pieces(copies))
+}

@@ -1,2 +1,0 @@
-pub mod Evals
-pub mod Left

@@ -1,3 +1,0 @@
-pub mod Outcomes
-pub mod Scripts
-pub mod Words

@@ -1,4 +1,0 @@
-pub mod Outcomes
-pub mod Configs
-pub mod Names
-pub mod Tops

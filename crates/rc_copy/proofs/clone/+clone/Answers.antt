@@ -1,5 +1,0 @@
-use Rattle.rc_tree_types.specs.View.{tree_For}
-use Rattle.rc_copy.proofs.clone.+clone.Goals as goal
-
-pub clone_tree-returns-in-For : goal.clone_tree-returns-in-For
-clone_tree-returns-in-For t c = rw (c.in-For.is, tree_For, ← c.deref-in-For.ensures.value) c.clone_for.ensures

@@ -1,6 +1,0 @@
-//! Copies of trees.
-#![tactic(auto)]
-
-mod clone;
-
-pub use clone::clone_tree;

@@ -1,4 +1,0 @@
-use Rattle.rc_descent.proofs.names.+parse_name.Given as goal
-
-abbrev pub decreases-parse_name : goal.decreases-parse_name
-decreases-parse_name l = l.left

@@ -1,0 +1,47 @@
+//! The names that a component stands for.
+ghost use Rattle.std.specs.Prelude.{◌≡◌, ◌==◌, ◌||◌, ◌&&◌, not, true, map, string_bytes, Some};
+ghost use Rattle.std.specs.List.{list_any};
+ghost use Rattle.std.specs.Str.{chars};
+ghost use Rattle.rc_model.specs.Run.Patterns.{matches};
+ghost use Rattle.rc_model.specs.Run.FileNames.{fitting_names, is_no_name, ordered};
+ghost use Rattle.rc_text.specs.Literals.{marks};
+
+use crate::matching::is_match;
+use rc_text::Ch;
+
+fn has_separator(name: &str) -> bool
+    ensures { result ≡ list_any (λ c. (c == 47) || (c == 0)) name.now }
+{
+    name.bytes().any(|byte| byte == b'/' || byte == 0)
+}
+
+/// Whether no file can have the name.
+fn is_no_name(name: &str) -> bool
+    ensures { result ≡ is_no_name name.now }
+{
+    name.is_empty() || name == "." || name == ".." || has_separator(name)
+}
+
+fn is_fitting(component: &[Ch], name: &str) -> bool
+    ensures { result ≡ (not (is_no_name name.now) && matches (marks component.now) (chars name.now) true) }
+{
+    !is_no_name(name) && is_match(component, name, true)
+}
+
+/// The names that the component stands for, in byte order and each once.
+pub(crate) fn fitting_names(component: &[Ch], mut names: Vec<String>) -> Vec<String>
+    ensures { map string_bytes result.items
+        ≡ fitting_names (marks component.now) (Some (map string_bytes names.items)) }
+{
+    names.retain(|name| is_fitting(component, name));
+    ordered(names)
+}
+
+/// The texts in byte order and each once.
+pub(crate) fn ordered(mut texts: Vec<String>) -> Vec<String>
+    ensures { map string_bytes result.items ≡ ordered (map string_bytes texts.items) }
+{
+    texts.sort_unstable();
+    texts.dedup();
+    texts
+}

@@ -1,0 +1,21 @@
+use Rattle.std.proofs.Common.{ap, sym, ◌∙◌, map, string_bytes}
+use Rattle.std.proofs.lemmas.Result.{on_ok_weaker}
+use Rattle.rc_model.specs.Handed.Environment.{with_cut}
+use Rattle.rc_scope.specs.States.{state_of}
+use Rattle.rc_image.specs.Entries.{values_state}
+use Rattle.rc_image.proofs.Variables.{skip_next, entry_set}
+use Rattle.rc_image.proofs.read_environment.set_entry.Goals as goal
+
+pub returns-then-is_ignored : goal.returns-then-is_ignored
+returns-then-is_ignored c =
+    let name = c.in-Some.name.now in
+    let text = c.in-Some.text.now in
+    λ bs h. h ∙ skip_next c.args.own name text bs (sym c.is_ignored.ensures ∙ c.if-is_ignored.true) ∙ ap (λ z. values_state c.args.own (with_cut z bs)) c.in-Some.ensures
+
+pub returns : goal.returns
+returns c =
+    on_ok_weaker c.set_value.result
+    (λ d bs h.
+    entry_set c.args.own c.in-Some.name.now c.in-Some.text.now c.args.entry.now bs (state_of c.args.state.now) (state_of c.set_value.new.state) (map string_bytes c.in_ok-members.field-0.items)
+    c.in-Some.ensures (sym c.is_ignored.ensures ∙ c.if-is_ignored.false) c.in_ok-members.ensures h d)
+    c.set_value.ensures

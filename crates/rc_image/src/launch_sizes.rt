@@ -1,0 +1,21 @@
+//! How long what a launch is given may be.
+
+ghost use Rattle.std.specs.Prelude.{◌≡◌, string_bytes};
+ghost use Rattle.std.specs.List.{list_all};
+ghost use Rattle.rc_model.specs.Handed.Image.{is_short};
+
+use rc_model::limits::LONGEST_ARGUMENT;
+
+/// Whether an argument or an entry is short enough for a launch.
+fn is_short(text: &str) -> bool
+    ensures { result ≡ is_short text.now }
+{
+    text.len() <= LONGEST_ARGUMENT
+}
+
+/// Whether these can be the arguments or the entries of a launch.
+pub fn are_short(texts: &[String]) -> bool
+    ensures { result ≡ list_all (λ text. is_short (string_bytes text)) texts.now }
+{
+    texts.iter().all(|text| is_short(text))
+}

@@ -1,0 +1,116 @@
+//! Reads the state that an environment denotes.
+
+ghost use Rattle.std.specs.Prelude.{◌≡◌, [], if◌then◌else◌, Ok, OnOk, IfOk, map, string_bytes};
+ghost use Rattle.rc_model.specs.Handed.Environment.{Bindings, bindings, with_cut, cut_entry, read_state};
+ghost use Rattle.rc_model.specs.Run.State.{define, is_function_name, is_name, set_value};
+ghost use Rattle.rc_tree.specs.View.{cmd_tree};
+ghost use Rattle.rc_scope.specs.States.{state_of};
+ghost use Rattle.rc_model.specs.Syntax.Faults.{Gives};
+ghost use Rattle.rc_image.specs.Entries.{function_in, is_ignored, values_state, with_function, with_functions};
+
+use crate::cut_entries::{cut_entry, function_entry, members};
+use crate::{ImageError, read_tree};
+use rc_model::InputError;
+use rc_scope::{NameFault, State};
+use rc_tree::Cmd;
+use std::alloc::{AllocError, Global};
+use std::rc::Rc;
+
+/// Whether a name is never read as that of a variable. The status comes only from a shell of the same kind.
+fn is_ignored(name: &str, own: bool) -> bool
+    ensures { result ≡ is_ignored own name.now }
+{
+    name == "*" || (name == "status" && !own)
+}
+
+/// Sets a variable. One with a bad name is ignored.
+pub fn set_value(state: &mut State, name: &str, value: Vec<String>) -> Result<(), AllocError>
+    ensures { OnOk result (state_of state.new
+        ≡ (if is_name name.now
+        then set_value (state_of state.old) name.now (map string_bytes value.items)
+        else state_of state.old)) }
+{
+    match state.set(name, value) {
+        Err(InputError::NoMemory) => Err(AllocError),
+        Ok(()) | Err(InputError::Fault(NameFault::BadName)) => Ok(()),
+    }
+}
+
+/// Sets what an entry says of a variable or of the status, where the state is that of the entries after it.
+fn set_entry(alloc: Global, state: &mut State, entry: &str, own: bool) -> Result<(), AllocError>
+    ensures { OnOk result ((bs : Bindings) → state_of state.old ≡ values_state own bs
+        → state_of state.new ≡ values_state own (with_cut (cut_entry entry.now) bs)) }
+{
+    let Some((name, text)) = cut_entry(entry) else {
+        return Ok(());
+    };
+    if is_ignored(name, own) {
+        return Ok(());
+    }
+    set_value(state, name, members(alloc, text)?)
+}
+
+/// The state of the variables in these entries, and of the status. The first entry of a name is the last that is set.
+fn read_values(alloc: Global, entries: &[String], own: bool) -> Result<State, AllocError>
+    ensures { IfOk result (λ state. state_of state
+        ≡ values_state own (bindings (map string_bytes entries.now))) }
+{
+    let mut state = State::new(alloc);
+    for entry in entries.iter().rev() {
+        set_entry(alloc, &mut state, entry, own)?;
+    }
+    Ok(state)
+}
+
+/// Defines a function. One with a bad name is ignored.
+fn define(state: &mut State, name: &str, body: &Rc<Cmd>) -> Result<(), AllocError>
+    ensures { OnOk result (state_of state.new
+        ≡ (if is_function_name name.now
+        then define (state_of state.old) name.now (cmd_tree body.now.value)
+        else state_of state.old)) }
+{
+    match state.define_shared(name, body) {
+        Err(InputError::NoMemory) => Err(AllocError),
+        Ok(()) | Err(InputError::Fault(NameFault::BadName)) => Ok(()),
+    }
+}
+
+/// Defines the function of an entry, where it is one of a function and none of its name is there.
+fn define_entry(alloc: Global, state: &mut State, entry: &str) -> Result<(), ImageError>
+    ensures { Gives (λ _. state_of state.new) result
+        (with_function (state_of state.old) (function_in (cut_entry entry.now))) }
+{
+    let Some((name, image)) = function_entry(entry) else {
+        return Ok(());
+    };
+    if state.function(name).is_some() {
+        return Ok(());
+    }
+    let body = read_tree(alloc, image)?;
+    let shared = Rc::new(alloc, body)?;
+    Ok(define(state, name, &shared)?)
+}
+
+/// Defines the functions of these entries. The first entry of a name counts.
+fn define_functions(alloc: Global, state: &mut State, entries: &[String]) -> Result<(), ImageError>
+    requires { (state_of state.old).functions ≡ [] }
+    ensures { Gives (λ _. state_of state.new) result
+        (with_functions (state_of state.old) (bindings (map string_bytes entries.now))) }
+{
+    for entry in entries {
+        define_entry(alloc, state, entry)?;
+    }
+    Ok(())
+}
+
+/// The state that an environment denotes. Functions and the status are read only if it is `own`, from a shell of the
+/// same kind.
+pub fn read_env(alloc: Global, entries: &[String], own: bool) -> Result<State, ImageError>
+    ensures { Gives (λ state. state_of state) result (read_state own [] (map string_bytes entries.now)) }
+{
+    let mut state = read_values(alloc, entries, own)?;
+    if own {
+        define_functions(alloc, &mut state, entries)?;
+    }
+    Ok(state)
+}

@@ -1,4 +1,0 @@
-pub mod Faults
-pub mod Nodes
-pub mod Shapes
-pub mod Steps

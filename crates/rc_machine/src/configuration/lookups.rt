@@ -1,0 +1,166 @@
+//! Names, what they stand for, and texts as words.
+
+ghost use Rattle.std.specs.Prelude.{◌≡◌, ◌<◌, ◌≤◌, ◌^◌, [], ◌∷◌, IfOk};
+ghost use Rattle.std.specs.Prelude.{OnOk, MatchOption, length, map, option_map, string_bytes, true, Some};
+ghost use Rattle.std.specs.List.{list_all};
+ghost use Rattle.rc_machine.specs.Names.{read, the_name};
+ghost use Rattle.rc_machine.specs.Tops.{uppermost};
+ghost use Rattle.rc_machine.specs.Lists.{below_top};
+ghost use Rattle.rc_model.specs.Run.Lists.{member};
+ghost use Rattle.rc_model.specs.Run.Numbers.{is_digit, digits_value};
+ghost use Rattle.rc_model.specs.Run.State.{got, is_name, is_readable};
+ghost use Rattle.rc_model.specs.Syntax.Words.{plain_words, word_texts};
+ghost use Rattle.rc_scope.specs.States.{state_of};
+
+use crate::stack::Stack;
+use rc_scope::{State, has_digits, is_name, is_readable};
+use rc_text::{Output, Word};
+use std::alloc::{AllocError, Global};
+
+/// The texts of words.
+pub fn texts(alloc: Global, words: &[Word]) -> Result<Vec<String>, AllocError>
+    ensures { IfOk result (λ texts. map string_bytes texts.items ≡ word_texts words.now) }
+{
+    let mut texts = Vec::with_capacity(alloc, words.len())?;
+    for word in words {
+        texts.push(String::from_str(alloc, word.text())?)?;
+    }
+    Ok(texts)
+}
+
+/// The texts of the list on top, which is taken off; none where there is no list.
+pub fn take_texts(alloc: Global, words: &mut Stack<Word>) -> Result<Vec<String>, AllocError>
+    ensures texts { IfOk result (λ texts. map string_bytes texts.items ≡ word_texts (uppermost words.old)) }
+    ensures below { OnOk result (words.new ≡ below_top words.old) }
+{
+    let count = words.top().map_or(0, |list| list.len());
+    let mut texts = Vec::with_capacity(alloc, count)?;
+    while let Some(word) = words.take_last() {
+        texts.push(word.into_text(alloc)?)?;
+    }
+    words.drop_top();
+    texts.reverse();
+    Ok(texts)
+}
+
+/// Texts as a list of words with no marks, on top of the stack.
+#[tactic(auto, using(crate::proofs::Stacks::extends))]
+pub fn put_texts(words: &mut Stack<Word>, texts: Vec<String>) -> Result<(), AllocError>
+    ensures { OnOk result (words.new ≡ plain_words (map string_bytes texts.items) ∷ words.old) }
+{
+    words.begin()?;
+    words.reserve(texts.len())?;
+    for text in texts {
+        words.push(Word::plain(text))?;
+    }
+    Ok(())
+}
+
+/// The members of output as a list of words with no marks, on top of the stack.
+#[tactic(auto, using(crate::proofs::Stacks::extends))]
+pub fn put_members(
+    alloc: Global,
+    words: &mut Stack<Word>,
+    output: &Output,
+) -> Result<(), AllocError>
+    ensures { OnOk result (words.new ≡ plain_words output.now ∷ words.old) }
+{
+    words.begin()?;
+    let mut members = output.members(alloc)?;
+    while let Some(member) = members.next() {
+        words.push(Word::plain(String::from_str(alloc, member)?))?;
+    }
+    Ok(())
+}
+
+/// A copy of a value as a list of words with no marks, on top of the stack.
+#[tactic(auto, using(crate::proofs::Stacks::extends))]
+pub fn put_value(words: &mut Stack<Word>, value: &[String]) -> Result<(), AllocError>
+    ensures { OnOk result (words.new ≡ plain_words (map string_bytes value.now) ∷ words.old) }
+{
+    words.begin()?;
+    for text in value {
+        words.push(Word::plain(text.clone()?))?;
+    }
+    Ok(())
+}
+
+/// A text as a list of one word with no marks, on top of the stack.
+#[tactic(auto, using(crate::proofs::Stacks::extends))]
+pub fn put_text(words: &mut Stack<Word>, text: String) -> Result<(), AllocError>
+    ensures { OnOk result (words.new ≡ plain_words (string_bytes text ∷ []) ∷ words.old) }
+{
+    words.begin()?;
+    let word = Word::plain(text);
+    words.push(word)
+}
+
+/// The number that the digits write: none where it is above every length.
+#[tactic(auto, using(crate::proofs::Subscripts::place_read))]
+fn place_of(digits: &str) -> Option<usize>
+    requires digits { list_all is_digit digits.now ≡ true }
+    requires some { 0 < length digits.now }
+    ensures { MatchOption result (2 ^ 64 ≤ digits_value 0 digits.now) (λ n. n ≡ digits_value 0 digits.now) }
+{
+    digits.parse().ok()
+}
+
+/// The member at the place that the digits write, counted from 1.
+#[tactic(auto, using(crate::proofs::Subscripts::no_member, crate::proofs::Subscripts::one_member))]
+fn member<'a>(value: &'a [String], digits: &str) -> &'a [String]
+    requires digits { list_all is_digit digits.now ≡ true }
+    requires some { 0 < length digits.now }
+    ensures { map string_bytes result.now ≡ member (map string_bytes value.now) (Some (digits_value 0 digits.now)) }
+{
+    let count = value.len();
+    match place_of(digits) {
+        None => &value[..0],
+        Some(0) => &value[..0],
+        Some(place) => {
+            if count < place {
+                return &value[..0];
+            }
+            &value[place - 1..place]
+        }
+    }
+}
+
+/// What `$` and a name give: for digits a member of `$*`.
+pub fn got<'a>(state: &'a State, name: &str) -> &'a [String]
+    ensures { map string_bytes result.now ≡ got (state_of state.now) name.now }
+{
+    if !has_digits(name) || name.is_empty() {
+        return state.value(name);
+    }
+    member(state.value("*"), name)
+}
+
+/// The one name that the words are, where it can stand after `$`.
+fn readable_name(words: &[Word]) -> Option<&str>
+    ensures { option_map (λ name. name.now) result ≡ the_name is_readable (word_texts words.now) }
+{
+    let [word] = words else {
+        return None;
+    };
+    let name = word.text();
+    if is_readable(name) { Some(name) } else { None }
+}
+
+/// The one name that the words are, where it is that of a variable.
+pub fn variable_name(words: &[Word]) -> Option<&str>
+    ensures { option_map (λ name. name.now) result ≡ the_name is_name (word_texts words.now) }
+{
+    let [word] = words else {
+        return None;
+    };
+    let name = word.text();
+    if is_name(name) { Some(name) } else { None }
+}
+
+/// What `$` gives for these words: none where they are no name.
+pub fn read<'a>(state: &'a State, words: &[Word]) -> Option<&'a [String]>
+    ensures { option_map (λ v. map string_bytes v.now) result ≡ read (state_of state.now) (word_texts words.now) }
+{
+    let name = readable_name(words)?;
+    Some(got(state, name))
+}

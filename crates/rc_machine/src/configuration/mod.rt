@@ -1,0 +1,67 @@
+//! What a machine holds between two instructions.
+
+pub(crate) mod endings;
+pub(crate) mod lookups;
+pub(crate) mod parts;
+
+ghost use Rattle.std.specs.Prelude.{◌≡◌, []};
+ghost use Rattle.rc_model.specs.Run.Calls.{plain};
+
+use crate::configuration::parts::{Frame, Scope};
+use crate::stack::Stack;
+use crate::stack::nest::Nest;
+use rc_code::Code;
+use rc_redir::RedirStack;
+use rc_scope::State;
+use rc_text::Word;
+use rc_world::PLAIN_SLOTS;
+use std::alloc::Global;
+
+/// What an instruction led to.
+#[derive(Clone, Copy)]
+pub enum Move {
+    On,
+    Ended,
+}
+
+/// What a machine holds between two instructions: the code, the place in it, and what the instructions work on.
+#[derive(Drop)]
+pub struct Configuration {
+    pub code: Code,
+    /// The number of the next instruction.
+    pub place: usize,
+    pub frames: Nest<Frame>,
+    pub words: Stack<Word>,
+    pub scopes: Nest<Scope>,
+    pub redirs: RedirStack,
+    pub state: State,
+}
+
+impl Configuration {
+    ghost use Rattle.rc_machine.specs.Configurations.{config_of};
+    ghost use Rattle.rc_scope.specs.States.{state_of};
+    ghost use Rattle.rc_code.specs.Views.{code_of};
+
+    /// Before the first instruction.
+    pub fn new(alloc: Global, code: Code, state: State) -> Configuration
+        ensures { config_of result ≡ record {
+          code = code_of code;
+          place = 0;
+          frames = [];
+          words = [];
+          scopes = [];
+          slots = plain;
+          state = state_of state;
+        } }
+    {
+        Configuration {
+            code,
+            place: 0,
+            frames: Nest::new(alloc),
+            words: Stack::new(alloc),
+            scopes: Nest::new(alloc),
+            redirs: RedirStack::new(alloc, PLAIN_SLOTS),
+            state,
+        }
+    }
+}

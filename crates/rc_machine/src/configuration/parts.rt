@@ -1,0 +1,32 @@
+//! What a machine holds beside its code: the frames of calls, and what ends later.
+
+use crate::stack::nest::Nest;
+use rc_code::Code;
+use rc_world::ChildNo;
+
+/// Where a body was called.
+#[derive(Drop)]
+pub struct Frame {
+    pub caller: Code,
+    pub place: usize,
+    /// Whether the call bound `$*`.
+    pub binds: bool,
+}
+
+/// What ends later.
+#[derive(Drop)]
+pub enum Scope {
+    Local,
+    /// A loop, with the members that are left.
+    Loop {
+        name: String,
+        rest: Nest<String>,
+        bound: bool,
+    },
+    /// The newest redirection.
+    Redirection,
+    /// A pipeline before its last stage, whose read end is the newest redirection.
+    Pipeline {
+        children: Vec<ChildNo>,
+    },
+}

@@ -1,0 +1,69 @@
+//! Simple commands.
+
+ghost use Rattle.std.specs.Prelude.{◌<◌, ◌^◌, Some};
+ghost use Rattle.rc_model.specs.Code.Machine.{act};
+ghost use Rattle.rc_model.specs.Code.Layout as op;
+ghost use Rattle.rc_machine.specs.Configurations.{config_of};
+ghost use Rattle.rc_machine.specs.Steps.{Steps};
+
+use crate::configuration::lookups::take_texts;
+use crate::configuration::{Configuration, Move};
+use crate::control::calls::{call, enter};
+use rc_builtin::{Outcome, run_words};
+use rc_text::is_true;
+use rc_world::{Stop, World};
+use std::alloc::Global;
+
+/// Runs a simple command.
+pub fn run_command<W: World>(
+    machine: &mut Configuration,
+    alloc: Global,
+    world: &mut W,
+) -> Result<Move, Stop>
+    requires { machine.old.place < 2 ^ 63 }
+    ensures { Steps (W.events world.old) (W.events world.new)
+        (act (Some op.Run) (config_of machine.old)) (config_of machine.new) result }
+{
+    if machine.words.top().is_none() {
+        return Ok(Move::Ended);
+    }
+    let texts = take_texts(alloc, &mut machine.words)?;
+    match run_words(
+        alloc,
+        world,
+        &mut machine.state,
+        machine.redirs.slots(),
+        texts,
+    )? {
+        Outcome::Finished => {
+            machine.place += 1;
+            Ok(Move::On)
+        }
+        Outcome::Body(body) => {
+            enter(machine, body, false)?;
+            Ok(Move::On)
+        }
+        Outcome::Call { args, body } => {
+            call(machine, args, body)?;
+            Ok(Move::On)
+        }
+        Outcome::Exit => machine.unwind(alloc, world),
+    }
+}
+
+/// Ends a strict shell where the status is not true.
+pub fn check<W: World>(
+    machine: &mut Configuration,
+    alloc: Global,
+    world: &mut W,
+) -> Result<Move, Stop>
+    requires { machine.old.place < 2 ^ 63 }
+    ensures { Steps (W.events world.old) (W.events world.new)
+        (act (Some op.Check) (config_of machine.old)) (config_of machine.new) result }
+{
+    if machine.state.strict() && !is_true(machine.state.status()) {
+        return machine.unwind(alloc, world);
+    }
+    machine.place += 1;
+    Ok(Move::On)
+}

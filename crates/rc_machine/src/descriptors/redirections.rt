@@ -1,0 +1,181 @@
+//! Redirections: how they open and how they end, and the texts of here documents.
+
+ghost use Rattle.std.specs.Prelude.{◌≡◌, ◌<◌, ◌^◌, ◌++◌, Some, IfOk, OnOk, string_bytes};
+ghost use Rattle.rc_model.specs.Code.Machine.{act};
+ghost use Rattle.rc_model.specs.Code.Layout as op;
+ghost use Rattle.rc_model.specs.Run.Acts.{here_text};
+ghost use Rattle.rc_model.specs.Syntax.Tree.{more, none};
+ghost use Rattle.rc_tree.specs.View.{piece_tree, pieces_tree};
+ghost use Rattle.rc_scope.specs.States.{state_of};
+ghost use Rattle.rc_machine.specs.Configurations.{config_of};
+ghost use Rattle.rc_machine.specs.EndOfRedirections.{RedirectionEnds, RedirectionsEnd, Refused};
+ghost use Rattle.rc_machine.specs.Steps.{Leads, Steps};
+
+use crate::configuration::lookups::{got, texts};
+use crate::configuration::parts::Scope;
+use crate::configuration::{Configuration, Move};
+use rc_redir::RedirError;
+use rc_scope::{State, is_readable};
+use rc_text::flat;
+use rc_tree::Piece;
+use rc_world::{Mode, Stop, World};
+use std::alloc::{AllocError, Global};
+
+/// Adds a piece of a here document: a bad name stands for nothing.
+fn push_piece(
+    alloc: Global,
+    text: &mut String,
+    state: &State,
+    piece: &Piece,
+) -> Result<(), AllocError>
+    ensures { let added = here_text (state_of state.now) (more (piece_tree piece.now) none) in
+        OnOk result (string_bytes text.new ≡ string_bytes text.old ++ added) }
+{
+    match piece {
+        Piece::Text(part) => text.push_str(part),
+        Piece::Name(name) => {
+            if is_readable(name) {
+                text.push_str(&flat(alloc, got(state, name))?)?;
+            }
+            Ok(())
+        }
+    }
+}
+
+/// The text of a here document.
+fn here_text(alloc: Global, state: &State, pieces: &[Piece]) -> Result<String, AllocError>
+    ensures { IfOk result (λ text. string_bytes text ≡ here_text (state_of state.now) (pieces_tree pieces.now)) }
+{
+    let mut text = String::new(alloc);
+    for piece in pieces {
+        push_piece(alloc, &mut text, state, piece)?;
+    }
+    Ok(text)
+}
+
+/// A redirection that was refused ends the shell.
+fn refuse<W: World>(
+    machine: &mut Configuration,
+    alloc: Global,
+    world: &mut W,
+    error: RedirError,
+) -> Result<Move, Stop>
+    ensures { Refused (W.events world.old) (W.events world.new) error
+        (config_of machine.old) (config_of machine.new) result }
+{
+    match error {
+        RedirError::Fault(fault) => {
+            let text = fault.to_string(alloc)?;
+            machine.fail(alloc, world, &text)
+        }
+        RedirError::Stopped(stop) => Err(stop),
+    }
+}
+
+/// `>`, `>>` and `<`: the file takes the place of a descriptor.
+#[tactic(auto, using(crate::proofs::Left::step_refused))]
+pub fn open<W: World>(
+    machine: &mut Configuration,
+    alloc: Global,
+    world: &mut W,
+    mode: Mode,
+    slot: u8,
+) -> Result<Move, Stop>
+    requires { machine.old.place < 2 ^ 63 }
+    ensures { Steps (W.events world.old) (W.events world.new)
+        (act (Some (op.Open mode slot)) (config_of machine.old)) (config_of machine.new) result }
+{
+    let Some(words) = machine.words.top() else {
+        return Ok(Move::Ended);
+    };
+    let names = texts(alloc, words)?;
+    if let Err(error) = machine.redirs.push_open(world, mode, slot, &names) {
+        return refuse(machine, alloc, world, error);
+    }
+    machine.scopes.open(Scope::Redirection)?;
+    machine.words.drop_top();
+    machine.place += 1;
+    Ok(Move::On)
+}
+
+/// `>[2=1]` and `>[1=2]`: one descriptor becomes what another is now.
+pub fn copy(machine: &mut Configuration, to: u8, from: u8) -> Result<Move, AllocError>
+    requires { machine.old.place < 2 ^ 63 }
+    ensures { IfOk result (λ moved.
+        Leads (act (Some (op.Copy to from)) (config_of machine.old)) (config_of machine.new) moved) }
+{
+    machine.redirs.push_copy(to, from)?;
+    machine.scopes.open(Scope::Redirection)?;
+    machine.place += 1;
+    Ok(Move::On)
+}
+
+/// `<<`: the here document of this number takes the place of descriptor 0.
+#[tactic(auto, using(crate::proofs::Left::step_refused))]
+pub fn here<W: World>(
+    machine: &mut Configuration,
+    alloc: Global,
+    world: &mut W,
+    number: usize,
+) -> Result<Move, Stop>
+    requires { machine.old.place < 2 ^ 63 }
+    ensures { Steps (W.events world.old) (W.events world.new)
+        (act (Some (op.Here number)) (config_of machine.old)) (config_of machine.new) result }
+{
+    let Some(pieces) = machine.code.pieces(number) else {
+        return Ok(Move::Ended);
+    };
+    let text = here_text(alloc, &machine.state, pieces)?;
+    if let Err(error) = machine.redirs.push_here(world, &text) {
+        return refuse(machine, alloc, world, error);
+    }
+    machine.scopes.open(Scope::Redirection)?;
+    machine.place += 1;
+    Ok(Move::On)
+}
+
+/// Ends the innermost scope, where it is a redirection.
+fn end_redirection<W: World>(machine: &mut Configuration, world: &mut W) -> Result<bool, Stop>
+    ensures { RedirectionEnds (W.events world.old) (W.events world.new)
+        (config_of machine.old) (config_of machine.new) result }
+{
+    let Some(Scope::Redirection) = machine.scopes.innermost() else {
+        return Ok(false);
+    };
+    machine.redirs.pop(world)?;
+    let _ = machine.scopes.close();
+    Ok(true)
+}
+
+/// Ends this many redirections, up to the first scope that is none.
+fn end_redirections<W: World>(
+    machine: &mut Configuration,
+    world: &mut W,
+    count: usize,
+) -> Result<(), Stop>
+    ensures { RedirectionsEnd (W.events world.old) (W.events world.new) count
+        (config_of machine.old) (config_of machine.new) result }
+{
+    for _ in 0..count {
+        if !end_redirection(machine, world)? {
+            return Ok(());
+        }
+    }
+    Ok(())
+}
+
+/// Ends the redirections of a command.
+#[tactic(auto, using(crate::proofs::Left::step_refused))]
+pub fn unredir<W: World>(
+    machine: &mut Configuration,
+    world: &mut W,
+    count: usize,
+) -> Result<Move, Stop>
+    requires { machine.old.place < 2 ^ 63 }
+    ensures { Steps (W.events world.old) (W.events world.new)
+        (act (Some (op.Unredir count)) (config_of machine.old)) (config_of machine.new) result }
+{
+    end_redirections(machine, world, count)?;
+    machine.place += 1;
+    Ok(Move::On)
+}

@@ -1,0 +1,139 @@
+//! A stack of lists, over one buffer of elements.
+
+pub(crate) mod nest;
+
+ghost use Rattle.std.specs.Prelude.{◌≡◌, [], ◌∷◌, length, option_map, OnOk, OnErr};
+ghost use Rattle.rc_machine.specs.Lists.{Joins, Extends, IsDropped, TakesLast, top_of, two_of, below_two};
+
+use std::alloc::{AllocError, Global};
+use std::marker::Model;
+
+/// Lists, each on top of those before it. The elements of all lists stand in one buffer, and the
+/// places where the lists begin in another.
+#[derive(Drop)]
+pub struct Stack<T> {
+    items: Vec<T>,
+    starts: Vec<usize>,
+}
+
+impl<T> Model for Stack<T> {
+    ghost use Rattle.std.specs.Prelude.{List, length, reverse};
+    ghost use Rattle.rc_machine.specs.Lists.{lists_of, AreStarts};
+
+    ghost Value = { List (List T) };
+
+    ghost view = { λ s. lists_of s.items.items (reverse s.starts.items) };
+
+    ghost invariant = { λ s. AreStarts (length s.items.items) (reverse s.starts.items) };
+}
+
+impl<T: Drop> Stack<T> {
+    /// No lists.
+    pub fn new(alloc: Global) -> Stack<T>
+        ensures { result ≡ [] }
+    {
+        Stack {
+            items: Vec::new(alloc),
+            starts: Vec::new(alloc),
+        }
+    }
+
+    /// The empty list comes on top.
+    pub fn begin(&mut self) -> Result<(), AllocError>
+        ensures ok { OnOk result (self.new ≡ [] ∷ self.old) }
+        ensures err { OnErr result (self.new ≡ self.old) }
+    {
+        self.starts.push(self.items.len())?;
+        Ok(())
+    }
+
+    /// Adds an element to the list on top, where there is one.
+    pub fn push(&mut self, item: T) -> Result<(), AllocError>
+        ensures ok { OnOk result (Extends self.old self.new (item ∷ [])) }
+        ensures err { OnErr result (self.new ≡ self.old) }
+    {
+        self.items.push(item)?;
+        Ok(())
+    }
+
+    /// Makes room for this many more elements.
+    pub fn reserve(&mut self, count: usize) -> Result<(), AllocError>
+        ensures { self.new ≡ self.old }
+    {
+        self.items.reserve(count)
+    }
+
+    /// A list comes on top.
+    pub fn put(&mut self, mut list: Vec<T>) -> Result<(), AllocError>
+        ensures ok { OnOk result (self.new ≡ list.items ∷ self.old) }
+        ensures err { OnErr result (self.new ≡ self.old) }
+    {
+        let start = self.items.len();
+        // Room comes first, so that the stack is unchanged where memory is refused.
+        self.starts.reserve(1)?;
+        self.items.append(&mut list)?;
+        self.starts.push(start)?;
+        Ok(())
+    }
+
+    /// Adds the two lists on top to one, and says whether there were two.
+    pub fn join(&mut self) -> bool
+        ensures { Joins self.old self.new result }
+    {
+        if self.starts.len() < 2 {
+            return false;
+        }
+        self.starts.pop();
+        true
+    }
+
+    /// The list on top.
+    pub fn top(&self) -> Option<&[T]>
+        ensures { option_map (λ list. list.now) result ≡ top_of self.now }
+    {
+        let start = *self.starts.last()?;
+        Some(&self.items[start..])
+    }
+
+    /// The two lists on top, the lower one first.
+    pub fn top_two(&self) -> Option<(&[T], &[T])>
+        ensures { option_map (λ two. (two.0.now, two.1.now)) result ≡ two_of self.now }
+    {
+        let [.., lower, upper] = self.starts.as_slice() else {
+            return None;
+        };
+        Some((&self.items[*lower..*upper], &self.items[*upper..]))
+    }
+
+    /// Takes the last element of the list on top, if it has one.
+    pub fn take_last(&mut self) -> Option<T>
+        ensures { TakesLast self.old self.new result }
+    {
+        let start = *self.starts.last()?;
+        if self.items.len() <= start {
+            return None;
+        }
+        self.items.pop()
+    }
+
+    /// Takes the list on top off.
+    pub fn drop_top(&mut self) -> bool
+        ensures { IsDropped self.old self.new result }
+    {
+        match self.starts.pop() {
+            Some(start) => {
+                self.items.truncate(start);
+                true
+            }
+            None => false,
+        }
+    }
+
+    /// Takes the two lists on top off.
+    pub fn drop_two(&mut self)
+        ensures { self.new ≡ below_two self.old }
+    {
+        self.drop_top();
+        self.drop_top();
+    }
+}

@@ -1,0 +1,166 @@
+-- One turn of a loop of the descent.
+use Rattle.std.proofs.Common.{◌≡◌, ℕ, suc, ◌+◌, ◌-◌, ◌<◌, ◌≤◌, Bool, false, if◌then◌else◌, List, ◌∷◌, length, Ok, Err, ap, arith}
+use Rattle.std.proofs.lemmas.List.{length-map}
+use Rattle.std.proofs.lemmas.Grind.{common_steps}
+use Rattle.rc_model.specs.Syntax.Tokens as model
+use Rattle.rc_model.specs.Syntax.Tree.{Node, Many, none, snoc}
+use Rattle.rc_model.specs.Syntax.Tree as t
+use Rattle.rc_model.specs.Syntax.Grammar.{begins_arg, begins_redir, begins_command, past_blanks, after_caret, ends}
+use Rattle.rc_model.specs.Mirrors.Descent as d
+use Rattle.rc_model.specs.Mirrors.Descent.{Reader, Readers, ◌>>=◌}
+use Rattle.rc_tree.specs.View.{nodes_push}
+use Rattle.rc_lexemes.specs.declared.lexeme.Lexeme.{Lexeme}
+use Rattle.rc_lexemes.specs.Lexemes.{lexemes_of}
+use Rattle.rc_model.specs.declared.fault.DescentFault.TheVariants as descent
+
+one_less : (turns i : ℕ) → i < turns → turns - i ≡ suc (turns - (i + 1))
+one_less turns i h = omega arith
+
+none_left : (turns i : ℕ) → turns ≤ i → turns - i ≡ 0
+none_left turns i h = omega arith
+
+all_left : (turns : ℕ) (xs : List Lexeme) → turns ≡ length xs → length (lexemes_of xs) ≡ turns - 0
+all_left turns xs h = let e : length (lexemes_of xs) ≡ length xs = simp length-map in omega arith
+
+pub parts_start : (p : Reader (Node t.arg)) (inside : Bool) (turns : ℕ) (xs : List Lexeme) → turns ≡ length xs → d.parts_by p inside (lexemes_of xs) ≡ d.parts_from p inside (turns - 0) none (lexemes_of xs)
+unfolding d.parts_by
+parts_start p inside turns xs h = ap (λ k. d.parts_from p inside k none (lexemes_of xs)) (all_left turns xs h)
+
+pub parts_more : (p : Reader (Node t.arg)) (inside : Bool) (turns i : ℕ) (front : Many t.arg) (ts : List model.Lexeme) → i < turns → d.parts_from p inside (turns - i) front ts ≡ d.parts_turn p inside (λ as' u. d.parts_from p inside (turns - (i + 1)) as' u) front ts (after_caret (past_blanks inside ts))
+unfolding d.parts_from
+parts_more p inside turns i front ts h = ap (λ k. d.parts_from p inside k front ts) (one_less turns i h)
+
+pub parts_done : (p : Reader (Node t.arg)) (inside : Bool) (turns i : ℕ) (front : Many t.arg) (ts : List model.Lexeme) → turns ≤ i → d.parts_from p inside (turns - i) front ts ≡ Ok (front, ts)
+unfolding d.parts_from
+parts_done p inside turns i front ts h = ap (λ k. d.parts_from p inside k front ts) (none_left turns i h)
+
+pub ruleset parts = (parts_start, parts_more, parts_done, nodes_push, common_steps)
+
+pub words_start : (p : Reader (Node t.arg)) (turns : ℕ) (xs : List Lexeme) → turns ≡ length xs → d.words_by p (lexemes_of xs) ≡ d.words_from p (turns - 0) none (lexemes_of xs)
+unfolding d.words_by
+words_start p turns xs h = ap (λ k. d.words_from p k none (lexemes_of xs)) (all_left turns xs h)
+
+pub words_more : (p : Reader (Node t.arg)) (turns i : ℕ) (front : Many t.arg) (ts : List model.Lexeme) → i < turns → d.words_from p (turns - i) front ts ≡ (if begins_arg ts then (d.arg_by p false ts >>= λ a. d.words_from p (turns - (i + 1)) (snoc front a.0) a.1) else Ok (front, ts))
+unfolding d.words_from
+words_more p turns i front ts h = ap (λ k. d.words_from p k front ts) (one_less turns i h)
+
+pub words_done : (p : Reader (Node t.arg)) (turns i : ℕ) (front : Many t.arg) (ts : List model.Lexeme) → turns ≤ i → d.words_from p (turns - i) front ts ≡ Ok (front, ts)
+unfolding d.words_from
+words_done p turns i front ts h = ap (λ k. d.words_from p k front ts) (none_left turns i h)
+
+pub ruleset words = (words_start, words_more, words_done, nodes_push, common_steps)
+
+pub redirs_start : (p : Reader (Node t.arg)) (turns : ℕ) (xs : List Lexeme) → turns ≡ length xs → d.redirs_by p (lexemes_of xs) ≡ d.redirs_from p (turns - 0) none (lexemes_of xs)
+unfolding d.redirs_by
+redirs_start p turns xs h = ap (λ k. d.redirs_from p k none (lexemes_of xs)) (all_left turns xs h)
+
+pub redirs_more : (p : Reader (Node t.arg)) (turns i : ℕ) (front : Many t.redir) (ts : List model.Lexeme) → i < turns → d.redirs_from p (turns - i) front ts ≡ (if begins_redir ts then (d.redir_by p ts >>= λ r. d.redirs_from p (turns - (i + 1)) (snoc front r.0) r.1) else Ok (front, ts))
+unfolding d.redirs_from
+redirs_more p turns i front ts h = ap (λ k. d.redirs_from p k front ts) (one_less turns i h)
+
+pub redirs_done : (p : Reader (Node t.arg)) (turns i : ℕ) (front : Many t.redir) (ts : List model.Lexeme) → turns ≤ i → d.redirs_from p (turns - i) front ts ≡ Ok (front, ts)
+unfolding d.redirs_from
+redirs_done p turns i front ts h = ap (λ k. d.redirs_from p k front ts) (none_left turns i h)
+
+pub ruleset redirs = (redirs_start, redirs_more, redirs_done, nodes_push, common_steps)
+
+pub simple_start : (p : Reader (Node t.arg)) (turns : ℕ) (xs : List Lexeme) → turns ≡ length xs → d.simple_by p (lexemes_of xs) ≡ d.simple_from p (turns - 0) none none (lexemes_of xs)
+unfolding d.simple_by
+simple_start p turns xs h = ap (λ k. d.simple_from p k none none (lexemes_of xs)) (all_left turns xs h)
+
+pub simple_more : (p : Reader (Node t.arg)) (turns i : ℕ) (as' : Many t.arg) (rs : Many t.redir) (ts : List model.Lexeme) → i < turns → d.simple_from p (turns - i) as' rs ts ≡ (if begins_arg ts then (d.arg_by p false ts >>= λ a. d.simple_from p (turns - (i + 1)) (snoc as' a.0) rs a.1) else if begins_redir ts then (d.redir_by p ts >>= λ r. d.simple_from p (turns - (i + 1)) as' (snoc rs r.0) r.1) else Ok ((as', rs), ts))
+unfolding d.simple_from
+simple_more p turns i as' rs ts h = ap (λ k. d.simple_from p k as' rs ts) (one_less turns i h)
+
+pub simple_done : (p : Reader (Node t.arg)) (turns i : ℕ) (as' : Many t.arg) (rs : Many t.redir) (ts : List model.Lexeme) → turns ≤ i → d.simple_from p (turns - i) as' rs ts ≡ Ok ((as', rs), ts)
+unfolding d.simple_from
+simple_done p turns i as' rs ts h = ap (λ k. d.simple_from p k as' rs ts) (none_left turns i h)
+
+pub ruleset simple = (simple_start, simple_more, simple_done, nodes_push, common_steps)
+
+pub members_start : (p : Reader (Node t.arg)) (turns : ℕ) (xs : List Lexeme) → turns ≡ length xs → d.members_by p (lexemes_of xs) ≡ d.members_from p (turns - 0) none (lexemes_of xs)
+unfolding d.members_by
+members_start p turns xs h = ap (λ k. d.members_from p k none (lexemes_of xs)) (all_left turns xs h)
+
+pub members_more : (p : Reader (Node t.arg)) (turns i : ℕ) (front : Many t.arg) (ts : List model.Lexeme) → i < turns → d.members_from p (turns - i) front ts ≡ d.members_turn p (λ as' u. d.members_from p (turns - (i + 1)) as' u) front ts
+unfolding d.members_from
+members_more p turns i front ts h = ap (λ k. d.members_from p k front ts) (one_less turns i h)
+
+pub members_done : (p : Reader (Node t.arg)) (turns i : ℕ) (front : Many t.arg) (ts : List model.Lexeme) → turns ≤ i → d.members_from p (turns - i) front ts ≡ Err descent.Unexpected
+unfolding d.members_from
+members_done p turns i front ts h = ap (λ k. d.members_from p k front ts) (none_left turns i h)
+
+pub ruleset members = (members_start, members_more, members_done, nodes_push, common_steps)
+
+pub links_start : (r : Readers) (turns : ℕ) (xs : List Lexeme) → turns ≡ length xs → d.links_by r (lexemes_of xs) ≡ d.links_from r (turns - 0) none (lexemes_of xs)
+unfolding d.links_by
+links_start r turns xs h = ap (λ k. d.links_from r k none (lexemes_of xs)) (all_left turns xs h)
+
+pub links_more : (r : Readers) (turns i : ℕ) (front : Many t.link) (ts : List model.Lexeme) → i < turns → d.links_from r (turns - i) front ts ≡ d.links_turn r (λ ls u. d.links_from r (turns - (i + 1)) ls u) front ts
+unfolding d.links_from
+links_more r turns i front ts h = ap (λ k. d.links_from r k front ts) (one_less turns i h)
+
+pub links_done : (r : Readers) (turns i : ℕ) (front : Many t.link) (ts : List model.Lexeme) → turns ≤ i → d.links_from r (turns - i) front ts ≡ Ok (front, ts)
+unfolding d.links_from
+links_done r turns i front ts h = ap (λ k. d.links_from r k front ts) (none_left turns i h)
+
+pub ruleset links = (links_start, links_more, links_done, nodes_push, common_steps)
+
+pub branches_start : (r : Readers) (turns : ℕ) (xs : List Lexeme) → turns ≡ length xs → d.branches_by r (model.LeftBrace ∷ lexemes_of xs) ≡ d.branches_from r (turns - 0) none (lexemes_of xs)
+unfolding d.branches_by
+branches_start r turns xs h = ap (λ k. d.branches_from r k none (lexemes_of xs)) (all_left turns xs h)
+
+pub branches_more : (r : Readers) (turns i : ℕ) (front : Many t.branch) (ts : List model.Lexeme) → i < turns → d.branches_from r (turns - i) front ts ≡ d.branches_turn r (λ bs u. d.branches_from r (turns - (i + 1)) bs u) front ts
+unfolding d.branches_from
+branches_more r turns i front ts h = ap (λ k. d.branches_from r k front ts) (one_less turns i h)
+
+pub branches_done : (r : Readers) (turns i : ℕ) (front : Many t.branch) (ts : List model.Lexeme) → turns ≤ i → d.branches_from r (turns - i) front ts ≡ Err descent.Unexpected
+unfolding d.branches_from
+branches_done r turns i front ts h = ap (λ k. d.branches_from r k front ts) (none_left turns i h)
+
+pub ruleset branches = (branches_start, branches_more, branches_done, nodes_push, common_steps)
+
+pub pipe_start : (r : Readers) (turns : ℕ) (first : Node t.cmd) (xs : List Lexeme) → turns ≡ length xs → d.pipe_by r first (lexemes_of xs) ≡ d.pipe_from r (turns - 0) none first (lexemes_of xs)
+unfolding d.pipe_by
+pipe_start r turns first xs h = ap (λ k. d.pipe_from r k none first (lexemes_of xs)) (all_left turns xs h)
+
+pub pipe_more : (r : Readers) (turns i : ℕ) (stages : Many t.stage) (last : Node t.cmd) (ts : List model.Lexeme) → i < turns → d.pipe_from r (turns - i) stages last ts ≡
+    d.pipe_turn r (λ ss c u. d.pipe_from r (turns - (i + 1)) ss c u) stages last ts
+unfolding d.pipe_from
+pipe_more r turns i stages last ts h = ap (λ k. d.pipe_from r k stages last ts) (one_less turns i h)
+
+pub pipe_done : (r : Readers) (turns i : ℕ) (stages : Many t.stage) (last : Node t.cmd) (ts : List model.Lexeme) → turns ≤ i →
+    d.pipe_from r (turns - i) stages last ts ≡ Ok (d.pipeline_of stages last, ts)
+unfolding d.pipe_from
+pipe_done r turns i stages last ts h = ap (λ k. d.pipe_from r k stages last ts) (none_left turns i h)
+
+pub ruleset pipe = (pipe_start, pipe_more, pipe_done, nodes_push, common_steps)
+
+pub values_start : (r : Readers) (turns : ℕ) (front : Many t.pair) (xs : List Lexeme) → turns ≡ length xs → d.values_by r front (lexemes_of xs) ≡ d.values_from r (turns - 0) front (lexemes_of xs)
+unfolding d.values_by
+values_start r turns front xs h = ap (λ k. d.values_from r k front (lexemes_of xs)) (all_left turns xs h)
+
+pub values_more : (r : Readers) (turns i : ℕ) (front : Many t.pair) (ts : List model.Lexeme) → i < turns → d.values_from r (turns - i) front ts ≡ (if d.begins_leading ts then (d.leading_by r false ts >>= λ c. Ok (t.Assign front c.0, c.1)) else if begins_command ts then (d.opening_by r ts >>= λ o. d.value_turn r (λ ps u. d.values_from r (turns - (i + 1)) ps u) front o.0 o.1) else Ok (t.Assign front t.Empty, ts))
+unfolding d.values_from
+values_more r turns i front ts h = ap (λ k. d.values_from r k front ts) (one_less turns i h)
+
+pub values_done : (r : Readers) (turns i : ℕ) (front : Many t.pair) (ts : List model.Lexeme) → turns ≤ i → d.values_from r (turns - i) front ts ≡ Ok (t.Assign front t.Empty, ts)
+unfolding d.values_from
+values_done r turns i front ts h = ap (λ k. d.values_from r k front ts) (none_left turns i h)
+
+pub ruleset values = (values_start, values_more, values_done, nodes_push, common_steps)
+
+pub items_start : (r : Readers) (in_switch : Bool) (turns : ℕ) (xs : List Lexeme) → turns ≡ length xs →
+    d.items_by r in_switch (lexemes_of xs) ≡ d.items_from r in_switch (turns - 0) false none (lexemes_of xs)
+unfolding d.items_by
+items_start r in_switch turns xs h = ap (λ k. d.items_from r in_switch k false none (lexemes_of xs)) (all_left turns xs h)
+
+pub items_more : (r : Readers) (in_switch : Bool) (turns i : ℕ) (after_if : Bool) (front : Many t.item) (ts : List model.Lexeme) → i < turns → d.items_from r in_switch (turns - i) after_if front ts ≡ (if ends in_switch ts then Ok (front, ts) else d.item_turn r (λ b is u. d.items_from r in_switch (turns - (i + 1)) b is u) after_if front ts)
+unfolding d.items_from
+items_more r in_switch turns i after_if front ts h = ap (λ k. d.items_from r in_switch k after_if front ts) (one_less turns i h)
+
+pub items_done : (r : Readers) (in_switch : Bool) (turns i : ℕ) (after_if : Bool) (front : Many t.item) (ts : List model.Lexeme) → turns ≤ i → d.items_from r in_switch (turns - i) after_if front ts ≡ Ok (front, ts)
+unfolding d.items_from
+items_done r in_switch turns i after_if front ts h = ap (λ k. d.items_from r in_switch k after_if front ts) (none_left turns i h)
+
+pub ruleset items = (items_start, items_more, items_done, nodes_push, common_steps)

@@ -1,0 +1,166 @@
+//! Values by the names of variables. Those whose names begin with the same byte are in one row.
+
+ghost use Rattle.std.specs.Prelude.{◌≡◌, [], ◌<◌, length, None, Some, is_some, true, IfOk, IfErr, OnOk, OnErr};
+ghost use Rattle.std.specs.Option.{option_copied};
+ghost use Rattle.std.specs.List.Sorted.{IsStrictlySortedBy};
+ghost use Rattle.std.specs.Map.{lookup, set_value, remove_entry, keys_of};
+ghost use Rattle.std.specs.BTreeMap.{insert_entry};
+ghost use Rattle.std.specs.String.{string_cmp};
+ghost use Rattle.rc_scope.specs.Rows.{row_of, is_named, entries_of, Grows};
+ghost use Rattle.rc_scope.specs.Stacks.{covers_in};
+
+use std::alloc::{AllocError, Global};
+use std::collections::BTreeMap;
+use std::marker::Model;
+use std::mem::replace;
+
+/// The value of a variable, as it is visible or covered.
+#[derive(Drop)]
+pub struct Value {
+    pub texts: Vec<String>,
+    /// Whether it covers another one, which the log has.
+    pub covers: bool,
+}
+
+/// The values of variables: a name is looked for only among those that begin with its first byte.
+#[derive(Drop)]
+pub struct Values {
+    /// The place of a row is the byte that its names begin with; the empty name is in the first.
+    rows: Vec<BTreeMap<String, Value>>,
+}
+
+impl Model for Values {
+    ghost use Rattle.std.specs.Prelude.{List};
+    ghost use Rattle.std.specs.declared.alloc.Global.{Global};
+    ghost use Rattle.std.specs.declared.string.String.{String};
+    ghost use Rattle.rc_scope.specs.declared.value_rows.Value.{Value as Entry};
+    ghost use Rattle.rc_scope.specs.Rows.{entries_of, AreRows};
+
+    ghost Value = { List (String Global × Entry) };
+
+    ghost view = { λ v. entries_of v.rows.items };
+
+    ghost invariant = { λ v. AreRows 0 v.rows.items };
+}
+
+/// The place of the row that a name belongs in.
+fn row_of(name: &str) -> usize
+    ensures { result ≡ row_of name.now }
+{
+    match name.as_bytes() {
+        [first, ..] => *first as usize,
+        [] => 0,
+    }
+}
+
+/// Adds empty rows up to one at this place.
+fn grow(
+    rows: &mut Vec<BTreeMap<String, Value>>,
+    alloc: Global,
+    row: usize,
+) -> Result<(), AllocError>
+    ensures ok { OnOk result (row < length rows.new.items) }
+    ensures kept { Grows rows.old.items rows.new.items }
+{
+    while rows.len() <= row {
+        rows.push(BTreeMap::new(alloc))?;
+    }
+    Ok(())
+}
+
+impl Values {
+    /// No values.
+    pub fn new(alloc: Global) -> Values
+        ensures { result ≡ [] }
+    {
+        Values {
+            rows: Vec::new(alloc),
+        }
+    }
+
+    /// The value at a name.
+    pub fn get(&self, name: &str) -> Option<&Value>
+        ensures { option_copied result ≡ lookup (is_named name.now) self.now }
+    {
+        let row = row_of(name);
+        if self.rows.len() <= row {
+            return None;
+        }
+        self.rows[row].get(name)
+    }
+
+    /// Writes a value over the one at a name, and gives that; or gives the value back where there is none.
+    pub fn replace(&mut self, name: &str, value: Value) -> Result<Value, Value>
+        ensures found { IfOk result (λ old. lookup (is_named name.now) self.old ≡ Some old) }
+        ensures new { OnOk result (self.new ≡ set_value (is_named name.now) self.old value) }
+        ensures absent { OnErr result (lookup (is_named name.now) self.old ≡ None) }
+        ensures back { IfErr result (λ given. given ≡ value) }
+        ensures same { OnErr result (self.new ≡ self.old) }
+        ensures ordered { IsStrictlySortedBy string_cmp (keys_of self.old) }
+    {
+        let row = row_of(name);
+        if self.rows.len() <= row {
+            return Err(value);
+        }
+        let row = &mut self.rows[row];
+        if let Some(old) = row.get_mut(name) {
+            return Ok(replace(old, value));
+        }
+        Err(value)
+    }
+
+    /// Writes texts over those of the value at a name; or gives them back where there is none.
+    pub fn write(&mut self, name: &str, texts: Vec<String>) -> Result<(), Vec<String>>
+        ensures found { OnOk result (is_some (lookup (is_named name.now) self.old) ≡ true) }
+        ensures new { OnOk result (self.new ≡ set_value (is_named name.now) self.old
+            (record { texts = texts; covers = covers_in name.now self.old })) }
+        ensures absent { OnErr result (lookup (is_named name.now) self.old ≡ None) }
+        ensures back { IfErr result (λ given. given ≡ texts) }
+        ensures same { OnErr result (self.new ≡ self.old) }
+        ensures ordered { IsStrictlySortedBy string_cmp (keys_of self.old) }
+    {
+        let row = row_of(name);
+        if self.rows.len() <= row {
+            return Err(texts);
+        }
+        let row = &mut self.rows[row];
+        if let Some(value) = row.get_mut(name) {
+            value.texts = texts;
+            return Ok(());
+        }
+        Err(texts)
+    }
+
+    /// Puts a value in at a name. An `Err` changes nothing.
+    pub fn insert(&mut self, alloc: Global, name: String, value: Value) -> Result<(), AllocError>
+        ensures ok { OnOk result (self.new ≡ insert_entry string_cmp self.old name value) }
+        ensures err { OnErr result (self.new ≡ self.old) }
+        ensures ordered { IsStrictlySortedBy string_cmp (keys_of self.old) }
+    {
+        let row = row_of(&name);
+        grow(&mut self.rows, alloc, row)?;
+        let row = &mut self.rows[row];
+        row.insert(name, value)?;
+        Ok(())
+    }
+
+    /// Takes the value at a name away, where there is one.
+    pub fn remove(&mut self, name: &str)
+        ensures taken { self.new ≡ remove_entry (is_named name.now) self.old }
+        ensures gone { lookup (is_named name.now) self.new ≡ None }
+    {
+        let row = row_of(name);
+        if self.rows.len() <= row {
+            return;
+        }
+        let row = &mut self.rows[row];
+        let _ = row.remove(name);
+    }
+
+    /// The rows, in byte order of their names.
+    pub fn rows(&self) -> &[BTreeMap<String, Value>]
+        ensures { entries_of result.now ≡ self.now }
+    {
+        self.rows.as_slice()
+    }
+}

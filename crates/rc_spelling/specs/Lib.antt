@@ -1,0 +1,5 @@
+pub mod Faults
+pub mod Nodes
+pub mod Shapes
+pub mod Steps
+pub mod Reading

@@ -1,0 +1,130 @@
+//! Literal words: those that stand in a script. All evaluations of a word share its literal.
+
+ghost use Rattle.std.specs.Prelude.{◌≡◌, ◌++◌, false, true, map, IfOk, MatchOption, OnOk};
+ghost use Rattle.std.specs.List.{list_any};
+ghost use Rattle.std.specs.Str.{chars};
+ghost use Rattle.rc_model.specs.Syntax.Words.{has_pattern, is_pattern, is_pattern_char, written};
+ghost use Rattle.rc_text.specs.Literals.{mark_of, marks, KeepsPatterns};
+
+use std::alloc::{AllocError, Global};
+use std::marker::Model;
+
+/// A character of a word. Where `pat` marks it, it may be a pattern character.
+#[derive(Clone, Copy)]
+pub struct Ch {
+    pub c: char,
+    pub pat: bool,
+}
+
+/// A word as it is written: a text, and whether it is quoted.
+#[derive(Drop)]
+pub struct Literal {
+    text: String,
+    quoted: bool,
+    /// The characters, where a pattern character is among them.
+    chars: Option<Vec<Ch>>,
+}
+
+impl Model for Literal {
+    ghost use Rattle.std.specs.Prelude.{ℕ, Bool, List, string_bytes};
+    ghost use Rattle.rc_text.specs.Literals.{KeepsPatterns};
+
+    ghost Value = { List ℕ × Bool };
+
+    ghost view = { λ l. (string_bytes l.text, l.quoted) };
+
+    ghost invariant = { λ l. KeepsPatterns (string_bytes l.text) l.quoted l.chars };
+}
+
+fn is_pattern_char(c: char) -> bool
+    ensures { result ≡ is_pattern_char c }
+{
+    matches!(c, '*' | '?' | '[')
+}
+
+fn has_pattern_char(text: &str) -> bool
+    ensures { result ≡ list_any is_pattern_char (chars text.now) }
+{
+    text.chars().any(|c| is_pattern_char(c))
+}
+
+/// Whether a character is a marked `*`, `?` or `[`.
+fn is_pattern(ch: Ch) -> bool
+    ensures { result ≡ is_pattern (mark_of ch) }
+{
+    ch.pat && is_pattern_char(ch.c)
+}
+
+/// Whether a marked `*`, `?` or `[` is among the characters.
+pub fn any_pattern(chars: &[Ch]) -> bool
+    ensures { result ≡ has_pattern (marks chars.now) }
+{
+    chars.iter().any(|ch| is_pattern(*ch))
+}
+
+/// Adds the characters of the text, all marked or none.
+pub fn push_text(all: &mut Vec<Ch>, text: &str, pat: bool) -> Result<(), AllocError>
+    ensures { OnOk result (marks all.new.items ≡ marks all.old.items ++ map (λ c. (c, pat)) (chars text.now)) }
+{
+    all.extend(text.chars().map(|c| Ch { c, pat }))
+}
+
+/// The characters of the text, all marked.
+fn all_marked(alloc: Global, text: &str) -> Result<Vec<Ch>, AllocError>
+    ensures { IfOk result (λ all. marks all.items ≡ written text.now false) }
+{
+    let mut all = Vec::with_capacity(alloc, text.len())?;
+    push_text(&mut all, text, true)?;
+    Ok(all)
+}
+
+/// The characters of a word, where a pattern character is among them.
+#[tactic(auto, using(crate::proofs::LiteralMarks::patterns_of))]
+fn pattern_chars(alloc: Global, text: &str, quoted: bool) -> Result<Option<Vec<Ch>>, AllocError>
+    ensures { IfOk result (λ chars. KeepsPatterns text.now quoted chars) }
+{
+    if quoted || !has_pattern_char(text) {
+        return Ok(None);
+    }
+    Ok(Some(all_marked(alloc, text)?))
+}
+
+impl Literal {
+    /// A word of this text. Each character of an unquoted one is marked, and none of a quoted one.
+    pub fn new(alloc: Global, text: &str, quoted: bool) -> Result<Literal, AllocError>
+        ensures { IfOk result (λ literal. literal ≡ (text.now, quoted)) }
+    {
+        let copy = String::from_str(alloc, text)?;
+        let chars = pattern_chars(alloc, text, quoted)?;
+        Ok(Literal {
+            text: copy,
+            quoted,
+            chars,
+        })
+    }
+
+    /// The text without its quotes.
+    pub fn text(&self) -> &str
+        ensures { result.now ≡ self.now.0 }
+    {
+        self.text.as_str()
+    }
+
+    pub fn is_quoted(&self) -> bool
+        ensures { result ≡ self.now.1 }
+    {
+        self.quoted
+    }
+
+    /// The characters, where a pattern character is among them.
+    pub fn pattern(&self) -> Option<&[Ch]>
+        ensures { MatchOption result (has_pattern (written self.now.0 self.now.1) ≡ false)
+            (λ chars. (marks chars.now ≡ written self.now.0 self.now.1)
+            × (has_pattern (written self.now.0 self.now.1) ≡ true)) }
+    {
+        match &self.chars {
+            Some(chars) => Some(chars.as_slice()),
+            None => None,
+        }
+    }
+}
