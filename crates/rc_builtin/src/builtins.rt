@@ -25,7 +25,7 @@ use rc_world::{Slots, Stop, World};
 use std::alloc::Global;
 
 /// The name that words begin with, and the arguments after it.
-pub fn name_and_args(mut words: Vec<String>) -> Option<(String, Vec<String>)>
+pub(crate) fn name_and_args(mut words: Vec<String>) -> Option<(String, Vec<String>)>
     ensures none { IfNone result (words.items ≡ []) }
     ensures some { IfSome result (λ found. words.items ≡ found.0 ∷ found.1.items) }
 {
@@ -160,7 +160,7 @@ fn past_builtins(mut words: Vec<String>) -> Vec<String>
 
 /// Runs words for which functions are ignored. An `Err` leaves the state as it was.
 #[tactic(auto, using(crate::proofs::Left::words_refused))]
-pub fn run_without_functions<W: World>(
+pub(crate) fn run_without_functions<W: World>(
     alloc: Global,
     world: &mut W,
     state: &mut State,

@@ -23,7 +23,7 @@ use std::alloc::{AllocError, Global};
 
 /// What is known of names: lines, and the last status that was met.
 #[derive(Drop)]
-pub struct Known {
+pub(crate) struct Known {
     lines: String,
     status: Option<&'static str>,
 }

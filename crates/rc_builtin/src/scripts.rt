@@ -35,7 +35,11 @@ fn compiled(alloc: Global, state: &mut State, text: &[u8]) -> Result<Option<Code
 }
 
 /// `eval`: the words, joined by spaces, are a script that is run.
-pub fn eval(alloc: Global, state: &mut State, words: &[String]) -> Result<Outcome, AllocError>
+pub(crate) fn eval(
+    alloc: Global,
+    state: &mut State,
+    words: &[String],
+) -> Result<Outcome, AllocError>
     ensures ok { IfOk result (λ outcome. (recorded : Option (List Event)) → RunsWords recorded recorded
         (as_body (tree_of (spaced (map string_bytes words.now))) (state_of state.old))
         (state_of state.new) (Ok outcome)) }
@@ -68,7 +72,7 @@ fn run_text(
 
 /// `.`: a file is a script that is run with the words after its name.
 #[tactic(auto, using(crate::proofs::Left::words_refused))]
-pub fn dot<W: World>(
+pub(crate) fn dot<W: World>(
     alloc: Global,
     world: &mut W,
     state: &mut State,

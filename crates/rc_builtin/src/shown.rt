@@ -72,7 +72,7 @@ fn push_value(out: &mut String, value: &[String]) -> Result<(), AllocError>
 }
 
 /// The line of a variable; nothing where there is none of this name, or no member.
-pub fn value_line(alloc: Global, name: &str, value: &[String]) -> Result<String, AllocError>
+pub(crate) fn value_line(alloc: Global, name: &str, value: &[String]) -> Result<String, AllocError>
     ensures { IfOk result (λ line. string_bytes line ≡ value_line name.now (map string_bytes value.now)) }
 {
     let mut line = String::new(alloc);

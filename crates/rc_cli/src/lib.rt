@@ -13,4 +13,3 @@ pub use fault::RunError;
 pub use process::report;
 pub use request::{Request, Source, request_of};
 pub use running::run_rc;
-pub use status::process_status;

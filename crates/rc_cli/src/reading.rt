@@ -13,7 +13,7 @@ const MOST_BYTES: u64 = LONGEST_SCRIPT as u64 + 1;
 
 /// The bytes of the script that is read from an input of this name, if it could be opened. No more are read than it
 /// takes to see that it is too long.
-pub fn read_script<'a, R: Read + Drop>(
+pub(crate) fn read_script<'a, R: Read + Drop>(
     alloc: Global,
     input: Option<R>,
     name: &'a str,

@@ -12,7 +12,7 @@ use std::alloc::{AllocError, Global};
 
 /// The state that the script of this request begins in, with these entries of the environment.
 #[tactic(auto, unfolding(crate::specs::Start::first_state))]
-pub fn first_state(
+pub(crate) fn first_state(
     alloc: Global,
     request: Request<'_>,
     entries: &[String],

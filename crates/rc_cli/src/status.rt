@@ -6,7 +6,7 @@ ghost use Rattle.rc_cli.specs.Statuses.{IsProcessStatus};
 use rc_text::is_true;
 
 /// The number that the process ends with where the script ends with this status.
-pub fn process_status(status: &str) -> u8
+pub(crate) fn process_status(status: &str) -> u8
     ensures { IsProcessStatus status.now result }
 {
     if is_true(status) {

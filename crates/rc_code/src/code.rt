@@ -98,7 +98,7 @@ pub enum Op {
 
 /// What stands beside the instructions.
 #[derive(Drop)]
-pub enum Kept {
+pub(crate) enum Kept {
     Tree(Rc<Cmd>),
     Stages(Vec<Stage>),
     Pieces(Vec<Piece>),
@@ -109,10 +109,9 @@ pub enum Kept {
 pub struct Code(Rc<Listing>);
 
 impl Code {
-    /// The code of a listing, if all of it was written. That is asked here and not by who writes it, since a crate that
-    /// may drop a listing has to prove the dropping of trees.
+    /// The code of a listing, if all of it was written.
     #[tactic(auto, unfolding(crate::specs::Views::code_of))]
-    pub fn of(
+    pub(crate) fn of(
         alloc: Global,
         listing: Listing,
         written: Result<(), AllocError>,

@@ -16,7 +16,7 @@ use std::rc::Rc;
 
 /// A word, whose literal all its evaluations share.
 #[tactic(auto, using(crate::proofs::Parts::emitting))]
-pub fn emit_word(
+pub(crate) fn emit_word(
     alloc: Global,
     code: &mut Listing,
     text: &str,
@@ -30,7 +30,7 @@ pub fn emit_word(
 
 #[cycle(emit)]
 #[tactic(auto, using(crate::proofs::Parts::emitting))]
-pub fn emit_arg(alloc: Global, code: &mut Listing, arg: &Arg) -> Result<(), AllocError>
+pub(crate) fn emit_arg(alloc: Global, code: &mut Listing, arg: &Arg) -> Result<(), AllocError>
     ensures { OnOk result (Writes code.old code.new (arg_code (arg_tree arg.now))) }
 {
     match arg {
@@ -64,7 +64,7 @@ pub fn emit_arg(alloc: Global, code: &mut Listing, arg: &Arg) -> Result<(), Allo
 /// The words as one list.
 #[cycle(emit)]
 #[tactic(auto, using(crate::proofs::Parts::emitting))]
-pub fn emit_list(alloc: Global, code: &mut Listing, words: &[Arg]) -> Result<(), AllocError>
+pub(crate) fn emit_list(alloc: Global, code: &mut Listing, words: &[Arg]) -> Result<(), AllocError>
     ensures { OnOk result (Writes code.old code.new (list_code (args_tree words.now))) }
 {
     code.put(Op::Nil)?;

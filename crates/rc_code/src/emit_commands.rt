@@ -23,7 +23,7 @@ use std::alloc::{AllocError, Global};
 
 #[cycle(emit)]
 #[tactic(auto, using(crate::proofs::Parts::emitting))]
-pub fn emit_cmd(
+pub(crate) fn emit_cmd(
     alloc: Global,
     code: &mut Listing,
     cmd: &Cmd,

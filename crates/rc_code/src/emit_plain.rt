@@ -17,7 +17,7 @@ use std::alloc::{AllocError, Global};
 
 /// A simple command, which is checked where it isn't guarded.
 #[tactic(auto, using(crate::proofs::Parts::emitting))]
-pub fn emit_simple(
+pub(crate) fn emit_simple(
     alloc: Global,
     code: &mut Listing,
     words: &[Arg],
@@ -33,7 +33,7 @@ pub fn emit_simple(
 
 /// The list and the name of a `for` over `$*`.
 #[tactic(auto, using(crate::proofs::Parts::emitting))]
-pub fn emit_star(alloc: Global, code: &mut Listing, name: &Arg) -> Result<(), AllocError>
+pub(crate) fn emit_star(alloc: Global, code: &mut Listing, name: &Arg) -> Result<(), AllocError>
     ensures { OnOk result (Writes code.old code.new (star_code (arg_tree name.now))) }
 {
     emit_word(alloc, code, "*", false)?;
@@ -43,7 +43,7 @@ pub fn emit_star(alloc: Global, code: &mut Listing, name: &Arg) -> Result<(), Al
 
 /// The list and the name of a `for`.
 #[tactic(auto, using(crate::proofs::Parts::emitting))]
-pub fn emit_members(
+pub(crate) fn emit_members(
     alloc: Global,
     code: &mut Listing,
     words: &[Arg],
@@ -58,7 +58,7 @@ pub fn emit_members(
 
 /// Assignments: bare ones stay, others end with a command.
 #[tactic(auto, using(crate::proofs::Parts::emitting))]
-pub fn emit_pairs(
+pub(crate) fn emit_pairs(
     alloc: Global,
     code: &mut Listing,
     pairs: &[(Arg, Arg)],
@@ -76,7 +76,11 @@ pub fn emit_pairs(
 }
 
 #[tactic(auto, using(crate::proofs::Parts::emitting))]
-pub fn emit_redirs(alloc: Global, code: &mut Listing, redirs: &[Redir]) -> Result<(), AllocError>
+pub(crate) fn emit_redirs(
+    alloc: Global,
+    code: &mut Listing,
+    redirs: &[Redir],
+) -> Result<(), AllocError>
     ensures { OnOk result (Writes code.old code.new (redirs_alone (redirs_tree redirs.now))) }
 {
     for redir in redirs {
@@ -111,7 +115,7 @@ fn emit_redir(alloc: Global, code: &mut Listing, redir: &Redir) -> Result<(), Al
 
 /// The end of the locals of a command.
 #[tactic(auto, using(crate::proofs::Parts::emitting))]
-pub fn emit_unlocal(code: &mut Listing, bare: bool, count: usize) -> Result<(), AllocError>
+pub(crate) fn emit_unlocal(code: &mut Listing, bare: bool, count: usize) -> Result<(), AllocError>
     ensures { OnOk result (Writes code.old code.new (unlocal bare count)) }
 {
     if bare {
@@ -122,7 +126,11 @@ pub fn emit_unlocal(code: &mut Listing, bare: bool, count: usize) -> Result<(), 
 }
 
 #[tactic(auto, using(crate::proofs::Parts::emitting))]
-pub fn emit_subject(alloc: Global, code: &mut Listing, subject: &Arg) -> Result<(), AllocError>
+pub(crate) fn emit_subject(
+    alloc: Global,
+    code: &mut Listing,
+    subject: &Arg,
+) -> Result<(), AllocError>
     ensures { OnOk result (Writes code.old code.new (subject_code (arg_tree subject.now))) }
 {
     emit_arg(alloc, code, subject)?;
@@ -130,7 +138,7 @@ pub fn emit_subject(alloc: Global, code: &mut Listing, subject: &Arg) -> Result<
 }
 
 #[tactic(auto, using(crate::proofs::Parts::emitting))]
-pub fn emit_match(
+pub(crate) fn emit_match(
     alloc: Global,
     code: &mut Listing,
     subject: &Arg,
@@ -145,7 +153,7 @@ pub fn emit_match(
 
 /// The body is kept, and isn't compiled before the function is called.
 #[tactic(auto, using(crate::proofs::Parts::emitting))]
-pub fn emit_define(
+pub(crate) fn emit_define(
     alloc: Global,
     code: &mut Listing,
     names: &[Arg],
@@ -159,7 +167,11 @@ pub fn emit_define(
 }
 
 #[tactic(auto, using(crate::proofs::Parts::emitting))]
-pub fn emit_undefine(alloc: Global, code: &mut Listing, names: &[Arg]) -> Result<(), AllocError>
+pub(crate) fn emit_undefine(
+    alloc: Global,
+    code: &mut Listing,
+    names: &[Arg],
+) -> Result<(), AllocError>
     ensures { OnOk result (Writes code.old code.new (undefine_code (args_tree names.now))) }
 {
     emit_list(alloc, code, names)?;
@@ -167,7 +179,7 @@ pub fn emit_undefine(alloc: Global, code: &mut Listing, names: &[Arg]) -> Result
 }
 
 #[tactic(auto, using(crate::proofs::Parts::emitting))]
-pub fn emit_subshell(alloc: Global, code: &mut Listing, body: &Cmd) -> Result<(), AllocError>
+pub(crate) fn emit_subshell(alloc: Global, code: &mut Listing, body: &Cmd) -> Result<(), AllocError>
     ensures { OnOk result (Writes code.old code.new (subshell_code (cmd_tree body.now))) }
 {
     let number = code.keep(kept_tree(alloc, body)?)?;

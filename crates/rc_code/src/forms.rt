@@ -10,7 +10,7 @@ use crate::code::Op;
 use rc_tree::{Cmd, Logic};
 
 /// The instruction that skips a command.
-pub fn skip(logic: Logic, place: usize) -> Op
+pub(crate) fn skip(logic: Logic, place: usize) -> Op
     ensures { op_of result ≡ skip_by logic place }
 {
     match logic {
@@ -21,7 +21,7 @@ pub fn skip(logic: Logic, place: usize) -> Op
 
 /// Whether an operand of `&&` and `||` is guarded, by the links that follow it.
 #[tactic(auto, using(crate::proofs::OtherForms::guarding))]
-pub fn guards(links: &[(Logic, Cmd)], guarded: bool) -> bool
+pub(crate) fn guards(links: &[(Logic, Cmd)], guarded: bool) -> bool
     ensures { result ≡ guards (links_tree links.now) guarded }
 {
     guarded || !links.is_empty()
@@ -29,7 +29,7 @@ pub fn guards(links: &[(Logic, Cmd)], guarded: bool) -> bool
 
 /// Whether it is a sequence with no items.
 #[tactic(auto, using(crate::proofs::OtherForms::listed, rc_tree::specs::View::tree_walks))]
-pub fn has_no_items(cmd: &Cmd) -> bool
+pub(crate) fn has_no_items(cmd: &Cmd) -> bool
     ensures { result ≡ has_no_items (cmd_tree cmd.now) }
 {
     match cmd {

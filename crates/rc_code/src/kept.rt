@@ -11,7 +11,7 @@ use std::alloc::{AllocError, Global};
 use std::rc::Rc;
 
 /// A tree, which the code shares with those that it is handed to.
-pub fn kept_tree(alloc: Global, tree: &Cmd) -> Result<Kept, AllocError>
+pub(crate) fn kept_tree(alloc: Global, tree: &Cmd) -> Result<Kept, AllocError>
     ensures { IfOk result (λ kept. kept_of kept ≡ model.KeptTree (cmd_tree tree.now)) }
 {
     Ok(Kept::Tree(Rc::new(alloc, clone_tree(alloc, tree)?)?))
@@ -19,7 +19,7 @@ pub fn kept_tree(alloc: Global, tree: &Cmd) -> Result<Kept, AllocError>
 
 /// The stages of a pipeline before its last one.
 #[tactic(auto, using(rc_tree::specs::View::tree_lists))]
-pub fn kept_stages(alloc: Global, stages: &[Stage]) -> Result<Kept, AllocError>
+pub(crate) fn kept_stages(alloc: Global, stages: &[Stage]) -> Result<Kept, AllocError>
     ensures { IfOk result (λ kept. kept_of kept ≡ model.KeptStages (stages_tree stages.now)) }
 {
     let mut copies = Vec::new(alloc);
@@ -34,7 +34,7 @@ pub fn kept_stages(alloc: Global, stages: &[Stage]) -> Result<Kept, AllocError>
 
 /// The pieces of a here document.
 #[tactic(auto, using(rc_tree::specs::View::tree_lists))]
-pub fn kept_pieces(alloc: Global, pieces: &[Piece]) -> Result<Kept, AllocError>
+pub(crate) fn kept_pieces(alloc: Global, pieces: &[Piece]) -> Result<Kept, AllocError>
     ensures { IfOk result (λ kept. kept_of kept ≡ model.KeptPieces (pieces_tree pieces.now)) }
 {
     let mut copies = Vec::new(alloc);

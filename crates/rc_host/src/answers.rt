@@ -16,7 +16,7 @@ use std::process::{Child, ExitStatus};
 const EXECUTE: u32 = 0o111;
 
 /// Waits until the child has ended, and says how it did. A child whose ending is known ends as it did.
-pub fn end_of(child: &mut Child) -> Result<Ending, Fault>
+pub(crate) fn end_of(child: &mut Child) -> Result<Ending, Fault>
     ensures recorded { IfOk result (λ ending.
         IsSomeAnd (child_status child.new) (λ status. ending ≡ ending_of status)) }
     ensures again { IfSome (child_status child.old) (λ status. result ≡ Ok (ending_of status)) }
@@ -45,7 +45,7 @@ fn ending_of(status: ExitStatus) -> Ending
 }
 
 /// What a path names.
-pub fn kind_of(found: &Metadata) -> Kind
+pub(crate) fn kind_of(found: &Metadata) -> Kind
     ensures directory { (result ≡ Kind.Directory) ↔ IsDir (file_type found.now) }
     ensures program { (result ≡ Kind.Program) ↔ IsProgram found.now }
 {

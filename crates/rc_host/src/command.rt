@@ -11,7 +11,7 @@ use std::process::Command;
 
 /// The command that asks for a plan, but for its descriptors. `Other` is an entry without an equals
 /// sign, which cannot be asked for.
-pub fn command_of(alloc: Global, plan: &Plan) -> Result<Command, Fault>
+pub(crate) fn command_of(alloc: Global, plan: &Plan) -> Result<Command, Fault>
     ensures asks { IfOk result (λ command. AsksFor command (plan_view plan.now)) }
     ensures err { IfErr result (IsNotMade (map string_bytes plan.now.env.items)) }
 {

@@ -18,7 +18,7 @@ use std::{fs, io, str};
 const NAME_BYTES: usize = 32_768;
 
 /// The names in the directory with this path, in the order in which Linux has them.
-pub fn names_in(rt: &HostRuntime, path: &str) -> Result<Vec<String>, Fault>
+pub(crate) fn names_in(rt: &HostRuntime, path: &str) -> Result<Vec<String>, Fault>
     ensures { result ≢ Err Halt }
 {
     let directory = opened(rt, path).map_err(|error| fault_of(&error))?;

@@ -19,7 +19,7 @@ const MOST_NAMES: u32 = 100;
 
 /// A file or an end of a pipe that is open in this process and in none of its children.
 #[derive(Drop)]
-pub enum OpenFile {
+pub(crate) enum OpenFile {
     File(File),
     ReadEnd(PipeReader),
     WriteEnd(PipeWriter),
@@ -27,7 +27,7 @@ pub enum OpenFile {
 
 impl OpenFile {
     /// A copy, to be a descriptor of a child.
-    pub fn copy(&self) -> io::Result<Stdio> {
+    pub(crate) fn copy(&self) -> io::Result<Stdio> {
         match self {
             OpenFile::File(file) => Ok(Stdio::from(file.try_clone()?)),
             OpenFile::ReadEnd(end) => Ok(Stdio::from(end.try_clone()?)),
@@ -36,7 +36,7 @@ impl OpenFile {
     }
 
     /// The next bytes, none at the end.
-    pub fn read(&self, alloc: Global) -> Result<Vec<u8>, Fault>
+    pub(crate) fn read(&self, alloc: Global) -> Result<Vec<u8>, Fault>
         ensures bound { IfOk result (λ bytes. vec_len bytes ≤ LONGEST_READ) }
         ensures write_end { IsWriteEnd self.now → result ≡ Err Other }
         ensures answered { result ≢ Err Halt }
@@ -49,7 +49,7 @@ impl OpenFile {
     }
 
     /// Writes the whole text.
-    pub fn write(&self, text: &[u8]) -> Result<(), Fault>
+    pub(crate) fn write(&self, text: &[u8]) -> Result<(), Fault>
         ensures read_end { IsReadEnd self.now → result ≡ Err Other }
         ensures answered { result ≢ Err Halt }
     {
@@ -62,7 +62,7 @@ impl OpenFile {
 }
 
 /// How a file is opened. It is closed where another program is started.
-pub fn options_of(mode: Mode) -> OpenOptions
+pub(crate) fn options_of(mode: Mode) -> OpenOptions
     ensures { result ≡ options_of mode }
 {
     let mut options = OpenOptions::new();
@@ -75,7 +75,7 @@ pub fn options_of(mode: Mode) -> OpenOptions
 }
 
 /// The next bytes of a reader, none at its end.
-pub fn read_some<R: Read>(alloc: Global, reader: &mut R) -> Result<Vec<u8>, Fault>
+pub(crate) fn read_some<R: Read>(alloc: Global, reader: &mut R) -> Result<Vec<u8>, Fault>
     ensures bound { IfOk result (λ bytes. vec_len bytes ≤ LONGEST_READ) }
     ensures bytes { IfOk result (λ bytes. Consumes (R.remaining reader.old) (R.remaining reader.new) bytes.items) }
     ensures end { IfOk result (λ bytes. bytes.items ≡ [] → IsAtEnd (R.remaining reader.new)) }
@@ -96,7 +96,7 @@ pub fn read_some<R: Read>(alloc: Global, reader: &mut R) -> Result<Vec<u8>, Faul
 }
 
 /// Writes the whole text to a writer.
-pub fn write_text<W: Write>(writer: &mut W, text: &[u8]) -> Result<(), Fault>
+pub(crate) fn write_text<W: Write>(writer: &mut W, text: &[u8]) -> Result<(), Fault>
     ensures whole { OnOk result (Appends (W.contents writer.old) (W.contents writer.new) text.now) }
     ensures answered { result ≢ Err Halt }
 {
@@ -104,7 +104,7 @@ pub fn write_text<W: Write>(writer: &mut W, text: &[u8]) -> Result<(), Fault>
 }
 
 /// A file for reading that holds this text and has no name.
-pub fn here_file(rt: &HostRuntime, text: &str) -> Result<File, Fault>
+pub(crate) fn here_file(rt: &HostRuntime, text: &str) -> Result<File, Fault>
     ensures { result ≢ Err Halt }
 {
     let (mut writer, reader) = nameless_file(rt).map_err(|error| fault_of(&error))?;

@@ -10,20 +10,20 @@ use std::process::{Command, Stdio};
 
 /// A copy of what a slot names, to be a descriptor of a child.
 #[derive(Drop)]
-pub struct Stream {
+pub(crate) struct Stream {
     pub slot: Slot,
     pub copy: Stdio,
 }
 
 /// A command that has the descriptors of its child, each a copy of what a slot names.
 #[derive(Drop)]
-pub struct Connected {
+pub(crate) struct Connected {
     pub command: Command,
     pub slots: Slots,
 }
 
 /// A copy of one of this process's own descriptors, the one that the slot names.
-pub fn own_copy<F: AsFd + AsRawFd>(own: &F, slot: Slot) -> io::Result<Stream>
+pub(crate) fn own_copy<F: AsFd + AsRawFd>(own: &F, slot: Slot) -> io::Result<Stream>
     requires { IsOwn (F.raw_fd own.now) slot }
     ensures { IfOk result (λ stream. stream.slot ≡ slot) }
 {
@@ -32,7 +32,7 @@ pub fn own_copy<F: AsFd + AsRawFd>(own: &F, slot: Slot) -> io::Result<Stream>
 }
 
 /// Gives a command its descriptor 0.
-pub fn set_input(command: &mut Command, stream: Stream, _slots: Slots)
+pub(crate) fn set_input(command: &mut Command, stream: Stream, _slots: Slots)
     requires { stream.slot ≡ _slots.input }
     ensures call { SameProgramAndArgs command.old command.new }
     ensures env { SameEnv command.old command.new }
@@ -41,7 +41,7 @@ pub fn set_input(command: &mut Command, stream: Stream, _slots: Slots)
 }
 
 /// Gives a command its descriptor 1.
-pub fn set_output(command: &mut Command, stream: Stream, _slots: Slots)
+pub(crate) fn set_output(command: &mut Command, stream: Stream, _slots: Slots)
     requires { stream.slot ≡ _slots.output }
     ensures call { SameProgramAndArgs command.old command.new }
     ensures env { SameEnv command.old command.new }
@@ -50,7 +50,7 @@ pub fn set_output(command: &mut Command, stream: Stream, _slots: Slots)
 }
 
 /// Gives a command its descriptor 2.
-pub fn set_errors(command: &mut Command, stream: Stream, _slots: Slots)
+pub(crate) fn set_errors(command: &mut Command, stream: Stream, _slots: Slots)
     requires { stream.slot ≡ _slots.errors }
     ensures call { SameProgramAndArgs command.old command.new }
     ensures env { SameEnv command.old command.new }

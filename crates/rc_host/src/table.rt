@@ -10,7 +10,7 @@ use std::marker::Model;
 
 /// Things, each held at a number.
 #[derive(Drop)]
-pub struct Table<T> {
+pub(crate) struct Table<T> {
     places: Vec<Option<T>>,
 }
 
@@ -22,7 +22,7 @@ impl<T> Model for Table<T> {
 
 impl<T: Drop> Table<T> {
     /// Nothing is held.
-    pub fn new(alloc: Global) -> Table<T>
+    pub(crate) fn new(alloc: Global) -> Table<T>
         ensures { (k : ℕ) → held_at result k ≡ None }
     {
         Table {
@@ -31,14 +31,14 @@ impl<T: Drop> Table<T> {
     }
 
     /// What is held at the number.
-    pub fn get(&self, number: u32) -> Option<&T>
+    pub(crate) fn get(&self, number: u32) -> Option<&T>
         ensures { option_copied result ≡ held_at self.now number }
     {
         self.places.get(number as usize)?.as_ref()
     }
 
     /// The least number that is not held, and a place for it.
-    pub fn room(&mut self) -> Result<u32, Fault>
+    pub(crate) fn room(&mut self) -> Result<u32, Fault>
         ensures least { IfOk result (IsLeastFree self.old) }
         ensures place { IfOk result (λ n. n < length self.new) }
         ensures same { HoldsTheSame self.old self.new }
@@ -48,7 +48,7 @@ impl<T: Drop> Table<T> {
     }
 
     /// The two least numbers that are not held, and places for them.
-    pub fn room_for_two(&mut self) -> Result<(u32, u32), Fault>
+    pub(crate) fn room_for_two(&mut self) -> Result<(u32, u32), Fault>
         ensures least { IfOk result (λ numbers. AreLeastFree self.old numbers.0 numbers.1) }
         ensures places { IfOk result (λ numbers. numbers.1 < length self.new) }
         ensures same { HoldsTheSame self.old self.new }
@@ -94,7 +94,7 @@ impl<T: Drop> Table<T> {
     }
 
     /// Holds a thing at a number for which there is room.
-    pub fn put(&mut self, number: u32, thing: T)
+    pub(crate) fn put(&mut self, number: u32, thing: T)
         requires { number < length self.old }
         ensures changed { ChangesOnly self.old self.new number (Some thing) }
         ensures places { length self.new ≡ length self.old }
@@ -103,7 +103,7 @@ impl<T: Drop> Table<T> {
     }
 
     /// What was held at the number, which is free then.
-    pub fn take(&mut self, number: u32) -> Option<T>
+    pub(crate) fn take(&mut self, number: u32) -> Option<T>
         ensures taken { result ≡ held_at self.old number }
         ensures freed { ChangesOnly self.old self.new number None }
     {

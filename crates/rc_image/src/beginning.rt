@@ -7,10 +7,10 @@ use rc_model::ImageFault;
 use rc_spelling::{begins_number, number};
 
 /// What an image in one word begins with.
-pub const MARK: &str = "rc1;";
+pub(crate) const MARK: &str = "rc1;";
 
 /// What the first word of an image in pieces begins with.
-pub const PIECES_MARK: &str = "rc2;";
+pub(crate) const PIECES_MARK: &str = "rc2;";
 
 /// What the marks of all versions begin with.
 const VERSION_MARK: &str = "rc";
@@ -34,7 +34,7 @@ fn has_version(bytes: &[u8]) -> bool
 
 /// The fault of another beginning than that of an image.
 #[tactic(auto, using(crate::proofs::Beginnings::faults))]
-pub fn beginning_fault(text: &str) -> ImageFault
+pub(crate) fn beginning_fault(text: &str) -> ImageFault
     ensures { result ≡ fault_here text.now }
 {
     let Some(rest) = text.strip_prefix(VERSION_MARK) else {

@@ -8,7 +8,7 @@ use rc_scope::is_function_name;
 use std::alloc::{AllocError, Global};
 
 /// What stands before the first `=` of an entry, and what stands after it.
-pub fn cut_entry(entry: &str) -> Option<(&str, &str)>
+pub(crate) fn cut_entry(entry: &str) -> Option<(&str, &str)>
     ensures { option_map pair_of result ≡ cut_entry entry.now }
 {
     entry.split_once('=')
@@ -46,7 +46,7 @@ fn unescaped(alloc: Global, text: &str) -> Result<String, AllocError>
 }
 
 /// The members of a value, which stand between bytes 1.
-pub fn members(alloc: Global, text: &str) -> Result<Vec<String>, AllocError>
+pub(crate) fn members(alloc: Global, text: &str) -> Result<Vec<String>, AllocError>
     ensures { IfOk result (λ members. map string_bytes members.items ≡ members_of text.now) }
 {
     let mut members = Vec::new(alloc);
@@ -60,7 +60,7 @@ pub fn members(alloc: Global, text: &str) -> Result<Vec<String>, AllocError>
 }
 
 /// The name of a function and its image, where an entry is one of a function.
-pub fn function_entry(entry: &str) -> Option<(&str, &str)>
+pub(crate) fn function_entry(entry: &str) -> Option<(&str, &str)>
     ensures { option_map pair_of result ≡ function_in (cut_entry entry.now) }
 {
     let Some((key, image)) = cut_entry(entry) else {

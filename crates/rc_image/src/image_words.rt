@@ -85,7 +85,7 @@ fn read_several(
 
 /// The tree of the first of these words, in a box, and how many of them it takes.
 #[tactic(auto, using(std::proofs::lemmas::Grind::common_steps))]
-pub fn read_words(alloc: Global, words: &[String]) -> Result<(Box<Cmd>, usize), ImageError>
+pub(crate) fn read_words(alloc: Global, words: &[String]) -> Result<(Box<Cmd>, usize), ImageError>
     ensures { Gives (λ x. (cmd_tree x.0.value, x.1)) result (read_pieces (map string_bytes words.now)) }
 {
     let Some((first, rest)) = words.split_first() else {

@@ -56,7 +56,7 @@ fn several_words(alloc: Global, mut pieces: Vec<String>) -> Result<Vec<String>, 
 
 /// The words of a spelling.
 #[tactic(auto, using(crate::proofs::Cuts::words))]
-pub fn words_of(alloc: Global, spelling: &str) -> Result<Vec<String>, ImageError>
+pub(crate) fn words_of(alloc: Global, spelling: &str) -> Result<Vec<String>, ImageError>
     ensures { Writes (λ words. map string_bytes words.items) result (written spelling.now) }
 {
     if spelling.len() <= LONGEST_SPELLING {

@@ -24,7 +24,7 @@ fn is_ignored(name: &str, own: bool) -> bool
 }
 
 /// Sets a variable. One with a bad name is ignored.
-pub fn set_value(state: &mut State, name: &str, value: Vec<String>) -> Result<(), AllocError>
+pub(crate) fn set_value(state: &mut State, name: &str, value: Vec<String>) -> Result<(), AllocError>
     ensures { OnOk result (state_of state.new
         ≡ (if is_name name.now
         then set_value (state_of state.old) name.now (map string_bytes value.items)

@@ -5,7 +5,7 @@ ghost use Rattle.std.specs.Prelude.{◌≡◌, ◌++◌, OnOk, map, string_bytes
 use std::alloc::AllocError;
 
 /// Adds copies of these texts.
-pub fn push_copies(out: &mut Vec<String>, texts: &[String]) -> Result<(), AllocError>
+pub(crate) fn push_copies(out: &mut Vec<String>, texts: &[String]) -> Result<(), AllocError>
     ensures { OnOk result
         (map string_bytes out.new.items ≡ map string_bytes out.old.items ++ map string_bytes texts.now) }
 {

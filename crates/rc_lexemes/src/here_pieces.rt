@@ -13,7 +13,7 @@ use std::alloc::{AllocError, Global};
 
 /// What has begun: a text, a text with a `$` after it, or a name.
 #[derive(Drop)]
-pub enum Begun {
+pub(crate) enum Begun {
     Plain(String),
     Dollar(String),
     Naming(String),
@@ -21,7 +21,7 @@ pub enum Begun {
 
 /// The pieces of a body, whose mark is quoted or not.
 #[tactic(auto, using(crate::proofs::Pieces::pieces))]
-pub fn pieces(alloc: Global, quoted: bool, body: &str) -> Result<Vec<Piece>, AllocError>
+pub(crate) fn pieces(alloc: Global, quoted: bool, body: &str) -> Result<Vec<Piece>, AllocError>
     ensures { IfOk result (λ v. pieces_tree v.items ≡ pieces_of quoted body.now) }
 {
     let mut pieces = Vec::new(alloc);

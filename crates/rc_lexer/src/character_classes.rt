@@ -6,7 +6,7 @@ ghost use Rattle.rc_model.specs.Syntax.Tokens.{class_of};
 use rc_model::Class;
 
 /// What the character is outside of quotes and comments.
-pub fn class_of(c: char) -> Class
+pub(crate) fn class_of(c: char) -> Class
     ensures { result ≡ class_of c }
 {
     match c {

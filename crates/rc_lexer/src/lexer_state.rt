@@ -9,14 +9,14 @@ use std::collections::VecDeque;
 
 /// Where a token begins, and what stands directly before it.
 #[derive(Clone, Copy)]
-pub struct TokenStart {
+pub(crate) struct TokenStart {
     pub previous: Previous,
     pub place: Place,
 }
 
 /// What has begun and has not ended.
 #[derive(Clone, Copy)]
-pub enum State {
+pub(crate) enum State {
     Between(Previous),
     Comment,
     /// A backslash, which makes a newline a blank.
@@ -35,7 +35,7 @@ pub enum State {
 
 /// The character that is read now, with the places before and after it.
 #[derive(Clone, Copy)]
-pub struct CurrentChar {
+pub(crate) struct CurrentChar {
     pub character: char,
     pub class: Class,
     pub place: Place,
@@ -44,14 +44,14 @@ pub struct CurrentChar {
 
 /// A here document whose body is still to come.
 #[derive(Drop)]
-pub struct PendingHereDoc {
+pub(crate) struct PendingHereDoc {
     pub(crate) mark: Vec<u8>,
     pub(crate) line: usize,
 }
 
 /// What is read so far.
 #[derive(Drop)]
-pub struct Lexer {
+pub(crate) struct Lexer {
     pub(crate) alloc: Global,
     pub(crate) tokens: Vec<Token>,
     /// The `$`s whose name is still to come.
@@ -62,7 +62,7 @@ pub struct Lexer {
 
 impl Lexer {
     /// Nothing is read yet.
-    pub fn new(alloc: Global) -> Self
+    pub(crate) fn new(alloc: Global) -> Self
         ensures tokens { result.tokens.items ≡ [] }
         ensures bodies { result.bodies.items ≡ [] }
         ensures pending { result.pending.items ≡ [] }

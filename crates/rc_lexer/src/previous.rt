@@ -10,7 +10,7 @@ use rc_model::Previous;
 use rc_text::is_name_char;
 
 /// Whether a `^` is inserted before the token.
-pub fn wants_caret(previous: Previous, kind: TokenKind) -> bool
+pub(crate) fn wants_caret(previous: Previous, kind: TokenKind) -> bool
     ensures { (script text : List ℕ) → result ≡ model.wants_caret previous (lexeme_of script kind text) }
 {
     let begins_part = matches!(
@@ -30,7 +30,7 @@ pub fn wants_caret(previous: Previous, kind: TokenKind) -> bool
 }
 
 /// What stands before the place after a blank.
-pub fn after_blank(previous: Previous) -> Previous
+pub(crate) fn after_blank(previous: Previous) -> Previous
     ensures { result ≡ model.after_blank previous }
 {
     match previous {
@@ -40,7 +40,7 @@ pub fn after_blank(previous: Previous) -> Previous
 }
 
 /// The same where the mark of a `<<` no longer comes.
-pub fn without_here(previous: Previous) -> Previous
+pub(crate) fn without_here(previous: Previous) -> Previous
     ensures value { result ≡ reading.without_here previous }
     ensures apart { model.awaits_mark result ≡ false }
 {
@@ -51,7 +51,7 @@ pub fn without_here(previous: Previous) -> Previous
 }
 
 /// Whether the character begins the name of a `$`.
-pub fn begins_name(previous: Previous, c: char) -> bool
+pub(crate) fn begins_name(previous: Previous, c: char) -> bool
     ensures { result ≡ model.begins_name previous c }
 {
     match previous {
@@ -61,7 +61,7 @@ pub fn begins_name(previous: Previous, c: char) -> bool
 }
 
 /// What the token is for what follows.
-pub fn after_token(previous: Previous, kind: TokenKind) -> Previous
+pub(crate) fn after_token(previous: Previous, kind: TokenKind) -> Previous
     ensures { (script text : List ℕ) → result
         ≡ model.after_token previous (lexeme_of script kind text) }
 {
@@ -77,7 +77,7 @@ pub fn after_token(previous: Previous, kind: TokenKind) -> Previous
 }
 
 /// What the operator means here, where no name follows: what the definitions call `meant`.
-pub fn meaning_after(previous: Previous, kind: TokenKind) -> TokenKind
+pub(crate) fn meaning_after(previous: Previous, kind: TokenKind) -> TokenKind
     ensures { (script text : List ℕ) → lexeme_of script result text
         ≡ model.meant previous [] (lexeme_of script kind text) }
 {

@@ -15,7 +15,7 @@ use rc_text::unquote;
 use std::alloc::AllocError;
 
 /// The token of this kind between two places.
-pub fn token_between(kind: TokenKind, start: Place, stop: Place) -> Token
+pub(crate) fn token_between(kind: TokenKind, start: Place, stop: Place) -> Token
     ensures { result
         ≡ record { kind = kind; span = record { start = start.byte; stop = stop.byte }; line = start.line } }
 {

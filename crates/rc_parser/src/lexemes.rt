@@ -15,7 +15,11 @@ use std::alloc::{AllocError, Global};
 use std::str;
 
 /// The lexemes of the tokens of a script.
-pub fn lexemes(alloc: Global, script: &[u8], tokens: &[Token]) -> Result<Vec<Lexeme>, AllocError>
+pub(crate) fn lexemes(
+    alloc: Global,
+    script: &[u8],
+    tokens: &[Token],
+) -> Result<Vec<Lexeme>, AllocError>
     requires { AreSpelled (lexemes (tokens_of script.now tokens.now)) }
     ensures { IfOk result (λ v. lexemes_of v.items ≡ lexemes (tokens_of script.now tokens.now)) }
 {

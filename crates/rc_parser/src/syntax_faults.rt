@@ -11,7 +11,7 @@ use rc_lexer::Token;
 use rc_model::{DescentFault, FaultKind, SyntaxFault};
 
 /// The fault of a script whose tokens have this one.
-pub fn syntax_fault(script: &[u8], tokens: &[Token], found: TokenFault) -> SyntaxFault
+pub(crate) fn syntax_fault(script: &[u8], tokens: &[Token], found: TokenFault) -> SyntaxFault
     requires { length script.now ≤ longest_script }
     ensures { IsPlaced script.now (tokens_of script.now tokens.now) found.fault result }
 {

@@ -9,7 +9,7 @@ use std::str;
 
 /// The script as text, if it is short enough and UTF-8.
 #[tactic(auto, using(crate::proofs::Texts::texts))]
-pub fn checked(script: &[u8]) -> Result<&str, SyntaxFault>
+pub(crate) fn checked(script: &[u8]) -> Result<&str, SyntaxFault>
     ensures text { IfOk result (λ s. s.now ≡ script.now) }
     ensures utf8 { IfOk result (λ s. IsUtf8 s.now) }
     ensures short { OnOk result (length script.now ≤ longest_script) }
@@ -28,7 +28,7 @@ pub fn checked(script: &[u8]) -> Result<&str, SyntaxFault>
 }
 
 /// The line of the byte at this place.
-pub fn line_of(script: &[u8], place: usize) -> usize
+pub(crate) fn line_of(script: &[u8], place: usize) -> usize
     requires inside { place ≤ length script.now }
     requires short { length script.now ≤ longest_script }
     ensures { result ≡ line_of script.now place }

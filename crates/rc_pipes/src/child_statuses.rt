@@ -13,7 +13,11 @@ use rc_world::{ChildNo, Stop, World, calls};
 use std::alloc::{AllocError, Global};
 
 /// Waits for a child: the status by which it ended.
-pub fn wait_child<W: World>(alloc: Global, world: &mut W, child: ChildNo) -> Result<String, Stop>
+pub(crate) fn wait_child<W: World>(
+    alloc: Global,
+    world: &mut W,
+    child: ChildNo,
+) -> Result<String, Stop>
     ensures { (s : model.State) → Reads W.events world.old world.new s (waited child.0) string_bytes result }
 {
     let ending = calls::wait(world, child)?;

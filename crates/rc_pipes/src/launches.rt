@@ -42,7 +42,7 @@ fn shell_launch(
 
 /// Starts a shell with a command.
 #[tactic(auto, using(crate::proofs::Acts::acting))]
-pub fn start_shell<W: World>(
+pub(crate) fn start_shell<W: World>(
     alloc: Global,
     world: &mut W,
     state: &State,

@@ -16,7 +16,7 @@ pub struct ReadBytes {
 }
 
 /// Reads up to the empty answer, and until there are more than this many bytes.
-pub fn read_all<W: World>(
+pub(crate) fn read_all<W: World>(
     alloc: Global,
     world: &mut W,
     handle: Handle,

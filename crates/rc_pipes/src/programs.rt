@@ -39,7 +39,7 @@ pub fn is_path(name: &str) -> bool
 }
 
 /// Where a program or a file of commands may be.
-pub fn candidate(alloc: Global, dir: &str, name: &str) -> Result<String, AllocError>
+pub(crate) fn candidate(alloc: Global, dir: &str, name: &str) -> Result<String, AllocError>
     ensures { IfOk result (λ path. string_bytes path ≡ candidate dir.now name.now) }
 {
     if dir.is_empty() || dir == "." {
@@ -94,7 +94,7 @@ pub fn find_program<W: World>(
 }
 
 /// The status by which a child ended; `None` where it could not be waited for.
-pub fn ending_status(alloc: Global, ending: Option<Ending>) -> Result<String, AllocError>
+pub(crate) fn ending_status(alloc: Global, ending: Option<Ending>) -> Result<String, AllocError>
     ensures { IfOk result (λ status. string_bytes status ≡ ending_status ending) }
 {
     match ending {
@@ -133,7 +133,7 @@ fn refuse<W: World>(
 
 /// What the start of a child gave.
 #[derive(Clone, Copy)]
-pub enum Started {
+pub(crate) enum Started {
     Child(ChildNo),
     /// There is no child, and this is why.
     NoChild(&'static str),
@@ -148,7 +148,7 @@ fn is_fit(launch: &Launch) -> bool
 
 /// Starts a child, where its arguments and entries are short enough.
 #[tactic(auto, using(crate::proofs::ProgramActs::acting))]
-pub fn start_child<W: World>(world: &mut W, launch: &Launch) -> Result<Started, Stop>
+pub(crate) fn start_child<W: World>(world: &mut W, launch: &Launch) -> Result<Started, Stop>
     ensures { (s : model.State) →
         Reads W.events world.old world.new s (started (launch_of launch.now)) started_of result }
 {

@@ -18,7 +18,7 @@ use std::alloc::Global;
 
 /// What became of a stage.
 #[derive(Clone, Copy)]
-pub enum StageStart {
+pub(crate) enum StageStart {
     /// It runs as this child, and the next reads from this end.
     Running { read_end: Handle, child: ChildNo },
     /// It was not started, and this is why. Nothing is held.

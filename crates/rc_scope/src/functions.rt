@@ -15,7 +15,7 @@ use std::rc::Rc;
 
 /// A function of a shell.
 #[derive(Drop)]
-pub struct Function {
+pub(crate) struct Function {
     body: Rc<Cmd>,
     /// The code of the body, once it was asked for.
     compiled: Option<Code>,
@@ -41,7 +41,7 @@ impl Model for Function {
 
 impl Function {
     /// A function whose body is not compiled yet.
-    pub fn new(body: Rc<Cmd>) -> Function
+    pub(crate) fn new(body: Rc<Cmd>) -> Function
         ensures { result ≡ body.value }
     {
         Function {
@@ -50,14 +50,14 @@ impl Function {
         }
     }
 
-    pub fn body(&self) -> &Cmd
+    pub(crate) fn body(&self) -> &Cmd
         ensures { result.now ≡ self.now }
     {
         &self.body
     }
 
     /// The code of the body, which is compiled where it is first asked for.
-    pub fn code(&mut self, alloc: Global) -> Result<Code, AllocError>
+    pub(crate) fn code(&mut self, alloc: Global) -> Result<Code, AllocError>
         ensures code { IfOk result (λ done. code_of done ≡ code (cmd_tree self.old)) }
         ensures same { self.new ≡ self.old }
     {
@@ -73,7 +73,7 @@ impl Function {
 
 /// The names of functions, in byte order.
 #[tactic(auto, using(crate::proofs::Bodies::names))]
-pub fn names(
+pub(crate) fn names(
     alloc: Global,
     functions: &BTreeMap<String, Function>,
 ) -> Result<Vec<String>, AllocError>

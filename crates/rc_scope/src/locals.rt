@@ -8,7 +8,7 @@ use std::alloc::{AllocError, Global};
 
 /// The name of a local. Those that the shell itself gives take no memory: each call of a function binds `$*`.
 #[derive(Drop)]
-pub enum LocalName {
+pub(crate) enum LocalName {
     Arguments,
     Status,
     Other(String),
@@ -16,7 +16,7 @@ pub enum LocalName {
 
 impl LocalName {
     /// This name.
-    pub fn of(alloc: Global, name: &str) -> Result<LocalName, AllocError>
+    pub(crate) fn of(alloc: Global, name: &str) -> Result<LocalName, AllocError>
         ensures { IfOk result (λ local. name_of local ≡ name.now) }
     {
         if name == "*" {
@@ -26,7 +26,7 @@ impl LocalName {
     }
 
     /// The name as a text.
-    pub fn as_str(&self) -> &str
+    pub(crate) fn as_str(&self) -> &str
         ensures { result.now ≡ name_of self.now }
     {
         match self {
@@ -39,7 +39,7 @@ impl LocalName {
 
 /// An open local.
 #[derive(Drop)]
-pub struct Local {
+pub(crate) struct Local {
     pub name: LocalName,
     /// What it covers: nothing where its name had no value.
     pub covered: Value,

@@ -16,7 +16,7 @@ use std::mem::replace;
 
 /// The value of a variable, as it is visible or covered.
 #[derive(Drop)]
-pub struct Value {
+pub(crate) struct Value {
     pub texts: Vec<String>,
     /// Whether it covers another one, which the log has.
     pub covers: bool,
@@ -24,7 +24,7 @@ pub struct Value {
 
 /// The values of variables: a name is looked for only among those that begin with its first byte.
 #[derive(Drop)]
-pub struct Values {
+pub(crate) struct Values {
     /// The place of a row is the byte that its names begin with; the empty name is in the first.
     rows: Vec<BTreeMap<String, Value>>,
 }
@@ -70,7 +70,7 @@ fn grow(
 
 impl Values {
     /// No values.
-    pub fn new(alloc: Global) -> Values
+    pub(crate) fn new(alloc: Global) -> Values
         ensures { result ≡ [] }
     {
         Values {
@@ -79,7 +79,7 @@ impl Values {
     }
 
     /// The value at a name.
-    pub fn get(&self, name: &str) -> Option<&Value>
+    pub(crate) fn get(&self, name: &str) -> Option<&Value>
         ensures { option_copied result ≡ lookup (is_named name.now) self.now }
     {
         let row = row_of(name);
@@ -90,7 +90,7 @@ impl Values {
     }
 
     /// Writes a value over the one at a name, and gives that; or gives the value back where there is none.
-    pub fn replace(&mut self, name: &str, value: Value) -> Result<Value, Value>
+    pub(crate) fn replace(&mut self, name: &str, value: Value) -> Result<Value, Value>
         ensures found { IfOk result (λ old. lookup (is_named name.now) self.old ≡ Some old) }
         ensures new { OnOk result (self.new ≡ set_value (is_named name.now) self.old value) }
         ensures absent { OnErr result (lookup (is_named name.now) self.old ≡ None) }
@@ -110,7 +110,7 @@ impl Values {
     }
 
     /// Writes texts over those of the value at a name; or gives them back where there is none.
-    pub fn write(&mut self, name: &str, texts: Vec<String>) -> Result<(), Vec<String>>
+    pub(crate) fn write(&mut self, name: &str, texts: Vec<String>) -> Result<(), Vec<String>>
         ensures found { OnOk result (is_some (lookup (is_named name.now) self.old) ≡ true) }
         ensures new { OnOk result (self.new ≡ set_value (is_named name.now) self.old
             (record { texts = texts; covers = covers_in name.now self.old })) }
@@ -132,7 +132,12 @@ impl Values {
     }
 
     /// Puts a value in at a name. An `Err` changes nothing.
-    pub fn insert(&mut self, alloc: Global, name: String, value: Value) -> Result<(), AllocError>
+    pub(crate) fn insert(
+        &mut self,
+        alloc: Global,
+        name: String,
+        value: Value,
+    ) -> Result<(), AllocError>
         ensures ok { OnOk result (self.new ≡ insert_entry string_cmp self.old name value) }
         ensures err { OnErr result (self.new ≡ self.old) }
         ensures ordered { IsStrictlySortedBy string_cmp (keys_of self.old) }
@@ -145,7 +150,7 @@ impl Values {
     }
 
     /// Takes the value at a name away, where there is one.
-    pub fn remove(&mut self, name: &str)
+    pub(crate) fn remove(&mut self, name: &str)
         ensures taken { self.new ≡ remove_entry (is_named name.now) self.old }
         ensures gone { lookup (is_named name.now) self.new ≡ None }
     {
@@ -158,7 +163,7 @@ impl Values {
     }
 
     /// The rows, in byte order of their names.
-    pub fn rows(&self) -> &[BTreeMap<String, Value>]
+    pub(crate) fn rows(&self) -> &[BTreeMap<String, Value>]
         ensures { entries_of result.now ≡ self.now }
     {
         self.rows.as_slice()

@@ -19,7 +19,7 @@ use std::collections::BTreeMap;
 
 /// The variables of a shell, with its open locals.
 #[derive(Drop)]
-pub struct Variables {
+pub(crate) struct Variables {
     values: Values,
     /// The open locals, the newest last.
     log: Vec<Local>,
@@ -76,7 +76,7 @@ impl Variables {
 
     /// No variables.
     #[tactic(auto, unfolding(crate::specs::Stacks::stacks_of, crate::specs::Stacks::locals_of))]
-    pub fn new(alloc: Global) -> Variables
+    pub(crate) fn new(alloc: Global) -> Variables
         ensures stacks { stacks_of result ≡ [] }
         ensures locals { locals_of result ≡ [] }
     {
@@ -88,7 +88,7 @@ impl Variables {
 
     /// The visible value of a variable: empty where it was never assigned.
     #[tactic(auto, using(crate::proofs::Stacks::variables), unfolding(crate::specs::Stacks::stacks_of))]
-    pub fn get(&self, name: &str) -> &[String]
+    pub(crate) fn get(&self, name: &str) -> &[String]
         ensures { map string_bytes result.now ≡ visible (stack_in (stacks_of self.now) name.now) }
     {
         match self.values.get(name) {
@@ -99,7 +99,12 @@ impl Variables {
 
     /// Changes the visible value. An `Err` changes nothing.
     #[tactic(auto, using(crate::proofs::Stacks::variables), unfolding(crate::specs::Stacks::stacks_of))]
-    pub fn set(&mut self, alloc: Global, name: &str, texts: Vec<String>) -> Result<(), AllocError>
+    pub(crate) fn set(
+        &mut self,
+        alloc: Global,
+        name: &str,
+        texts: Vec<String>,
+    ) -> Result<(), AllocError>
         ensures ok { OnOk result (stacks_of self.new
             ≡ put_values (stacks_of self.old) name.now (map string_bytes texts.items
             ∷ covered (stack_in (stacks_of self.old) name.now))) }
@@ -119,7 +124,12 @@ impl Variables {
 
     /// Takes the first members of the visible value away. An `Err` changes nothing.
     #[tactic(auto, using(crate::proofs::Stacks::variables), unfolding(crate::specs::Stacks::stacks_of))]
-    pub fn drop_first(&mut self, alloc: Global, name: &str, count: usize) -> Result<(), AllocError>
+    pub(crate) fn drop_first(
+        &mut self,
+        alloc: Global,
+        name: &str,
+        count: usize,
+    ) -> Result<(), AllocError>
         ensures ok { OnOk result (stacks_of self.new
             ≡ put_values (stacks_of self.old) name.now (drop count (visible (stack_in (stacks_of self.old) name.now))
             ∷ covered (stack_in (stacks_of self.old) name.now))) }
@@ -177,7 +187,12 @@ impl Variables {
 
     /// A new local with this value. An `Err` changes nothing.
     #[tactic(auto, using(crate::proofs::Stacks::variables), unfolding(crate::specs::Stacks::stacks_of))]
-    pub fn push(&mut self, alloc: Global, name: &str, texts: Vec<String>) -> Result<(), AllocError>
+    pub(crate) fn push(
+        &mut self,
+        alloc: Global,
+        name: &str,
+        texts: Vec<String>,
+    ) -> Result<(), AllocError>
         requires { bytes_eq name.now status_name ≡ false }
         ensures ok { OnOk result (stacks_of self.new
             ≡ put_values (stacks_of self.old) name.now (map string_bytes texts.items
@@ -198,7 +213,7 @@ impl Variables {
 
     /// A new local of the status, which covers nothing. An `Err` changes nothing.
     #[tactic(auto, using(crate::proofs::Stacks::variables), unfolding(crate::specs::Stacks::stacks_of))]
-    pub fn push_status(&mut self, alloc: Global) -> Result<(), AllocError>
+    pub(crate) fn push_status(&mut self, alloc: Global) -> Result<(), AllocError>
         ensures stacks { stacks_of self.new ≡ stacks_of self.old }
         ensures ok { OnOk result (locals_of self.new ≡ status_name ∷ locals_of self.old) }
         ensures err { OnErr result (locals_of self.new ≡ locals_of self.old) }
@@ -245,7 +260,7 @@ impl Variables {
 
     /// The newest local ends.
     #[tactic(auto, using(crate::proofs::Stacks::variables), unfolding(crate::specs::Stacks::stacks_of))]
-    pub fn pop(&mut self)
+    pub(crate) fn pop(&mut self)
         ensures stacks { stacks_of self.new ≡ uncovered (locals_of self.old) (stacks_of self.old) }
         ensures locals { locals_of self.new ≡ without_newest (locals_of self.old) }
     {
@@ -257,7 +272,7 @@ impl Variables {
 
     /// The names of the variables that have members, in byte order.
     #[tactic(auto, using(crate::proofs::Stacks::names), unfolding(crate::specs::Stacks::stacks_of))]
-    pub fn names(&self, alloc: Global) -> Result<Vec<String>, AllocError>
+    pub(crate) fn names(&self, alloc: Global) -> Result<Vec<String>, AllocError>
         ensures { IfOk result (λ names. map string_bytes names.items ≡ flat_names (stacks_of self.now)) }
     {
         let mut names = Vec::new(alloc);
@@ -269,7 +284,7 @@ impl Variables {
 
     /// Each variable with its visible value, in byte order of the names.
     #[tactic(auto, using(crate::proofs::Stacks::names), unfolding(crate::specs::Stacks::stacks_of))]
-    pub fn bindings(&self, alloc: Global) -> Result<Vec<Binding<'_>>, AllocError>
+    pub(crate) fn bindings(&self, alloc: Global) -> Result<Vec<Binding<'_>>, AllocError>
         ensures { IfOk result (λ all. bindings_of all.items ≡ visible_values (stacks_of self.now)) }
     {
         let mut all = Vec::new(alloc);

@@ -40,7 +40,7 @@ pub enum ShellFault {
 }
 
 /// Runs a command that is a script of its own.
-pub fn run_tree<W: World>(
+pub(crate) fn run_tree<W: World>(
     alloc: Global,
     world: &mut W,
     cmd: Cmd,

@@ -12,7 +12,7 @@ use rc_model::{ImageFault, InputError};
 
 /// The byte that stands here, and those after it.
 #[tactic(auto, using(crate::proofs::Digits::firsts))]
-pub fn first(bytes: &[u8]) -> Result<(u8, &[u8]), ImageError>
+pub(crate) fn first(bytes: &[u8]) -> Result<(u8, &[u8]), ImageError>
     ensures { Gives (λ x. (x.0, x.1.now)) result (first_by bytes.now) }
 {
     match bytes.split_first() {
@@ -78,7 +78,7 @@ pub fn number(bytes: &[u8]) -> Option<(usize, &[u8])>
 
 /// A number and the mark that follows it.
 #[tactic(auto, using(crate::proofs::Digits::counts))]
-pub fn count_at(mark: u8, bytes: &[u8]) -> Result<(usize, &[u8]), ImageError>
+pub(crate) fn count_at(mark: u8, bytes: &[u8]) -> Result<(usize, &[u8]), ImageError>
     ensures { Gives (λ x. (x.0, x.1.now)) result (number_by mark bytes.now) }
 {
     if !begins_number(bytes) {
@@ -98,7 +98,7 @@ pub fn count_at(mark: u8, bytes: &[u8]) -> Result<(usize, &[u8]), ImageError>
 
 /// How many things a list has, where these are enough.
 #[tactic(auto, unfolding(crate::specs::Steps::count_from))]
-pub fn count_from(least: usize, bytes: &[u8]) -> Result<(usize, &[u8]), ImageError>
+pub(crate) fn count_from(least: usize, bytes: &[u8]) -> Result<(usize, &[u8]), ImageError>
     ensures { Gives (λ x. (x.0, x.1.now)) result (count_from least bytes.now) }
 {
     let (count, rest) = count_at(b',', bytes)?;
@@ -110,7 +110,7 @@ pub fn count_from(least: usize, bytes: &[u8]) -> Result<(usize, &[u8]), ImageErr
 
 /// How many stages stand before the last one.
 #[tactic(auto, unfolding(crate::specs::Steps::stage_count))]
-pub fn stage_count(bytes: &[u8]) -> Result<(usize, &[u8]), ImageError>
+pub(crate) fn stage_count(bytes: &[u8]) -> Result<(usize, &[u8]), ImageError>
     ensures { Gives (λ x. (x.0, x.1.now)) result (stage_count bytes.now) }
 {
     let (count, rest) = count_from(1, bytes)?;

@@ -51,7 +51,7 @@ fn literal(alloc: Global, text: String, quoted: bool) -> Result<Box<Arg>, AllocE
 
 /// An unquoted word, which isn't empty.
 #[tactic(auto, using(crate::proofs::Strings::words), unfolding(crate::specs::Steps::word_by))]
-pub fn word(alloc: Global, bytes: &[u8]) -> Result<(Box<Arg>, &[u8]), ImageError>
+pub(crate) fn word(alloc: Global, bytes: &[u8]) -> Result<(Box<Arg>, &[u8]), ImageError>
     ensures { Gives (λ x. (arg_tree x.0.value, x.1.now)) result (word_by bytes.now) }
 {
     let (text, rest) = text_at(alloc, bytes)?;
@@ -63,7 +63,7 @@ pub fn word(alloc: Global, bytes: &[u8]) -> Result<(Box<Arg>, &[u8]), ImageError
 
 /// A quoted word.
 #[tactic(auto, unfolding(crate::specs::Steps::quoted_by))]
-pub fn quoted(alloc: Global, bytes: &[u8]) -> Result<(Box<Arg>, &[u8]), ImageError>
+pub(crate) fn quoted(alloc: Global, bytes: &[u8]) -> Result<(Box<Arg>, &[u8]), ImageError>
     ensures { Gives (λ x. (arg_tree x.0.value, x.1.now)) result (quoted_by bytes.now) }
 {
     let (text, rest) = text_at(alloc, bytes)?;
@@ -72,7 +72,7 @@ pub fn quoted(alloc: Global, bytes: &[u8]) -> Result<(Box<Arg>, &[u8]), ImageErr
 
 /// The descriptor of what a command writes.
 #[tactic(auto, unfolding(crate::specs::Steps::slot_by))]
-pub fn slot(bytes: &[u8]) -> Result<(u8, &[u8]), ImageError>
+pub(crate) fn slot(bytes: &[u8]) -> Result<(u8, &[u8]), ImageError>
     ensures { Gives (λ x. (x.0, x.1.now)) result (slot_by bytes.now) }
 {
     let (byte, rest) = first(bytes)?;
@@ -98,7 +98,7 @@ fn only(mark: u8, bytes: &[u8]) -> Result<(u8, &[u8]), ImageError>
 
 /// A copy of one such descriptor to the other.
 #[tactic(auto, unfolding(crate::specs::Steps::copy_by))]
-pub fn copy(alloc: Global, bytes: &[u8]) -> Result<(Box<Redir>, &[u8]), ImageError>
+pub(crate) fn copy(alloc: Global, bytes: &[u8]) -> Result<(Box<Redir>, &[u8]), ImageError>
     ensures { Gives (λ x. (redir_tree x.0.value, x.1.now)) result (copy_by bytes.now) }
 {
     let (to, rest) = first(bytes)?;
@@ -117,7 +117,7 @@ pub fn copy(alloc: Global, bytes: &[u8]) -> Result<(Box<Redir>, &[u8]), ImageErr
 
 /// Whether an item runs in the background.
 #[tactic(auto, unfolding(crate::specs::Steps::background_by))]
-pub fn background(bytes: &[u8]) -> Result<(bool, &[u8]), ImageError>
+pub(crate) fn background(bytes: &[u8]) -> Result<(bool, &[u8]), ImageError>
     ensures { Gives (λ x. (x.0, x.1.now)) result (background_by bytes.now) }
 {
     let (byte, rest) = first(bytes)?;
@@ -130,7 +130,7 @@ pub fn background(bytes: &[u8]) -> Result<(bool, &[u8]), ImageError>
 
 /// How an operand is joined to those before it.
 #[tactic(auto, unfolding(crate::specs::Steps::logic_by))]
-pub fn logic(bytes: &[u8]) -> Result<(Logic, &[u8]), ImageError>
+pub(crate) fn logic(bytes: &[u8]) -> Result<(Logic, &[u8]), ImageError>
     ensures { Gives (λ x. (x.0, x.1.now)) result (logic_by bytes.now) }
 {
     let (byte, rest) = first(bytes)?;
@@ -177,7 +177,7 @@ fn pieces(alloc: Global, bytes: &[u8]) -> Result<(Vec<Piece>, &[u8]), ImageError
 
 /// A here document.
 #[tactic(auto, using(crate::proofs::Turns::here_docs), unfolding(crate::specs::Steps::here_by))]
-pub fn here(alloc: Global, bytes: &[u8]) -> Result<(Box<Redir>, &[u8]), ImageError>
+pub(crate) fn here(alloc: Global, bytes: &[u8]) -> Result<(Box<Redir>, &[u8]), ImageError>
     ensures { Gives (λ x. (redir_tree x.0.value, x.1.now)) result (here_by bytes.now) }
 {
     let (pieces, rest) = pieces(alloc, bytes)?;

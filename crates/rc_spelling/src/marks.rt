@@ -77,7 +77,7 @@ fn redir_shape(mark: u8) -> Option<RedirShape>
 
 /// The mark of a command.
 #[tactic(auto, unfolding(crate::specs::Shapes::mark_by))]
-pub fn cmd_mark(bytes: &[u8]) -> Result<(CmdShape, &[u8]), ImageError>
+pub(crate) fn cmd_mark(bytes: &[u8]) -> Result<(CmdShape, &[u8]), ImageError>
     ensures { Gives (λ x. (x.0, x.1.now)) result (mark_by cmd_shape bytes.now) }
 {
     let (mark, rest) = first(bytes)?;
@@ -89,7 +89,7 @@ pub fn cmd_mark(bytes: &[u8]) -> Result<(CmdShape, &[u8]), ImageError>
 
 /// The mark of an argument.
 #[tactic(auto, unfolding(crate::specs::Shapes::mark_by))]
-pub fn arg_mark(bytes: &[u8]) -> Result<(ArgShape, &[u8]), ImageError>
+pub(crate) fn arg_mark(bytes: &[u8]) -> Result<(ArgShape, &[u8]), ImageError>
     ensures { Gives (λ x. (x.0, x.1.now)) result (mark_by arg_shape bytes.now) }
 {
     let (mark, rest) = first(bytes)?;
@@ -101,7 +101,7 @@ pub fn arg_mark(bytes: &[u8]) -> Result<(ArgShape, &[u8]), ImageError>
 
 /// The mark of a redirection.
 #[tactic(auto, unfolding(crate::specs::Shapes::mark_by))]
-pub fn redir_mark(bytes: &[u8]) -> Result<(RedirShape, &[u8]), ImageError>
+pub(crate) fn redir_mark(bytes: &[u8]) -> Result<(RedirShape, &[u8]), ImageError>
     ensures { Gives (λ x. (x.0, x.1.now)) result (mark_by redir_shape bytes.now) }
 {
     let (mark, rest) = first(bytes)?;

@@ -27,7 +27,11 @@ use std::alloc::Global;
 /// A command with at most this many levels.
 #[cycle(read)]
 #[tactic(auto, using(crate::proofs::Mirror::levels))]
-pub fn read_cmd(alloc: Global, left: usize, bytes: &[u8]) -> Result<(Box<Cmd>, &[u8]), ImageError>
+pub(crate) fn read_cmd(
+    alloc: Global,
+    left: usize,
+    bytes: &[u8],
+) -> Result<(Box<Cmd>, &[u8]), ImageError>
     ensures { Gives (λ x. (cmd_tree x.0.value, x.1.now)) result (cmd_at true left bytes.now) }
 {
     if left == 0 {

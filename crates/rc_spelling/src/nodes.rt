@@ -16,7 +16,11 @@ use std::alloc::{AllocError, Global};
 
 /// The node of one command.
 #[tactic(auto, unfolding(crate::specs::Nodes::body_node))]
-pub fn with_body(alloc: Global, shape: BodyShape, body: Box<Cmd>) -> Result<Box<Cmd>, AllocError>
+pub(crate) fn with_body(
+    alloc: Global,
+    shape: BodyShape,
+    body: Box<Cmd>,
+) -> Result<Box<Cmd>, AllocError>
     ensures { IfOk result (λ b. cmd_tree b.value ≡ body_node shape (cmd_tree body.value)) }
 {
     match shape {
@@ -29,7 +33,7 @@ pub fn with_body(alloc: Global, shape: BodyShape, body: Box<Cmd>) -> Result<Box<
 
 /// The node of two commands.
 #[tactic(auto, unfolding(crate::specs::Nodes::bodies_node))]
-pub fn with_bodies(
+pub(crate) fn with_bodies(
     alloc: Global,
     shape: BodiesShape,
     first: Box<Cmd>,
@@ -45,7 +49,11 @@ pub fn with_bodies(
 
 /// The node of arguments.
 #[tactic(auto, unfolding(crate::specs::Nodes::words_node))]
-pub fn with_words(alloc: Global, shape: WordsShape, words: Vec<Arg>) -> Result<Box<Cmd>, AllocError>
+pub(crate) fn with_words(
+    alloc: Global,
+    shape: WordsShape,
+    words: Vec<Arg>,
+) -> Result<Box<Cmd>, AllocError>
     ensures { IfOk result (λ b. cmd_tree b.value ≡ words_node shape (args_tree words.items)) }
 {
     match shape {
@@ -56,7 +64,11 @@ pub fn with_words(alloc: Global, shape: WordsShape, words: Vec<Arg>) -> Result<B
 
 /// The node of the name of a variable.
 #[tactic(auto, unfolding(crate::specs::Nodes::name_node))]
-pub fn with_name(alloc: Global, shape: NameShape, name: Box<Arg>) -> Result<Box<Arg>, AllocError>
+pub(crate) fn with_name(
+    alloc: Global,
+    shape: NameShape,
+    name: Box<Arg>,
+) -> Result<Box<Arg>, AllocError>
     ensures { IfOk result (λ b. arg_tree b.value ≡ name_node shape (arg_tree name.value)) }
 {
     match shape {
@@ -68,7 +80,7 @@ pub fn with_name(alloc: Global, shape: NameShape, name: Box<Arg>) -> Result<Box<
 
 /// Parts joined.
 #[tactic(auto, using(rc_tree::specs::View::tree_Concat, std::proofs::lemmas::Grind::common_steps))]
-pub fn concat(alloc: Global, parts: Vec<Arg>) -> Result<Box<Arg>, AllocError>
+pub(crate) fn concat(alloc: Global, parts: Vec<Arg>) -> Result<Box<Arg>, AllocError>
     ensures { IfOk result (λ b. arg_tree b.value ≡ t.Concat (args_tree parts.items)) }
 {
     boxed_arg(alloc, Arg::Concat(parts))
@@ -76,7 +88,11 @@ pub fn concat(alloc: Global, parts: Vec<Arg>) -> Result<Box<Arg>, AllocError>
 
 /// A pipeline.
 #[tactic(auto, using(rc_tree::specs::View::tree_Pipeline, std::proofs::lemmas::Grind::common_steps))]
-pub fn pipeline(alloc: Global, stages: Vec<Stage>, last: Box<Cmd>) -> Result<Box<Cmd>, AllocError>
+pub(crate) fn pipeline(
+    alloc: Global,
+    stages: Vec<Stage>,
+    last: Box<Cmd>,
+) -> Result<Box<Cmd>, AllocError>
     ensures { IfOk result (λ b. cmd_tree b.value ≡ t.Pipeline (stages_tree stages.items) (cmd_tree last.value)) }
 {
     boxed_cmd(alloc, Cmd::Pipeline(stages, last))
@@ -84,7 +100,7 @@ pub fn pipeline(alloc: Global, stages: Vec<Stage>, last: Box<Cmd>) -> Result<Box
 
 /// Operands of `&&` and `||`.
 #[tactic(auto, using(rc_tree::specs::View::tree_AndOr, std::proofs::lemmas::Grind::common_steps))]
-pub fn and_or(
+pub(crate) fn and_or(
     alloc: Global,
     first: Box<Cmd>,
     links: Vec<(Logic, Cmd)>,

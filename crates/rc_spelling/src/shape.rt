@@ -4,7 +4,7 @@ use rc_model::Mode;
 
 /// What follows the mark of a command.
 #[derive(Clone, Copy)]
-pub enum CmdShape {
+pub(crate) enum CmdShape {
     /// Nothing.
     Empty,
     /// Items.
@@ -25,7 +25,7 @@ pub enum CmdShape {
 
 /// A node that is made of one command.
 #[derive(Clone, Copy)]
-pub enum BodyShape {
+pub(crate) enum BodyShape {
     Not,
     Subshell,
     IfNot,
@@ -34,21 +34,21 @@ pub enum BodyShape {
 
 /// A node that is made of two commands.
 #[derive(Clone, Copy)]
-pub enum BodiesShape {
+pub(crate) enum BodiesShape {
     If,
     While,
 }
 
 /// A node that is made of arguments.
 #[derive(Clone, Copy)]
-pub enum WordsShape {
+pub(crate) enum WordsShape {
     Simple,
     Undefine,
 }
 
 /// A node that is made of a list and a command.
 #[derive(Clone, Copy)]
-pub enum FrontShape {
+pub(crate) enum FrontShape {
     Assign,
     Redirect,
     Pipeline,
@@ -57,7 +57,7 @@ pub enum FrontShape {
 
 /// A node that begins with an argument.
 #[derive(Clone, Copy)]
-pub enum SubjectShape {
+pub(crate) enum SubjectShape {
     ForAll,
     For,
     Switch,
@@ -66,7 +66,7 @@ pub enum SubjectShape {
 
 /// What follows the mark of an argument.
 #[derive(Clone, Copy)]
-pub enum ArgShape {
+pub(crate) enum ArgShape {
     /// The text of a word.
     Word,
     /// The text of a quoted word.
@@ -85,7 +85,7 @@ pub enum ArgShape {
 
 /// A node that is made of the name of a variable.
 #[derive(Clone, Copy)]
-pub enum NameShape {
+pub(crate) enum NameShape {
     Var,
     Count,
     Flat,
@@ -93,7 +93,7 @@ pub enum NameShape {
 
 /// What follows the mark of a redirection.
 #[derive(Clone, Copy)]
-pub enum RedirShape {
+pub(crate) enum RedirShape {
     /// The file that is read.
     Input,
     /// The descriptor, and the file that is written.

@@ -63,7 +63,7 @@ pub fn any_pattern(chars: &[Ch]) -> bool
 }
 
 /// Adds the characters of the text, all marked or none.
-pub fn push_text(all: &mut Vec<Ch>, text: &str, pat: bool) -> Result<(), AllocError>
+pub(crate) fn push_text(all: &mut Vec<Ch>, text: &str, pat: bool) -> Result<(), AllocError>
     ensures { OnOk result (marks all.new.items ≡ marks all.old.items ++ map (λ c. (c, pat)) (chars text.now)) }
 {
     all.extend(text.chars().map(|c| Ch { c, pat }))
@@ -110,7 +110,7 @@ impl Literal {
         self.text.as_str()
     }
 
-    pub fn is_quoted(&self) -> bool
+    pub(crate) fn is_quoted(&self) -> bool
         ensures { result ≡ self.now.1 }
     {
         self.quoted

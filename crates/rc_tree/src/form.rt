@@ -21,7 +21,7 @@ pub fn is_empty(cmd: &Cmd) -> bool
 
 /// Whether redirections stand after the command.
 #[tactic(auto, using(crate::specs::View::tree_walks))]
-pub fn stands_first(cmd: &Cmd, begins: bool) -> bool
+pub(crate) fn stands_first(cmd: &Cmd, begins: bool) -> bool
     ensures { result ≡ stands_first (cmd_tree cmd.now) begins }
 {
     match cmd {
@@ -55,21 +55,21 @@ fn begin_with_case(words: &[Arg]) -> bool
 }
 
 /// What stands between an item and the next one.
-pub fn separator(background: bool) -> &'static str
+pub(crate) fn separator(background: bool) -> &'static str
     ensures { result.now ≡ (if background then codes " " else codes "; ") }
 {
     if background { " " } else { "; " }
 }
 
 /// The bar after a stage.
-pub fn bar(slot: u8) -> &'static str
+pub(crate) fn bar(slot: u8) -> &'static str
     ensures { result.now ≡ bar slot }
 {
     if slot == 2 { " |[2] " } else { " | " }
 }
 
 /// How `&&` and `||` are written.
-pub fn sign(logic: Logic) -> &'static str
+pub(crate) fn sign(logic: Logic) -> &'static str
     ensures { result.now ≡ sign logic }
 {
     match logic {
@@ -79,7 +79,7 @@ pub fn sign(logic: Logic) -> &'static str
 }
 
 /// What stands before a file's name.
-pub fn opening(mode: Mode, slot: u8) -> &'static str
+pub(crate) fn opening(mode: Mode, slot: u8) -> &'static str
     ensures { result.now ≡ opening mode slot }
 {
     match (mode, slot) {
@@ -92,14 +92,14 @@ pub fn opening(mode: Mode, slot: u8) -> &'static str
 }
 
 /// A copy of a descriptor.
-pub fn copying(to: u8, from: u8) -> &'static str
+pub(crate) fn copying(to: u8, from: u8) -> &'static str
     ensures { result.now ≡ copying to from }
 {
     if to == 2 { ">[2=1]" } else { ">[1=2]" }
 }
 
 /// Writes a word as it is written in a script.
-pub fn print_literal(out: &mut String, text: &str, quoted: bool) -> Result<(), AllocError>
+pub(crate) fn print_literal(out: &mut String, text: &str, quoted: bool) -> Result<(), AllocError>
     ensures ok { OnOk result (string_bytes out.new ≡ string_bytes out.old ++ literal text.now quoted) }
     ensures err { OnErr result (string_bytes out.new ≡ string_bytes out.old) }
 {

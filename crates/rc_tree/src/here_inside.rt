@@ -12,7 +12,7 @@ use rc_model::Logic;
 /// Whether a here document is inside.
 #[cycle(here)]
 #[tactic(auto, using(crate::specs::View::tree_walks))]
-pub fn has_here(cmd: &Cmd) -> bool
+pub(crate) fn has_here(cmd: &Cmd) -> bool
     ensures { result ≡ has_here (cmd_tree cmd.now) }
 {
     match cmd {

@@ -66,7 +66,7 @@ impl Configuration {
     }
 
     /// The end of the shell: what is open ends, the innermost first.
-    pub fn unwind<W: World>(&mut self, alloc: Global, world: &mut W) -> Result<Move, Stop>
+    pub(crate) fn unwind<W: World>(&mut self, alloc: Global, world: &mut W) -> Result<Move, Stop>
         ensures { Steps (W.events world.old) (W.events world.new)
             (unwind (config_of self.old).scopes (config_of self.old).state []) (config_of self.new) result }
     {
@@ -79,7 +79,12 @@ impl Configuration {
     }
 
     /// A runtime error ends the shell: it is reported to descriptor 2, the status is `error`, and what is open ends.
-    pub fn fail<W: World>(&mut self, alloc: Global, world: &mut W, text: &str) -> Result<Move, Stop>
+    pub(crate) fn fail<W: World>(
+        &mut self,
+        alloc: Global,
+        world: &mut W,
+        text: &str,
+    ) -> Result<Move, Stop>
         ensures { Steps (W.events world.old) (W.events world.new)
             (failed (config_of self.old) text.now) (config_of self.new) result }
     {
@@ -90,7 +95,11 @@ impl Configuration {
 
     /// A name that can't be used ends the shell: it is reported to descriptor 2, the status is `error`, and what is
     /// open ends.
-    pub fn fail_bad_name<W: World>(&mut self, alloc: Global, world: &mut W) -> Result<Move, Stop>
+    pub(crate) fn fail_bad_name<W: World>(
+        &mut self,
+        alloc: Global,
+        world: &mut W,
+    ) -> Result<Move, Stop>
         ensures { Steps (W.events world.old) (W.events world.new)
             (failed (config_of self.old) bad_name) (config_of self.new) result }
     {

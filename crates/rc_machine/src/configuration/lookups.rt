@@ -18,7 +18,7 @@ use rc_text::{Output, Word};
 use std::alloc::{AllocError, Global};
 
 /// The texts of words.
-pub fn texts(alloc: Global, words: &[Word]) -> Result<Vec<String>, AllocError>
+pub(crate) fn texts(alloc: Global, words: &[Word]) -> Result<Vec<String>, AllocError>
     ensures { IfOk result (λ texts. map string_bytes texts.items ≡ word_texts words.now) }
 {
     let mut texts = Vec::with_capacity(alloc, words.len())?;
@@ -29,7 +29,7 @@ pub fn texts(alloc: Global, words: &[Word]) -> Result<Vec<String>, AllocError>
 }
 
 /// The texts of the list on top, which is taken off; none where there is no list.
-pub fn take_texts(alloc: Global, words: &mut Stack<Word>) -> Result<Vec<String>, AllocError>
+pub(crate) fn take_texts(alloc: Global, words: &mut Stack<Word>) -> Result<Vec<String>, AllocError>
     ensures texts { IfOk result (λ texts. map string_bytes texts.items ≡ word_texts (uppermost words.old)) }
     ensures below { OnOk result (words.new ≡ below_top words.old) }
 {
@@ -45,7 +45,7 @@ pub fn take_texts(alloc: Global, words: &mut Stack<Word>) -> Result<Vec<String>,
 
 /// Texts as a list of words with no marks, on top of the stack.
 #[tactic(auto, using(crate::proofs::Stacks::extends))]
-pub fn put_texts(words: &mut Stack<Word>, texts: Vec<String>) -> Result<(), AllocError>
+pub(crate) fn put_texts(words: &mut Stack<Word>, texts: Vec<String>) -> Result<(), AllocError>
     ensures { OnOk result (words.new ≡ plain_words (map string_bytes texts.items) ∷ words.old) }
 {
     words.begin()?;
@@ -58,7 +58,7 @@ pub fn put_texts(words: &mut Stack<Word>, texts: Vec<String>) -> Result<(), Allo
 
 /// The members of output as a list of words with no marks, on top of the stack.
 #[tactic(auto, using(crate::proofs::Stacks::extends))]
-pub fn put_members(
+pub(crate) fn put_members(
     alloc: Global,
     words: &mut Stack<Word>,
     output: &Output,
@@ -75,7 +75,7 @@ pub fn put_members(
 
 /// A copy of a value as a list of words with no marks, on top of the stack.
 #[tactic(auto, using(crate::proofs::Stacks::extends))]
-pub fn put_value(words: &mut Stack<Word>, value: &[String]) -> Result<(), AllocError>
+pub(crate) fn put_value(words: &mut Stack<Word>, value: &[String]) -> Result<(), AllocError>
     ensures { OnOk result (words.new ≡ plain_words (map string_bytes value.now) ∷ words.old) }
 {
     words.begin()?;
@@ -87,7 +87,7 @@ pub fn put_value(words: &mut Stack<Word>, value: &[String]) -> Result<(), AllocE
 
 /// A text as a list of one word with no marks, on top of the stack.
 #[tactic(auto, using(crate::proofs::Stacks::extends))]
-pub fn put_text(words: &mut Stack<Word>, text: String) -> Result<(), AllocError>
+pub(crate) fn put_text(words: &mut Stack<Word>, text: String) -> Result<(), AllocError>
     ensures { OnOk result (words.new ≡ plain_words (string_bytes text ∷ []) ∷ words.old) }
 {
     words.begin()?;
@@ -126,7 +126,7 @@ fn member<'a>(value: &'a [String], digits: &str) -> &'a [String]
 }
 
 /// What `$` and a name give: for digits a member of `$*`.
-pub fn got<'a>(state: &'a State, name: &str) -> &'a [String]
+pub(crate) fn got<'a>(state: &'a State, name: &str) -> &'a [String]
     ensures { map string_bytes result.now ≡ got (state_of state.now) name.now }
 {
     if !has_digits(name) || name.is_empty() {
@@ -147,7 +147,7 @@ fn readable_name(words: &[Word]) -> Option<&str>
 }
 
 /// The one name that the words are, where it is that of a variable.
-pub fn variable_name(words: &[Word]) -> Option<&str>
+pub(crate) fn variable_name(words: &[Word]) -> Option<&str>
     ensures { option_map (λ name. name.now) result ≡ the_name is_name (word_texts words.now) }
 {
     let [word] = words else {
@@ -158,7 +158,7 @@ pub fn variable_name(words: &[Word]) -> Option<&str>
 }
 
 /// What `$` gives for these words: none where they are no name.
-pub fn read<'a>(state: &'a State, words: &[Word]) -> Option<&'a [String]>
+pub(crate) fn read<'a>(state: &'a State, words: &[Word]) -> Option<&'a [String]>
     ensures { option_map (λ v. map string_bytes v.now) result ≡ read (state_of state.now) (word_texts words.now) }
 {
     let name = readable_name(words)?;

@@ -19,14 +19,14 @@ use std::alloc::Global;
 
 /// What an instruction led to.
 #[derive(Clone, Copy)]
-pub enum Move {
+pub(crate) enum Move {
     On,
     Ended,
 }
 
 /// What a machine holds between two instructions: the code, the place in it, and what the instructions work on.
 #[derive(Drop)]
-pub struct Configuration {
+pub(crate) struct Configuration {
     pub code: Code,
     /// The number of the next instruction.
     pub place: usize,
@@ -43,7 +43,7 @@ impl Configuration {
     ghost use Rattle.rc_code.specs.Views.{code_of};
 
     /// Before the first instruction.
-    pub fn new(alloc: Global, code: Code, state: State) -> Configuration
+    pub(crate) fn new(alloc: Global, code: Code, state: State) -> Configuration
         ensures { config_of result ≡ record {
           code = code_of code;
           place = 0;

@@ -6,7 +6,7 @@ use rc_world::ChildNo;
 
 /// Where a body was called.
 #[derive(Drop)]
-pub struct Frame {
+pub(crate) struct Frame {
     pub caller: Code,
     pub place: usize,
     /// Whether the call bound `$*`.
@@ -15,7 +15,7 @@ pub struct Frame {
 
 /// What ends later.
 #[derive(Drop)]
-pub enum Scope {
+pub(crate) enum Scope {
     Local,
     /// A loop, with the members that are left.
     Loop {

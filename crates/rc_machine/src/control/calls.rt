@@ -49,7 +49,7 @@ fn undefine_each(state: &mut State, names: &[String])
 }
 
 /// Goes into a body, from which the machine returns to the next instruction.
-pub fn enter(machine: &mut Configuration, body: Code, binds: bool) -> Result<(), AllocError>
+pub(crate) fn enter(machine: &mut Configuration, body: Code, binds: bool) -> Result<(), AllocError>
     requires { machine.old.place < 2 ^ 63 }
     ensures { OnOk result (config_of machine.new ≡ entered (config_of machine.old) binds (code_of body)) }
 {
@@ -64,7 +64,11 @@ pub fn enter(machine: &mut Configuration, body: Code, binds: bool) -> Result<(),
 }
 
 /// Goes into a body, for which `$*` are these arguments.
-pub fn call(machine: &mut Configuration, args: Vec<String>, body: Code) -> Result<(), AllocError>
+pub(crate) fn call(
+    machine: &mut Configuration,
+    args: Vec<String>,
+    body: Code,
+) -> Result<(), AllocError>
     requires { machine.old.place < 2 ^ 63 }
     ensures { OnOk result (config_of machine.new
         ≡ called (config_of machine.old) (map string_bytes args.items) (code_of body)) }
@@ -75,7 +79,7 @@ pub fn call(machine: &mut Configuration, args: Vec<String>, body: Code) -> Resul
 }
 
 /// The end of a body, which in the last frame is that of the script.
-pub fn leave(machine: &mut Configuration) -> Move
+pub(crate) fn leave(machine: &mut Configuration) -> Move
     ensures { Leads (act (Some op.Return) (config_of machine.old)) (config_of machine.new) result }
 {
     let Some(
@@ -98,7 +102,7 @@ pub fn leave(machine: &mut Configuration) -> Move
 
 /// `fn NAME .. {..}`.
 #[tactic(auto, using(crate::proofs::Left::step_refused))]
-pub fn define<W: World>(
+pub(crate) fn define<W: World>(
     machine: &mut Configuration,
     alloc: Global,
     world: &mut W,
@@ -124,7 +128,7 @@ pub fn define<W: World>(
 }
 
 /// `fn NAME ..`.
-pub fn undefine(machine: &mut Configuration, alloc: Global) -> Result<Move, AllocError>
+pub(crate) fn undefine(machine: &mut Configuration, alloc: Global) -> Result<Move, AllocError>
     requires { machine.old.place < 2 ^ 63 }
     ensures { IfOk result (λ moved.
         Leads (act (Some op.Undefine) (config_of machine.old)) (config_of machine.new) moved) }

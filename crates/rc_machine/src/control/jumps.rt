@@ -11,7 +11,7 @@ use rc_text::is_true;
 use std::alloc::AllocError;
 
 /// Goes to the place.
-pub fn jump(machine: &mut Configuration, place: usize) -> Move
+pub(crate) fn jump(machine: &mut Configuration, place: usize) -> Move
     ensures { Leads (act (Some (op.Jump place)) (config_of machine.old)) (config_of machine.new) result }
 {
     machine.place = place;
@@ -19,7 +19,7 @@ pub fn jump(machine: &mut Configuration, place: usize) -> Move
 }
 
 /// Goes to the place where the status is true.
-pub fn if_true(machine: &mut Configuration, place: usize) -> Move
+pub(crate) fn if_true(machine: &mut Configuration, place: usize) -> Move
     requires { machine.old.place < 2 ^ 63 }
     ensures { Leads (act (Some (op.IfTrue place)) (config_of machine.old)) (config_of machine.new) result }
 {
@@ -32,7 +32,7 @@ pub fn if_true(machine: &mut Configuration, place: usize) -> Move
 }
 
 /// Goes to the place where the status is not true.
-pub fn if_false(machine: &mut Configuration, place: usize) -> Move
+pub(crate) fn if_false(machine: &mut Configuration, place: usize) -> Move
     requires { machine.old.place < 2 ^ 63 }
     ensures { Leads (act (Some (op.IfFalse place)) (config_of machine.old)) (config_of machine.new) result }
 {
@@ -45,7 +45,7 @@ pub fn if_false(machine: &mut Configuration, place: usize) -> Move
 }
 
 /// The body of an `if` runs where the status is true, else the flag is set.
-pub fn run_if(machine: &mut Configuration, place: usize) -> Move
+pub(crate) fn run_if(machine: &mut Configuration, place: usize) -> Move
     requires { machine.old.place < 2 ^ 63 }
     ensures { Leads (act (Some (op.If place)) (config_of machine.old)) (config_of machine.new) result }
 {
@@ -59,7 +59,7 @@ pub fn run_if(machine: &mut Configuration, place: usize) -> Move
 }
 
 /// The body of an `if` has run.
-pub fn was_true(machine: &mut Configuration) -> Move
+pub(crate) fn was_true(machine: &mut Configuration) -> Move
     requires { machine.old.place < 2 ^ 63 }
     ensures { Leads (act (Some op.WasTrue) (config_of machine.old)) (config_of machine.new) result }
 {
@@ -69,7 +69,7 @@ pub fn was_true(machine: &mut Configuration) -> Move
 }
 
 /// The body of an `if not` runs where the flag is set.
-pub fn run_if_not(machine: &mut Configuration, place: usize) -> Move
+pub(crate) fn run_if_not(machine: &mut Configuration, place: usize) -> Move
     requires { machine.old.place < 2 ^ 63 }
     ensures { Leads (act (Some (op.IfNot place)) (config_of machine.old)) (config_of machine.new) result }
 {
@@ -82,7 +82,7 @@ pub fn run_if_not(machine: &mut Configuration, place: usize) -> Move
 }
 
 /// The status becomes null.
-pub fn set_null(machine: &mut Configuration) -> Result<Move, AllocError>
+pub(crate) fn set_null(machine: &mut Configuration) -> Result<Move, AllocError>
     requires { machine.old.place < 2 ^ 63 }
     ensures { IfOk result (λ moved.
         Leads (act (Some op.SetNull) (config_of machine.old)) (config_of machine.new) moved) }
@@ -93,7 +93,7 @@ pub fn set_null(machine: &mut Configuration) -> Result<Move, AllocError>
 }
 
 /// `!` turns a true status into `false` and any other into null.
-pub fn invert(machine: &mut Configuration) -> Result<Move, AllocError>
+pub(crate) fn invert(machine: &mut Configuration) -> Result<Move, AllocError>
     requires { machine.old.place < 2 ^ 63 }
     ensures { IfOk result (λ moved.
         Leads (act (Some op.Invert) (config_of machine.old)) (config_of machine.new) moved) }

@@ -15,7 +15,7 @@ use rc_world::{Stop, World};
 use std::alloc::{AllocError, Global};
 
 /// Ends the innermost scope, where it is a local.
-pub fn end_local(machine: &mut Configuration) -> bool
+pub(crate) fn end_local(machine: &mut Configuration) -> bool
     ensures { LocalEnds (config_of machine.old).scopes (config_of machine.old) (config_of machine.new) result }
 {
     let Some(Scope::Local) = machine.scopes.innermost() else {
@@ -38,7 +38,7 @@ fn end_locals(machine: &mut Configuration, count: usize)
 }
 
 /// Ends the locals of a command.
-pub fn unlocal(machine: &mut Configuration, count: usize) -> Move
+pub(crate) fn unlocal(machine: &mut Configuration, count: usize) -> Move
     requires { machine.old.place < 2 ^ 63 }
     ensures { Leads (act (Some (op.Unlocal count)) (config_of machine.old)) (config_of machine.new) result }
 {
@@ -49,7 +49,7 @@ pub fn unlocal(machine: &mut Configuration, count: usize) -> Move
 
 /// `for(x in ..)`: the loop is open, and its first turn is still to come.
 #[tactic(auto, using(crate::proofs::Left::step_refused))]
-pub fn begin_loop<W: World>(
+pub(crate) fn begin_loop<W: World>(
     machine: &mut Configuration,
     alloc: Global,
     world: &mut W,
@@ -98,7 +98,7 @@ fn bind(
 }
 
 /// The next turn of the innermost loop, or its end and a jump to the place.
-pub fn next_turn(
+pub(crate) fn next_turn(
     machine: &mut Configuration,
     alloc: Global,
     place: usize,

@@ -15,7 +15,7 @@ use rc_world::{Stop, World};
 use std::alloc::Global;
 
 /// Runs a simple command.
-pub fn run_command<W: World>(
+pub(crate) fn run_command<W: World>(
     machine: &mut Configuration,
     alloc: Global,
     world: &mut W,
@@ -52,7 +52,7 @@ pub fn run_command<W: World>(
 }
 
 /// Ends a strict shell where the status is not true.
-pub fn check<W: World>(
+pub(crate) fn check<W: World>(
     machine: &mut Configuration,
     alloc: Global,
     world: &mut W,

@@ -74,7 +74,7 @@ fn refuse<W: World>(
 
 /// `>`, `>>` and `<`: the file takes the place of a descriptor.
 #[tactic(auto, using(crate::proofs::Left::step_refused))]
-pub fn open<W: World>(
+pub(crate) fn open<W: World>(
     machine: &mut Configuration,
     alloc: Global,
     world: &mut W,
@@ -99,7 +99,7 @@ pub fn open<W: World>(
 }
 
 /// `>[2=1]` and `>[1=2]`: one descriptor becomes what another is now.
-pub fn copy(machine: &mut Configuration, to: u8, from: u8) -> Result<Move, AllocError>
+pub(crate) fn copy(machine: &mut Configuration, to: u8, from: u8) -> Result<Move, AllocError>
     requires { machine.old.place < 2 ^ 63 }
     ensures { IfOk result (λ moved.
         Leads (act (Some (op.Copy to from)) (config_of machine.old)) (config_of machine.new) moved) }
@@ -112,7 +112,7 @@ pub fn copy(machine: &mut Configuration, to: u8, from: u8) -> Result<Move, Alloc
 
 /// `<<`: the here document of this number takes the place of descriptor 0.
 #[tactic(auto, using(crate::proofs::Left::step_refused))]
-pub fn here<W: World>(
+pub(crate) fn here<W: World>(
     machine: &mut Configuration,
     alloc: Global,
     world: &mut W,
@@ -166,7 +166,7 @@ fn end_redirections<W: World>(
 
 /// Ends the redirections of a command.
 #[tactic(auto, using(crate::proofs::Left::step_refused))]
-pub fn unredir<W: World>(
+pub(crate) fn unredir<W: World>(
     machine: &mut Configuration,
     world: &mut W,
     count: usize,

@@ -17,7 +17,7 @@ use std::alloc::{AllocError, Global};
 
 /// A backquote: what its command writes becomes words.
 #[tactic(auto, using(crate::proofs::Left::step_refused))]
-pub fn back<W: World>(
+pub(crate) fn back<W: World>(
     machine: &mut Configuration,
     alloc: Global,
     world: &mut W,
@@ -39,7 +39,7 @@ pub fn back<W: World>(
 
 /// `@ cmd`.
 #[tactic(auto, using(crate::proofs::Left::step_refused))]
-pub fn subshell<W: World>(
+pub(crate) fn subshell<W: World>(
     machine: &mut Configuration,
     alloc: Global,
     world: &mut W,
@@ -60,7 +60,7 @@ pub fn subshell<W: World>(
 
 /// `cmd &`.
 #[tactic(auto, using(crate::proofs::Left::step_refused))]
-pub fn background<W: World>(
+pub(crate) fn background<W: World>(
     machine: &mut Configuration,
     alloc: Global,
     world: &mut W,
@@ -101,7 +101,7 @@ fn begin_last(
 
 /// The stages of a pipeline but the last are started. Where one is refused, the machine goes to the place.
 #[tactic(auto, using(crate::proofs::Left::step_refused))]
-pub fn start_pipeline<W: World>(
+pub(crate) fn start_pipeline<W: World>(
     machine: &mut Configuration,
     alloc: Global,
     world: &mut W,
@@ -128,7 +128,7 @@ pub fn start_pipeline<W: World>(
 
 /// The end of a pipeline, whose last stage is done.
 #[tactic(auto, using(crate::proofs::Left::step_refused))]
-pub fn end_pipeline<W: World>(
+pub(crate) fn end_pipeline<W: World>(
     machine: &mut Configuration,
     alloc: Global,
     world: &mut W,

@@ -22,7 +22,7 @@ use std::alloc::Global;
 
 /// `$x`.
 #[tactic(auto, using(crate::proofs::Left::step_refused))]
-pub fn value<W: World>(
+pub(crate) fn value<W: World>(
     machine: &mut Configuration,
     alloc: Global,
     world: &mut W,
@@ -45,7 +45,7 @@ pub fn value<W: World>(
 
 /// `$#x`.
 #[tactic(auto, using(crate::proofs::Left::step_refused))]
-pub fn count<W: World>(
+pub(crate) fn count<W: World>(
     machine: &mut Configuration,
     alloc: Global,
     world: &mut W,
@@ -69,7 +69,7 @@ pub fn count<W: World>(
 
 /// `$"x`.
 #[tactic(auto, using(crate::proofs::Left::step_refused))]
-pub fn flat<W: World>(
+pub(crate) fn flat<W: World>(
     machine: &mut Configuration,
     alloc: Global,
     world: &mut W,
@@ -93,7 +93,7 @@ pub fn flat<W: World>(
 
 /// `$x(s ...)`.
 #[tactic(auto, using(crate::proofs::Left::step_refused))]
-pub fn select<W: World>(
+pub(crate) fn select<W: World>(
     machine: &mut Configuration,
     alloc: Global,
     world: &mut W,
@@ -125,7 +125,7 @@ fn name_on_top(words: &Stack<Word>) -> Option<&str>
 
 /// `x=..`.
 #[tactic(auto, using(crate::proofs::Left::step_refused))]
-pub fn assign<W: World>(
+pub(crate) fn assign<W: World>(
     machine: &mut Configuration,
     alloc: Global,
     world: &mut W,
@@ -152,7 +152,7 @@ pub fn assign<W: World>(
 
 /// `x=.. command`.
 #[tactic(auto, using(crate::proofs::Left::step_refused))]
-pub fn local<W: World>(
+pub(crate) fn local<W: World>(
     machine: &mut Configuration,
     alloc: Global,
     world: &mut W,

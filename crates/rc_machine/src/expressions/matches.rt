@@ -31,7 +31,7 @@ fn take_subject(alloc: Global, words: &mut Stack<Word>) -> Result<Option<Word>, 
 }
 
 /// The list on top becomes what patterns are held against.
-pub fn make_subject(machine: &mut Configuration, alloc: Global) -> Result<Move, AllocError>
+pub(crate) fn make_subject(machine: &mut Configuration, alloc: Global) -> Result<Move, AllocError>
     requires { machine.old.place < 2 ^ 63 }
     ensures { IfOk result (λ moved.
         Leads (act (Some op.Subject) (config_of machine.old)) (config_of machine.new) moved) }
@@ -46,7 +46,7 @@ pub fn make_subject(machine: &mut Configuration, alloc: Global) -> Result<Move, 
 }
 
 /// Goes to the place where the patterns don't match; the subject stays on top.
-pub fn run_case(machine: &mut Configuration, place: usize) -> Move
+pub(crate) fn run_case(machine: &mut Configuration, place: usize) -> Move
     requires { machine.old.place < 2 ^ 63 }
     ensures { Leads (act (Some (op.Case place)) (config_of machine.old)) (config_of machine.new) result }
 {
@@ -64,7 +64,7 @@ pub fn run_case(machine: &mut Configuration, place: usize) -> Move
 }
 
 /// `~`.
-pub fn run_match(machine: &mut Configuration) -> Result<Move, AllocError>
+pub(crate) fn run_match(machine: &mut Configuration) -> Result<Move, AllocError>
     requires { machine.old.place < 2 ^ 63 }
     ensures { IfOk result (λ moved.
         Leads (act (Some op.Match) (config_of machine.old)) (config_of machine.new) moved) }

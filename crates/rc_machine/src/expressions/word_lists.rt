@@ -22,7 +22,7 @@ fn have_pattern(words: &[Word]) -> bool
 }
 
 /// An empty list is put on top.
-pub fn begin_list(machine: &mut Configuration) -> Result<Move, AllocError>
+pub(crate) fn begin_list(machine: &mut Configuration) -> Result<Move, AllocError>
     requires { machine.old.place < 2 ^ 63 }
     ensures { IfOk result (λ moved. Leads (act (Some op.Nil) (config_of machine.old)) (config_of machine.new) moved) }
 {
@@ -32,7 +32,7 @@ pub fn begin_list(machine: &mut Configuration) -> Result<Move, AllocError>
 }
 
 /// A list of one word is put on top.
-pub fn push_word(machine: &mut Configuration, word: Word) -> Result<Move, AllocError>
+pub(crate) fn push_word(machine: &mut Configuration, word: Word) -> Result<Move, AllocError>
     requires { machine.old.place < 2 ^ 63 }
     ensures { IfOk result (λ moved. (text : List ℕ) (quoted : Bool) → word ≡ written text quoted →
         Leads (act (Some (op.Word text quoted)) (config_of machine.old)) (config_of machine.new) moved) }
@@ -44,7 +44,7 @@ pub fn push_word(machine: &mut Configuration, word: Word) -> Result<Move, AllocE
 }
 
 /// The list on top is added to the one below it.
-pub fn join(machine: &mut Configuration) -> Move
+pub(crate) fn join(machine: &mut Configuration) -> Move
     requires { machine.old.place < 2 ^ 63 }
     ensures { Leads (act (Some op.Join) (config_of machine.old)) (config_of machine.new) result }
 {
@@ -57,7 +57,7 @@ pub fn join(machine: &mut Configuration) -> Move
 
 /// The two lists on top become one, their words joined.
 #[tactic(auto, using(crate::proofs::Left::step_refused))]
-pub fn concat<W: World>(
+pub(crate) fn concat<W: World>(
     machine: &mut Configuration,
     alloc: Global,
     world: &mut W,
@@ -82,7 +82,7 @@ pub fn concat<W: World>(
 }
 
 /// Patterns become the names of files that they stand for.
-pub fn glob<W: World>(
+pub(crate) fn glob<W: World>(
     machine: &mut Configuration,
     alloc: Global,
     world: &mut W,
@@ -125,7 +125,7 @@ fn expand_top<W: World>(
 }
 
 /// The list on top is taken off.
-pub fn drop_words(machine: &mut Configuration) -> Move
+pub(crate) fn drop_words(machine: &mut Configuration) -> Move
     requires { machine.old.place < 2 ^ 63 }
     ensures { Leads (act (Some op.Drop) (config_of machine.old)) (config_of machine.new) result }
 {

@@ -11,7 +11,7 @@ use std::marker::Model;
 /// Lists, each on top of those before it. The elements of all lists stand in one buffer, and the
 /// places where the lists begin in another.
 #[derive(Drop)]
-pub struct Stack<T> {
+pub(crate) struct Stack<T> {
     items: Vec<T>,
     starts: Vec<usize>,
 }
@@ -29,7 +29,7 @@ impl<T> Model for Stack<T> {
 
 impl<T: Drop> Stack<T> {
     /// No lists.
-    pub fn new(alloc: Global) -> Stack<T>
+    pub(crate) fn new(alloc: Global) -> Stack<T>
         ensures { result ≡ [] }
     {
         Stack {
@@ -39,7 +39,7 @@ impl<T: Drop> Stack<T> {
     }
 
     /// The empty list comes on top.
-    pub fn begin(&mut self) -> Result<(), AllocError>
+    pub(crate) fn begin(&mut self) -> Result<(), AllocError>
         ensures ok { OnOk result (self.new ≡ [] ∷ self.old) }
         ensures err { OnErr result (self.new ≡ self.old) }
     {
@@ -48,7 +48,7 @@ impl<T: Drop> Stack<T> {
     }
 
     /// Adds an element to the list on top, where there is one.
-    pub fn push(&mut self, item: T) -> Result<(), AllocError>
+    pub(crate) fn push(&mut self, item: T) -> Result<(), AllocError>
         ensures ok { OnOk result (Extends self.old self.new (item ∷ [])) }
         ensures err { OnErr result (self.new ≡ self.old) }
     {
@@ -57,14 +57,14 @@ impl<T: Drop> Stack<T> {
     }
 
     /// Makes room for this many more elements.
-    pub fn reserve(&mut self, count: usize) -> Result<(), AllocError>
+    pub(crate) fn reserve(&mut self, count: usize) -> Result<(), AllocError>
         ensures { self.new ≡ self.old }
     {
         self.items.reserve(count)
     }
 
     /// A list comes on top.
-    pub fn put(&mut self, mut list: Vec<T>) -> Result<(), AllocError>
+    pub(crate) fn put(&mut self, mut list: Vec<T>) -> Result<(), AllocError>
         ensures ok { OnOk result (self.new ≡ list.items ∷ self.old) }
         ensures err { OnErr result (self.new ≡ self.old) }
     {
@@ -77,7 +77,7 @@ impl<T: Drop> Stack<T> {
     }
 
     /// Adds the two lists on top to one, and says whether there were two.
-    pub fn join(&mut self) -> bool
+    pub(crate) fn join(&mut self) -> bool
         ensures { Joins self.old self.new result }
     {
         if self.starts.len() < 2 {
@@ -88,7 +88,7 @@ impl<T: Drop> Stack<T> {
     }
 
     /// The list on top.
-    pub fn top(&self) -> Option<&[T]>
+    pub(crate) fn top(&self) -> Option<&[T]>
         ensures { option_map (λ list. list.now) result ≡ top_of self.now }
     {
         let start = *self.starts.last()?;
@@ -96,7 +96,7 @@ impl<T: Drop> Stack<T> {
     }
 
     /// The two lists on top, the lower one first.
-    pub fn top_two(&self) -> Option<(&[T], &[T])>
+    pub(crate) fn top_two(&self) -> Option<(&[T], &[T])>
         ensures { option_map (λ two. (two.0.now, two.1.now)) result ≡ two_of self.now }
     {
         let [.., lower, upper] = self.starts.as_slice() else {
@@ -106,7 +106,7 @@ impl<T: Drop> Stack<T> {
     }
 
     /// Takes the last element of the list on top, if it has one.
-    pub fn take_last(&mut self) -> Option<T>
+    pub(crate) fn take_last(&mut self) -> Option<T>
         ensures { TakesLast self.old self.new result }
     {
         let start = *self.starts.last()?;
@@ -117,7 +117,7 @@ impl<T: Drop> Stack<T> {
     }
 
     /// Takes the list on top off.
-    pub fn drop_top(&mut self) -> bool
+    pub(crate) fn drop_top(&mut self) -> bool
         ensures { IsDropped self.old self.new result }
     {
         match self.starts.pop() {
@@ -130,7 +130,7 @@ impl<T: Drop> Stack<T> {
     }
 
     /// Takes the two lists on top off.
-    pub fn drop_two(&mut self)
+    pub(crate) fn drop_two(&mut self)
         ensures { self.new ≡ below_two self.old }
     {
         self.drop_top();

@@ -7,7 +7,7 @@ use std::marker::Model;
 
 /// A stack, its top first: what is open, the innermost first, or the members that a loop has still to take.
 #[derive(Drop)]
-pub struct Nest<T> {
+pub(crate) struct Nest<T> {
     items: Vec<T>,
 }
 
@@ -21,7 +21,7 @@ impl<T> Model for Nest<T> {
 
 impl<T: Drop> Nest<T> {
     /// Nothing is open.
-    pub fn new(alloc: Global) -> Nest<T>
+    pub(crate) fn new(alloc: Global) -> Nest<T>
         ensures { result ≡ [] }
     {
         Nest {
@@ -30,7 +30,7 @@ impl<T: Drop> Nest<T> {
     }
 
     /// Opens one more.
-    pub fn open(&mut self, item: T) -> Result<(), AllocError>
+    pub(crate) fn open(&mut self, item: T) -> Result<(), AllocError>
         ensures { OnOk result (self.new ≡ item ∷ self.old) }
     {
         self.items.push(item)?;
@@ -38,7 +38,7 @@ impl<T: Drop> Nest<T> {
     }
 
     /// Takes out the innermost.
-    pub fn close(&mut self) -> Option<T>
+    pub(crate) fn close(&mut self) -> Option<T>
         ensures { MatchOption result (self.old ≡ []) (λ item. self.old ≡ item ∷ self.new) }
     {
         self.items.pop()
@@ -46,7 +46,7 @@ impl<T: Drop> Nest<T> {
 
     /// These are open, the first innermost.
     #[tactic(auto, using(crate::proofs::ScopeEnds::turned_twice))]
-    pub fn of(mut items: Vec<T>) -> Nest<T>
+    pub(crate) fn of(mut items: Vec<T>) -> Nest<T>
         ensures { result ≡ items.items }
     {
         items.reverse();
@@ -54,7 +54,7 @@ impl<T: Drop> Nest<T> {
     }
 
     /// The innermost.
-    pub fn innermost(&self) -> Option<&T>
+    pub(crate) fn innermost(&self) -> Option<&T>
         ensures { MatchOption result (self.now ≡ []) (λ item. self.now ≡ item.now ∷ drop 1 self.now) }
     {
         self.items.last()

@@ -102,7 +102,7 @@ fn parse_dollar(
 /// An argument. Inside parentheses newlines are blanks.
 #[cycle(parse)]
 #[tactic(auto, unfolding(rc_model::specs::Mirrors::Descent::arg_by))]
-pub fn parse_argument(
+pub(crate) fn parse_argument(
     alloc: Global,
     left: usize,
     inside: bool,
@@ -145,7 +145,7 @@ fn parse_parts(
 /// The arguments up to a `)`.
 #[cycle(parse)]
 #[tactic(auto, using(crate::proofs::Turns::members))]
-pub fn parse_members(
+pub(crate) fn parse_members(
     alloc: Global,
     left: usize,
     lexemes: &[Lexeme],
@@ -173,7 +173,7 @@ pub fn parse_members(
 /// The arguments that stand here.
 #[cycle(parse)]
 #[tactic(auto, using(crate::proofs::Turns::words))]
-pub fn parse_words(
+pub(crate) fn parse_words(
     alloc: Global,
     left: usize,
     lexemes: &[Lexeme],

@@ -49,7 +49,7 @@ fn parse_items(
 /// The commands of a list, one level deeper. In a switch it ends before a case line too.
 #[cycle(parse)]
 #[tactic(auto, using(crate::proofs::Steps::levels))]
-pub fn parse_list(
+pub(crate) fn parse_list(
     alloc: Global,
     left: usize,
     in_switch: bool,
@@ -67,7 +67,7 @@ pub fn parse_list(
 /// A list in braces.
 #[cycle(parse)]
 #[tactic(auto, using(std::proofs::lemmas::Grind::common_steps), unfolding(rc_model::specs::Mirrors::Descent::brace_by))]
-pub fn parse_brace(
+pub(crate) fn parse_brace(
     alloc: Global,
     below: usize,
     lexemes: &[Lexeme],
@@ -88,7 +88,7 @@ pub fn parse_brace(
 /// A list in parentheses.
 #[cycle(parse)]
 #[tactic(auto, using(std::proofs::lemmas::Grind::common_steps), unfolding(rc_model::specs::Mirrors::Descent::paren_by))]
-pub fn parse_paren(
+pub(crate) fn parse_paren(
     alloc: Global,
     below: usize,
     lexemes: &[Lexeme],

@@ -20,7 +20,7 @@ use std::alloc::Global;
 /// The pipeline that begins with this stage.
 #[cycle(parse)]
 #[tactic(auto, using(crate::proofs::Turns::pipe))]
-pub fn parse_pipeline(
+pub(crate) fn parse_pipeline(
     alloc: Global,
     below: usize,
     first: Box<Cmd>,
@@ -82,7 +82,7 @@ fn parse_piped(
 /// An operand that begins with `!`, `@`, a control word or a redirection.
 #[cycle(parse)]
 #[tactic(auto, unfolding(rc_model::specs::Mirrors::Descent::leading_by))]
-pub fn parse_leading(
+pub(crate) fn parse_leading(
     alloc: Global,
     below: usize,
     after_if: bool,
@@ -128,7 +128,7 @@ fn parse_operand(
 /// An operand one level deeper.
 #[cycle(parse)]
 #[tactic(auto, using(crate::proofs::Steps::levels))]
-pub fn parse_inner_operand(
+pub(crate) fn parse_inner_operand(
     alloc: Global,
     left: usize,
     lexemes: &[Lexeme],
@@ -172,7 +172,7 @@ fn parse_links(
 /// A command.
 #[cycle(parse)]
 #[tactic(auto, using(crate::proofs::Steps::levels), unfolding(rc_model::specs::Mirrors::Descent::command_by))]
-pub fn parse_command(
+pub(crate) fn parse_command(
     alloc: Global,
     left: usize,
     after_if: bool,

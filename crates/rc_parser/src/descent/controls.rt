@@ -221,7 +221,7 @@ fn parse_subshell(
 /// What follows `!`, `@` and the control words.
 #[cycle(parse)]
 #[tactic(auto, using(crate::proofs::Steps::steps), unfolding(rc_model::specs::Mirrors::Descent::control_by))]
-pub fn parse_control(
+pub(crate) fn parse_control(
     alloc: Global,
     below: usize,
     after_if: bool,

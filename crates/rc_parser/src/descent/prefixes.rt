@@ -41,7 +41,7 @@ fn parse_optional_operand(
 /// Redirections with the operand after them.
 #[cycle(parse)]
 #[tactic(auto, using(crate::proofs::Steps::steps), unfolding(rc_model::specs::Mirrors::Descent::redirected_by))]
-pub fn parse_redirected(
+pub(crate) fn parse_redirected(
     alloc: Global,
     below: usize,
     lexemes: &[Lexeme],
@@ -59,7 +59,7 @@ pub fn parse_redirected(
 /// The value after a `=`, further assignments and the command after them.
 #[cycle(parse)]
 #[tactic(auto, using(crate::proofs::Steps::lists), unfolding(rc_model::specs::Mirrors::Descent::assigned_by))]
-pub fn parse_assigned(
+pub(crate) fn parse_assigned(
     alloc: Global,
     below: usize,
     name: Box<Arg>,

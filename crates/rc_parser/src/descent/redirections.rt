@@ -19,7 +19,7 @@ use std::alloc::Global;
 /// A redirection.
 #[cycle(parse)]
 #[tactic(auto, using(std::proofs::lemmas::Grind::common_steps), unfolding(rc_model::specs::Mirrors::Descent::redir_by))]
-pub fn parse_redirection(
+pub(crate) fn parse_redirection(
     alloc: Global,
     left: usize,
     lexemes: &[Lexeme],
@@ -57,7 +57,7 @@ fn parse_file_redirection(
 /// The redirections that stand here.
 #[cycle(parse)]
 #[tactic(auto, using(crate::proofs::Turns::redirs))]
-pub fn parse_redirections(
+pub(crate) fn parse_redirections(
     alloc: Global,
     left: usize,
     lexemes: &[Lexeme],

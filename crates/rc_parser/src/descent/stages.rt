@@ -26,7 +26,7 @@ use std::alloc::Global;
 
 /// How an operand begins.
 #[derive(Drop)]
-pub enum Opening {
+pub(crate) enum Opening {
     /// A stage of a pipeline.
     Staged(Box<Cmd>),
     /// The name of an assignment. The `=` follows it.
@@ -173,7 +173,7 @@ fn parse_simple_command(
 /// How an operand begins.
 #[cycle(parse)]
 #[tactic(auto, unfolding(rc_model::specs::Mirrors::Descent::opening_by, rc_model::specs::Mirrors::Descent::worded_by))]
-pub fn parse_opening(
+pub(crate) fn parse_opening(
     alloc: Global,
     below: usize,
     lexemes: &[Lexeme],

@@ -72,7 +72,7 @@ fn parse_cases(
 /// What follows `switch`.
 #[cycle(parse)]
 #[tactic(auto, using(crate::proofs::Steps::steps), unfolding(rc_model::specs::Mirrors::Descent::switch_by))]
-pub fn parse_switch(
+pub(crate) fn parse_switch(
     alloc: Global,
     below: usize,
     lexemes: &[Lexeme],

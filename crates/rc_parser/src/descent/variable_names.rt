@@ -14,7 +14,7 @@ use std::alloc::Global;
 
 /// A name after a `$`.
 #[tactic(auto, using(crate::proofs::Steps::levels), unfolding(rc_model::specs::Mirrors::Descent::name_by))]
-pub fn parse_name(
+pub(crate) fn parse_name(
     alloc: Global,
     left: usize,
     lexemes: &[Lexeme],
@@ -37,7 +37,7 @@ pub fn parse_name(
 
 /// What follows `$#`: the name of the variable whose values are counted.
 #[tactic(auto, using(std::proofs::lemmas::Grind::common_steps))]
-pub fn parse_count(
+pub(crate) fn parse_count(
     alloc: Global,
     left: usize,
     lexemes: &[Lexeme],
@@ -51,7 +51,7 @@ pub fn parse_count(
 
 /// What follows `$"`: the name of the variable whose values are joined.
 #[tactic(auto, using(std::proofs::lemmas::Grind::common_steps))]
-pub fn parse_flat(
+pub(crate) fn parse_flat(
     alloc: Global,
     left: usize,
     lexemes: &[Lexeme],
