@@ -1,4 +1,5 @@
-//! The law that a printed tree is read again. The function does nothing: its contract is the law.
+//! The laws of printed trees: each can be written, and is read again. Each function does nothing: its contract is the
+//! law.
 #![tactic(auto)]
 
 mod written;

@@ -1,4 +1,4 @@
-//! The laws of the grammar: the descent finds the trees of the grammar and no others, and a script has one at most.
+//! The laws of syntax: texts and their tokens, the descent and the trees of the grammar, and which scripts are accepted.
 #![tactic(auto)]
 
 mod acceptance;

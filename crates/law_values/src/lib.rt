@@ -1,4 +1,4 @@
-//! The laws of lists: what joining, selecting and splitting compute is what the relations say.
+//! The laws of values: lists, patterns and file names. What is computed is what the relations say.
 #![tactic(auto)]
 
 mod patterns;

@@ -1,4 +1,4 @@
-//! Programs and built-in commands.
+//! Simple commands: what their words run, and the built-in commands.
 #![tactic(auto)]
 
 mod builtins;

@@ -1,4 +1,5 @@
-//! Pipelines, subshells and children in the background, and the pipes between them; files of commands are read.
+//! Children: programs, the stages of pipelines, subshells, commands in the background and backquotes; files of commands
+//! are read.
 #![tactic(auto)]
 
 mod backquotes;

@@ -1,4 +1,4 @@
-//! What the reader of a spelling reads and makes: numbers, leaves, the shapes that marks stand for, and nodes.
+//! Why there is no image.
 
 use rc_model::{ImageFault, InputError};
 

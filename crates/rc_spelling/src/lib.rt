@@ -1,4 +1,4 @@
-//! Writes the spelling of a tree.
+//! The spelling of a tree, as images have it: it is written, and read again.
 #![tactic(auto)]
 
 mod image_error;
