@@ -1,5 +1,5 @@
 //! Tests of public calls where memory is refused: of scripts, patterns, file names, built-in commands, redirections and
-//! the state; and of trees that no script has. The rows of `test_tapes` and `test_scripts` show what they do.
+//! the state; and of trees that no script has. The rows of `test_tapes` and `test_texts` show what they do.
 #![tactic(auto)]
 
 #[cfg(test)]

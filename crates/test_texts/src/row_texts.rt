@@ -1,6 +1,6 @@
 //! The texts of a row.
 
-use crate::fault::RowError;
+use crate::row_error::RowError;
 use std::alloc::Global;
 
 /// The text that is written so.

@@ -1,7 +1,7 @@
 //! The options of a row, each on a line: its kind, and after a space what it says.
 
-use crate::fault::RowError;
-use crate::rows::text;
+use crate::row_error::RowError;
+use crate::row_texts::text;
 use std::alloc::Global;
 
 /// The kind of an option, and what it says.

@@ -7,10 +7,10 @@
 //!   `strict`. What is shown is the state; with `tree rc1;e`, the launch of a shell that is to run
 //!   this; with `entries`, the entries of that state.
 
-use crate::fault::RowError;
 use crate::images::tree_of;
 use crate::options::{all, cut, first, has};
-use crate::rows::{list, text};
+use crate::row_error::RowError;
+use crate::row_texts::{list, text};
 use rc_image::{
     Handover, ImageError, handed, read_env, read_image, read_state, write_env, write_tree,
 };

@@ -1,6 +1,6 @@
 //! The runs, and how each is shown.
 
-use crate::rows::Row;
+use crate::run_rows::Row;
 use anyhow::Result;
 use std::alloc::{AllocError, AllocGlobal, Global};
 use std::fs;

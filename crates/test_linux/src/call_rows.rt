@@ -1,14 +1,9 @@
-//! Makes the calls of the files `*.calls` that lie here on Linux, and says which answers differ from what stands after
-//! ` > `. A line `## its_name` begins a row, which has a world of its own; `#` begins a comment.
+//! The rows of the files `*.calls` that lie here: calls on Linux, each with the answer that is wanted after ` > `. A line
+//! `## its_name` begins a row, which has a world of its own; `#` begins a comment.
 //! The lines after `100 times:`, up to an empty one, are made a hundred times.
-#![tactic(auto)]
 
-mod answers;
-mod calls;
-mod launches;
-
+use crate::calls::answer;
 use anyhow::Result;
-use calls::answer;
 use rc_host::HostWorld;
 use std::alloc::Global;
 use std::fs;
@@ -51,15 +46,21 @@ fn check_row(rt: HostRuntime, alloc: Global, row: &str) -> Result<()> {
     Ok(())
 }
 
-fn main(rt: HostRuntime) -> Result<()> {
-    let alloc = rt.alloc();
+/// Makes the calls of each row, and prints its name and those that are answered otherwise.
+pub fn check_all(rt: HostRuntime, alloc: Global) -> Result<()> {
     for name in ["files.calls", "children.calls"] {
         let text = fs::read_to_string(&rt, name)?;
-        for row in text.split("## ").skip(1) {
-            let (name, calls) = row.split_once('\n').unwrap_or((row, ""));
-            println!(rt; "{name}")?;
-            check_row(rt, alloc, calls)?;
-        }
+        check_file(rt, alloc, text.as_str())?;
+    }
+    Ok(())
+}
+
+/// Makes the calls of the rows of a file.
+fn check_file(rt: HostRuntime, alloc: Global, rows: &str) -> Result<()> {
+    for row in rows.split("## ").skip(1) {
+        let (name, calls) = row.split_once('\n').unwrap_or((row, ""));
+        println!(rt; "{name}")?;
+        check_row(rt, alloc, calls)?;
     }
     Ok(())
 }

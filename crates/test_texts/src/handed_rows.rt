@@ -1,17 +1,7 @@
-//! Compares what comes of images, words and entries with what is wanted, row by row.
-#![tactic(auto)]
+//! Rows of images, words and entries: what stands there, an arrow and what is wanted.
 
-mod fault;
-mod images;
-mod layers;
-mod options;
-mod rows;
-mod states;
-
-use anyhow::Result;
-use layers::Layer;
+use crate::handed_layers::Layer;
 use std::alloc::{AllocError, Global};
-use std::fs;
 use test_rows::Tally;
 
 /// Compares a row, and writes what comes of it where that is not wanted.
@@ -32,7 +22,7 @@ fn compare_row(
 }
 
 /// Compares the rows of a file, and writes those that differ and how many there are. What has no arrow is a comment.
-fn compare(
+pub fn compare(
     alloc: Global,
     out: &mut String,
     rows: &str,
@@ -47,20 +37,4 @@ fn compare(
         }
     }
     tally.report(out, name)
-}
-
-fn main(rt: HostRuntime) -> Result<()> {
-    let mut out = String::new(rt.alloc());
-    for (name, layer) in [
-        ("trees", Layer::Trees),
-        ("pieces", Layer::Pieces),
-        ("words", Layer::Words),
-        ("states", Layer::States),
-        ("launches", Layer::States),
-    ] {
-        let rows = fs::read_to_string(&rt, name)?;
-        compare(rt.alloc(), &mut out, rows.as_str(), layer, name)?;
-    }
-    print!(rt; "{out}")?;
-    Ok(())
 }

@@ -2,7 +2,7 @@ use Rattle.std.proofs.Common.{◌+◌, ◌*◌, max}
 use denote.Param.Weighed.{most}
 use Rattle.rc_tree.proofs.types.Cmd.TheLaws as command
 use Rattle.rc_tree.proofs.types.Arg.TheLaws as argument
-use Rattle.test_scripts.proofs.dump.+dump.Given as goal
+use Rattle.test_texts.proofs.dump.+dump.Given as goal
 
 -- what gets smaller at each call: a part of a tree is smaller than the tree
 

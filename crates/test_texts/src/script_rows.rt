@@ -1,17 +1,7 @@
-//! Compares what comes of scripts with what is wanted, row by row, and reads the examples that lie here. A row is a
-//! script, an arrow and what is wanted, or one of several things that are.
-#![tactic(auto)]
+//! Rows of scripts: a script, an arrow and what is wanted, or one of several things that are.
 
-mod dump;
-mod examples;
-mod layers;
-mod tokens;
-mod trees;
-
-use anyhow::Result;
-use layers::Layer;
+use crate::script_layers::Layer;
 use std::alloc::{AllocError, Global};
-use std::fs;
 use test_rows::{Tally, bytes};
 
 /// What stands between a script and what is wanted.
@@ -60,7 +50,7 @@ fn compare_row(
 }
 
 /// Compares the rows of a file, and writes those that differ and how many there are.
-fn compare(
+pub fn compare(
     alloc: Global,
     out: &mut String,
     rows: &str,
@@ -72,19 +62,4 @@ fn compare(
         compare_row(alloc, out, &mut tally, layer, row)?;
     }
     tally.report(out, name)
-}
-
-fn main(rt: HostRuntime) -> Result<()> {
-    let mut out = String::new(rt.alloc());
-    for (name, layer) in [
-        ("tokens", Layer::Tokens),
-        ("trees", Layer::Trees),
-        ("texts", Layer::Texts),
-        ("faults", Layer::Faults),
-    ] {
-        let rows = fs::read_to_string(&rt, name)?;
-        compare(rt.alloc(), &mut out, rows.as_str(), layer, name)?;
-    }
-    print!(rt; "{out}")?;
-    examples::read_all(&rt)
 }

@@ -1,6 +1,6 @@
 //! What comes of images and of words.
 
-use crate::fault::RowError;
+use crate::row_error::RowError;
 use rc_image::{
     ImageError, ImageFault, InputError, read_pieces, read_tree, write_pieces, write_tree,
 };

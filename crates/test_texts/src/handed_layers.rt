@@ -1,8 +1,8 @@
 //! What is shown of the rows of a file, and how they stand there.
 
-use crate::fault::RowError;
 use crate::images::{add_pieces, add_taken, tree};
-use crate::rows::{list, text};
+use crate::row_error::RowError;
+use crate::row_texts::{list, text};
 use crate::states::begun;
 use std::alloc::{AllocError, Global};
 

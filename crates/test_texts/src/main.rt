@@ -1,0 +1,59 @@
+//! Compares what comes of scripts, and of what a shell is handed, with what is wanted, row by row, and reads the
+//! examples that lie here.
+#![tactic(auto)]
+
+mod dump;
+mod examples;
+mod handed_layers;
+mod handed_rows;
+mod images;
+mod options;
+mod row_error;
+mod row_texts;
+mod script_layers;
+mod script_rows;
+mod states;
+mod tokens;
+mod trees;
+
+use anyhow::Result;
+use std::fs;
+
+/// Compares the rows of scripts.
+fn compare_scripts(rt: &HostRuntime, out: &mut String) -> Result<()> {
+    use script_layers::Layer;
+    for (name, layer) in [
+        ("tokens", Layer::Tokens),
+        ("trees", Layer::Trees),
+        ("texts", Layer::Texts),
+        ("faults", Layer::Faults),
+    ] {
+        let rows = fs::read_to_string(rt, name)?;
+        script_rows::compare(rt.alloc(), out, rows.as_str(), layer, name)?;
+    }
+    Ok(())
+}
+
+/// Compares the rows of images, words and entries.
+fn compare_handed(rt: &HostRuntime, out: &mut String) -> Result<()> {
+    use handed_layers::Layer;
+    for (name, layer) in [
+        ("images", Layer::Trees),
+        ("pieces", Layer::Pieces),
+        ("words", Layer::Words),
+        ("states", Layer::States),
+        ("launches", Layer::States),
+    ] {
+        let rows = fs::read_to_string(rt, name)?;
+        handed_rows::compare(rt.alloc(), out, rows.as_str(), layer, name)?;
+    }
+    Ok(())
+}
+
+fn main(rt: HostRuntime) -> Result<()> {
+    let mut out = String::new(rt.alloc());
+    compare_scripts(&rt, &mut out)?;
+    compare_handed(&rt, &mut out)?;
+    print!(rt; "{out}")?;
+    examples::read_all(&rt)
+}
