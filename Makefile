@@ -47,6 +47,8 @@ toolchain:
 check: rc
 	tests/check ./rc
 	tests/descriptors ./rc
+	tests/surprises ./rc
+	tests/idioms ./rc
 	tests/editors ./rc
 	tests/packaging ./rc
 
@@ -69,6 +71,8 @@ test: toolchain
 	tests/check $(BUILT)
 	tests/memory $(BUILT)
 	tests/descriptors $(BUILT)
+	tests/surprises $(BUILT)
+	tests/idioms $(BUILT)
 	tests/editors $(BUILT)
 	tests/packaging $(BUILT)
 	tests/refusals
