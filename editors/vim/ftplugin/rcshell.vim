@@ -1,0 +1,7 @@
+" How scripts of rc are edited.
+if exists('b:did_ftplugin')
+  finish
+endif
+let b:did_ftplugin = 1
+setlocal comments=b:# commentstring=#\ %s
+let b:undo_ftplugin = 'setlocal comments< commentstring<'
