@@ -1,7 +1,7 @@
 # Builds, checks and releases this project with its own shell in place of sh: make -f examples/self.mk [target]
 #
-# A recipe is one script of rc, which ends at the first command that fails. In it $$x is the variable x of the shell, and
-# $(X) one of make. Where there is no ./rc yet, the Makefile puts it there.
+# A recipe is one script of rc, which ends at the first command that fails. In it $$x is the variable x of the shell,
+# and $(X) one of make. If there is no ./rc yet, the Makefile puts it there.
 
 RT = rt
 RELEASE = release/rc-x86_64-linux
