@@ -1,0 +1,71 @@
+//! The descriptors of its own that a process gives up.
+ghost use Rattle.std.specs.Prelude.{◌≡◌, ◌-◌, ◌==◌};
+
+use std::fs::File;
+use std::io;
+use std::os::fd::{AsRawFd, IntoRawFd};
+use std::rt::HostRuntime;
+
+/// Which descriptors of its own a process gives up, and when: once it has opened so many files and here documents. With
+/// none to open it gives nothing up.
+#[derive(Clone, Copy)]
+pub struct Leaving {
+    pub files: u32,
+    pub input: bool,
+    pub output: bool,
+    pub errors: bool,
+}
+
+impl Leaving {
+    /// Nothing is given up.
+    pub fn never() -> Leaving
+        ensures { result.files ≡ 0 }
+    {
+        Leaving {
+            files: 0,
+            input: false,
+            output: false,
+            errors: false,
+        }
+    }
+
+    /// Counts a file that was opened, and says whether it was the last.
+    pub fn count(&mut self) -> bool
+        ensures last { result ≡ (self.old.files == 1) }
+        ensures left { self.new ≡ record self.old { files = self.old.files - 1 } }
+    {
+        let is_last = self.files == 1;
+        self.files = self.files.saturating_sub(1);
+        is_last
+    }
+}
+
+/// Opens `/dev/null`, to stand in the place of a descriptor.
+pub fn open_null(rt: &HostRuntime) -> io::Result<File> {
+    File::options().read(true).write(true).open(rt, "/dev/null")
+}
+
+/// Gives up descriptors of this process, as far as `/dev/null` can be opened to stand in their places. No other file
+/// takes their numbers.
+pub fn give_up(rt: &HostRuntime, leaving: Leaving) {
+    if open_null(rt).is_err() {
+        return;
+    }
+    if leaving.input {
+        replace(rt, &rt.stdin());
+    }
+    if leaving.output {
+        replace(rt, &rt.stdout());
+    }
+    if leaving.errors {
+        replace(rt, &rt.stderr());
+    }
+}
+
+/// Closes a descriptor of this process. Linux gives `/dev/null` its number, the least that is free.
+fn replace<F: AsRawFd>(rt: &HostRuntime, own: &F) {
+    libc::close(own.as_raw_fd());
+    if let Ok(null) = open_null(rt) {
+        null.into_raw_fd();
+    }
+}
