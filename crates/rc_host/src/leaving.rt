@@ -1,6 +1,8 @@
 //! The descriptors of its own that a process gives up.
-ghost use Rattle.std.specs.Prelude.{◌≡◌, ◌-◌, ◌==◌};
+ghost use Rattle.std.specs.Prelude.{◌≡◌, ◌-◌, ◌==◌, not};
+ghost use Rattle.rc_host.specs.Plan.{is_own, stands};
 
+use rc_world::{Slot, Slots};
 use std::fs::File;
 use std::io;
 use std::os::fd::{AsRawFd, IntoRawFd};
@@ -29,6 +31,21 @@ impl Leaving {
         }
     }
 
+    /// With so many files to open, each descriptor is given up that none of these stands for.
+    pub fn all_but(files: u32, slots: Slots) -> Leaving
+        ensures files { result.files ≡ files }
+        ensures input { result.input ≡ not (stands 0 slots) }
+        ensures output { result.output ≡ not (stands 1 slots) }
+        ensures errors { result.errors ≡ not (stands 2 slots) }
+    {
+        Leaving {
+            files,
+            input: !stands(0, slots),
+            output: !stands(1, slots),
+            errors: !stands(2, slots),
+        }
+    }
+
     /// Counts a file that was opened, and says whether it was the last.
     pub fn count(&mut self) -> bool
         ensures last { result ≡ (self.old.files == 1) }
@@ -37,6 +54,22 @@ impl Leaving {
         let is_last = self.files == 1;
         self.files = self.files.saturating_sub(1);
         is_last
+    }
+}
+
+/// Whether one of these stands for this process's own descriptor of this number.
+fn stands(own: u8, slots: Slots) -> bool
+    ensures { result ≡ stands own slots }
+{
+    is_own(own, slots.input) || is_own(own, slots.output) || is_own(own, slots.errors)
+}
+
+fn is_own(own: u8, slot: Slot) -> bool
+    ensures { result ≡ is_own own slot }
+{
+    match slot {
+        Slot::Own(number) => number == own,
+        Slot::To(_) => false,
     }
 }
 
