@@ -1,10 +1,11 @@
--- The names of files, one after the other.
+-- Texts that stand one after the other, each ended by a byte 0.
 use Rattle.std.proofs.Common.{◌≡◌, ◌≢◌, refl, ap, sym, ◌∙◌, ℕ, suc, ◌<◌, ◌+◌, ◌-◌, ◌==◌, ◌||◌, ◌&&◌, not, if◌then◌else◌, Bool, true, false, List, [], ◌∷◌, ◌++◌, length, take, drop, append_assoc, slice_index, EachIndex, IsUtf8, codes, arith}
 use Rattle.std.specs.Str.{bytes_eq, is_utf8}
 use Rattle.std.proofs.lemmas.Grind.{common_steps}
 use Rattle.std.proofs.lemmas.List.{append-nil, get_or-drop, length-drop, take-append-drop}
 use Rattle.std.proofs.lemmas.Str.{is_utf8-from_IsUtf8, IsUtf8-from_is_utf8}
-use Rattle.rc_host.specs.Names.{named, names_from, names_in}
+use Rattle.rc_host.specs.Names.{named, entered, kept, ended_from}
+use Rattle.rc_host.specs.declared.ended.Sort.{Sort}
 
 no_text : (name : List ℕ) → (IsUtf8 name → ⊥) → (is : Bool) → is_utf8 name ≡ is → is ≡ false
 no_text name h true e = absurd (h (IsUtf8-from_is_utf8 name e))
@@ -14,6 +15,14 @@ no_text name h false e = refl
 pub unnamed : (name : List ℕ) → (IsUtf8 name → ⊥) → named name ≡ []
 unnamed name h = ap (λ is. if is && not (bytes_eq name (codes ".") || bytes_eq name (codes "..")) then name ∷ [] else [])
     (no_text name h (is_utf8 name) refl)
+
+-- and no entry
+pub unentered : (entry : List ℕ) → (IsUtf8 entry → ⊥) → entered entry ≡ []
+unentered entry h = ap (λ is. if is then entry ∷ [] else []) (no_text entry h (is_utf8 entry) refl)
+
+-- a text is one
+pub entered_alone : (entry text : List ℕ) → text ≡ entry → IsUtf8 entry → entered entry ≡ text ∷ []
+entered_alone entry text e is = rw (is_utf8-from_IsUtf8 entry is) (ap (λ n. n ∷ []) (sym e))
 
 -- a text that is neither `.` nor `..` is one
 pub named_alone : (name text : List ℕ) → text ≡ name → IsUtf8 name → bytes_eq text (codes ".") ≡ false → bytes_eq text (codes "..") ≡ false → named name ≡ text ∷ []
@@ -32,46 +41,46 @@ Clear bytes = EachIndex bytes (λ i. slice_index bytes i ≢ 0)
 clear_rest : (byte : ℕ) (bytes : List ℕ) → Clear (byte ∷ bytes) → Clear bytes
 clear_rest byte bytes clear i h = clear (suc i) (omega arith)
 
--- bytes other than 0 are of the first name
-past : (read bytes rest : List ℕ) → Clear bytes → names_from read (bytes ++ rest) ≡ names_from (read ++ bytes) rest
-past read [] rest clear = ap (λ r. names_from r rest) (sym (append-nil read))
-past read (byte ∷ bytes) rest clear =
-    ap (λ is. if is then named read ++ names_from [] (bytes ++ rest) else names_from (read ++ byte ∷ []) (bytes ++ rest)) (other_byte byte (clear 0 (omega arith)))
-    ∙ past (read ++ byte ∷ []) bytes rest (clear_rest byte bytes clear)
-    ∙ ap (λ r. names_from r rest) (append_assoc read (byte ∷ []) bytes)
+-- bytes other than 0 are of the first text
+past : (sort : Sort) (read bytes rest : List ℕ) → Clear bytes → ended_from sort read (bytes ++ rest) ≡ ended_from sort (read ++ bytes) rest
+past sort read [] rest clear = ap (λ r. ended_from sort r rest) (sym (append-nil read))
+past sort read (byte ∷ bytes) rest clear =
+    ap (λ is. if is then kept sort read ++ ended_from sort [] (bytes ++ rest) else ended_from sort (read ++ byte ∷ []) (bytes ++ rest)) (other_byte byte (clear 0 (omega arith)))
+    ∙ past sort (read ++ byte ∷ []) bytes rest (clear_rest byte bytes clear)
+    ∙ ap (λ r. ended_from sort r rest) (append_assoc read (byte ∷ []) bytes)
 
 shorter : (bytes others : List ℕ) (n byte : ℕ) → drop n bytes ≡ byte ∷ others → n < length bytes
 shorter bytes others n byte e = let h : length bytes - n ≡ suc (length others) = sym (length-drop n bytes) ∙ ap length e in omega arith
 
--- what stands after the bytes of the first name begins with a byte 0
+-- what stands after the bytes of the first text begins with a byte 0
 ended : (bytes others : List ℕ) (n byte : ℕ) → (n < length bytes → slice_index bytes n ≡ 0) → drop n bytes ≡ byte ∷ others → byte ≡ 0
 ended bytes others n byte nul e =
     let same : n + 0 ≡ n = omega arith in
     ap (λ l. slice_index l 0) (sym e) ∙ get_or-drop n bytes 0 0 ∙ ap (slice_index bytes) same ∙ nul (shorter bytes others n byte e)
 
--- the first name, and those after its byte 0
-first_name : (bytes others : List ℕ) (n byte : ℕ) → Clear (take n bytes) → (n < length bytes → slice_index bytes n ≡ 0) → drop n bytes ≡ byte ∷ others
-    → names_in bytes ≡ named (take n bytes) ++ names_in others
-first_name bytes others n byte clear nul e =
-    ap names_in (sym (take-append-drop n bytes) ∙ ap (λ rest. take n bytes ++ rest) (e ∙ ap (λ b. b ∷ others) (ended bytes others n byte nul e)))
-    ∙ past [] (take n bytes) (0 ∷ others) clear
+-- the first text, and those after its byte 0
+first_text : (sort : Sort) (bytes others : List ℕ) (n byte : ℕ) → Clear (take n bytes) → (n < length bytes → slice_index bytes n ≡ 0) → drop n bytes ≡ byte ∷ others
+    → ended_from sort [] bytes ≡ kept sort (take n bytes) ++ ended_from sort [] others
+first_text sort bytes others n byte clear nul e =
+    ap (ended_from sort []) (sym (take-append-drop n bytes) ∙ ap (λ rest. take n bytes ++ rest) (e ∙ ap (λ b. b ∷ others) (ended bytes others n byte nul e)))
+    ∙ past sort [] (take n bytes) (0 ∷ others) clear
 
 none_left : (bytes : List ℕ) → length bytes ≡ 0 → bytes ≡ []
 none_left [] h = refl
 none_left (byte ∷ bytes) h = cc
 
--- a name is added to those before it
-pub name_added : (all before names : List (List ℕ)) (bytes name others : List ℕ) (n byte : ℕ) → Clear (take n bytes) → (n < length bytes → slice_index bytes n ≡ 0)
-    → name ≡ take n bytes → drop n bytes ≡ byte ∷ others → before ++ names_in bytes ≡ all → names ≡ before ++ named name → names ++ names_in others ≡ all
-name_added all before names bytes name others n byte clear nul is e was now =
-    ap (λ l. l ++ names_in others) (now ∙ ap (λ l. before ++ named l) is)
-    ∙ append_assoc before (named (take n bytes)) (names_in others)
-    ∙ ap (λ l. before ++ l) (sym (first_name bytes others n byte clear nul e)) ∙ was
+-- a text is added to those before it
+pub text_added : (sort : Sort) (all before texts : List (List ℕ)) (bytes text others : List ℕ) (n byte : ℕ) → Clear (take n bytes) → (n < length bytes → slice_index bytes n ≡ 0)
+    → text ≡ take n bytes → drop n bytes ≡ byte ∷ others → before ++ ended_from sort [] bytes ≡ all → texts ≡ before ++ kept sort text → texts ++ ended_from sort [] others ≡ all
+text_added sort all before texts bytes text others n byte clear nul is e was now =
+    ap (λ l. l ++ ended_from sort [] others) (now ∙ ap (λ l. before ++ kept sort l) is)
+    ∙ append_assoc before (kept sort (take n bytes)) (ended_from sort [] others)
+    ∙ ap (λ l. before ++ l) (sym (first_text sort bytes others n byte clear nul e)) ∙ was
 
 -- with no byte 0 left those before are all
-pub names_end : (all names : List (List ℕ)) (bytes after : List ℕ) (n : ℕ) → Clear (take n bytes) → after ≡ drop n bytes → length after ≡ 0
-    → names ++ names_in bytes ≡ all → names ≡ all
-names_end all names bytes after n clear e h was =
-    let none : names_in bytes ≡ [] =
-    ap names_in (sym (take-append-drop n bytes) ∙ ap (λ rest. take n bytes ++ rest) (sym e ∙ none_left after h)) ∙ past [] (take n bytes) [] clear in
-    sym (append-nil names) ∙ ap (λ l. names ++ l) (sym none) ∙ was
+pub texts_end : (sort : Sort) (all texts : List (List ℕ)) (bytes after : List ℕ) (n : ℕ) → Clear (take n bytes) → after ≡ drop n bytes → length after ≡ 0
+    → texts ++ ended_from sort [] bytes ≡ all → texts ≡ all
+texts_end sort all texts bytes after n clear e h was =
+    let none : ended_from sort [] bytes ≡ [] =
+    ap (ended_from sort []) (sym (take-append-drop n bytes) ∙ ap (λ rest. take n bytes ++ rest) (sym e ∙ none_left after h)) ∙ past sort [] (take n bytes) [] clear in
+    sym (append-nil texts) ∙ ap (λ l. texts ++ l) (sym none) ∙ was

@@ -1,6 +1,6 @@
 -- Open files: how a file is opened, and what is held open.
 use Rattle.std.specs.Prelude.{true}
-use Rattle.std.specs.Fs.{new_options, with_read, with_write, with_append, with_create, with_truncate}
+use Rattle.std.specs.Fs.{new_options, with_read, with_write, with_append, with_create, with_create_new, with_truncate}
 use Rattle.std.specs.declared.fs.options.OpenOptions.{OpenOptions}
 use Rattle.rc_model.specs.declared.call.Mode.{Mode}
 use Rattle.rc_model.specs.declared.call.Mode.TheVariants.{Read, Write, Append}
@@ -12,6 +12,10 @@ abbrev pub options_of : Mode → OpenOptions
 options_of Read = with_read new_options true
 options_of Write = with_truncate (with_create (with_write new_options true) true) true
 options_of Append = with_create (with_append new_options true) true
+
+-- to write to a file that is created, and only where its name is free
+abbrev pub fresh_options : OpenOptions
+fresh_options = with_create_new (with_write new_options true) true
 
 -- a file, and no end of a pipe
 abbrev pub IsFile : OpenFile → Type 0

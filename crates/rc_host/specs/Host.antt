@@ -25,6 +25,12 @@ files_of world = world.files
 abbrev pub children_of : HostWorld → List (Option (Child SystemProcess ChildStdin ChildStdout ChildStderr))
 children_of world = world.children
 
+-- the same is held as before
+pub record HoldsAllAlike (old new : HostWorld) : Type 0 where
+  pub shell : shell_of new ≡ shell_of old
+  pub files : files_of new ≡ files_of old
+  pub children : children_of new ≡ children_of old
+
 -- all but the open files is as before
 pub record ChangesFilesAlone (old new : HostWorld) : Type 0 where
   pub shell : shell_of new ≡ shell_of old

@@ -1,23 +1,45 @@
--- The names of files, in what Linux gives of a directory.
-use Rattle.std.specs.Prelude.{◌≡◌, ◌⊎◌, ◌==◌, ◌||◌, ◌&&◌, not, if◌then◌else◌, ℕ, ℤ, pos, List, [], ◌∷◌, ◌++◌, codes}
+-- The texts of bytes in which a byte 0 ends each of them: the names of files, in what Linux gives of a directory, and
+-- the entries of an environment.
+use Rattle.std.specs.Prelude.{◌≡◌, ◌⊎◌, ◌==◌, ◌&&◌, ◌||◌, ◌-◌, not, if◌then◌else◌, ℕ, ℤ, pos, List, [], ◌∷◌, ◌++◌}
+use Rattle.std.specs.Prelude.{length, slice_index}
 use Rattle.std.specs.IoError.{os_error_kind}
-use Rattle.std.specs.Str.{bytes_eq, is_utf8}
+use Rattle.std.specs.Str.{is_utf8}
 use Rattle.std.specs.declared.io.ErrorKind.TheVariants as kind
 use Rattle.rc_model.specs.Run.Patterns.{is_dots}
+use Rattle.rc_host.specs.declared.ended.Sort.{Sort}
+use Rattle.rc_host.specs.declared.ended.Sort.TheVariants.{Names, Entries}
 
 -- the name, where it is UTF-8 and neither `.` nor `..`
 abbrev pub named : List ℕ → List (List ℕ)
 named name = if is_utf8 name && not (is_dots name) then name ∷ [] else []
 
--- the names in bytes in which a byte 0 ends each name, after these bytes of the first one
-abbrev pub names_from : List ℕ → List ℕ → List (List ℕ)
-names_from read [] = []
-names_from read (byte ∷ bytes) =
-    if byte == 0 then named read ++ names_from [] bytes else names_from (read ++ byte ∷ []) bytes
+-- the text, where it is UTF-8
+abbrev pub entered : List ℕ → List (List ℕ)
+entered text = if is_utf8 text then text ∷ [] else []
+
+-- what is kept of these bytes, by what they are: a name or an entry
+abbrev pub kept : Sort → List ℕ → List (List ℕ)
+kept Names bytes = named bytes
+kept Entries bytes = entered bytes
+
+-- what is kept of bytes in which a byte 0 ends each text, after these bytes of the first one
+abbrev pub ended_from : Sort → List ℕ → List ℕ → List (List ℕ)
+ended_from sort read [] = []
+ended_from sort read (byte ∷ bytes) =
+    if byte == 0 then kept sort read ++ ended_from sort [] bytes else ended_from sort (read ++ byte ∷ []) bytes
 
 -- the names in bytes in which a byte 0 ends each name
 abbrev pub names_in : List ℕ → List (List ℕ)
-names_in bytes = names_from [] bytes
+names_in bytes = ended_from Names [] bytes
+
+-- the entries in bytes in which a byte 0 ends each entry
+abbrev pub entries_in : List ℕ → List (List ℕ)
+entries_in bytes = ended_from Entries [] bytes
+
+-- the path by which a directory is opened: a slash ends it, unless it is empty
+abbrev pub directory_path : List ℕ → List ℕ
+directory_path path =
+    if length path == 0 || slice_index path (length path - 1) == 47 then path else path ++ 47 ∷ []
 
 -- with this number of an error, or 0, no name is left: a directory that was taken away has none
 abbrev pub IsLast : ℤ → Type 0

@@ -19,6 +19,10 @@ abbrev pub is_own : ℕ → Slot → Bool
 is_own n (Own m) = m == n
 is_own n (To file) = false
 
+-- one of these stands for the shell's own descriptor of this number
+abbrev pub stands : ℕ → Slots → Bool
+stands n slots = is_own n slots.input || (is_own n slots.output || is_own n slots.errors)
+
 -- an open file
 abbrev pub is_file : Slot → Bool
 is_file (Own m) = false

@@ -1,9 +1,9 @@
 //! What Linux says, as what a world answers.
-ghost use Rattle.std.specs.Prelude.{◌≡◌, ◌≢◌, ◌↔◌, Ok, Err, IfOk, IfSome, IsSomeAnd, MatchResult};
+ghost use Rattle.std.specs.Prelude.{◌≡◌, ◌≢◌, ◌↔◌, Ok, Err, IfOk, IsOk, IfSome, IsSomeAnd, MatchResult};
 ghost use Rattle.std.specs.Fs.{IsDir, file_type};
 ghost use Rattle.std.specs.Process.{child_status};
 ghost use Rattle.rc_model.specs.declared.call.Fault.TheVariants.{Halt};
-ghost use Rattle.rc_host.specs.Answers.{ending_of, IsProgram};
+ghost use Rattle.rc_host.specs.Answers.{ending_of, IsProgram, FindsKind};
 ghost use Rattle.rc_world.specs.Faults.{fault_at};
 
 use rc_world::{Ending, Fault, Kind, fault_of};
@@ -14,6 +14,17 @@ use std::process::{Child, ExitStatus};
 
 /// The bits of a file's mode by which its owner, its group or all others may execute it.
 const EXECUTE: u32 = 0o111;
+
+/// The answer to a call of which Linux says this.
+pub(crate) fn answer<T>(said: io::Result<T>) -> Result<T, Fault>
+    ensures same { MatchResult said (λ value. result ≡ Ok value) (λ error. result ≡ Err (fault_at error)) }
+    ensures answered { result ≢ Err Halt }
+{
+    match said {
+        Ok(value) => Ok(value),
+        Err(error) => Err(fault_of(&error)),
+    }
+}
 
 /// Waits until the child has ended, and says how it did. A child whose ending is known ends as it did.
 pub(crate) fn end_of(child: &mut Child) -> Result<Ending, Fault>
@@ -29,9 +40,9 @@ pub(crate) fn end_of(child: &mut Child) -> Result<Ending, Fault>
 fn ended(status: io::Result<ExitStatus>) -> Result<Ending, Fault>
     ensures { MatchResult status (λ status. result ≡ Ok (ending_of status)) (λ error. result ≡ Err (fault_at error)) }
 {
-    match status {
+    match answer(status) {
         Ok(status) => Ok(ending_of(status)),
-        Err(error) => Err(fault_of(&error)),
+        Err(fault) => Err(fault),
     }
 }
 
@@ -44,8 +55,20 @@ fn ending_of(status: ExitStatus) -> Ending
     }
 }
 
-/// What a path names.
-pub(crate) fn kind_of(found: &Metadata) -> Kind
+/// What a path names, by what Linux says of it.
+pub(crate) fn kind_found(said: io::Result<Metadata>) -> Result<Kind, Fault>
+    ensures same { MatchResult said (λ found. IfOk result (FindsKind found))
+        (λ error. result ≡ Err (fault_at error)) }
+    ensures found { IfOk said (λ _. IsOk result) }
+    ensures answered { result ≢ Err Halt }
+{
+    match answer(said) {
+        Ok(found) => Ok(kind_of(&found)),
+        Err(fault) => Err(fault),
+    }
+}
+
+fn kind_of(found: &Metadata) -> Kind
     ensures directory { (result ≡ Kind.Directory) ↔ IsDir (file_type found.now) }
     ensures program { (result ≡ Kind.Program) ↔ IsProgram found.now }
 {

@@ -1,101 +1,102 @@
 //! The names in a directory.
-ghost use Rattle.std.specs.Prelude.{◌≡◌, ◌≢◌, ◌↔◌, ◌++◌, ◌∷◌, [], Some, Err, OnOk, IfErr, IsOk, MatchOption};
-ghost use Rattle.std.specs.Prelude.{map, string_bytes};
+ghost use Rattle.std.specs.Prelude.{◌≡◌, ◌≢◌, ◌↔◌, Some, Err, IfOk, IfErr, IfSome, IsOk, map, string_bytes};
 ghost use Rattle.std.specs.IoError.{os_error_kind};
 ghost use Rattle.rc_model.specs.declared.call.Fault.TheVariants.{Halt};
-ghost use Rattle.rc_world.specs.Faults.{fault_of};
-ghost use Rattle.rc_host.specs.Names.{named, names_in, IsLast};
+ghost use Rattle.rc_world.specs.Faults.{fault_at, fault_of};
+ghost use Rattle.rc_host.specs.Names.{directory_path, names_in, IsLast};
 
-use rc_world::{Fault, fault_of};
-use std::alloc::AllocError;
+use crate::answers::answer;
+use crate::ended::{Sort, push_ended};
+use crate::files::read_again;
+use rc_world::Fault;
+use std::alloc::{AllocError, Global};
 use std::fs::File;
-use std::io::ErrorKind;
+use std::io::{ErrorKind, Read};
 use std::os::fd::AsRawFd;
 use std::rt::HostRuntime;
-use std::{fs, io, str};
+use std::{fs, io};
 
 /// How many bytes of names Linux is asked for at once.
 const NAME_BYTES: usize = 32_768;
+
+/// An open directory. It is read as the names in it, each ended by a byte 0.
+#[derive(Drop)]
+struct Directory(File);
+
+impl Read for Directory {
+    fn read(&mut self, buffer: &mut [u8]) -> io::Result<usize> {
+        let count = os::read_dir(self.0.as_raw_fd(), buffer);
+        if count > 0 {
+            return Ok(count);
+        }
+        end_at(os::errno())
+    }
+}
 
 /// The names in the directory with this path, in the order in which Linux has them.
 pub(crate) fn names_in(rt: &HostRuntime, path: &str) -> Result<Vec<String>, Fault>
     ensures { result ≢ Err Halt }
 {
-    let directory = opened(rt, path).map_err(|error| fault_of(&error))?;
-    let mut bytes = Vec::new(rt.alloc());
-    bytes.resize(NAME_BYTES, 0u8).map_err(|_| Fault::NoMemory)?;
-    let mut names = Vec::new(rt.alloc());
-    for _ in 0..u64::MAX {
-        let count = os::read_dir(directory.as_raw_fd(), &mut bytes);
-        if count == 0 {
-            end_at(os::errno())?;
-            return Ok(names);
-        }
-        push_names(&mut names, &bytes[..count]).map_err(|_| Fault::NoMemory)?;
-    }
-    Ok(names)
+    let path = directory_path(rt.alloc(), path).map_err(|_| Fault::NoMemory)?;
+    let directory = answer(fs::open(rt, path.as_str()))?;
+    names_of(rt.alloc(), &mut Directory(directory))
 }
 
-/// The open directory. With a slash at the end of its path Linux refuses any other file, and does not wait for a named
-/// pipe. The empty path is that of no file.
-fn opened(rt: &HostRuntime, path: &str) -> io::Result<File> {
-    if path.is_empty() || path.ends_with('/') {
-        return fs::open(rt, path);
+/// The path of a directory. With a slash at its end Linux refuses any other file, and does not wait for a named pipe.
+/// The empty path is that of no file.
+fn directory_path(alloc: Global, path: &str) -> Result<String, AllocError>
+    ensures { IfOk result (λ text. string_bytes text ≡ directory_path path.now) }
+{
+    let mut text = String::from_str(alloc, path)?;
+    if !path.is_empty() && !path.ends_with('/') {
+        text.push('/')?;
     }
-    let path = format!(in rt.alloc(); "{path}/")?;
-    fs::open(rt, path.as_str())
+    Ok(text)
 }
 
-/// What it means that no more names came, with Linux's number of an error or 0.
-fn end_at(number: i32) -> Result<(), Fault>
-    ensures end { IsOk result ↔ IsLast number }
-    ensures err { IfErr result (λ fault. fault ≡ fault_of (os_error_kind number) (Some number)) }
+/// The names that are read of a directory.
+fn names_of<R: Read>(alloc: Global, directory: &mut R) -> Result<Vec<String>, Fault>
+    ensures names { IfOk result (λ names. IfSome (R.remaining directory.old)
+        (λ bytes. map string_bytes names.items ≡ names_in bytes)) }
     ensures answered { result ≢ Err Halt }
+{
+    let bytes = read_whole(alloc, directory)?;
+    let mut names = Vec::new(alloc);
+    match push_ended(&mut names, &bytes, Sort::Names) {
+        Ok(()) => Ok(names),
+        Err(AllocError) => Err(Fault::NoMemory),
+    }
+}
+
+/// All bytes of a reader that is a directory.
+fn read_whole<R: Read>(alloc: Global, directory: &mut R) -> Result<Vec<u8>, Fault>
+    ensures whole { IfOk result (λ bytes. IfSome (R.remaining directory.old) (λ all. bytes.items ≡ all)) }
+    ensures answered { result ≢ Err Halt }
+{
+    let mut bytes = Vec::new(alloc);
+    let mut part = Vec::new(alloc);
+    part.resize(NAME_BYTES, 0u8).map_err(|_| Fault::NoMemory)?;
+    for _ in 0..u64::MAX {
+        let count = answer(read_again(directory, &mut part))?;
+        if count == 0 {
+            return Ok(bytes);
+        }
+        if bytes.extend_from_slice(&part[..count]).is_err() {
+            return Err(Fault::NoMemory);
+        }
+    }
+    Err(Fault::Other)
+}
+
+/// What it means that no more names came, with Linux's number of an error or 0: none is left, or the error.
+fn end_at(number: i32) -> io::Result<usize>
+    ensures end { IsOk result ↔ IsLast number }
+    ensures none { IfOk result (λ count. count ≡ 0) }
+    ensures err { IfErr result (λ error. fault_at error ≡ fault_of (os_error_kind number) (Some number)) }
 {
     let error = io::Error::from_raw_os_error(number);
     if number == 0 || matches!(error.kind(), ErrorKind::NotFound) {
-        return Ok(());
+        return Ok(0);
     }
-    Err(fault_of(&error))
-}
-
-/// Adds the names of files that stand in the bytes, each ended by a byte 0.
-fn push_names(names: &mut Vec<String>, bytes: &[u8]) -> Result<(), AllocError>
-    ensures { OnOk result (map string_bytes names.new.items
-        ≡ map string_bytes names.old.items ++ names_in bytes.now) }
-{
-    let mut rest = bytes;
-    loop {
-        let (name, after) = rest.split_at(os::name_length(rest));
-        let Some((_, others)) = after.split_first() else {
-            return Ok(());
-        };
-        push_name(names, name)?;
-        rest = others;
-    }
-}
-
-/// Adds the name, where it is that of a file.
-fn push_name(names: &mut Vec<String>, name: &[u8]) -> Result<(), AllocError>
-    ensures { OnOk result (map string_bytes names.new.items ≡ map string_bytes names.old.items ++ named name.now) }
-{
-    let Some(name) = file_name(name) else {
-        return Ok(());
-    };
-    let name = String::from_str(*names.allocator(), name)?;
-    names.push(name)?;
-    Ok(())
-}
-
-/// The name of a file: none where it is not UTF-8, and for `.` and `..`.
-fn file_name(name: &[u8]) -> Option<&str>
-    ensures { MatchOption result (named name.now ≡ []) (λ text. named name.now ≡ text.now ∷ []) }
-{
-    let Ok(text) = str::from_utf8(name) else {
-        return None;
-    };
-    if text == "." || text == ".." {
-        return None;
-    }
-    Some(text)
+    Err(error)
 }

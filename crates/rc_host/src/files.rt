@@ -1,21 +1,26 @@
 //! Open files and ends of pipes.
-ghost use Rattle.std.specs.Prelude.{◌≡◌, ◌≢◌, ◌≤◌, [], Err, IfOk, OnOk, OnErr, vec_len};
-ghost use Rattle.std.specs.Io.KnownBytes.{Appends, Consumes, IsAtEnd, Keeps};
+ghost use Rattle.std.specs.Prelude.{◌≡◌, ◌≢◌, ◌≤◌, ◌++◌, [], Err, IfOk, IfErr, OnOk, OnErr, codes, string_bytes, vec_len};
+ghost use Rattle.std.specs.Fmt.{decimal};
+ghost use Rattle.std.specs.Io.{ReadsAtMost};
+ghost use Rattle.std.specs.Io.KnownBytes.{Appends, Consumes, IsAtEnd, Keeps, ReadConsumes};
+ghost use Rattle.std.specs.IoError.{error_kind};
 ghost use Rattle.rc_model.specs.declared.call.Fault.TheVariants.{Halt, Other};
-ghost use Rattle.rc_host.specs.Files.{options_of, IsReadEnd, IsWriteEnd};
+ghost use Rattle.rc_host.specs.Files.{options_of, fresh_options, IsReadEnd, IsWriteEnd};
 
+use crate::answers::answer;
 use rc_model::limits::LONGEST_READ;
-use rc_world::{Fault, Mode, fault_of};
-use std::alloc::Global;
+use rc_world::{Fault, Mode};
+use std::alloc::{AllocError, Global};
 use std::fs::{File, OpenOptions};
 use std::io::{ErrorKind, PipeReader, PipeWriter, Read, Write};
 use std::os::unix::fs::OpenOptionsExt;
 use std::process::Stdio;
+use std::random::RandomSource;
 use std::rt::HostRuntime;
-use std::{fs, io, process};
+use std::{fs, io};
 
-/// How many names are tried for the file of a here document.
-const MOST_NAMES: u32 = 100;
+/// The mode of the file of a here document, which nobody but its owner may read or write.
+const PRIVATE: u32 = 0o600;
 
 /// A file or an end of a pipe that is open in this process and in none of its children.
 #[derive(Drop)]
@@ -86,13 +91,29 @@ pub(crate) fn read_some<R: Read>(alloc: Global, reader: &mut R) -> Result<Vec<u8
     if bytes.resize(LONGEST_READ, 0u8).is_err() {
         return Err(Fault::NoMemory);
     }
-    match reader.read(&mut bytes) {
+    match answer(read_again(reader, &mut bytes)) {
         Ok(count) => {
             bytes.truncate(count);
             Ok(bytes)
         }
-        Err(error) => Err(fault_of(&error)),
+        Err(fault) => Err(fault),
     }
+}
+
+/// One read, which is made again when a signal interrupts it.
+pub(crate) fn read_again<R: Read>(reader: &mut R, buffer: &mut [u8]) -> io::Result<usize>
+    ensures bound { ReadsAtMost result buffer.new }
+    ensures bytes { ReadConsumes (R.remaining reader.old) (R.remaining reader.new) result buffer.new }
+    ensures again { IfErr result (λ error. error_kind error ≢ ErrorKind.Interrupted) }
+{
+    for _ in 0..u64::MAX {
+        match reader.read(buffer) {
+            Ok(count) => return Ok(count),
+            Err(error) if error.kind() == ErrorKind::Interrupted => {}
+            Err(error) => return Err(error),
+        }
+    }
+    Err(io::Error::from(ErrorKind::Other))
 }
 
 /// Writes the whole text to a writer.
@@ -100,41 +121,41 @@ pub(crate) fn write_text<W: Write>(writer: &mut W, text: &[u8]) -> Result<(), Fa
     ensures whole { OnOk result (Appends (W.contents writer.old) (W.contents writer.new) text.now) }
     ensures answered { result ≢ Err Halt }
 {
-    writer.write_all(text).map_err(|error| fault_of(&error))
+    answer(writer.write_all(text))
 }
 
 /// A file for reading that holds this text and has no name.
 pub(crate) fn here_file(rt: &HostRuntime, text: &str) -> Result<File, Fault>
     ensures { result ≢ Err Halt }
 {
-    let (mut writer, reader) = nameless_file(rt).map_err(|error| fault_of(&error))?;
+    let (mut writer, reader) = answer(nameless_file(rt))?;
     write_text(&mut writer, text.as_bytes())?;
     Ok(reader)
 }
 
-/// A fresh file, for writing and for reading, whose name is gone.
+/// A fresh file, for writing and for reading, whose name is gone. Nobody can guess that name.
 fn nameless_file(rt: &HostRuntime) -> io::Result<(File, File)> {
-    let process = process::id(rt.process());
-    for turn in 0..MOST_NAMES {
-        let path = format!(in rt.alloc(); "/tmp/rc.{process}.{turn}")?;
-        match fresh_file(rt, &path) {
-            Ok(writer) => {
-                let reader = fs::open(rt, path.as_str());
-                fs::remove_file(rt, path.as_str())?;
-                return Ok((writer, reader?));
-            }
-            Err(error) if error.kind() == ErrorKind::AlreadyExists => {}
-            Err(error) => return Err(error),
-        }
-    }
-    Err(io::Error::from(ErrorKind::AlreadyExists))
+    let mut random = [0u8; 16];
+    rt.fill_bytes(&mut random)?;
+    let path = here_path(rt.alloc(), u128::from_le_bytes(random))?;
+    let writer = fresh_options().mode(PRIVATE).open(rt, path.as_str())?;
+    let reader = fs::open(rt, path.as_str());
+    fs::remove_file(rt, path.as_str())?;
+    Ok((writer, reader?))
 }
 
-/// A file for writing that was not there, and that is this user's alone.
-fn fresh_file(rt: &HostRuntime, path: &str) -> io::Result<File> {
-    OpenOptions::new()
-        .write(true)
-        .create_new(true)
-        .mode(0o600)
-        .open(rt, path)
+/// The path of the file of a here document, which has the whole of a random number.
+fn here_path(alloc: Global, number: u128) -> Result<String, AllocError>
+    ensures { IfOk result (λ path. string_bytes path ≡ codes "/tmp/rc." ++ decimal number) }
+{
+    format!(in alloc; "/tmp/rc.{number}")
+}
+
+/// How the file of a here document is opened for writing, but for its mode: nothing may have its name.
+fn fresh_options() -> OpenOptions
+    ensures { result ≡ fresh_options }
+{
+    let mut options = OpenOptions::new();
+    options.write(true).create_new(true);
+    options
 }

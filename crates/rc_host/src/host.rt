@@ -1,25 +1,27 @@
 //! Linux as a world.
 ghost use Rattle.std.specs.Prelude.{◌≡◌, ◌≢◌, ◌↔◌, ℕ, ◌<◌, ◌≤◌, length, string_bytes, vec_len};
-ghost use Rattle.std.specs.Prelude.{None, Err, IfOk, OnOk, OnErr, IsOk, IsSome, IsTrue};
+ghost use Rattle.std.specs.Prelude.{None, Some, Ok, Err, IfOk, IfErr, OnOk, OnErr, IsOk, IsSome, IsTrue};
 ghost use Rattle.std.specs.Io.KnownBytes.{Appends};
 ghost use Rattle.std.specs.Process.{SameProgramAndArgs, SameEnv};
 ghost use Rattle.rc_model.specs.declared.call.Fault.TheVariants.{Other, Halt};
 ghost use Rattle.rc_model.specs.declared.limits.TheConstants.{LONGEST_READ};
+ghost use Rattle.rc_world.specs.Faults.{fault_at};
 ghost use Rattle.rc_world.specs.Views.{launch_of};
 ghost use Rattle.rc_host.specs.Commands.{AsksForPlanOf};
 ghost use Rattle.rc_host.specs.Plan.{plan_of};
 ghost use Rattle.rc_host.specs.Table.{held_at, IsLeastFree, AreLeastFree, HoldsTheSame, ChangesOnly};
 ghost use Rattle.rc_host.specs.Host.{shell_of, files_of, children_of, ChangesFilesAlone, ChangesChildrenAlone};
-ghost use Rattle.rc_host.specs.Host.{AddsFile, AddsPipe, AddsChild, IsThere, AreThere, IsOwn, IsNamed};
+ghost use Rattle.rc_host.specs.Host.{HoldsAllAlike, AddsFile, AddsPipe, AddsChild, IsThere, AreThere, IsOwn, IsNamed};
 
-use crate::answers::{end_of, kind_of};
+use crate::answers::{answer, end_of, kind_found};
 use crate::command::command_of;
 use crate::directory::names_in;
 use crate::files::{OpenFile, here_file, options_of, write_text};
+use crate::leaving::{Leaving, give_up};
 use crate::planning::plan;
 use crate::streams::{Connected, Stream, own_copy, set_errors, set_input, set_output};
 use crate::table::Table;
-use rc_world::{ChildNo, Ending, Fault, Handle, Kind, Launch, Mode, Slot, Slots, World, fault_of};
+use rc_world::{ChildNo, Ending, Fault, Handle, Kind, Launch, Mode, Slot, Slots, World};
 use std::fs::File;
 use std::io::{PipeReader, PipeWriter, Write};
 use std::os::fd::AsRawFd;
@@ -38,6 +40,7 @@ pub struct HostWorld {
     shell: String,
     files: Table<OpenFile>,
     children: Table<Child>,
+    leaving: Leaving,
 }
 
 impl HostWorld {
@@ -52,6 +55,24 @@ impl HostWorld {
             shell,
             files: Table::new(rt.alloc()),
             children: Table::new(rt.alloc()),
+            leaving: Leaving::never(),
+        }
+    }
+
+    /// From now on so many files are opened before the process gives up these descriptors of its own. No call may name
+    /// them after that.
+    pub fn leave(&mut self, leaving: Leaving)
+        ensures { HoldsAllAlike self.old self.new }
+    {
+        self.leaving = leaving;
+    }
+
+    /// Counts a file that was opened. After the last one the process gives up descriptors of its own.
+    fn count_opened(&mut self)
+        ensures { HoldsAllAlike self.old self.new }
+    {
+        if self.leaving.count() {
+            give_up(&self.rt, self.leaving);
         }
     }
 
@@ -78,12 +99,9 @@ impl HostWorld {
         ensures slots { IfOk result (λ connected. connected.slots ≡ slots) }
         ensures answered { result ≢ Err Halt }
     {
-        let input = self.stream(slots.input)?;
-        let output = self.stream(slots.output)?;
-        let errors = self.stream(slots.errors)?;
-        set_input(&mut command, input, slots);
-        set_output(&mut command, output, slots);
-        set_errors(&mut command, errors, slots);
+        set_input(&mut command, self.stream(slots.input)?, slots);
+        set_output(&mut command, self.stream(slots.output)?, slots);
+        set_errors(&mut command, self.stream(slots.errors)?, slots);
         Ok(Connected { command, slots })
     }
 
@@ -103,7 +121,7 @@ impl HostWorld {
                 None => return Err(Fault::Other),
             },
         };
-        copy.map_err(|error| fault_of(&error))
+        answer(copy)
     }
 
     /// A copy of the open file that the slot names.
@@ -120,9 +138,7 @@ impl HostWorld {
         requires place { _number < length (files_of self.now) }
         ensures answered { result ≢ Err Halt }
     {
-        options_of(mode)
-            .open(&self.rt, path)
-            .map_err(|error| fault_of(&error))
+        answer(options_of(mode).open(&self.rt, path))
     }
 
     /// Makes the here document that is to be held at this number, whose place is there already.
@@ -139,7 +155,7 @@ impl HostWorld {
         requires write_place { _write_end < length (files_of self.now) }
         ensures answered { result ≢ Err Halt }
     {
-        io::pipe(&self.rt).map_err(|error| fault_of(&error))
+        answer(io::pipe(&self.rt))
     }
 
     /// Starts the command of a launch, whose child is held at this number.
@@ -157,12 +173,26 @@ impl HostWorld {
         ensures rest { ChangesChildrenAlone self.old self.new }
         ensures answered { result ≢ Err Halt }
     {
-        let child = connected
-            .command
-            .spawn(&self.rt)
-            .map_err(|error| fault_of(&error))?;
-        self.children.put(number, child);
-        Ok(ChildNo(number))
+        let said = connected.command.spawn(&self.rt);
+        self.hold(number, said)
+    }
+
+    /// Holds the child at this number, if Linux started one.
+    fn hold(&mut self, number: u32, said: io::Result<Child>) -> Result<ChildNo, Fault>
+        requires { number < length (children_of self.old) }
+        ensures held { IfOk said (λ child. (result ≡ Ok (record { 0 = number }))
+            × ChangesOnly (children_of self.old) (children_of self.new) number (Some child)) }
+        ensures refused { IfErr said (λ error. (result ≡ Err (fault_at error)) × (children_of self.new ≡ children_of self.old)) }
+        ensures rest { ChangesChildrenAlone self.old self.new }
+        ensures answered { result ≢ Err Halt }
+    {
+        match answer(said) {
+            Ok(child) => {
+                self.children.put(number, child);
+                Ok(ChildNo(number))
+            }
+            Err(fault) => Err(fault),
+        }
     }
 }
 
@@ -188,6 +218,7 @@ impl World for HostWorld {
         let number = self.files.room()?;
         let file = self.file_for(number, path, mode)?;
         self.files.put(number, OpenFile::File(file));
+        self.count_opened();
         Ok(Handle(number))
     }
 
@@ -201,6 +232,7 @@ impl World for HostWorld {
         let number = self.files.room()?;
         let file = self.here_for(number, text)?;
         self.files.put(number, OpenFile::File(file));
+        self.count_opened();
         Ok(Handle(number))
     }
 
@@ -301,14 +333,13 @@ impl World for HostWorld {
         ensures same { self.new ≡ self.old }
         ensures answered { result ≢ Err Halt }
     {
-        let found = fs::metadata(&self.rt, path).map_err(|error| fault_of(&error))?;
-        Ok(kind_of(&found))
+        kind_found(fs::metadata(&self.rt, path))
     }
 
     fn chdir(&mut self, path: &str) -> Result<(), Fault>
         ensures same { self.new ≡ self.old }
         ensures answered { result ≢ Err Halt }
     {
-        env::set_current_dir(&self.rt, path).map_err(|error| fault_of(&error))
+        answer(env::set_current_dir(&self.rt, path))
     }
 }

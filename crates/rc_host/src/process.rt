@@ -1,19 +1,21 @@
 //! What a program takes from its process.
-ghost use Rattle.std.specs.Prelude.{◌≡◌, ◌++◌, None, IfOk, OnErr, codes, drop, string_bytes};
+ghost use Rattle.std.specs.Prelude.{◌≡◌, ◌==◌, ◌++◌, None, IfOk, OnErr, codes, count_by, drop, map, string_bytes};
 ghost use Rattle.std.specs.Fmt.{decimal};
 ghost use Rattle.std.specs.Path.{path_buf_bytes};
+ghost use Rattle.rc_host.specs.Names.{entries_in};
 ghost use Rattle.rc_host.specs.Process.{arguments_error};
 ghost use Rattle.rc_world.specs.Faults.{fault_at};
 
+use crate::ended::{Sort, push_ended, push_kept};
+use crate::leaving::open_null;
 use rc_model::InputError;
 use rc_world::{Fault, fault_of};
 use std::alloc::{AllocError, AllocGlobal, Global};
 use std::env::FillError;
-use std::fs::File;
 use std::os::fd::{AsFd, IntoRawFd};
 use std::path::PathBuf;
 use std::rt::{Env, HostRuntime};
-use std::{env, io, process};
+use std::{env, fs, io, process};
 use thiserror::Error;
 
 /// Linux's number for a descriptor that is not open.
@@ -57,15 +59,50 @@ fn arguments_error(error: &io::Error) -> InputError<ArgumentsFault>
 }
 
 /// The entries of the environment that are UTF-8, in their order.
-pub fn entries<R: Env + AllocGlobal>(rt: &R) -> Result<Vec<String>, AllocError> {
+pub fn entries(rt: &HostRuntime) -> Result<Vec<String>, AllocError> {
+    if let Ok(bytes) = fs::read(rt, "/proc/self/environ") {
+        if has_entries(rt, count_ended(&bytes)) {
+            return entries_in(rt.alloc(), &bytes);
+        }
+    }
+    entries_by_place(rt)
+}
+
+/// The entries that are UTF-8, in bytes in which a byte 0 ends each entry.
+fn entries_in(alloc: Global, bytes: &[u8]) -> Result<Vec<String>, AllocError>
+    ensures { IfOk result (λ entries. map string_bytes entries.items ≡ entries_in bytes.now) }
+{
+    let mut entries = Vec::new(alloc);
+    push_ended(&mut entries, bytes, Sort::Entries)?;
+    Ok(entries)
+}
+
+/// How many texts end in the bytes.
+fn count_ended(bytes: &[u8]) -> usize
+    ensures { result ≡ count_by (λ byte. byte == 0) bytes.now }
+{
+    bytes.iter().filter(|byte| **byte == 0).count()
+}
+
+/// Whether the environment has so many entries and no more.
+fn has_entries<R: Env>(rt: &R, count: usize) -> bool {
+    !is_present(rt, count) && (count == 0 || is_present(rt, count - 1))
+}
+
+/// Whether there is an entry at this place of the environment.
+fn is_present<R: Env>(rt: &R, place: usize) -> bool {
+    !matches!(rt.var_at(place, &mut []), Err(FillError::NotPresent))
+}
+
+/// The entries of the environment that are UTF-8, in their order, each taken by its place. Linux is asked to count the
+/// places anew for each.
+pub fn entries_by_place<R: Env + AllocGlobal>(rt: &R) -> Result<Vec<String>, AllocError> {
     let mut entries = Vec::new(rt.alloc());
     for place in 0..usize::MAX {
         let Some(bytes) = entry_at(rt, place)? else {
             break;
         };
-        if let Ok(entry) = String::from_utf8(bytes) {
-            entries.push(entry)?;
-        }
+        push_kept(&mut entries, &bytes, Sort::Entries)?;
     }
     Ok(entries)
 }
@@ -121,11 +158,7 @@ pub fn open_standard(rt: &HostRuntime) -> io::Result<()> {
 fn open_if_absent<F: AsFd>(rt: &HostRuntime, own: &F) -> io::Result<()> {
     match own.as_fd().try_clone_to_owned() {
         Err(error) if error.raw_os_error() == Some(NOT_OPEN) => {
-            let null = File::options()
-                .read(true)
-                .write(true)
-                .open(rt, "/dev/null")?;
-            null.into_raw_fd();
+            open_null(rt)?.into_raw_fd();
             Ok(())
         }
         _ => Ok(()),

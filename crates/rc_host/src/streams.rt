@@ -8,8 +8,7 @@ use std::io;
 use std::os::fd::{AsFd, AsRawFd};
 use std::process::{Command, Stdio};
 
-/// A copy of what a slot names, to be a descriptor of a child.
-#[derive(Drop)]
+/// A copy of what a slot names, to be a descriptor of a child. It can't be let go: a command gets it.
 pub(crate) struct Stream {
     pub slot: Slot,
     pub copy: Stdio,
@@ -37,7 +36,8 @@ pub(crate) fn set_input(command: &mut Command, stream: Stream, _slots: Slots)
     ensures call { SameProgramAndArgs command.old command.new }
     ensures env { SameEnv command.old command.new }
 {
-    command.stdin(stream.copy);
+    let Stream { slot: _, copy } = stream;
+    command.stdin(copy);
 }
 
 /// Gives a command its descriptor 1.
@@ -46,7 +46,8 @@ pub(crate) fn set_output(command: &mut Command, stream: Stream, _slots: Slots)
     ensures call { SameProgramAndArgs command.old command.new }
     ensures env { SameEnv command.old command.new }
 {
-    command.stdout(stream.copy);
+    let Stream { slot: _, copy } = stream;
+    command.stdout(copy);
 }
 
 /// Gives a command its descriptor 2.
@@ -55,5 +56,6 @@ pub(crate) fn set_errors(command: &mut Command, stream: Stream, _slots: Slots)
     ensures call { SameProgramAndArgs command.old command.new }
     ensures env { SameEnv command.old command.new }
 {
-    command.stderr(stream.copy);
+    let Stream { slot: _, copy } = stream;
+    command.stderr(copy);
 }

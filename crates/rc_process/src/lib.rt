@@ -7,7 +7,12 @@ ghost use Rattle.rc_cli.specs.Requests.{request_of};
 ghost use Rattle.rc_cli.specs.declared.fault.RunError.TheVariants.{NoMemory, Usage};
 
 use rc_cli::{RunError, Source, report, request_of, run_rc};
-use rc_host::{ArgumentsFault, HostWorld, InputError, entries, open_standard, own_path};
+use rc_covering::covering_of;
+use rc_host::{
+    ArgumentsFault, HostWorld, Input, InputError, Leaving, entries, open_standard, own_path,
+};
+use rc_image::read_pieces;
+use std::alloc::Global;
 use std::fs;
 use std::process::ExitCode;
 
@@ -48,19 +53,23 @@ fn status_of<'a>(rt: HostRuntime, arguments: &'a [String]) -> Result<u8, RunErro
     let shell = own_path(&rt)?;
     let entries = entries(&rt)?;
     let mut world = HostWorld::new(rt, shell);
-    match request.source {
-        Source::File(name) => {
-            let file = fs::open(&rt, name).ok();
-            run_rc(rt.alloc(), &mut world, arguments, &entries, file)
-        }
-        Source::Input | Source::Text(_) | Source::Image => {
-            run_rc(
-                rt.alloc(),
-                &mut world,
-                arguments,
-                &entries,
-                Some(rt.reader()),
-            )
-        }
+    if let Source::Image = request.source {
+        world.leave(leaving_of(rt.alloc(), request.arguments));
+    }
+    let input = match request.source {
+        Source::File(name) => fs::open(&rt, name).ok().map(Input::File),
+        Source::Input | Source::Text(_) | Source::Image => Some(Input::Standard(rt.stdin())),
+    };
+    run_rc(rt.alloc(), &mut world, arguments, &entries, input)
+}
+
+/// What a shell can give up of its own descriptors that is handed these words.
+fn leaving_of(alloc: Global, words: &[String]) -> Leaving {
+    let Ok((cmd, _)) = read_pieces(alloc, words) else {
+        return Leaving::never();
+    };
+    match covering_of(&cmd) {
+        Some(covering) => Leaving::all_but(covering.files, covering.slots),
+        None => Leaving::never(),
     }
 }

@@ -80,3 +80,11 @@ pub fn names(alloc: Global, answer: Result<Vec<String>, Fault>) -> Result<String
         Err(why) => fault(alloc, why),
     }
 }
+
+/// How many names there are.
+pub fn tally(alloc: Global, answer: Result<Vec<String>, Fault>) -> Result<String, AllocError> {
+    match answer {
+        Ok(names) => format!(in alloc; "{} names", names.len()),
+        Err(why) => fault(alloc, why),
+    }
+}

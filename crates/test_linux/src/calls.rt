@@ -1,8 +1,9 @@
 //! How calls are written: the name of the call, and what it is given, with blanks between. After a backslash stand `s`
 //! for a blank, `n` for a newline and `0` for a byte 0. `fill 1 20` writes 20 bytes to the file 1, `count 1` says how
-//! many bytes one read of it gives, and `text 1` reads it to its end and closes it.
+//! many bytes one read of it gives, and `text 1` reads it to its end and closes it. `tally d`
+//! says how many names the directory has.
 
-use crate::answers::{child, count, done, ending, fault, file, kind, names, pipe};
+use crate::answers::{child, count, done, ending, fault, file, kind, names, pipe, tally};
 use crate::launches::{launch, slot};
 use anyhow::{Result, anyhow};
 use rc_host::HostWorld;
@@ -37,7 +38,7 @@ pub fn answer(alloc: Global, host: &mut HostWorld, call: &str) -> Result<String>
     match kind {
         "open" | "here" | "pipe" | "close" => open_or_close(alloc, host, kind, rest),
         "write" | "fill" | "count" | "text" => read_or_write(alloc, host, kind, rest),
-        "list" | "probe" | "chdir" => look(alloc, host, kind, rest),
+        "list" | "tally" | "probe" | "chdir" => look(alloc, host, kind, rest),
         "start" | "wait" => run(alloc, host, kind, rest),
         _ => Err(anyhow!("another call")),
     }
@@ -113,6 +114,7 @@ fn look(alloc: Global, host: &mut HostWorld, call: &str, given: &str) -> Result<
     let path = unescaped(alloc, given)?;
     Ok(match call {
         "list" => names(alloc, host.list(path.as_str()))?,
+        "tally" => tally(alloc, host.list(path.as_str()))?,
         "probe" => kind(alloc, host.probe(path.as_str()))?,
         _ => done(alloc, host.chdir(path.as_str()))?,
     })

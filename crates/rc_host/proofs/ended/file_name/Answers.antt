@@ -1,6 +1,6 @@
 use Rattle.std.proofs.Common.{sym, ◌∙◌}
 use Rattle.rc_host.proofs.Names.{unnamed, named_alone}
-use Rattle.rc_host.proofs.directory.file_name.Goals as goal
+use Rattle.rc_host.proofs.ended.file_name.Goals as goal
 
 pub returns-in_default : goal.returns-in_default
 returns-in_default c = unnamed _ c.in_default.ensures.cases.0

@@ -1,0 +1,5 @@
+mod Keeps
+mod Acts
+mod Builtins
+mod Cmds
+pub mod Covered

@@ -1,0 +1,80 @@
+//! Texts that stand one after the other, each ended by a byte 0.
+ghost use Rattle.std.specs.Prelude.{◌≡◌, ◌++◌, ◌∷◌, [], OnOk, MatchOption, map, string_bytes};
+ghost use Rattle.rc_host.specs.Names.{named, entered, kept, ended_from};
+
+use std::alloc::AllocError;
+use std::str;
+
+/// What the texts are.
+#[derive(Clone, Copy)]
+pub(crate) enum Sort {
+    /// The names of files.
+    Names,
+    /// The entries of an environment.
+    Entries,
+}
+
+/// Adds what is kept of the texts that stand in the bytes.
+pub(crate) fn push_ended(
+    texts: &mut Vec<String>,
+    bytes: &[u8],
+    sort: Sort,
+) -> Result<(), AllocError>
+    ensures { OnOk result (map string_bytes texts.new.items
+        ≡ map string_bytes texts.old.items ++ ended_from sort [] bytes.now) }
+{
+    let mut rest = bytes;
+    loop {
+        let (text, after) = rest.split_at(os::name_length(rest));
+        let Some((_, others)) = after.split_first() else {
+            return Ok(());
+        };
+        push_kept(texts, text, sort)?;
+        rest = others;
+    }
+}
+
+/// Adds the text, if it is kept.
+pub(crate) fn push_kept(texts: &mut Vec<String>, bytes: &[u8], sort: Sort) -> Result<(), AllocError>
+    ensures { OnOk result (map string_bytes texts.new.items
+        ≡ map string_bytes texts.old.items ++ kept sort bytes.now) }
+{
+    let Some(text) = kept_text(bytes, sort) else {
+        return Ok(());
+    };
+    let text = String::from_str(*texts.allocator(), text)?;
+    texts.push(text)?;
+    Ok(())
+}
+
+fn kept_text(bytes: &[u8], sort: Sort) -> Option<&str>
+    ensures { MatchOption result (kept sort bytes.now ≡ []) (λ text. kept sort bytes.now ≡ text.now ∷ []) }
+{
+    match sort {
+        Sort::Names => file_name(bytes),
+        Sort::Entries => entry_text(bytes),
+    }
+}
+
+/// The name of a file: none where it is not UTF-8, and for `.` and `..`.
+fn file_name(name: &[u8]) -> Option<&str>
+    ensures { MatchOption result (named name.now ≡ []) (λ text. named name.now ≡ text.now ∷ []) }
+{
+    let Ok(text) = str::from_utf8(name) else {
+        return None;
+    };
+    if text == "." || text == ".." {
+        return None;
+    }
+    Some(text)
+}
+
+/// The entry of an environment: none where it is not UTF-8.
+fn entry_text(entry: &[u8]) -> Option<&str>
+    ensures { MatchOption result (entered entry.now ≡ []) (λ text. entered entry.now ≡ text.now ∷ []) }
+{
+    let Ok(text) = str::from_utf8(entry) else {
+        return None;
+    };
+    Some(text)
+}
