@@ -49,6 +49,7 @@ check: rc
 	tests/descriptors ./rc
 	tests/surprises ./rc
 	tests/idioms ./rc
+	tests/early ./rc
 	tests/editors ./rc
 	tests/packaging ./rc
 
@@ -73,6 +74,7 @@ test: toolchain
 	tests/descriptors $(BUILT)
 	tests/surprises $(BUILT)
 	tests/idioms $(BUILT)
+	tests/early $(BUILT)
 	tests/editors $(BUILT)
 	tests/packaging $(BUILT)
 	tests/refusals
