@@ -46,6 +46,8 @@ test:
 	tests/check $(BUILT)
 	tests/memory $(BUILT)
 	tests/descriptors $(BUILT)
+	tests/background $(BUILT)
+	tests/input $(BUILT)
 	tests/refusals
 	tests/refused_images
 	if [ -e $(RELEASE) ]; then cmp $(BUILT) $(RELEASE); fi
