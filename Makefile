@@ -77,6 +77,8 @@ test: toolchain
 	tests/early $(BUILT)
 	tests/editors $(BUILT)
 	tests/packaging $(BUILT)
+	tests/background $(BUILT)
+	tests/input $(BUILT)
 	tests/refusals
 	tests/refused_images
 	if [ -e $(RELEASE) ]; then cmp $(BUILT) $(RELEASE); fi

@@ -4,7 +4,8 @@ use Rattle.rc_model.specs.Syntax.Tree.{Node, Many, cmd, redir, none, more, Assig
 use Rattle.rc_model.specs.declared.call.Slot.{Slot}
 use Rattle.rc_model.specs.declared.call.Slot.TheVariants.{Own, To}
 use Rattle.rc_model.specs.declared.call.Slots.{Slots}
-use Rattle.rc_model.specs.Run.Calls.{Call, Answer, open_file, here, write, start, as_file, plain, to_file, slot_of, with_slot}
+use Rattle.rc_model.specs.Run.Calls.{Call, Answer, open_file, here, write, start, as_file}
+use Rattle.rc_model.specs.Run.Calls.{plain, to_file, slot_of, with_slot}
 use Rattle.rc_model.specs.Run.Plans.{Plan, done_with, ask, cut}
 use Rattle.rc_model.specs.Run.Script.{whole}
 use Rattle.rc_model.specs.Run.State.{State}
@@ -96,4 +97,5 @@ AfterOpens (suc k) Q cut = Unit {0}
 -- own that they cover
 abbrev pub NoCoveredIsNamed : Type 0
 NoCoveredIsNamed =
-    (n : ℕ) (c : Node cmd) (s : State) → AfterOpens (opens_of c) (NamesOnly (Stands (slots_after c plain))) (whole n c s)
+    (n : ℕ) (c : Node cmd) (s : State) →
+    AfterOpens (opens_of c) (NamesOnly (Stands (slots_after c plain))) (whole n c s)

@@ -93,7 +93,8 @@ fn opens_in(redirs: &[Redir], inner: u32) -> Option<u32>
 /// One file more, if the redirection opens one.
 #[tactic(auto, using(crate::proofs::Opens::steps))]
 fn opens_one(redirection: &Redir, files: u32) -> Option<u32>
-    ensures { IfSome result (λ n. (rest : Many redir) → opens_in (more (redir_tree redirection.now) rest) files ≡ opens_in rest n) }
+    ensures { IfSome result (λ n. (rest : Many redir)
+        → opens_in (more (redir_tree redirection.now) rest) files ≡ opens_in rest n) }
 {
     match redirection {
         Redir::Open { .. } | Redir::Here(_) => files.checked_add(1),

@@ -182,7 +182,8 @@ impl HostWorld {
         requires { number < length (children_of self.old) }
         ensures held { IfOk said (λ child. (result ≡ Ok (record { 0 = number }))
             × ChangesOnly (children_of self.old) (children_of self.new) number (Some child)) }
-        ensures refused { IfErr said (λ error. (result ≡ Err (fault_at error)) × (children_of self.new ≡ children_of self.old)) }
+        ensures refused { IfErr said (λ error. (result ≡ Err (fault_at error))
+            × (children_of self.new ≡ children_of self.old)) }
         ensures rest { ChangesChildrenAlone self.old self.new }
         ensures answered { result ≢ Err Halt }
     {

@@ -7,6 +7,8 @@ mod calls;
 #[cfg(test)]
 mod descriptors;
 #[cfg(test)]
+mod environment;
+#[cfg(test)]
 mod host;
 #[cfg(test)]
 mod process;
