@@ -4,6 +4,7 @@ pub mod TreeSpelling
 pub mod TreeReading
 pub mod WordsReading
 pub mod Environment
+pub mod Denoted
 pub mod Arguments
 pub mod Proper
 pub mod Handed
