@@ -11,3 +11,4 @@ pub mod Handed
 pub mod TreeLaws
 pub mod WordsLaws
 pub mod HandedLaws
+pub mod Started
