@@ -1,6 +1,7 @@
 -- What names, values, file names, programs and children keep.
-use Rattle.std.proofs.Common.{◌≡◌, ℕ, zero, suc, List, [], ◌∷◌, ◌++◌, Option, Some, None, Bool, true, false, refl}
-use Rattle.std.specs.Prelude.{Result, Ok, Err, if◌then◌else◌, codes, length, nat_le}
+use Rattle.std.proofs.Common.{◌≡◌, ℕ, zero, suc, List, [], ◌∷◌, ◌++◌, Option, Some, None, Bool, true, false, refl, sym, subst}
+use Rattle.std.specs.Prelude.{Ok, Err, if◌then◌else◌, codes, length, nat_le}
+use Rattle.std.specs.Prelude.{Result as Joined}
 use Rattle.std.specs.List.{list_any}
 use Rattle.std.specs.Fmt.{decimal}
 use Rattle.rc_model.specs.Syntax.Words.{Word, word_text, word_texts, plain_words, has_pattern}
@@ -11,15 +12,16 @@ use Rattle.rc_model.specs.declared.call.Mode.TheVariants.{Read}
 use Rattle.rc_model.specs.Run.Calls.{to_file, with_slot, Launch, open_file, here, make_pipe, close, read, write, start, wait, list_names, probe, as_file, as_pair, as_bytes, as_kind, as_child, as_names}
 use Rattle.rc_model.specs.Run.Lists.{concatenated, list_words}
 use Rattle.rc_model.specs.Run.State.{State, got, is_name, is_readable, is_function_name, define, add_child}
-use Rattle.rc_model.specs.Run.Shell.{Shell, ◌>>=◌, pure, call, say, change, exits}
+use Rattle.rc_model.specs.Run.Plans.{Plan}
+use Rattle.rc_model.specs.Run.Shell.{Shell, Result, under, leaves, ◌>>=◌, pure, call, say, change, exits}
 use Rattle.rc_model.specs.Run.FileNames.{components, directory, fitting_names, each_name, if_there, listed, step, walk, paths_of, or_itself, names_of, expanded_word, expanded}
 use Rattle.rc_model.specs.Run.Acts.{set_status, report, fault, fails, close_end, one_name, variable, value, value_words, count_words, flat_words, selected_words, joined_lists, concat_words, define_each, opened, open_one, here_text, open_here, is_path, candidates, is_program, first_program, find_program, waited, wait_each, Started, Child, NoChild, child_of, begun, start_shell, refuse, wait_started, run_found, run_program, wait_subshell, subshell, kept_child, background_with, background, Got, got_all, read_on, reading, read_all, longest_output, members_of, back_status, back_child, back_pipe, backquote, back_words}
 use Rattle.rc_model.specs.Handed.Image.{is_fit, program_launch, shell_launch}
 use Rattle.rc_model.specs.Handed.Proper.{IsProperTree, IsProper}
-use Rattle.rc_model.specs.Handed.HandedLaws.{ReadsBack, IsReadBack}
+use Rattle.rc_model.specs.Handed.Started.{Starts, a_subshell, a_job, a_backquote}
 use Rattle.law_image.proofs.Proper.{proper_set, proper_define, proper_same}
 use Rattle.law_image.proofs.Handed.{launch_reads_back}
-use Rattle.law_handed.proofs.Safe.{Gives, Keeps, bind_so, bind, next, gives_pure, keeps_pure, keeps_skip, gives_exits, keeps_call, keeps_say, keeps_change, keeps_status, gives_from, gives_at, gives_if}
+use Rattle.law_handed.proofs.Safe.{Safe, EndsSo, StartsNoShell, alone, Gives, Keeps, bind_so, bind, next, gives_pure, keeps_pure, keeps_skip, gives_exits, keeps_call, keeps_say, keeps_change, keeps_status, gives_from, gives_at, gives_if}
 use Rattle.rc_model.specs.declared.fault.ListFault.{ListFault}
 use Rattle.rc_model.specs.Run.Acts.{cannot_open, here_name, not_one_word}
 
@@ -66,7 +68,7 @@ keeps_flat_words slots x = bind (value slots x) _ (keeps_value slots x) (λ v. k
 pub keeps_selected_words : (slots : Slots) (x ss : List Word) → Keeps (selected_words slots x ss)
 keeps_selected_words slots x ss = bind (value slots x) _ (keeps_value slots x) (λ v. keeps_pure _)
 
-keeps_joined : (slots : Slots) (r : Result (List Word) ListFault) → Keeps (joined_lists slots r)
+keeps_joined : (slots : Slots) (r : Joined (List Word) ListFault) → Keeps (joined_lists slots r)
 keeps_joined slots (Ok ws) = keeps_pure ws
 keeps_joined slots (Err fault) = gives_fails slots (list_words fault)
 
@@ -131,16 +133,35 @@ keeps_wait_each (n ∷ ns) = bind (waited n) _ (keeps_waited n) (λ first. bind 
 keeps_waited_status : (n : ℕ) → Keeps (waited n >>= set_status)
 keeps_waited_status n = bind (waited n) set_status (keeps_waited n) keeps_status
 
--- starts, where the launch fits
-keeps_started : (l : Launch) (t : Bool) → (t ≡ true → ReadsBack (start l)) → Keeps (if t then begun l else pure (NoChild (codes "too large")))
-keeps_started l true h = bind (call (start l)) _ (keeps_call (start l) (h refl)) (λ a. keeps_pure (child_of (as_child a)))
+-- programs are started where the launch fits
+keeps_started : (l : Launch) (t : Bool) → StartsNoShell (start l) → Keeps (if t then begun l else pure (NoChild (codes "too large")))
+keeps_started l true h = bind (call (start l)) _ (keeps_call (start l) h) (λ a. keeps_pure (child_of (as_child a)))
 keeps_started l false h = keeps_pure (NoChild (codes "too large"))
 
-read_back : (slots : Slots) (body : Node cmd) (s : State) → IsProperTree body → IsProper s → is_fit (shell_launch slots body s) ≡ true → IsReadBack (shell_launch slots body s)
-read_back slots body s b p e = record { handed = record { tree = body; state = s; is = refl; fits = e }; tree = b; state = p; back = launch_reads_back body s b p e }
+-- shells are started by a rule, where the launch fits
+abbrev with_child : {A : Type 0} → Launch → (Started → Shell A) → State → Bool → Plan (Result A)
+with_child l f s t = under ((if t then begun l else pure (NoChild (codes "too large"))) s) f leaves
 
-pub keeps_start_shell : (slots : Slots) (body : Node cmd) → IsProperTree body → Keeps (start_shell slots body)
-keeps_start_shell slots body b = gives_from _ (λ t p. keeps_started (shell_launch slots body t) (is_fit (shell_launch slots body t)) (read_back slots body t b p))
+started_by : {A : Type 0} {Q : A → Type 0} (slots : Slots) (body : Node cmd) (f : Started → Shell A) (s : State) (t : Bool) → is_fit (shell_launch slots body s) ≡ t → IsProperTree body → IsProper s → ((x : Started) → Gives Q (f x))
+    → Starts (Result A) (with_child (shell_launch slots body s) f s (is_fit (shell_launch slots body s))) slots body s → Safe (with_child (shell_launch slots body s) f s t) (EndsSo Q)
+started_by {A = A} slots body f s true e b p kf at = (
+  record {
+    body = body;
+    state = s;
+    starts = subst (λ z. Starts (Result A) (with_child (shell_launch slots body s) f s z) slots body s) e at;
+    is = refl;
+    fits = e;
+    tree = b;
+    proper = p;
+    back = launch_reads_back body s b p e;
+  },
+  λ x. (kf (child_of (as_child x))).by s p,
+)
+started_by slots body f s false e b p kf at = (kf (NoChild (codes "too large"))).by s p
+
+pub gives_shell : {A : Type 0} {Q : A → Type 0} (slots : Slots) (body : Node cmd) (f : Started → Shell A) → IsProperTree body → ((x : Started) → Gives Q (f x))
+    → ((t : State) → Starts (Result A) (under (start_shell slots body t) f leaves) slots body t) → Gives Q (λ s. under (start_shell slots body s) f leaves)
+gives_shell slots body f b kf at = record { by = λ s p. started_by slots body f s (is_fit (shell_launch slots body s)) refl b p kf (at s) }
 
 -- programs
 keeps_first_program : (paths : List (List ℕ)) → Keeps (first_program paths)
@@ -160,7 +181,7 @@ keeps_wait_started slots name (Child n) = keeps_waited_status n
 keeps_found : (slots : Slots) (name : List ℕ) (args : List (List ℕ)) (o : Option (List ℕ)) → Keeps (run_found slots name args o)
 keeps_found slots name args None = keeps_refuse slots name (codes "not found")
 keeps_found slots name args (Some path) =
-    gives_from _ (λ t p. bind _ (wait_started slots name) (keeps_started (program_launch slots path args t) (is_fit (program_launch slots path args t)) (λ e. tt)) (keeps_wait_started slots name))
+    gives_from _ (λ t p. bind _ (wait_started slots name) (keeps_started (program_launch slots path args t) (is_fit (program_launch slots path args t)) tt) (keeps_wait_started slots name))
 
 pub keeps_program : (slots : Slots) (name : List ℕ) (args : List (List ℕ)) → Keeps (run_program slots name args)
 keeps_program slots name args = bind (find_program name) (run_found slots name args) (keeps_find name) (keeps_found slots name args)
@@ -171,7 +192,7 @@ keeps_wait_subshell (NoChild why) = keeps_status why
 keeps_wait_subshell (Child n) = keeps_waited_status n
 
 pub keeps_subshell : (slots : Slots) (body : Node cmd) → IsProperTree body → Keeps (subshell slots body)
-keeps_subshell slots body b = bind (start_shell slots body) wait_subshell (keeps_start_shell slots body b) keeps_wait_subshell
+keeps_subshell slots body b = gives_shell slots body wait_subshell b keeps_wait_subshell (λ t. a_subshell pure leaves (sym (alone (subshell slots body t))))
 
 -- `&`
 keeps_kept_child : (b : Started) → Keeps (kept_child b)
@@ -181,7 +202,8 @@ keeps_kept_child (Child n) = keeps_change _ (λ s p. proper_set (add_child s n) 
 keeps_background_with : (slots : Slots) (body : Node cmd) → IsProperTree body → (o : Option ℕ) → Keeps (background_with slots body o)
 keeps_background_with slots body b None = keeps_status (codes "cannot open")
 keeps_background_with slots body b (Some h) =
-    bind (start_shell (with_slot slots 0 (to_file h)) body) _ (keeps_start_shell (with_slot slots 0 (to_file h)) body b) (λ child. next (say (close h)) (kept_child child) (keeps_say (close h) tt) (keeps_kept_child child))
+    gives_shell (with_slot slots 0 (to_file h)) body _ b (λ child. next (say (close h)) (kept_child child) (keeps_say (close h) tt) (keeps_kept_child child))
+    (λ t. a_job slots h pure leaves (sym (alone (background_with slots body (Some h) t))) refl)
 
 pub keeps_background : (slots : Slots) (body : Node cmd) → IsProperTree body → Keeps (background slots body)
 keeps_background slots body b = bind (call (open_file (codes "/dev/null") Read)) _ (keeps_call (open_file (codes "/dev/null") Read) tt) (λ a. keeps_background_with slots body b (as_file a))
@@ -212,7 +234,8 @@ keeps_back_child r w (Child n) =
 
 keeps_back_pipe : (slots : Slots) (body : Node cmd) → IsProperTree body → (o : Option (ℕ × ℕ)) → Keeps (back_pipe slots body o)
 keeps_back_pipe slots body b None = next (set_status (codes "cannot pipe")) _ (keeps_status (codes "cannot pipe")) (keeps_pure [])
-keeps_back_pipe slots body b (Some (r, w)) = bind (start_shell (with_slot slots 1 (to_file w)) body) (back_child r w) (keeps_start_shell (with_slot slots 1 (to_file w)) body b) (keeps_back_child r w)
+keeps_back_pipe slots body b (Some (r, w)) =
+    gives_shell (with_slot slots 1 (to_file w)) body (back_child r w) b (keeps_back_child r w) (λ t. a_backquote slots r w pure leaves (sym (alone (back_pipe slots body (Some (r, w)) t))) refl)
 
 keeps_backquote : (slots : Slots) (body : Node cmd) → IsProperTree body → Keeps (backquote slots body)
 keeps_backquote slots body b = bind (call make_pipe) _ (keeps_call make_pipe tt) (λ a. keeps_back_pipe slots body b (as_pair a))

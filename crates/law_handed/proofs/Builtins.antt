@@ -1,5 +1,5 @@
 -- What pipelines and the built-in commands keep, and which bodies they call.
-use Rattle.std.proofs.Common.{◌≡◌, ℕ, List, [], ◌∷◌, ◌++◌, Option, Some, None, Bool, true, false, refl, subst}
+use Rattle.std.proofs.Common.{◌≡◌, ℕ, List, [], ◌∷◌, ◌++◌, Option, Some, None, Bool, true, false, refl, sym, subst}
 use Rattle.std.specs.Prelude.{if◌then◌else◌, codes, ◌==◌, drop}
 use Rattle.std.specs.List.{list_any}
 use Rattle.std.specs.Str.{bytes_eq}
@@ -13,7 +13,7 @@ use Rattle.rc_model.specs.declared.call.Mode.TheVariants.{Read}
 use Rattle.rc_model.specs.Run.Numbers.{number_of}
 use Rattle.rc_model.specs.Run.Calls.{to_file, with_slot, open_file, make_pipe, close, write, change_dir, as_file, as_pair, as_done}
 use Rattle.rc_model.specs.Run.State.{State, value_of, set_value, with_status, function_of, drop_child}
-use Rattle.rc_model.specs.Run.Shell.{Shell, ◌>>=◌, pure, call, say, change, exits}
+use Rattle.rc_model.specs.Run.Shell.{Shell, leaves, ◌>>=◌, pure, call, say, change, exits}
 use Rattle.rc_model.specs.Run.Acts.{set_status, close_end, candidates, run_program, waited, wait_each, read_all, longest_file, Started, Child, NoChild, start_shell, StartedStages, Running, Refused, stages_status, no_stages, from_pipe, next_stage, stage_with, stages_from, start_stages, end_stages, find_program}
 use Rattle.rc_model.specs.declared.builtin.Builtin.{Builtin}
 use Rattle.rc_model.specs.declared.builtin.Builtin.TheVariants.{Dot, BuiltinWord, Cd, Eval, Exec, Exit as ExitWord, Shift, Wait, Whatis}
@@ -23,8 +23,9 @@ use Rattle.law_image.proofs.Proper.{proper_set, proper_same}
 use Rattle.law_syntax.proofs.Found.{finds_the_tree}
 use Rattle.law_handed.proofs.Characters.{accepted_are_scripts}
 use Rattle.law_handed.proofs.Parts.{AreParts, without_first, one_many, script_of}
-use Rattle.law_handed.proofs.Safe.{Gives, Keeps, bind, next, gives_pure, keeps_pure, keeps_skip, gives_exits, keeps_call, keeps_say, keeps_change, keeps_other, keeps_status, gives_from, gives_if}
-use Rattle.law_handed.proofs.Acts.{gives_fails, keeps_close_end, keeps_waited, keeps_wait_each, keeps_start_shell, keeps_find, keeps_program, keeps_read_all}
+use Rattle.rc_model.specs.Handed.Started.{a_stage}
+use Rattle.law_handed.proofs.Safe.{alone, Gives, Keeps, bind, next, gives_pure, keeps_pure, keeps_skip, gives_exits, keeps_call, keeps_say, keeps_change, keeps_other, keeps_status, gives_from, gives_if}
+use Rattle.law_handed.proofs.Acts.{gives_fails, keeps_close_end, keeps_waited, keeps_wait_each, gives_shell, keeps_find, keeps_program, keeps_read_all}
 
 -- the stages of a pipeline
 keeps_no_stages : (before : Option ℕ) (children : List ℕ) (why : List ℕ) → Keeps (no_stages before children why)
@@ -36,17 +37,18 @@ keeps_next_stage : (go : Option ℕ → List ℕ → Shell StartedStages) → ((
 keeps_next_stage go k before children r w (Child n) = next (say (close w)) _ (keeps_say (close w) tt) (next (close_end before) _ (keeps_close_end before) (k (Some r) (children ++ n ∷ [])))
 keeps_next_stage go k before children r w (NoChild why) = next (say (close w)) _ (keeps_say (close w) tt) (next (say (close r)) _ (keeps_say (close r) tt) (keeps_no_stages before children why))
 
-keeps_stage_with : (go : Option ℕ → List ℕ → Shell StartedStages) → ((h : Option ℕ) (children : List ℕ) → Keeps (go h children)) → (slots : Slots) (body : Node cmd) → IsProperTree body → (slot : ℕ) (before : Option ℕ) (children : List ℕ) (o : Option (ℕ × ℕ))
-    → Keeps (stage_with go slots body slot before children o)
-keeps_stage_with go k slots body b slot before children None = keeps_no_stages before children (codes "cannot pipe")
-keeps_stage_with go k slots body b slot before children (Some (r, w)) =
-    bind (start_shell (with_slot (from_pipe before slots) slot (to_file w)) body) _ (keeps_start_shell (with_slot (from_pipe before slots) slot (to_file w)) body b) (keeps_next_stage go k before children r w)
+keeps_stage_with : (slots : Slots) (others : Many stage) → ((h : Option ℕ) (children : List ℕ) → Keeps (stages_from slots others h children)) → (body : Node cmd) → IsProperTree body → (slot : ℕ) (before : Option ℕ) (children : List ℕ) (o : Option (ℕ × ℕ))
+    → Keeps (stage_with (stages_from slots others) slots body slot before children o)
+keeps_stage_with slots others k body b slot before children None = keeps_no_stages before children (codes "cannot pipe")
+keeps_stage_with slots others k body b slot before children (Some (r, w)) =
+    gives_shell (with_slot (from_pipe before slots) slot (to_file w)) body _ b (keeps_next_stage (stages_from slots others) k before children r w)
+    (λ t. a_stage slots slot others before children r w pure leaves (sym (alone (stage_with (stages_from slots others) slots body slot before children (Some (r, w)) t))) refl)
 
 keeps_stages : (slots : Slots) (stages : Many stage) → AreParts stages → (before : Option ℕ) (children : List ℕ) → Keeps (stages_from slots stages before children)
 keeps_stages slots none p before children = keeps_pure (Running before children)
 keeps_stages slots (more (Stage body slot) rest) p before children =
     let k = one_many (Stage body slot) rest p in
-    bind (call make_pipe) _ (keeps_call make_pipe tt) (λ a. keeps_stage_with (stages_from slots rest) (keeps_stages slots rest k.1) slots body (script_of (without_first (is_output slot) k.0)) slot before children (as_pair a))
+    bind (call make_pipe) _ (keeps_call make_pipe tt) (λ a. keeps_stage_with slots rest (keeps_stages slots rest k.1) body (script_of (without_first (is_output slot) k.0)) slot before children (as_pair a))
 
 pub keeps_start_stages : (slots : Slots) (stages : Many stage) → AreParts stages → Keeps (start_stages slots stages)
 keeps_start_stages slots stages p = keeps_stages slots stages p None []

@@ -1,28 +1,92 @@
--- What an act of a shell keeps: its state stays proper, and each shell that it starts reads back what it is handed.
-use Rattle.std.proofs.Common.{◌≡◌, refl, ℕ, List, Bool, true, false}
+-- What an act of a shell keeps: its state stays proper, and each shell that it starts is handed what the rule says that
+-- starts it, and reads it back.
+use Rattle.std.proofs.Common.{◌≡◌, refl, ap, ◌∙◌, ℕ, List, Bool, true, false, Option, Some, None}
 use Rattle.std.specs.Prelude.{if◌then◌else◌}
-use Rattle.rc_model.specs.Run.Calls.{Call, Answer}
+use Rattle.rc_model.specs.declared.call.Slots.{Slots}
+use Rattle.rc_model.specs.Syntax.Tree.{Node, cmd}
+use Rattle.rc_model.specs.Run.Calls.{Call, Launch, start, Answer}
 use Rattle.rc_model.specs.Run.Plans.{Plan, done_with, ask, cut}
 use Rattle.rc_model.specs.Run.State.{State, with_status}
 use Rattle.rc_model.specs.Run.Shell.{Result, Next, Exit, Shell, under, leaves, pure, skip, call, say, get, change, exits, stops}
-use Rattle.rc_model.specs.Run.Acts.{set_status}
+use Rattle.rc_model.specs.Run.Acts.{set_status, stage_with, stages_from, subshell, background_with, back_pipe}
 use Rattle.rc_model.specs.Run.Meaning.{Runner}
 use Rattle.rc_model.specs.Handed.Proper.{IsProper}
-use Rattle.rc_model.specs.Handed.HandedLaws.{ReadsBack}
+use Rattle.rc_model.specs.Handed.Started.{Starts, a_stage, a_subshell, a_job, a_backquote, LaunchedByRule, CalledByRule}
 use Rattle.law_image.proofs.Proper.{proper_same}
 
--- each call reads back what it hands over, whatever the answers, and at the end this holds
+-- one plan under others, which are under others again
+under_under : {A B X : Type 0} (p : Plan (Result A)) (f : A → State → Plan (Result B)) (l : State → List ℕ → Plan (Result B)) (go : B → State → Plan X) (leave : State → List ℕ → Plan X)
+    → under (under p f l) go leave ≡ under p (λ a s. under (f a s) go leave) (λ s owed. under (l s owed) go leave)
+under_under (done_with (Next a s)) f l go leave = refl
+under_under (done_with (Exit s owed)) f l go leave = refl
+under_under (ask c more) f l go leave = λ i. ask c (λ x. under_under (more x) f l go leave i)
+under_under cut f l go leave = refl
+
+-- a plan alone
+pub alone : {A : Type 0} (p : Plan (Result A)) → under p pure leaves ≡ p
+alone (done_with (Next a s)) = refl
+alone (done_with (Exit s owed)) = refl
+alone (ask c more) = λ i. ask c (λ x. alone (more x) i)
+alone cut = refl
+
+-- what is at the start of a shell is so with what follows it, too
+starts_under : {A X : Type 0} (q : Plan (Result A)) (go : A → State → Plan X) (leave : State → List ℕ → Plan X) (slots : Slots) (body : Node cmd) (s : State) → Starts (Result A) q slots body s → Starts X (under q go leave) slots body s
+starts_under q go leave slots body s (a_stage outer slot others before children r w f l is at) =
+    a_stage outer slot others before children r w (λ a t. under (f a t) go leave) (λ t owed. under (l t owed) go leave)
+    (ap (λ z. under z go leave) is ∙ under_under (stage_with (stages_from outer others) outer body slot before children (Some (r, w)) s) f l go leave) at
+starts_under q go leave slots body s (a_subshell f l is) =
+    a_subshell (λ a t. under (f a t) go leave) (λ t owed. under (l t owed) go leave) (ap (λ z. under z go leave) is ∙ under_under (subshell slots body s) f l go leave)
+starts_under q go leave slots body s (a_job outer file f l is at) =
+    a_job outer file (λ a t. under (f a t) go leave) (λ t owed. under (l t owed) go leave) (ap (λ z. under z go leave) is ∙ under_under (background_with outer body (Some file) s) f l go leave) at
+starts_under q go leave slots body s (a_backquote outer r w f l is at) =
+    a_backquote outer r w (λ a t. under (f a t) go leave) (λ t owed. under (l t owed) go leave) (ap (λ z. under z go leave) is ∙ under_under (back_pipe outer body (Some (r, w)) s) f l go leave) at
+
+launched_under : {A X : Type 0} (q : Plan (Result A)) (go : A → State → Plan X) (leave : State → List ℕ → Plan X) (l : Launch) (o : Option (List ℕ)) → LaunchedByRule (Result A) q l o → LaunchedByRule X (under q go leave) l o
+launched_under q go leave l None h = record {
+  body = h.body;
+  state = h.state;
+  starts = starts_under q go leave l.slots h.body h.state h.starts;
+  is = h.is;
+  fits = h.fits;
+  tree = h.tree;
+  proper = h.proper;
+  back = h.back;
+}
+launched_under q go leave l (Some path) h = tt
+
+called_under : {A X : Type 0} (q : Plan (Result A)) (go : A → State → Plan X) (leave : State → List ℕ → Plan X) (c : Call) → CalledByRule (Result A) q c → CalledByRule X (under q go leave) c
+called_under q go leave (start l) h = launched_under q go leave l l.program h
+called_under q go leave _ h = tt
+
+-- each call hands over what its rule says, whatever the answers, and at the end this holds
 abbrev pub Safe : {X : Type 0} → Plan X → (X → Type 0) → Type 0
 Safe (done_with x) Q = Q x
-Safe (ask c go) Q = ReadsBack c × ((x : Answer) → Safe (go x) Q)
+Safe {X = X} (ask c go) Q = CalledByRule X (ask c go) c × ((x : Answer) → Safe (go x) Q)
 Safe cut Q = Unit {0}
 
 pub safe_under : {A X : Type 0} (p : Plan (Result A)) (go : A → State → Plan X) (leave : State → List ℕ → Plan X) (P : Result A → Type 0) (Q : X → Type 0)
     → Safe p P → ((x : A) (s : State) → P (Next x s) → Safe (go x s) Q) → ((s : State) (owed : List ℕ) → P (Exit s owed) → Safe (leave s owed) Q) → Safe (under p go leave) Q
 safe_under (done_with (Next x s)) go leave P Q k hn he = hn x s k
 safe_under (done_with (Exit s owed)) go leave P Q k hn he = he s owed k
-safe_under (ask c more) go leave P Q k hn he = (k.0, λ x. safe_under (more x) go leave P Q (k.1 x) hn he)
+safe_under (ask c more) go leave P Q k hn he = (called_under (ask c more) go leave c k.0, λ x. safe_under (more x) go leave P Q (k.1 x) hn he)
 safe_under cut go leave P Q k hn he = tt
+
+-- a call that starts no shell
+abbrev pub IsProgram : Option (List ℕ) → Type 0
+IsProgram None = ⊥
+IsProgram (Some path) = Unit {0}
+
+abbrev pub StartsNoShell : Call → Type 0
+StartsNoShell (start l) = IsProgram l.program
+StartsNoShell _ = Unit {0}
+
+no_shell_by : {X : Type 0} (now : Plan X) (l : Launch) (o : Option (List ℕ)) → IsProgram o → LaunchedByRule X now l o
+no_shell_by now l None h = absurd h
+no_shell_by now l (Some path) h = tt
+
+no_shell : {X : Type 0} (now : Plan X) (c : Call) → StartsNoShell c → CalledByRule X now c
+no_shell now (start l) h = no_shell_by now l l.program h
+no_shell now _ h = tt
 
 -- the value is so, and the state is proper
 abbrev pub EndsSo : {A : Type 0} → (A → Type 0) → Result A → Type 0
@@ -64,11 +128,11 @@ gives_exits = record { by = λ s p. p }
 pub gives_stops : {A : Type 0} {Q : A → Type 0} → Gives Q (stops {A = A})
 gives_stops = record { by = λ s p. tt }
 
-pub keeps_call : (c : Call) → ReadsBack c → Keeps (call c)
-keeps_call c r = record { by = λ s p. (r, λ x. (tt, p)) }
+pub keeps_call : (c : Call) → StartsNoShell c → Keeps (call c)
+keeps_call c r = record { by = λ s p. (no_shell (call c s) c r, λ x. (tt, p)) }
 
-pub keeps_say : (c : Call) → ReadsBack c → Keeps (say c)
-keeps_say c r = record { by = λ s p. (r, λ x. (tt, p)) }
+pub keeps_say : (c : Call) → StartsNoShell c → Keeps (say c)
+keeps_say c r = record { by = λ s p. (no_shell (say c s) c r, λ x. (tt, p)) }
 
 pub keeps_change : (f : State → State) → ((s : State) → IsProper s → IsProper (f s)) → Keeps (change f)
 keeps_change f h = record { by = λ s p. (tt, h s p) }

@@ -3,6 +3,7 @@
 
 ghost use Rattle.rc_model.specs.Handed.HandedLaws.{AcceptedAreProper, EndsAreProper, ScriptsReadBack};
 ghost use Rattle.rc_model.specs.Handed.HandedLaws.{TracesEndProper, TracesReadBack};
+ghost use Rattle.rc_model.specs.Handed.Started.{TracesStartByRule};
 
 /// The tree of an accepted script is proper.
 pub fn accepted_are_scripts()
@@ -23,6 +24,12 @@ pub fn ends_are_proper()
 /// In a trace that begins as a script means, each shell that is started reads back what it was handed.
 pub fn traces_read_back()
     ensures { TracesReadBack }
+{}
+
+/// In a trace that begins as a script means, each shell that is started is handed the command and the state of the rule
+/// that starts it there, and reads them back.
+pub fn traces_start_by_rule()
+    ensures { TracesStartByRule }
 {}
 
 /// Where a trace ends as a script means, the state at its end is proper.

@@ -32,7 +32,7 @@ equal_texts a b e = (bytes_eq-Decides a b).0 (sym (is_eq-slice_cmp a b) ∙ ap i
 pub less_differ : (a b : List ℕ) → text_cmp a b ≡ Less → bytes_eq a b ≡ false
 less_differ a b e = sym (is_eq-slice_cmp a b) ∙ ap is_eq e
 
-greater_differ : (a b : List ℕ) → text_cmp a b ≡ Greater → bytes_eq a b ≡ false
+pub greater_differ : (a b : List ℕ) → text_cmp a b ≡ Greater → bytes_eq a b ≡ false
 greater_differ a b e = sym (is_eq-slice_cmp a b) ∙ ap is_eq e
 
 pub turned : (a b : List ℕ) → bytes_eq a b ≡ false → bytes_eq b a ≡ false

@@ -17,3 +17,6 @@ mod Vectors
 mod Examples
 pub mod Proper
 pub mod ReadProper
+pub mod Lookups
+pub mod DenotedFunctions
+pub mod Denoted

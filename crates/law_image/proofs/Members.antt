@@ -39,14 +39,14 @@ unescaped_escaped [] = refl
 unescaped_escaped (b ∷ x) = unescaped_step b (b == 1) (b == 2) (escaped x) refl refl ∙ ap (λ z. b ∷ z) (unescaped_escaped x)
 
 -- parts without byte 1 that are joined by it
-split_last : (x : List ℕ) → IsTrue (no_one x) → slice_split is_one x ≡ x ∷ []
+pub split_last : (x : List ℕ) → IsTrue (no_one x) → slice_split is_one x ≡ x ∷ []
 split_last [] h = refl
 split_last (b ∷ x) h =
     let k = and_parts (not (b == 1)) (no_one x) h in
     let e : (b == 1) ≡ false = not-true (b == 1) k.0 in
     rw (e, split_last x k.1) refl
 
-split_first : (x rest : List ℕ) → IsTrue (no_one x) → slice_split is_one (x ++ (1 ∷ rest)) ≡ x ∷ slice_split is_one rest
+pub split_first : (x rest : List ℕ) → IsTrue (no_one x) → slice_split is_one (x ++ (1 ∷ rest)) ≡ x ∷ slice_split is_one rest
 split_first [] rest h = refl
 split_first (b ∷ x) rest h =
     let k = and_parts (not (b == 1)) (no_one x) h in

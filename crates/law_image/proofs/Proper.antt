@@ -18,7 +18,7 @@ use Rattle.rc_model.specs.Handed.Proper.{Above, Ordered, IsProperTree, AllProper
 use Rattle.rc_model.specs.Handed.Environment.{Variables}
 use Rattle.law_image.proofs.Entries.{by_order, keys_hold}
 
-above_after : {X : Type 0} (x k : List ℕ) (es : List (List ℕ × X)) → text_cmp x k ≡ Less → Above k es → Above x es
+pub above_after : {X : Type 0} (x k : List ℕ) (es : List (List ℕ × X)) → text_cmp x k ≡ Less → Above k es → Above x es
 above_after x k [] l a = tt
 above_after x k (e ∷ es) l a = (nat_list_cmp_total.trans x k e.0 l a.0, above_after x k es l a.1)
 

@@ -5,6 +5,7 @@ ghost use Rattle.rc_model.specs.Handed.HandedLaws.{HandedReadsBack, ReadsProper,
 ghost use Rattle.rc_model.specs.Handed.TreeLaws.{HasSpelling, OneSpelling, OneTree, ReadsSpellings, TreesReadBack};
 ghost use Rattle.rc_model.specs.Handed.WordsLaws.{HasWords, OneListOfWords, OneTreeOfWords, PiecesByRule, ReadsWords};
 ghost use Rattle.rc_model.specs.Handed.WordsLaws.{WordsByRule, WordsReadBack};
+ghost use Rattle.rc_model.specs.Handed.Denoted.{ReadsWhatIsDenoted};
 ghost use Rattle.law_image.specs.States.{BeginsProper, EndsStayProper, FunctionsStayProper, VariablesStayProper};
 
 /// A tree has no spelling but the one that is written, and has that one if its numbers are not too great; a text
@@ -39,6 +40,11 @@ pub fn words_are_read()
 /// The arguments and entries that a shell hands over read back as the tree and the state of the subshell.
 pub fn handed_is_read()
     ensures { HandedReadsBack }
+{}
+
+/// The state that is read of arguments and entries is the one that they denote.
+pub fn denoted_is_read()
+    ensures { ReadsWhatIsDenoted }
 {}
 
 /// Whatever is read, the tree is proper and so is the state.

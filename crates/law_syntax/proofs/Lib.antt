@@ -37,3 +37,4 @@ pub mod Zeros
 pub mod Bodies
 pub mod Passed
 pub mod Sound
+pub mod HerePieces

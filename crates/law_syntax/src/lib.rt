@@ -9,7 +9,7 @@ ghost use Rattle.rc_model.specs.Mirrors.ParsingLaws.{FindsOnlyTrees, FindsEachTr
 ghost use Rattle.rc_model.specs.Mirrors.ParsingLaws.{HasTooManyStages, IsTooDeep, HasSoundTrees};
 
 pub use acceptance::{accepted_are_well_formed, is_decided, is_never_both, tree_of_text};
-pub use tokens::{reading, spelling};
+pub use tokens::{here_pieces, reading, spelling};
 pub use uniqueness::one_tree;
 
 /// What the descent finds is the tree of an accepted script.

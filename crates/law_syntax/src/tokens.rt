@@ -2,6 +2,7 @@
 
 ghost use Rattle.rc_model.specs.Mirrors.Reading.{ReadingLaw};
 ghost use Rattle.rc_model.specs.Mirrors.Spelling.{SpellingLaw};
+ghost use Rattle.rc_model.specs.Syntax.HerePieces.{HerePiecesByRule};
 
 /// Each text is cut into one list of tokens or has one first fault, and the machine over characters finds it.
 pub fn reading()
@@ -11,4 +12,9 @@ pub fn reading()
 /// Words are words, names are names, and descriptors are those of the language, in the tokens of each text.
 pub fn spelling()
     ensures { SpellingLaw }
+{}
+
+/// The pieces that are computed of the body of a here document are those that it has by the rule.
+pub fn here_pieces()
+    ensures { HerePiecesByRule }
 {}

@@ -2,12 +2,12 @@
 use Rattle.std.proofs.Common.{◌≡◌, Bool, true, false, cond, List, [], ◌∷◌, ◌++◌, refl, sym, ap, subst, ◌∙◌}
 use Rattle.std.proofs.lemmas.List.{append-nil}
 use Rattle.rc_model.specs.Syntax.Words.{Word, has_pattern}
-use Rattle.rc_model.specs.Run.Calls.{Event}
+use Rattle.rc_model.specs.Run.Calls.{Call, Answer, Event}
 use Rattle.rc_model.specs.Run.Plans.{Plan, done_with, ask, cut, Goes}
 use Rattle.rc_model.specs.Run.State.{State}
 use Rattle.rc_model.specs.Run.Shell.{Result, Next, Shell, under, leaves, ◌>>=◌, pure}
 use Rattle.rc_model.specs.Run.FileNames.{names_of, expanded_word, expanded}
-use Rattle.rc_model.specs.Run.PathNames.{ExpandsBy, plain, names, AllExpand, none, next}
+use Rattle.rc_model.specs.Run.PathNames.{Agreeing, Expands, ExpandsBy, plain, names, AllExpand, none, next}
 use Rattle.law_values.proofs.Once.{one_answer_each}
 use Rattle.law_values.proofs.Traces.{expansion_by_trace}
 
@@ -33,12 +33,19 @@ only_done : {X : Type 0} (x r : X) (trace : List Event) → Goes (done_with x) t
 only_done x r [] g = (refl, cc)
 only_done x r (e ∷ es) g = absurd g
 
+-- a word becomes the same for all answers that agree with the trace
+expands_so : (w : Word) (s : State) (trace : List Event) (x : Result (List Word)) (vs : List Word) → x ≡ Next vs s → has_pattern w ≡ true → Goes (names_of w s) trace (done_with x) → (answers : Call → Answer) → Agreeing answers trace → Expands answers w vs
+expands_so w s trace x vs is h g answers a =
+    let e = expansion_by_trace w s trace x answers h g a in
+    let same : e.0 ≡ vs = cc in
+    subst (Expands answers w) same e.2
+
 word_by : (w : Word) (s : State) (trace : List Event) (x : Result (List Word)) (b : Bool) → has_pattern w ≡ b → Goes (cond b (names_of w) (pure (w ∷ [])) s) trace (done_with x) →
     (vs : List Word) × (x ≡ Next vs s) × ExpandsBy w trace vs
 word_by w s trace x true h g =
     let t = one_answer_each w s trace (done_with x) g in
     let e = expansion_by_trace w s trace x t.0 h g t.1 in
-    (e.0, e.1, names trace e.0 t.0 h t.1 e.2)
+    (e.0, e.1, names trace e.0 h (record { some = t.0; agrees = t.1; all = λ answers a. expands_so w s trace x e.0 e.1 h g answers a }))
 word_by w s trace x false h g =
     let d = only_done (Next (w ∷ []) s) x trace g in
     (w ∷ [], d.1, subst (λ z. ExpandsBy w z (w ∷ [])) (sym d.0) (plain h))

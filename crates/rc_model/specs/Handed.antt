@@ -4,9 +4,11 @@ pub mod TreeSpelling
 pub mod TreeReading
 pub mod WordsReading
 pub mod Environment
+pub mod Denoted
 pub mod Arguments
 pub mod Proper
 pub mod Handed
 pub mod TreeLaws
 pub mod WordsLaws
 pub mod HandedLaws
+pub mod Started

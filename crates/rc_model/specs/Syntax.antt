@@ -5,6 +5,7 @@ pub mod Lexemes
 pub mod Tokens
 pub mod Tree
 pub mod HereDocs
+pub mod HerePieces
 pub mod Ahead
 pub mod Grammar
 pub mod WellFormed

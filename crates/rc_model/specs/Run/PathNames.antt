@@ -73,11 +73,18 @@ pub data Expands (answers : Call → Answer) (w : Word) : List Word → Type 0 w
       IsStrictlySortedBy text_cmp paths → paths ≢ [] → Expands answers w (plain_words paths)
   itself : ((p : List ℕ) → Named answers w p → ⊥) → Expands answers w (w ∷ [])
 
+-- what a word becomes whatever a world answers to each call, if it answers so to those of the trace; there is such a
+-- world
+pub record ExpandsAlways (w : Word) (trace : List Event) (vs : List Word) : Type 0 where
+  pub some : Call → Answer
+  pub agrees : Agreeing some trace
+  pub all : (answers : Call → Answer) → Agreeing answers trace → Expands answers w vs
+
 -- what one word becomes by the events of its calls: itself without any, where it has no pattern character
 pub data ExpandsBy (w : Word) : List Event → List Word → Type 0 where
   plain : has_pattern w ≡ false → ExpandsBy w [] (w ∷ [])
-  names : (trace : List Event) (vs : List Word) (answers : Call → Answer) → has_pattern w ≡ true →
-      Agreeing answers trace → Expands answers w vs → ExpandsBy w trace vs
+  names : (trace : List Event) (vs : List Word) → has_pattern w ≡ true → ExpandsAlways w trace vs →
+      ExpandsBy w trace vs
 
 -- what words become, from left to right, each with all its calls before the next
 pub data AllExpand : List Word → List Event → List Word → Type 0 where
