@@ -4,4 +4,9 @@ pub mod Family
 pub mod Members
 pub mod Outcome
 mod Faults
-mod Read
+pub mod Read
+mod Answered
+pub mod Processes
+pub mod Steps
+pub mod Grow
+pub mod Reached

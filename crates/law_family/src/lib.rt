@@ -1,13 +1,15 @@
 //! The laws of a family of shells, each with its own answers, over every order of them.
 #![tactic(auto)]
 
-ghost use Rattle.rc_model.specs.Family.Family.{FamiliesRead, Family, HasEnded, IsFamily, IsPending, OneAtATime};
-ghost use Rattle.rc_model.specs.Family.Family.{OnePerStart, Process, Sane, Step, ArePossible, family, first};
-ghost use Rattle.rc_model.specs.Family.StepFaults.{AtLimit, IsMade, IsStepRefused, StepFault};
-ghost use Rattle.rc_model.specs.Run.Calls.{Answer, Call, Launch};
+ghost use Rattle.rc_model.specs.Family.Family.{FamiliesRead, Family, HasEnded, IsFamily, IsPending, IsPossible};
+ghost use Rattle.rc_model.specs.Family.Family.{ArePossible, EachOf, GoesAsMeant, OneAtATime, OnePerStart, Process, Sane};
+ghost use Rattle.rc_model.specs.Family.Family.{Step, family, first, recorded, shell_started, stepped};
+ghost use Rattle.law_family.specs.Steps.{AnswersAreGiven, AppendsSuch, IsCutShort, MadeAreAsMade, MadeAreSane};
+ghost use Rattle.law_family.specs.Steps.{MadeOrRefused, NeverBoth, OneBeginning, OneCall, OneFault};
+ghost use Rattle.rc_model.specs.Run.Calls.{Call, Launch};
 ghost use Rattle.rc_model.specs.Run.State.{State};
 ghost use Rattle.rc_model.specs.Syntax.Tree.{Node, cmd};
-ghost use Rattle.std.specs.Prelude.{Bool, List, true, ℕ, ◌<◌, ◌≡◌};
+ghost use Rattle.std.specs.Prelude.{List, [], ℕ, ◌<◌, ◌≡◌};
 
 /// A step adds its event to the trace of its process, changes no other process, and adds one process at most.
 pub fn one_at_a_time()
@@ -38,16 +40,52 @@ pub fn one_outcome()
     ensures { (p : Process) (c : Call) → IsPending p c → (HasEnded p → ⊥) × ((d : Call) → IsPending p d → c ≡ d) }
 {}
 
-/// A step is refused for one reason at most.
-pub fn one_fault()
-    ensures { (reads : Launch → Node cmd × State) (hits : Process → Bool) (f : Family) (k : ℕ) (x : Answer) →
-        let IsRefused = IsStepRefused reads (λ p. hits p ≡ true) f k x in
-        (a b : StepFault) → IsRefused a → IsRefused b → a ≡ b }
+/// Each answer for each process of a family whose processes are in time is refused, or it makes a step.
+pub fn made_or_refused()
+    ensures { MadeOrRefused }
 {}
 
-/// A step that can be made is refused only at a limit.
-pub fn made_or_at_limit()
-    ensures { (reads : Launch → Node cmd × State) (hits : Process → Bool) (f next : Family) (k : ℕ) (x : Answer) →
-        (c : Call) (a : StepFault) → IsMade reads (λ p. hits p ≡ true) f k x c next →
-        IsStepRefused reads (λ p. hits p ≡ true) f k x a → a ≡ AtLimit }
+/// No answer is refused that makes a step.
+pub fn never_both()
+    ensures { NeverBoth }
+{}
+
+/// An answer is refused for one reason at most.
+pub fn one_fault()
+    ensures { OneFault }
+{}
+
+/// An answer of a process makes one step at most.
+pub fn one_call()
+    ensures { OneCall }
+{}
+
+/// A process without any answer is in time or hits the limit, and never both.
+pub fn one_beginning()
+    ensures { (limit : ℕ) (p : Process) → p.trace ≡ [] → OneBeginning limit p }
+{}
+
+/// After a step of a family whose processes go as they are meant, each goes so again, unless the one that was answered,
+/// or the one that was appended, is cut short by this many instructions.
+pub fn next_goes_as_meant()
+    ensures { (reads : Launch → Node cmd × State) (limit : ℕ) (f : Family) (e : Step) → EachOf GoesAsMeant f →
+        IsPossible f e → (IsCutShort limit (recorded (f.at e.at) e.call e.answer) → ⊥) →
+        (AppendsSuch reads (IsCutShort limit) e.at (f.at e.at) (shell_started e.call e.answer) → ⊥) →
+        EachOf GoesAsMeant (stepped reads f e) }
+{}
+
+/// In a family that was made by steps each process goes as it is meant and began with what it was handed, and there is
+/// one process for each start of a shell.
+pub fn made_are_as_made()
+    ensures { MadeAreAsMade }
+{}
+
+/// Over fresh answers such a family loses nothing, and no processes of it wait for one another in a ring.
+pub fn made_are_sane()
+    ensures { MadeAreSane }
+{}
+
+/// The answers of a process are those of its steps.
+pub fn answers_are_given()
+    ensures { AnswersAreGiven }
 {}
