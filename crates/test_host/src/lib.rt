@@ -9,4 +9,6 @@ mod descriptors;
 #[cfg(test)]
 mod host;
 #[cfg(test)]
+mod plans;
+#[cfg(test)]
 mod process;
