@@ -48,6 +48,8 @@ test:
 	tests/descriptors $(BUILT)
 	tests/refusals
 	tests/refused_images
+	tests/refused_runs
+	tests/growth $(BUILT)
 	if [ -e $(RELEASE) ]; then cmp $(BUILT) $(RELEASE); fi
 
 install: rc
