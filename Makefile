@@ -81,6 +81,8 @@ test: toolchain
 	tests/input $(BUILT)
 	tests/refusals
 	tests/refused_images
+	tests/refused_runs
+	tests/growth $(BUILT)
 	if [ -e $(RELEASE) ]; then cmp $(BUILT) $(RELEASE); fi
 
 editors:

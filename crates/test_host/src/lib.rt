@@ -11,4 +11,6 @@ mod environment;
 #[cfg(test)]
 mod host;
 #[cfg(test)]
+mod plans;
+#[cfg(test)]
 mod process;

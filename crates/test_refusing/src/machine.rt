@@ -1,0 +1,68 @@
+//! The run of a script on a machine over a world that refuses no call, for runs in which an allocation is refused.
+
+use crate::calls::print_call;
+use crate::runs::{LIMIT, state};
+use crate::scripts::Script;
+use crate::world::{Refusals, RefusingWorld};
+use anyhow::{Result, bail};
+use rc_code::{Code, compile};
+use rc_machine::{Machine, Progress};
+use rc_model::{InputError, SyntaxFault};
+use rc_parser::parse;
+use rc_tree::Cmd;
+use std::alloc::{AllocError, Global};
+
+/// Runs a script, and prints its calls and, unless memory was refused, how it ended. Where memory was refused, an
+/// error, it runs the machine once more, and prints whether that does anything but say that it has halted.
+pub fn run_on_machine(rt: HostRuntime, script: Script) -> Result<()> {
+    let alloc = rt.alloc();
+    let mut machine = machine_of(alloc, script)?;
+    let mut world = RefusingWorld::new(alloc, Refusals::None);
+    let progress = machine.run(alloc, &mut world, LIMIT);
+    let calls = world.events().len();
+    if progress.is_err() && !is_over(alloc, &mut machine, &mut world) {
+        println!(rt; "a further run goes on")?;
+    }
+    for event in world.events() {
+        print_call(rt, &event.call)?;
+    }
+    if calls < world.events().len() {
+        bail!("a further run makes calls");
+    }
+    println!(rt; "{}", words(progress?))?;
+    Ok(())
+}
+
+/// Whether a further run of a machine says that it has halted.
+fn is_over(alloc: Global, machine: &mut Machine, world: &mut RefusingWorld) -> bool {
+    matches!(machine.run(alloc, world, LIMIT), Ok(Progress::Halted))
+}
+
+fn words(progress: Progress) -> &'static str {
+    match progress {
+        Progress::Ended => "ended",
+        Progress::Limit => "limit",
+        Progress::Halted => "halted",
+    }
+}
+
+/// The machine of a script before its first instruction.
+fn machine_of(alloc: Global, script: Script) -> Result<Box<Machine>> {
+    let code = code_of(alloc, script)?;
+    let state = state(alloc)?;
+    Ok(Box::new(alloc, Machine::new(alloc, code, state))?)
+}
+
+/// The code of a script.
+fn code_of(alloc: Global, script: Script) -> Result<Code> {
+    match tree_of(alloc, script) {
+        Ok(tree) => Ok(compile(alloc, &tree)?),
+        Err(InputError::Fault(_)) => bail!("no script"),
+        Err(InputError::NoMemory) => bail!("no memory"),
+    }
+}
+
+/// The tree of a script, in a box: each place that may drop a tree takes long to prove.
+fn tree_of(alloc: Global, script: Script) -> Result<Box<Cmd>, InputError<SyntaxFault>> {
+    Ok(Box::new(alloc, parse(alloc, script.text.as_bytes())?)?)
+}
