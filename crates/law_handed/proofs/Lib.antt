@@ -6,3 +6,4 @@ mod Acts
 mod Builtins
 mod Cmds
 pub mod Played
+pub mod Keeping

@@ -3,11 +3,17 @@
 
 ghost use Rattle.rc_model.specs.Handed.HandedLaws.{AcceptedAreProper, EndsAreProper, ScriptsReadBack};
 ghost use Rattle.rc_model.specs.Handed.HandedLaws.{TracesEndProper, TracesReadBack};
+ghost use Rattle.law_handed.specs.Kept.{CodeKeepsProper};
 ghost use Rattle.rc_model.specs.Handed.Started.{TracesStartByRule};
 
 /// The tree of an accepted script is proper.
 pub fn accepted_are_scripts()
     ensures { AcceptedAreProper }
+{}
+
+/// The code of a proper tree keeps only proper trees.
+pub fn code_keeps_proper()
+    ensures { CodeKeepsProper }
 {}
 
 /// From a proper tree and a proper state, and whatever the answers, each shell that a script starts reads back what
