@@ -4,6 +4,7 @@ pub mod Fits
 pub mod Search
 pub mod Acts
 pub mod InOrder
+pub mod Kept
 pub mod Opening
 pub mod Outputs
 pub mod Pipelines

@@ -1,6 +1,7 @@
 //! Commands in the background: they are started, and waited for.
 
-ghost use Rattle.std.specs.Prelude.{◌≡◌, ◌==◌, [], Some, OnErr, OnOk, string_bytes};
+ghost use Rattle.std.specs.Prelude.{◌≡◌, ◌==◌, [], ◌∷◌, Some, OnErr, OnOk, codes, string_bytes};
+ghost use Rattle.std.specs.Fmt.{decimal};
 ghost use Rattle.std.specs.List.{list_any};
 ghost use Rattle.rc_model.specs.Run.Acts.{background, background_with, kept_child};
 ghost use Rattle.rc_model.specs.Run.Builtins.{Finished, wait_child, wait_all, wait_one, wait_for};
@@ -23,15 +24,33 @@ use rc_tree::Cmd;
 use rc_world::{ChildNo, Handle, Mode, Slot, Slots, Stop, World, calls};
 use std::alloc::{AllocError, Global};
 
+/// A child is put among those in the background, and `$apid` is its number.
+#[tactic(auto, using(crate::proofs::Kept::taken_back))]
+fn add_job(alloc: Global, state: &mut State, child: ChildNo) -> Result<(), AllocError>
+    ensures ok { OnOk result (state_of state.new
+        ≡ model.set_value (model.add_child (state_of state.old) child.0) (codes "apid") (decimal child.0 ∷ [])) }
+    ensures err { OnErr result (state_of state.new ≡ state_of state.old) }
+{
+    let number = vec![in alloc; child.0.to_string(alloc)?]?;
+    state.add_child(child)?;
+    match state.set("apid", number) {
+        Ok(()) => Ok(()),
+        Err(_) => {
+            state.pop_child();
+            Err(AllocError)
+        }
+    }
+}
+
 /// A child that was started is kept among those in the background, and `$apid` is its number; else the
 /// status is why there is none.
-fn keep_child(state: &mut State, started: Started) -> Result<(), AllocError>
+fn keep_child(alloc: Global, state: &mut State, started: Started) -> Result<(), AllocError>
     ensures ok { OnOk result
         (kept_child (started_of started) (state_of state.old) ≡ done_with (Next tt (state_of state.new))) }
     ensures err { OnErr result (state_of state.new ≡ state_of state.old) }
 {
     match started {
-        Started::Child(child) => state.add_child(child),
+        Started::Child(child) => add_job(alloc, state, child),
         Started::NoChild(why) => state.set_status(why),
     }
 }
@@ -56,7 +75,7 @@ fn background_with<W: World>(
     };
     let started = start_shell(alloc, world, state, inner, body)?;
     calls::close(world, file)?;
-    keep_child(state, started)?;
+    keep_child(alloc, state, started)?;
     Ok(())
 }
 

@@ -3,3 +3,5 @@ pub mod Stacks
 pub mod Bodies
 pub mod Firsts
 pub mod Ends
+pub mod Newest
+pub mod Places

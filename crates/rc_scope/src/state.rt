@@ -1,11 +1,10 @@
 //! The state of a shell.
 
 ghost use Rattle.std.specs.Prelude.{◌≡◌, ◌↔◌, ◌∷◌, [], IfOk, OnOk, OnErr, false, map};
-ghost use Rattle.std.specs.Prelude.{string_bytes, option_map, codes, drop};
-ghost use Rattle.std.specs.Fmt.{decimal};
+ghost use Rattle.std.specs.Prelude.{string_bytes, option_map, codes, drop, take, length, ◌-◌};
 ghost use Rattle.std.specs.Option.{option_copied};
 ghost use Rattle.std.specs.Result.{IsErrOf};
-ghost use Rattle.rc_model.specs.Run.State.{new_state, value_of, set_value, with_status, with_flag, is_name};
+ghost use Rattle.rc_model.specs.Run.State.{new_state, value_of, got, set_value, with_status, with_flag, is_name};
 ghost use Rattle.rc_model.specs.Run.State.{push_local, pop_local, is_function_name, define, undefine, function_of};
 ghost use Rattle.rc_model.specs.Run.State.{add_child, drop_child};
 ghost use Rattle.rc_tree.specs.View.{cmd_tree};
@@ -16,7 +15,8 @@ ghost use Rattle.rc_scope.specs.States.{child_numbers};
 
 use crate::background_children::place_of;
 use crate::functions::{Function, names};
-use crate::names::{NameFault, is_function_name, is_name, is_status};
+use crate::members::member;
+use crate::names::{NameFault, has_digits, is_function_name, is_name, is_status};
 use crate::texts::copy_texts;
 use crate::variables::{Binding, Variables};
 use rc_code::Code;
@@ -68,11 +68,21 @@ impl State {
         self.variables.get(name)
     }
 
-    /// The members of a variable: none where it was never assigned.
-    pub fn get(&self, name: &str) -> Result<Vec<String>, AllocError>
-        ensures { IfOk result (λ value. map string_bytes value.items ≡ value_of (state_of self.now) name.now) }
+    /// What `$` and a name give, lent: for digits the member of `$*` at that place, counted from 1, or nothing.
+    pub fn lookup(&self, name: &str) -> &[String]
+        ensures { map string_bytes result.now ≡ got (state_of self.now) name.now }
     {
-        copy_texts(*self.status.allocator(), self.value(name))
+        if !has_digits(name) || name.is_empty() {
+            return self.value(name);
+        }
+        member(self.value("*"), name)
+    }
+
+    /// What `$` and a name give: for digits the member of `$*` at that place, counted from 1, or nothing.
+    pub fn get(&self, name: &str) -> Result<Vec<String>, AllocError>
+        ensures { IfOk result (λ value. map string_bytes value.items ≡ got (state_of self.now) name.now) }
+    {
+        copy_texts(*self.status.allocator(), self.lookup(name))
     }
 
     /// Assigns to a variable. An `Err` changes nothing.
@@ -300,19 +310,23 @@ impl State {
         self.background.as_slice()
     }
 
-    /// Adds a child that runs in the background, whose number becomes `$apid`. An `Err` changes nothing.
+    /// Adds a child that runs in the background. An `Err` changes nothing.
     #[tactic(auto, unfolding(crate::specs::States::state_of))]
     pub fn add_child(&mut self, child: ChildNo) -> Result<(), AllocError>
-        ensures ok { OnOk result (state_of self.new
-            ≡ set_value (add_child (state_of self.old) child.0) (codes "apid") (decimal child.0 ∷ [])) }
+        ensures ok { OnOk result (state_of self.new ≡ add_child (state_of self.old) child.0) }
         ensures err { OnErr result (state_of self.new ≡ state_of self.old) }
     {
-        let alloc = *self.status.allocator();
-        let value = vec![in alloc; child.0.to_string(alloc)?]?;
-        self.background.reserve(1)?;
-        self.variables.set(alloc, "apid", value)?;
-        self.background.push_reserved(child);
+        self.background.push(child)?;
         Ok(())
+    }
+
+    /// Takes out the newest child, where there is one.
+    #[tactic(auto, using(crate::proofs::Newest::without_newest), unfolding(crate::specs::States::state_of))]
+    pub fn pop_child(&mut self)
+        ensures { let children = (state_of self.old).background in
+            state_of self.new ≡ record (state_of self.old) { background = take (length children - 1) children } }
+    {
+        let _ = self.background.pop();
     }
 
     /// Takes out the first child of this number, where there is one.

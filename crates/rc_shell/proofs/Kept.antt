@@ -1,6 +1,6 @@
 -- What is never lost, and what is handed over, by a run that is as meant.
 use Rattle.std.proofs.Common.{ℕ, List, [], append-nil, Option, Result, Ok, Err, sym, ap, ◌∙◌}
-use Rattle.rc_model.specs.Handed.HandedLaws.{AllReadBack}
+use Rattle.rc_model.specs.Handed.Started.{StartsByRule}
 use Rattle.rc_model.specs.Handed.Proper.{IsProper, IsProperTree}
 use Rattle.rc_model.specs.Syntax.Tree.{Node, cmd}
 use Rattle.rc_model.specs.Run.Calls.{Event, calls}
@@ -8,7 +8,7 @@ use Rattle.rc_model.specs.Run.Plans.{calls_made}
 use Rattle.rc_model.specs.Run.Script.{Recorded, EndsAsMeant, IsBegunAsMeant}
 use Rattle.rc_model.specs.Run.State as model
 use Rattle.rc_scope.specs.States.{state_of}
-use Rattle.law_handed.proofs.Played.{traces_read_back, traces_end_proper}
+use Rattle.law_handed.proofs.Played.{traces_start_by_rule, traces_end_proper}
 use Rattle.law_traces.proofs.Traces.{begun_loses_nothing, ended_leaves_nothing}
 use Rattle.rc_shell.specs.Outcome.{RunsAsMeant}
 use Rattle.rc_shell.specs.Executed.{LosesNothing, LeavesNothing, HandsOver, IfEnded}
@@ -45,12 +45,12 @@ module _ (before after : Option (List Event)) (limit : ℕ) (t : Node cmd) (s : 
   pub leaves_nothing : IsMeant → Recorded before after (LeavesNothing s result)
   leaves_nothing k = (k.0, k.1, leaves limit t s k.0 result k.2)
 
-  pub hands_over : IsProperTree t → IsMeant → Recorded before after (HandsOver s)
-  hands_over c k = (k.0, k.1, λ p. traces_read_back t s k.0 c p (begun limit t s k.0 result k.2))
+  pub hands_over : IsProperTree t → IsMeant → Recorded before after (HandsOver t s)
+  hands_over c k = (k.0, k.1, λ p. traces_start_by_rule t s k.0 c p (begun limit t s k.0 result k.2))
 
   -- from a proper state
-  pub reads_back : IsProperTree t → IsProper s → IsMeant → Recorded before after (λ trace. AllReadBack (calls trace))
-  reads_back c p k = (k.0, k.1, traces_read_back t s k.0 c p (begun limit t s k.0 result k.2))
+  pub reads_back : IsProperTree t → IsProper s → IsMeant → Recorded before after (StartsByRule t s)
+  reads_back c p k = (k.0, k.1, traces_start_by_rule t s k.0 c p (begun limit t s k.0 result k.2))
 
 -- the state at the end is one with which the meaning ends
 pub at_end : (P : model.State → Type 0) (before after : Option (List Event)) (limit : ℕ) (t : Node cmd) (s : model.State) (result : Result Ran ShellFault) →

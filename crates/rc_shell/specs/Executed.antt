@@ -2,14 +2,14 @@
 use Rattle.std.specs.Prelude.{◌≡◌, ◌≢◌, ℕ, ◌≤◌, List, Bool, Option, Result, Ok, String, map, string_bytes}
 use Rattle.std.specs.declared.alloc.Global.{Global}
 use Rattle.law_machine.specs.Limits.{IsEnough, IsOnTape}
-use Rattle.rc_model.specs.Run.Calls.{Answer, Event, calls}
+use Rattle.rc_model.specs.Run.Calls.{Answer, Event}
 use Rattle.rc_model.specs.Run.Script.{Recorded}
 use Rattle.rc_model.specs.Run.State as model
 use Rattle.rc_model.specs.Syntax.Accepted.{IsAccepted}
 use Rattle.rc_model.specs.Syntax.Tree.{Node, cmd}
 use Rattle.rc_model.specs.Handed.Arguments.{read_image}
 use Rattle.rc_model.specs.Handed.Proper.{IsProper}
-use Rattle.rc_model.specs.Handed.HandedLaws.{AllReadBack}
+use Rattle.rc_model.specs.Handed.Started.{StartsByRule}
 use Rattle.rc_model.specs.Family.Accounts.{IsFresh, NothingLost, NothingLeft}
 use Rattle.rc_model.specs.declared.fault.SyntaxFault.{SyntaxFault}
 use Rattle.rc_model.specs.declared.fault.ImageFault.{ImageFault}
@@ -34,9 +34,10 @@ abbrev pub LeavesNothing : model.State → Result Ran ShellFault → List Event 
 LeavesNothing s (Ok (Ended end)) trace = IsFresh s trace → NothingLeft s trace (state_of end)
 LeavesNothing s _ trace = Unit {0}
 
--- from a proper state each shell that was started reads back what it was handed
-abbrev pub HandsOver : model.State → List Event → Type 0
-HandsOver s trace = IsProper s → AllReadBack (calls trace)
+-- from a proper state each shell that was started was handed the command and the state of the rule to which the script
+-- had come, and reads them back
+abbrev pub HandsOver : Node cmd → model.State → List Event → Type 0
+HandsOver t s trace = IsProper s → StartsByRule t s trace
 
 -- a fact of the state at the end, where there is one
 abbrev pub IfEnded : Result Ran ShellFault → (model.State → Type 0) → Type 0

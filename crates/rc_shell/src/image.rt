@@ -1,9 +1,9 @@
 //! Runs what a shell was handed.
 
 ghost use Rattle.std.specs.Prelude.{◌≡◌, List, IfErr, OnOk, Ok, Err};
-ghost use Rattle.rc_model.specs.Handed.HandedLaws.{AllReadBack};
+ghost use Rattle.rc_model.specs.Handed.Started.{StartsByRule};
 ghost use Rattle.rc_model.specs.Handed.Proper.{IsProper};
-ghost use Rattle.rc_model.specs.Run.Calls.{Answer, calls};
+ghost use Rattle.rc_model.specs.Run.Calls.{Answer};
 ghost use Rattle.rc_model.specs.Run.Script.{Agrees};
 ghost use Rattle.rc_model.specs.Run.State as model;
 ghost use Rattle.rc_model.specs.Syntax.Tree.{Node, cmd};
@@ -45,9 +45,10 @@ pub fn execute_image<W: World>(
     ensures left { IfDenoted (denoted strict words.now entries.now) (W.events world.old) (W.events world.new)
         (λ t s. LeavesNothing s result) }
 
-    // Each shell that was started reads back what it was handed, and the state at the end is proper.
+    // Each shell that was started was handed the command and the state of the rule to which the script had come, and
+    // reads them back; and the state at the end is proper.
     ensures handed { IfDenoted (denoted strict words.now entries.now) (W.events world.old) (W.events world.new)
-        (λ t s trace. AllReadBack (calls trace)) }
+        StartsByRule }
     ensures proper { IfEnded result (λ end. IsProper end) }
 
     // Where the meaning ends or waits, so does the code, from some number of instructions on.

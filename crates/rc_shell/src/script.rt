@@ -42,9 +42,10 @@ pub fn execute<W: World>(
     ensures left { IfAccepted script.now (W.events world.old) (W.events world.new)
         (LeavesNothing (state_of state) result) }
 
-    // From a proper state each shell that was started reads back what it was handed, and the state at the end is
-    // proper.
-    ensures handed { IfAccepted script.now (W.events world.old) (W.events world.new) (HandsOver (state_of state)) }
+    // From a proper state each shell that was started was handed the command and the state of the rule to which the
+    // script had come, and reads them back; and the state at the end is proper.
+    ensures handed { (t : Node cmd) → IsAccepted script.now t →
+        Recorded (W.events world.old) (W.events world.new) (HandsOver t (state_of state)) }
     ensures proper { IfEnded result (λ end. IsProper (state_of state) → IsProper end) }
 
     // Where the meaning ends or waits, so does the code, from some number of instructions on.

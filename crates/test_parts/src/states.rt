@@ -94,7 +94,21 @@ fn out_of_memory_adds_no_child(rt: HostRuntime) -> Result<(), Fail> {
     let added = state.add_child(ChildNo(7));
     let wanted = if added.is_ok() { 1 } else { 0 };
     assert_eq!(rt; state.children().len(), wanted);
-    assert_eq!(rt; state.value("apid").len(), wanted);
+    assert_eq!(rt; state.value("apid").len(), 0);
     added?;
+    Ok(())
+}
+
+#[test]
+fn digits_are_a_place_among_the_arguments(rt: HostRuntime) -> Result<(), Fail> {
+    let alloc = rt.alloc();
+    let state = state_with(alloc, "*", &["a", "b"])?;
+    let second = state.get("02")?;
+    assert_eq!(rt; second.len(), 1);
+    assert_eq!(rt; second[0].as_str(), "b");
+    assert_eq!(rt; state.get("0")?.len(), 0);
+    assert_eq!(rt; state.get("3")?.len(), 0);
+    assert_eq!(rt; state.get("18446744073709551617")?.len(), 0);
+    assert_eq!(rt; state.get("*")?.len(), 2);
     Ok(())
 }

@@ -1,19 +1,15 @@
 //! Names, what they stand for, and texts as words.
 
-ghost use Rattle.std.specs.Prelude.{◌≡◌, ◌<◌, ◌≤◌, ◌^◌, [], ◌∷◌, IfOk};
-ghost use Rattle.std.specs.Prelude.{OnOk, MatchOption, length, map, option_map, string_bytes, true, Some};
-ghost use Rattle.std.specs.List.{list_all};
+ghost use Rattle.std.specs.Prelude.{◌≡◌, [], ◌∷◌, IfOk, OnOk, map, option_map, string_bytes};
 ghost use Rattle.rc_machine.specs.Names.{read, the_name};
 ghost use Rattle.rc_machine.specs.Tops.{uppermost};
 ghost use Rattle.rc_machine.specs.Lists.{below_top};
-ghost use Rattle.rc_model.specs.Run.Lists.{member};
-ghost use Rattle.rc_model.specs.Run.Numbers.{is_digit, digits_value};
-ghost use Rattle.rc_model.specs.Run.State.{got, is_name, is_readable};
+ghost use Rattle.rc_model.specs.Run.State.{is_name, is_readable};
 ghost use Rattle.rc_model.specs.Syntax.Words.{plain_words, word_texts};
 ghost use Rattle.rc_scope.specs.States.{state_of};
 
 use crate::stack::Stack;
-use rc_scope::{State, has_digits, is_name, is_readable};
+use rc_scope::{State, is_name, is_readable};
 use rc_text::{Output, Word};
 use std::alloc::{AllocError, Global};
 
@@ -95,46 +91,6 @@ pub(crate) fn put_text(words: &mut Stack<Word>, text: String) -> Result<(), Allo
     words.push(word)
 }
 
-/// The number that the digits write: none where it is above every length.
-#[tactic(auto, using(crate::proofs::Subscripts::place_read))]
-fn place_of(digits: &str) -> Option<usize>
-    requires digits { list_all is_digit digits.now ≡ true }
-    requires some { 0 < length digits.now }
-    ensures { MatchOption result (2 ^ 64 ≤ digits_value 0 digits.now) (λ n. n ≡ digits_value 0 digits.now) }
-{
-    digits.parse().ok()
-}
-
-/// The member at the place that the digits write, counted from 1.
-#[tactic(auto, using(crate::proofs::Subscripts::no_member, crate::proofs::Subscripts::one_member))]
-fn member<'a>(value: &'a [String], digits: &str) -> &'a [String]
-    requires digits { list_all is_digit digits.now ≡ true }
-    requires some { 0 < length digits.now }
-    ensures { map string_bytes result.now ≡ member (map string_bytes value.now) (Some (digits_value 0 digits.now)) }
-{
-    let count = value.len();
-    match place_of(digits) {
-        None => &value[..0],
-        Some(0) => &value[..0],
-        Some(place) => {
-            if count < place {
-                return &value[..0];
-            }
-            &value[place - 1..place]
-        }
-    }
-}
-
-/// What `$` and a name give: for digits a member of `$*`.
-pub(crate) fn got<'a>(state: &'a State, name: &str) -> &'a [String]
-    ensures { map string_bytes result.now ≡ got (state_of state.now) name.now }
-{
-    if !has_digits(name) || name.is_empty() {
-        return state.value(name);
-    }
-    member(state.value("*"), name)
-}
-
 /// The one name that the words are, where it can stand after `$`.
 fn readable_name(words: &[Word]) -> Option<&str>
     ensures { option_map (λ name. name.now) result ≡ the_name is_readable (word_texts words.now) }
@@ -162,5 +118,5 @@ pub(crate) fn read<'a>(state: &'a State, words: &[Word]) -> Option<&'a [String]>
     ensures { option_map (λ v. map string_bytes v.now) result ≡ read (state_of state.now) (word_texts words.now) }
 {
     let name = readable_name(words)?;
-    Some(got(state, name))
+    Some(state.lookup(name))
 }

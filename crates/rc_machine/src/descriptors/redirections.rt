@@ -11,7 +11,7 @@ ghost use Rattle.rc_machine.specs.Configurations.{config_of};
 ghost use Rattle.rc_machine.specs.EndOfRedirections.{RedirectionEnds, RedirectionsEnd, Refused};
 ghost use Rattle.rc_machine.specs.Steps.{Leads, Steps};
 
-use crate::configuration::lookups::{got, texts};
+use crate::configuration::lookups::texts;
 use crate::configuration::parts::Scope;
 use crate::configuration::{Configuration, Move};
 use rc_redir::RedirError;
@@ -35,7 +35,7 @@ fn push_piece(
         Piece::Text(part) => text.push_str(part),
         Piece::Name(name) => {
             if is_readable(name) {
-                text.push_str(&flat(alloc, got(state, name))?)?;
+                text.push_str(&flat(alloc, state.lookup(name))?)?;
             }
             Ok(())
         }
