@@ -1,4 +1,5 @@
-//! The laws of syntax: texts and their tokens, the descent and the trees of the grammar, and which scripts are accepted.
+//! The laws of syntax: texts and their tokens, the descent and the trees of the grammar, and which scripts are
+//! accepted.
 #![tactic(auto)]
 
 mod acceptance;

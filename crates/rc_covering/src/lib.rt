@@ -8,6 +8,7 @@ ghost use Rattle.rc_model.specs.Syntax.Tree.{Many, redir, more};
 ghost use Rattle.rc_tree.specs.View.{cmd_tree, redir_tree, redirs_tree};
 
 use rc_model::{Handle, PLAIN_SLOTS, Slot, Slots};
+use rc_redir::{slot_of, with_slot};
 use rc_tree::{Cmd, Redir};
 
 /// The redirections around a command.
@@ -124,36 +125,5 @@ fn slots_after_one(redirection: &Redir, slots: Slots) -> Slots
         Redir::Open { slot, .. } => with_slot(slots, *slot, file),
         Redir::Copy { to, from } => with_slot(slots, *to, slot_of(slots, *from)),
         Redir::Here(_) => with_slot(slots, 0, file),
-    }
-}
-
-/// The descriptors with another in the place of this one.
-fn with_slot(slots: Slots, number: u8, slot: Slot) -> Slots
-    ensures { result ≡ with_slot slots number slot }
-{
-    match number {
-        0 => Slots {
-            input: slot,
-            ..slots
-        },
-        1 => Slots {
-            output: slot,
-            ..slots
-        },
-        _ => Slots {
-            errors: slot,
-            ..slots
-        },
-    }
-}
-
-/// What a descriptor stands for.
-fn slot_of(slots: Slots, number: u8) -> Slot
-    ensures { result ≡ slot_of slots number }
-{
-    match number {
-        0 => slots.input,
-        1 => slots.output,
-        _ => slots.errors,
     }
 }

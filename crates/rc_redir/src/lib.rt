@@ -91,7 +91,7 @@ impl Model for RedirStack {
 }
 
 /// The descriptors with another in the place of this one.
-fn with_slot(slots: Slots, number: u8, slot: Slot) -> Slots
+pub fn with_slot(slots: Slots, number: u8, slot: Slot) -> Slots
     ensures { result ≡ with_slot slots number slot }
 {
     match number {
@@ -111,7 +111,7 @@ fn with_slot(slots: Slots, number: u8, slot: Slot) -> Slots
 }
 
 /// What a descriptor stands for.
-fn slot_of(slots: Slots, number: u8) -> Slot
+pub fn slot_of(slots: Slots, number: u8) -> Slot
     ensures { result ≡ slot_of slots number }
 {
     match number {

@@ -1,5 +1,5 @@
-//! The rows of the files `*.calls` that lie here: calls on Linux, each with the answer that is wanted after ` > `. A line
-//! `## its_name` begins a row, which has a world of its own; `#` begins a comment.
+//! The rows of the files `*.calls` that lie here: calls on Linux, each with the answer that is wanted after ` > `. A
+//! line `## its_name` begins a row, which has a world of its own; `#` begins a comment.
 //! The lines after `100 times:`, up to an empty one, are made a hundred times.
 
 use crate::calls::answer;

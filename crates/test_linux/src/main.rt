@@ -1,5 +1,5 @@
-//! Calls of the world on Linux, and runs of the shell as a process of its own: what is answered, how it ends, and what it
-//! writes. With arguments, this program is itself the shell: after a first word `rc` with the others, and else with all
+//! Calls of the world on Linux, and runs of the shell as a process of its own: what is answered, how it ends, and what
+//! it writes. With arguments, this program is itself the shell: after a first word `rc` with the others, and else with all
 //! of them, as it is started where a shell starts itself.
 #![tactic(auto)]
 
