@@ -37,3 +37,8 @@ pub mod Zeros
 pub mod Bodies
 pub mod Passed
 pub mod Sound
+pub mod InPieces
+pub mod High
+pub mod Ascii
+pub mod NotAscii
+pub mod OfChars
