@@ -38,3 +38,8 @@ pub mod Bodies
 pub mod Passed
 pub mod Sound
 pub mod HerePieces
+pub mod InPieces
+pub mod High
+pub mod Ascii
+pub mod NotAscii
+pub mod OfChars

@@ -1,1 +1,3 @@
 pub mod Trees
+pub mod ByteReading
+pub mod ByteLaws

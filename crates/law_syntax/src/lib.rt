@@ -3,6 +3,7 @@
 #![tactic(auto)]
 
 mod acceptance;
+mod bytes;
 mod tokens;
 mod uniqueness;
 
@@ -10,6 +11,7 @@ ghost use Rattle.rc_model.specs.Mirrors.ParsingLaws.{FindsOnlyTrees, FindsEachTr
 ghost use Rattle.rc_model.specs.Mirrors.ParsingLaws.{HasTooManyStages, IsTooDeep, HasSoundTrees};
 
 pub use acceptance::{accepted_are_well_formed, is_decided, is_never_both, tree_of_text};
+pub use bytes::{characters_by_bytes, in_pieces};
 pub use tokens::{here_pieces, reading, spelling};
 pub use uniqueness::one_tree;
 

@@ -1,121 +1,129 @@
 -- What the lexer does, piece by piece.
-use Rattle.std.proofs.Common.{◌≡◌, ◌≢◌, ℕ, Bool, true, false, cond, ◌==◌, ◌||◌, List, [], ◌∷◌, ◌++◌, map, refl, sym, ap, subst, ◌∙◌, append_assoc}
-use Rattle.std.specs.Prelude.{Result, Ok, Err, slice_range}
-use Rattle.rc_model.specs.Syntax.Tokens as model
-use Rattle.rc_model.specs.Mirrors.Reading as reading
-use Rattle.rc_model.specs.Mirrors.Reading.{Step}
+use Rattle.std.proofs.Common.{◌≡◌, ◌≢◌, ◌⊎◌, inl, inr, ℕ, Bool, true, cond, ◌==◌, ◌||◌, List, [], ◌∷◌, ◌++◌, map, refl, sym, ap, subst, ◌∙◌, append_assoc}
+use Rattle.std.specs.Prelude.{Option, Some, Result, Ok, Err}
+use Rattle.rc_model.specs.Syntax.Tokens as t
+use Rattle.rc_lexer.specs.Spans as spans
+use Rattle.rc_lexer.specs.Spans.{Step}
 use Rattle.rc_lexer.specs.Answers.{ScriptError}
+use Rattle.rc_lexer.specs.Machine.{pending_of, pending_in, appended, Takes, Adds, AddsWord, PushedDollars}
 use Rattle.rc_model.specs.declared.fault.InputError.TheVariants.{Fault, NoMemory}
-use Rattle.rc_model.specs.declared.syntax.Class.{Class}
-use Rattle.rc_model.specs.declared.syntax.Class.TheVariants as class
-use Rattle.rc_model.specs.declared.syntax.Previous.{Previous}
 use Rattle.rc_model.specs.declared.syntax.Place.{Place}
-use Rattle.rc_lexer.specs.declared.lexer_state.State.{State}
-use Rattle.rc_lexer.specs.declared.lexer_state.Lexer.{Lexer}
-use Rattle.rc_lexer.specs.Views.{slice_at}
+use Rattle.rc_model.specs.declared.syntax.Previous.{Previous}
 use Rattle.rc_model.specs.declared.syntax.Previous.TheVariants as previous
-use Rattle.rc_lexer.specs.Machine.{pending_of, pending_in, tokens_in, dollars_in, bodies_in, after_step, TakesStep}
-use Rattle.rc_lexer.specs.Machine.{Pushed, Keeps, PushedDollars}
-use Rattle.std.proofs.lemmas.Bool.{eqb-true}
-use Rattle.std.specs.Char.{encode_utf8}
+use Rattle.rc_lexer.specs.declared.TokenKind.{TokenKind}
+use Rattle.rc_lexer.specs.declared.TokenKind.TheVariants as tk
+use Rattle.rc_lexer.specs.declared.operators.Op.TheVariants.{Dollar0}
+use Rattle.rc_lexer.specs.declared.state.State.TheVariants as state
+use Rattle.rc_lexer.specs.declared.Span.{Span}
+use Rattle.rc_lexer.specs.declared.Token.{Token}
+use Rattle.rc_lexer.specs.declared.state.State.{State}
+use Rattle.rc_lexer.specs.declared.state.TokenStart.{TokenStart}
+use Rattle.rc_lexer.specs.declared.state.Reading.{Reading}
+use Rattle.rc_lexer.specs.declared.classes.ByteClass.{ByteClass}
 
-after_emit : (ts us : List model.Token) (bodies : List (List ℕ)) (x : Step) → after_step ts bodies (reading.emit us x) ≡ after_step (ts ++ us) bodies x
-after_emit ts us bodies (Ok x) = ap (λ z. Ok (z, bodies ++ x.1, x.2, x.3)) (sym (append_assoc ts us x.0))
-after_emit ts us bodies (Err f) = refl
+pub appended_emit : (ts us : List Token) (bodies : List Span) (x : Step) → appended ts bodies (spans.emit us x) ≡ appended (ts ++ us) bodies x
+appended_emit ts us bodies (Ok x) = ap (λ z. Ok (z, bodies ++ x.1, x.2, x.3, x.4)) (sym (append_assoc ts us x.0))
+appended_emit ts us bodies (Err f) = refl
 
 -- the tokens of a step come after those so far
-pub emits : (script : List ℕ) (end : ℕ) (us : List model.Token) (x : Step) (old mid new : Lexer) (r : Result State ScriptError) →
-    tokens_in script mid ≡ tokens_in script old ++ us →
-    mid.bodies.items ≡ old.bodies.items → TakesStep script end mid new r x → TakesStep script end old new r (reading.emit us x)
-emits script end us x old mid new (Ok s) t b d =
-    after_emit (tokens_in script old) us (bodies_in script old) x
-    ∙ ap (λ z. after_step z (bodies_in script old) x) (sym t) ∙ ap (λ z. after_step (tokens_in script mid) (map (slice_at script) z) x) (sym b) ∙ d
-emits script end us x old mid new (Err (Fault f)) t b d = ap (reading.emit us) d
-emits script end us x old mid new (Err NoMemory) t b d = d
+pub emits : (us : List Token) (x : Step) (old mid new : Reading) (r : Result State ScriptError) → mid.tokens.items ≡ old.tokens.items ++ us →
+    mid.bodies.items ≡ old.bodies.items → Takes mid new r x → Takes old new r (spans.emit us x)
+emits us x old mid new (Ok s) t b d =
+    appended_emit old.tokens.items us old.bodies.items x ∙ ap (λ z. appended z old.bodies.items x) (sym t) ∙ ap (λ z. appended mid.tokens.items z x) (sym b) ∙ d
+emits us x old mid new (Err (Fault f)) t b d = ap (spans.emit us) d
+emits us x old mid new (Err NoMemory) t b d = d
 
-pub along : (script : List ℕ) (end : ℕ) (old new : Lexer) (r : Result State ScriptError) (x y : Step) → x ≡ y → TakesStep script end old new r x →
-    TakesStep script end old new r y
-along script end old new r x y e d = subst (λ z. TakesStep script end old new r z) e d
+pub along : (old new : Reading) (r : Result State ScriptError) (x y : Step) → x ≡ y → Takes old new r x → Takes old new r y
+along old new r x y e d = subst (λ z. Takes old new r z) e d
 
--- a lexeme ends, and the character begins something
-pub ends_does : (script : List ℕ) (end : ℕ) (previous after : Previous) (l : model.Lexeme) (start place : Place) (c : ℕ) (k : Class)
-    (old mid new : Lexer) (r : Result State ScriptError) →
-    Pushed script previous after l start place old mid → TakesStep script end mid new r (reading.begin after (pending_in mid) place c k) →
-    TakesStep script end old new r (reading.ends previous l start (pending_in old) place c k)
-ends_does script end previous after l start place c k old mid new r s d =
-    emits script end (model.tokens_of previous l start place)
-    (reading.begin (model.after_token previous l) (model.pending_after previous l (pending_in old)) place c k)
-    old mid new r s.tokens s.bodies
-    (along script end mid new r _ _ (ap (λ b. reading.begin b (pending_in mid) place c k) s.after_token
-    ∙ ap (λ q. reading.begin (model.after_token previous l) q place c k) s.pending) d)
-
--- a character that ends a word
-in_word_other : (prev : Previous) (q : Place) (text : List ℕ) (pending : List model.PendingHereDoc) (p : Place) (c : ℕ) (k : Class) →
-    k ≢ class.Ordinary → k ≢ class.Backslash →
-    reading.ends prev (model.Word text) q pending p c k ≡ reading.in_word prev q text pending p c k
-in_word_other prev q text pending p c class.Ordinary h j = absurd (h refl)
-in_word_other prev q text pending p c class.Backslash h j = absurd (j refl)
-in_word_other prev q text pending p c k h j = refl
-
-pub word_does : (script : List ℕ) (end : ℕ) (previous after : Previous) (text : List ℕ) (start place : Place) (c : ℕ) (k : Class) (old mid new : Lexer)
-    (r : Result State ScriptError) →
-    k ≢ class.Ordinary → k ≢ class.Backslash →
-    Pushed script previous after (model.Word text) start place old mid →
-    TakesStep script end mid new r (reading.begin after (pending_in mid) place c k) →
-    TakesStep script end old new r (reading.in_word previous start text (pending_in old) place c k)
-word_does script end previous after text start place c k old mid new r h j s d =
-    along script end old new r _ _ (in_word_other previous start text (pending_in old) place c k h j)
-    (ends_does script end previous after (model.Word text) start place c k old mid new r s d)
-
--- a `^` before a lexeme
-pub caret_is : (b : Bool) (prev : Previous) (l : model.Lexeme) (p : Place) → model.wants_caret prev l ≡ b →
-    model.caret prev l p ≡ cond b (model.token model.FreeCaret p p ∷ []) []
-caret_is b prev l p h = ap (λ v. cond v (model.token model.FreeCaret p p ∷ []) []) h
-
--- a name ends, and the character begins something
-pub name_does : (script : List ℕ) (end : ℕ) (text : List ℕ) (start place : Place) (c : ℕ) (k : Class) (old mid new : Lexer) (r : Result State ScriptError) →
-    model.is_name_char c ≡ false → text ≡ slice_range script start.byte place.byte →
-    ((script' : List ℕ) → tokens_in script' mid ≡ tokens_in script' old
-    ++ model.token (model.Name (slice_range script' start.byte place.byte)) start place ∷ []) → Keeps old mid →
-    TakesStep script end mid new r (reading.begin previous.Name (pending_in mid) place c k) →
-    TakesStep script end old new r (reading.step (reading.Name start text) (pending_in old) place c k)
-name_does script end text start place c k old mid new r h e t kept d =
-    let text' = slice_range script start.byte place.byte in
-    along script end old new r _ _
-    (sym (ap (λ v. cond v (reading.goes [] (reading.Name start (text ++ encode_utf8 c)) (pending_in old))
-    (reading.ends previous.Dollar (model.Name text) start (pending_in old) place c k)) h
-    ∙ ap (λ z. reading.ends previous.Dollar (model.Name z) start (pending_in old) place c k) e))
-    (ends_does script end previous.Dollar previous.Name (model.Name text') start place c k old mid new r
-    (record { tokens = t script; pending = ap (map pending_of) kept.pending; after_token = refl; dollars = kept.dollars; bodies = kept.bodies }) d)
+-- a word ends, and the byte begins something
+pub word_does : (script : List ℕ) (quoted : Bool) (start : TokenStart) (after : Previous) (p : Place) (b : ℕ) (k : ByteClass) (old mid new : Reading) (r : Result State ScriptError) →
+    AddsWord quoted script start.previous after start.place p old mid → Takes mid new r (spans.begin after (pending_in mid) p b k) →
+    Takes old new r (spans.ends_word quoted script start (pending_in old) p b k)
+word_does script quoted start after p b k old mid new r a d =
+    emits (spans.word_tokens quoted start.previous start.place p)
+    (spans.begin (spans.word_after quoted start.previous) (spans.word_due quoted script start.previous start.place p (pending_in old)) p b k) old mid new r a.tokens a.bodies
+    (along mid new r _ _ (ap (λ z. spans.begin z (pending_in mid) p b k) a.after_word ∙ ap (λ z. spans.begin (spans.word_after quoted start.previous) z p b k) a.pending) d)
 
 -- after `$`s
-abbrev dollars_step : Bool → Bool → List model.Token → List model.PendingHereDoc → Place → ℕ → Class → Step
-dollars_step a b dollars pending p c k =
-    cond a (reading.emit dollars (reading.begin previous.Dollar pending p c k))
-    (cond b (reading.goes [] (reading.Operator previous.Dollar dollars p (c ∷ [])) pending)
-    (reading.emit (reading.bare dollars) (reading.begin previous.Apart pending p c k)))
+pub named_does : (p : Place) (b : ℕ) (k : ByteClass) (old mid new : Reading) (r : Result State ScriptError) → (t.is_name_char b || (b == 39)) ≡ true →
+    PushedDollars (λ dollars. dollars) old mid → Takes mid new r (spans.begin previous.Dollar (pending_in mid) p b k) →
+    Takes old new r (spans.after_dollars old.dollars.items (pending_in old) p b k)
+named_does p b k old mid new r h s d =
+    along old new r _ _ (sym (ap (λ v. cond v (spans.emit old.dollars.items (spans.begin previous.Dollar (pending_in old) p b k))
+    (cond (b == 36) (Ok ([], [], state.Operator (spans.starts previous.Dollar p) Dollar0, old.dollars.items, pending_in old))
+    (spans.emit (spans.bare old.dollars.items) (spans.begin previous.Apart (pending_in old) p b k)))) h))
+    (emits old.dollars.items (spans.begin previous.Dollar (pending_in old) p b k) old mid new r s.tokens s.bodies
+    (along mid new r _ _ (ap (λ q. spans.begin previous.Dollar (map pending_of q) p b k) s.pending) d))
 
-pub named_does : (script : List ℕ) (end : ℕ) (place : Place) (c : ℕ) (k : Class) (old mid new : Lexer) (r : Result State ScriptError) →
-    (model.is_name_char c || (c == 39)) ≡ true → PushedDollars (λ dollars. dollars) old mid →
-    TakesStep script end mid new r (reading.begin previous.Dollar (pending_in mid) place c k) →
-    TakesStep script end old new r (reading.after_dollars (dollars_in script old) (pending_in old) place c k)
-named_does script end place c k old mid new r h s d =
-    along script end old new r _ _ (sym (ap (λ v. dollars_step v (c == 36) (dollars_in script old) (pending_in old) place c k) h))
-    (emits script end (dollars_in script old) (reading.begin previous.Dollar (pending_in old) place c k) old mid new r (s.tokens script) s.bodies
-    (along script end mid new r _ _ (ap (λ q. reading.begin previous.Dollar (map pending_of q) place c k) s.pending) d))
+end_along : (start : TokenStart) (dollars : List Token) (o : Option TokenKind) (kind : TokenKind) (due : List t.PendingHereDoc) (p : Place) (b : ℕ) (k : ByteClass) (old new : Reading)
+    (r : Result State ScriptError) → o ≡ Some kind → Takes old new r (spans.end_operator start dollars (Some kind) due p b k) → Takes old new r (spans.end_operator start dollars o due p b k)
+end_along start dollars o kind due p b k old new r e d = along old new r _ _ (ap (λ z. spans.end_operator start dollars z due p b k) (sym e)) d
 
-pub bare_does : (script : List ℕ) (end : ℕ) (place : Place) (c : ℕ) (k : Class) (old mid new : Lexer) (r : Result State ScriptError) →
-    (model.is_name_char c || (c == 39)) ≡ false → c ≢ 36 → PushedDollars reading.bare old mid →
-    TakesStep script end mid new r (reading.begin previous.Apart (pending_in mid) place c k) →
-    TakesStep script end old new r (reading.after_dollars (dollars_in script old) (pending_in old) place c k)
-bare_does script end place c k old mid new r h n s d =
-    along script end old new r _ _
-    (sym (ap (λ v. dollars_step v (c == 36) (dollars_in script old) (pending_in old) place c k) h
-    ∙ ap (λ v. dollars_step false v (dollars_in script old) (pending_in old) place c k) (no (c == 36) refl)))
-    (emits script end (reading.bare (dollars_in script old)) (reading.begin previous.Apart (pending_in old) place c k) old mid new r
-    (s.tokens script) s.bodies
-    (along script end mid new r _ _ (ap (λ q. reading.begin previous.Apart (map pending_of q) place c k) s.pending) d))
-  where
-    no : (b : Bool) → (c == 36) ≡ b → (c == 36) ≡ false
-    no true e = absurd (n (eqb-true c 36 e))
-    no false e = e
+-- a `$`
+pub dollar_does : (start : TokenStart) (o : Option TokenKind) (p : Place) (b : ℕ) (k : ByteClass) (old mid mid' new : Reading) (r : Result State ScriptError) → o ≡ Some tk.Dollar →
+    Adds (spans.caret start.previous tk.Dollar start.place) old mid → mid'.tokens.items ≡ mid.tokens.items → mid'.bodies.items ≡ mid.bodies.items → mid'.pending.items ≡ mid.pending.items →
+    mid'.dollars.items ≡ mid.dollars.items ++ spans.token tk.Dollar start.place p ∷ [] →
+    Takes mid' new r (spans.after_dollars mid'.dollars.items (pending_in mid') p b k) →
+    Takes old new r (spans.end_operator start old.dollars.items o (pending_in old) p b k)
+dollar_does start o p b k old mid mid' new r e a mt mb mp md d =
+    let ds = old.dollars.items ++ spans.token tk.Dollar start.place p ∷ [] in
+    end_along start old.dollars.items o tk.Dollar (pending_in old) p b k old new r e
+    (emits (spans.caret start.previous tk.Dollar start.place) (spans.after_dollars ds (pending_in old) p b k) old mid' new r (mt ∙ a.tokens) (mb ∙ a.bodies)
+    (along mid' new r _ _ (ap (λ z. spans.after_dollars z (pending_in mid') p b k) (md ∙ ap (λ z. z ++ spans.token tk.Dollar start.place p ∷ []) a.dollars)
+    ∙ ap (λ q. spans.after_dollars ds (map pending_of q) p b k) (mp ∙ a.pending)) d))
+
+-- a `$#` or a `$"`
+sigil_does : (start : TokenStart) (kind : TokenKind) (p : Place) (b : ℕ) (k : ByteClass) (old mid bared mid' new : Reading) (r : Result State ScriptError) →
+    Adds (spans.caret start.previous tk.Dollar start.place) old mid → PushedDollars spans.bare mid bared → mid'.tokens.items ≡ bared.tokens.items → mid'.bodies.items ≡ bared.bodies.items →
+    mid'.pending.items ≡ bared.pending.items → mid'.dollars.items ≡ bared.dollars.items ++ spans.token kind start.place p ∷ [] →
+    Takes mid' new r (spans.after_dollars mid'.dollars.items (pending_in mid') p b k) →
+    Takes old new r (spans.emit (spans.caret start.previous tk.Dollar start.place ++ spans.bare old.dollars.items) (spans.after_dollars (spans.token kind start.place p ∷ []) (pending_in old) p b k))
+sigil_does start kind p b k old mid bared mid' new r a s mt mb mp md d =
+    emits (spans.caret start.previous tk.Dollar start.place ++ spans.bare old.dollars.items) (spans.after_dollars (spans.token kind start.place p ∷ []) (pending_in old) p b k) old mid' new r
+    (mt ∙ s.tokens ∙ ap (λ z. z ++ spans.bare mid.dollars.items) a.tokens ∙ append_assoc old.tokens.items (spans.caret start.previous tk.Dollar start.place) (spans.bare mid.dollars.items)
+    ∙ ap (λ z. old.tokens.items ++ (spans.caret start.previous tk.Dollar start.place ++ spans.bare z)) a.dollars)
+    (mb ∙ s.bodies ∙ a.bodies)
+    (along mid' new r _ _ (ap (λ z. spans.after_dollars z (pending_in mid') p b k) (md ∙ ap (λ z. z ++ spans.token kind start.place p ∷ []) s.dollars)
+    ∙ ap (λ q. spans.after_dollars (spans.token kind start.place p ∷ []) (map pending_of q) p b k) (mp ∙ s.pending ∙ a.pending)) d)
+
+pub sigils_do : (start : TokenStart) (o : Option TokenKind) (kind : TokenKind) (p : Place) (b : ℕ) (k : ByteClass) (old mid bared mid' new : Reading) (r : Result State ScriptError) → o ≡ Some kind →
+    (kind ≡ tk.DollarCount) ⊎ (kind ≡ tk.DollarFlat) →
+    Adds (spans.caret start.previous tk.Dollar start.place) old mid → PushedDollars spans.bare mid bared → mid'.tokens.items ≡ bared.tokens.items → mid'.bodies.items ≡ bared.bodies.items →
+    mid'.pending.items ≡ bared.pending.items → mid'.dollars.items ≡ bared.dollars.items ++ spans.token kind start.place p ∷ [] →
+    Takes mid' new r (spans.after_dollars mid'.dollars.items (pending_in mid') p b k) →
+    Takes old new r (spans.end_operator start old.dollars.items o (pending_in old) p b k)
+sigils_do start o kind p b k old mid bared mid' new r e (inl f) a s mt mb mp md d =
+    end_along start old.dollars.items o tk.DollarCount (pending_in old) p b k old new r (e ∙ ap (λ z. Some z) f)
+    (subst (λ z. Takes old new r (spans.emit (spans.caret start.previous tk.Dollar start.place ++ spans.bare old.dollars.items) (spans.after_dollars (spans.token z start.place p ∷ []) (pending_in old) p b k))) f
+    (sigil_does start kind p b k old mid bared mid' new r a s mt mb mp md d))
+sigils_do start o kind p b k old mid bared mid' new r e (inr f) a s mt mb mp md d =
+    end_along start old.dollars.items o tk.DollarFlat (pending_in old) p b k old new r (e ∙ ap (λ z. Some z) f)
+    (subst (λ z. Takes old new r (spans.emit (spans.caret start.previous tk.Dollar start.place ++ spans.bare old.dollars.items) (spans.after_dollars (spans.token z start.place p ∷ []) (pending_in old) p b k))) f
+    (sigil_does start kind p b k old mid bared mid' new r a s mt mb mp md d))
+
+-- any other operator
+plain : (kind : TokenKind) → kind ≢ tk.BareHere → kind ≢ tk.Dollar → kind ≢ tk.DollarCount → kind ≢ tk.DollarFlat →
+    (start : TokenStart) (dollars : List Token) (due : List t.PendingHereDoc) (p : Place) (b : ℕ) (k : ByteClass) →
+    spans.emit (spans.tokens_of start.previous (spans.meaning start.previous kind) start.place p) (spans.begin (t.after_token start.previous (spans.shape (spans.meaning start.previous kind))) due p b k)
+    ≡ spans.end_operator start dollars (Some kind) due p b k
+plain tk.BareHere a b' d e start dollars due p b k = absurd (a refl)
+plain tk.Dollar a b' d e start dollars due p b k = absurd (b' refl)
+plain tk.DollarCount a b' d e start dollars due p b k = absurd (d refl)
+plain tk.DollarFlat a b' d e start dollars due p b k = absurd (e refl)
+plain kind a b' d e start dollars due p b k = refl
+
+pub plain_does : (start : TokenStart) (o : Option TokenKind) (kind meaning : TokenKind) (after : Previous) (p : Place) (b : ℕ) (k : ByteClass) (old mid new : Reading) (r : Result State ScriptError) → o ≡ Some kind →
+    kind ≢ tk.BareHere → kind ≢ tk.Dollar → kind ≢ tk.DollarCount → kind ≢ tk.DollarFlat →
+    meaning ≡ spans.meaning start.previous kind → after ≡ t.after_token start.previous (spans.shape meaning) →
+    Adds (spans.tokens_of start.previous meaning start.place p) old mid →
+    Takes mid new r (spans.begin after (pending_in mid) p b k) →
+    Takes old new r (spans.end_operator start old.dollars.items o (pending_in old) p b k)
+plain_does start o kind meaning after p b k old mid new r e n1 n2 n3 n4 m f a d =
+    let kind' = spans.meaning start.previous kind in
+    end_along start old.dollars.items o kind (pending_in old) p b k old new r e
+    (along old new r _ _ (plain kind n1 n2 n3 n4 start old.dollars.items (pending_in old) p b k)
+    (emits (spans.tokens_of start.previous kind' start.place p) (spans.begin (t.after_token start.previous (spans.shape kind')) (pending_in old) p b k) old mid new r
+    (a.tokens ∙ ap (λ z. old.tokens.items ++ spans.tokens_of start.previous z start.place p) m) a.bodies
+    (along mid new r _ _ (ap (λ z. spans.begin z (pending_in mid) p b k) (f ∙ ap (λ z. t.after_token start.previous (spans.shape z)) m)
+    ∙ ap (λ q. spans.begin (t.after_token start.previous (spans.shape kind')) (map pending_of q) p b k) a.pending) d)))

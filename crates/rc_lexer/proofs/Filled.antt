@@ -1,6 +1,7 @@
 -- Here documents and their bodies.
-use Rattle.std.proofs.Common.{◌≡◌, ◌≢◌, ℕ, ◌+◌, ◌<◌, Bool, false, cond, List, [], ◌∷◌, ◌++◌, refl, sym, ap, ◌∙◌}
+use Rattle.std.proofs.Common.{◌≡◌, ◌≢◌, ℕ, ◌+◌, ◌<◌, ◌==◌, Bool, true, false, cond, List, [], ◌∷◌, ◌++◌, refl, sym, ap, ◌∙◌}
 use Rattle.std.proofs.Common.{length, arith, map, take, drop, get_or, append_assoc}
+use Rattle.std.proofs.lemmas.Bool.Decides.{nat_tests}
 use Rattle.std.proofs.lemmas.List.{at_drop_more, take_more_set, drop-set-lt, map-append}
 use Rattle.std.proofs.Math.ListN.{set}
 use Rattle.rc_model.specs.Syntax.Tokens as model
@@ -31,6 +32,10 @@ other_kind kind h script text = refl
 pub none_left : {A B : Type 0} (f : A → B) (xs : List A) → length xs ≡ 0 → map f xs ≡ []
 none_left f [] h = refl
 none_left f (x ∷ xs) h = absurd (omega (arith, h))
+
+pub is_none : {A : Type 0} (xs : List A) (v : Bool) → v ≡ (length xs == 0) → v ≡ true → xs ≡ []
+is_none [] v h k = refl
+is_none (x ∷ xs) v h k = absurd (grind (arith, nat_tests, h, k))
 
 -- one token of a list is filled in its place
 pub filled_step : {A : Type 0} (f : A → model.Token) (xs : List A) (i : ℕ) (d y : A) (bodies rest : List (List ℕ)) (whole : List model.Token) → i < length xs →

@@ -1,29 +1,30 @@
-//! `$`s whose name is still to come.
+//! `$`s whose name is still to come, and the ends of operators.
 
-ghost use Rattle.std.specs.Prelude.{◌||◌, ◌==◌, ◌≡◌, ℕ, List, ◌++◌, IfOk, OnOk};
+ghost use Rattle.std.specs.Prelude.{◌||◌, ◌==◌, ◌≡◌, ◌<◌, ◌≤◌, ◌+◌, ◌^◌, ◌++◌, [], OnOk};
 ghost use Rattle.rc_model.specs.Syntax.Tokens as model;
-ghost use Rattle.rc_model.specs.Mirrors.Reading as reading;
-ghost use Rattle.rc_lexer.specs.Views.{tokens_of};
-ghost use Rattle.rc_lexer.specs.Machine.{IsCurrent, PushedDollars, Stands, Takes};
-ghost use Rattle.rc_lexer.specs.Machine.{dollars_in};
+ghost use Rattle.rc_lexer.specs.Spans as spans;
+ghost use Rattle.rc_lexer.specs.Trie.{next_op};
+ghost use Rattle.rc_lexer.specs.Machine.{PushedDollars, Takes, pending_in};
 
-use crate::lexer_state::{CurrentChar, Lexer, State, TokenStart};
-use crate::{ScriptError, Token, TokenKind};
-use rc_model::Previous;
-use rc_text::is_name_char;
+use crate::classes::{ByteClass, is_name_byte};
+use crate::operators::Op;
+use crate::previous::{after_token, meaning_after};
+use crate::state::{Reading, State, TokenStart};
+use crate::tokens::token_between;
+use crate::{ScriptError, Token, TokenKind, fault};
+use rc_model::{FaultKind, Place, Previous};
 use std::alloc::AllocError;
 
-/// Whether the name of `$`s begins with the character, quoted or not.
-fn begins_dollar_name(c: char) -> bool
-    ensures { result ≡ (model.is_name_char c || (c == 39)) }
+/// Whether the name of `$`s begins with the byte, quoted or not.
+fn begins_dollar_name(b: u8) -> bool
+    ensures { result ≡ (model.is_name_char b || (b == 39)) }
 {
-    is_name_char(c) || c == '\''
+    is_name_byte(b) || b == b'\''
 }
 
 /// Puts the `$`s after the tokens, as bare ones.
 fn push_as_bare(tokens: &mut Vec<Token>, dollars: &[Token]) -> Result<(), AllocError>
-    ensures { OnOk result ((script : List ℕ) → tokens_of script tokens.new.items
-        ≡ tokens_of script tokens.old.items ++ reading.bare (tokens_of script dollars.now)) }
+    ensures { OnOk result (tokens.new.items ≡ tokens.old.items ++ spans.bare dollars.now) }
 {
     for dollar in dollars {
         tokens.push(Token {
@@ -35,10 +36,10 @@ fn push_as_bare(tokens: &mut Vec<Token>, dollars: &[Token]) -> Result<(), AllocE
     Ok(())
 }
 
-impl Lexer {
+impl Reading {
     /// The `$`s have no name.
     pub(crate) fn push_bare_dollars(&mut self) -> Result<(), AllocError>
-        ensures { OnOk result (PushedDollars reading.bare self.old self.new) }
+        ensures { OnOk result (PushedDollars spans.bare self.old self.new) }
     {
         push_as_bare(&mut self.tokens, self.dollars.as_slice())?;
         self.dollars.clear();
@@ -54,28 +55,94 @@ impl Lexer {
         Ok(())
     }
 
-    /// The character after `$`s whose name is still to come.
+    /// The byte after `$`s whose name is still to come.
     pub(crate) fn continue_dollars(
         &mut self,
-        script: &[u8],
-        current: CurrentChar,
+        place: Place,
+        b: u8,
+        class: ByteClass,
     ) -> Result<State, ScriptError>
-        requires { IsCurrent script.now current }
-        ensures does { Takes script.now current self.old self.new result
-            (reading.after_dollars (dollars_in script.now self.old)) }
-        ensures stands { IfOk result (λ s. Stands script.now current.next.byte s) }
+        requires byte { place.byte < 2 ^ 63 }
+        requires line { place.line < 2 ^ 63 + 1 }
+        ensures { Takes self.old self.new result
+            (spans.after_dollars self.old.dollars.items (pending_in self.old) place b class) }
     {
-        if begins_dollar_name(current.character) {
+        if begins_dollar_name(b) {
             self.push_named_dollars()?;
-            return self.begin_token(script, Previous::Dollar, current);
+            return self.begin_token(Previous::Dollar, place, b, class);
         }
-        if current.character == '$' {
-            return Ok(State::Operator(TokenStart {
-                previous: Previous::Dollar,
-                place: current.place,
-            }));
+        if b == b'$' {
+            return Ok(State::Operator(
+                TokenStart {
+                    previous: Previous::Dollar,
+                    place,
+                },
+                Op::Dollar0,
+            ));
         }
         self.push_bare_dollars()?;
-        self.begin_token(script, Previous::Apart, current)
+        self.begin_token(Previous::Apart, place, b, class)
+    }
+
+    /// The byte after an operator that it ends.
+    pub(crate) fn end_operator(
+        &mut self,
+        start: TokenStart,
+        kind: Option<TokenKind>,
+        place: Place,
+        b: u8,
+        class: ByteClass,
+    ) -> Result<State, ScriptError>
+        requires byte { place.byte < 2 ^ 63 }
+        requires line { place.line < 2 ^ 63 + 1 }
+        ensures { Takes self.old self.new result
+            (spans.end_operator start self.old.dollars.items kind (pending_in self.old) place b class) }
+    {
+        let TokenStart {
+            previous,
+            place: first,
+        } = start;
+        let Some(kind) = kind else {
+            return Err(fault(FaultKind::BadDescriptor, first.line));
+        };
+        match kind {
+            TokenKind::BareHere => self.begin_token(Previous::Here(first, place), place, b, class),
+            TokenKind::Dollar => {
+                self.push_caret(previous, TokenKind::Dollar, first)?;
+                self.dollars.push(token_between(kind, first, place))?;
+                self.continue_dollars(place, b, class)
+            }
+            TokenKind::DollarCount | TokenKind::DollarFlat => {
+                self.push_caret(previous, TokenKind::Dollar, first)?;
+                self.push_bare_dollars()?;
+                self.dollars.push(token_between(kind, first, place))?;
+                self.continue_dollars(place, b, class)
+            }
+            _ => {
+                let meaning = meaning_after(previous, kind);
+                self.push_token(previous, meaning, first, place)?;
+                self.begin_token(after_token(previous, meaning), place, b, class)
+            }
+        }
+    }
+
+    /// The byte after an operator that is read so far.
+    pub(crate) fn continue_operator(
+        &mut self,
+        start: TokenStart,
+        op: Op,
+        place: Place,
+        b: u8,
+        class: ByteClass,
+    ) -> Result<State, ScriptError>
+        requires byte { place.byte < 2 ^ 63 }
+        requires line { place.line < 2 ^ 63 + 1 }
+        ensures { Takes self.old self.new result
+            (spans.in_operator start op self.old.dollars.items (next_op op b) (pending_in self.old) place b class) }
+    {
+        if let Some(next) = op.next(b) {
+            return Ok(State::Operator(start, next));
+        }
+        self.end_operator(start, op.kind(), place, b, class)
     }
 }

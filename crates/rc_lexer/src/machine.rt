@@ -1,83 +1,59 @@
-//! The machine that reads a script character by character.
+//! The machine that reads a script byte by byte.
 
-ghost use Rattle.std.specs.Prelude.{◌≤◌, length, IfOk};
-ghost use Rattle.rc_model.specs.Mirrors.Reading as reading;
-ghost use Rattle.rc_lexer.specs.Machine.{Ends, IsCurrent, Stands, StepsFrom, pending_left, state_in};
+ghost use Rattle.std.specs.Prelude.{◌≡◌, ◌<◌, ◌≤◌, ◌+◌, ◌^◌, length};
+ghost use Rattle.rc_lexer.specs.Spans as spans;
+ghost use Rattle.rc_lexer.specs.SpanLaws.{Stands};
+ghost use Rattle.rc_lexer.specs.Machine.{Takes, dollars_in, pending_in};
 
-use crate::lexer_state::{CurrentChar, Lexer, State};
-use crate::{ScriptError, TokenKind, fault};
-use rc_model::{Class, FaultKind, Place, Previous};
+use crate::ScriptError;
+use crate::classes::ByteClass;
+use crate::previous::after_blank;
+use crate::state::{Reading, State};
+use rc_model::{Place, Previous};
 
-impl Lexer {
-    /// Reads one more character.
+impl Reading {
+    /// Reads one more byte.
     pub(crate) fn step(
         &mut self,
         script: &[u8],
         state: State,
-        current: CurrentChar,
-    ) -> Result<State, ScriptError>
-        requires current { IsCurrent script.now current }
-        requires stands { Stands script.now current.place.byte state }
-        ensures does { StepsFrom script.now current self.old self.new result state }
-        ensures stands { IfOk result (λ s. Stands script.now current.next.byte s) }
-    {
-        match state {
-            State::Between(previous) => self.begin_token(script, previous, current),
-            State::Comment => match current.class {
-                Class::LineEnd => self.begin_token(script, Previous::Apart, current),
-                _ => Ok(state),
-            },
-            State::Backslash(start) => self.continue_backslash(script, start, current),
-            State::WordBackslash(start, stop) => self.continue_word_backslash(
-                script, start, stop, current,
-            ),
-            State::Word(start) => self.continue_word(script, start, current),
-            State::Name(start) => self.continue_name(script, start, current),
-            State::Quoted(start) => match current.class {
-                Class::Quote => Ok(State::Closed(start)),
-                _ => Ok(state),
-            },
-            State::Closed(start) => match current.class {
-                Class::Quote => Ok(State::Quoted(start)),
-                _ => self.end_quoted(script, start, current),
-            },
-            State::Operator(start) => self.continue_operator(script, start, current),
-            State::Body { start, line } => self.continue_body(script, start, line, current),
-        }
-    }
-
-    /// The script ends in this state.
-    pub(crate) fn finish(
-        &mut self,
-        script: &[u8],
-        state: State,
         place: Place,
-    ) -> Result<(), ScriptError>
-        requires stands { Stands script.now place.byte state }
+        b: u8,
+        class: ByteClass,
+    ) -> Result<State, ScriptError>
+        requires byte { place.byte < 2 ^ 63 }
+        requires line { place.line < 2 ^ 63 + 1 }
         requires within { place.byte ≤ length script.now }
-        ensures { Ends script.now self.old self.new result
-            (reading.finish (state_in script.now place.byte self.old state) (pending_left self.old state)
-            place) }
+        requires stands { Stands script.now place.byte state }
+        ensures { Takes self.old self.new result
+            (spans.step script.now state (dollars_in state self.old) (pending_in self.old) place b class) }
     {
         match state {
-            State::Between(previous) => {
-                self.push_bare_here(previous)?;
-                self.expect_none_pending()
-            }
-            State::Comment => self.expect_none_pending(),
-            State::Backslash(start) | State::Word(start) => self.finish_word(script, start, place),
-            State::WordBackslash(start, _) => self.finish_word(script, start, place),
-            State::Name(start) => {
-                self.push_token(Previous::Dollar, TokenKind::Name, start, place)?;
-                self.expect_none_pending()
-            }
-            State::Quoted(start) => Err(fault(FaultKind::OpenQuote, start.place.line)),
-            State::Closed(start) => {
-                let _ = self.push_quoted(script, start, place)?;
-                self.expect_none_pending()
-            }
-            State::Operator(start) => self.finish_operator(script, start, place),
-            State::Body { start, line } => self.finish_body(script, start, line, place.byte),
+            State::Between(previous) => self.begin_token(previous, place, b, class),
+            State::Comment => match class {
+                ByteClass::LineEnd => self.begin_token(Previous::Apart, place, b, class),
+                _ => Ok(state),
+            },
+            State::Backslash(start) => match class {
+                ByteClass::LineEnd => Ok(State::Between(after_blank(start.previous))),
+                _ => self.continue_word(script, start, place, b, class),
+            },
+            State::WordBackslash(start, stop) => match class {
+                ByteClass::LineEnd => self.end_continued(script, start, stop, place, b),
+                _ => self.continue_word(script, start, place, b, class),
+            },
+            State::Word(start) => self.continue_word(script, start, place, b, class),
+            State::Name(start) => self.continue_name(start, place, b, class),
+            State::Quoted(start) => match class {
+                ByteClass::Quote => Ok(State::Closed(start)),
+                _ => Ok(state),
+            },
+            State::Closed(start) => match class {
+                ByteClass::Quote => Ok(State::Quoted(start)),
+                _ => self.end_word(script, true, start, place, b, class),
+            },
+            State::Operator(start, op) => self.continue_operator(start, op, place, b, class),
+            State::Body { start, line } => self.continue_body(script, start, line, place, b, class),
         }
     }
 }

@@ -1,159 +1,202 @@
-//! Operators: how they are written, and where they end.
+//! Operators of more than one byte, as far as they are read.
 
-ghost use Rattle.std.specs.Prelude.{false, ◌≡◌, ℕ, ◌≤◌, List, MatchOption, Some, None, length, IfOk};
-ghost use Rattle.rc_model.specs.Syntax.Tokens.{begins_operator, operator};
-ghost use Rattle.rc_model.specs.Syntax.Tokens as model;
-ghost use Rattle.rc_model.specs.Mirrors.Reading as reading;
-ghost use Rattle.rc_lexer.specs.Views.{lexeme_of};
-ghost use Rattle.rc_lexer.specs.Machine.{Ends, IsCurrent, Stands, Takes};
-ghost use Rattle.rc_lexer.specs.Machine.{between, dollars_in, pending_in};
+ghost use Rattle.std.specs.Prelude.{◌≡◌};
+ghost use Rattle.rc_lexer.specs.Trie.{first_op, next_op, op_kind};
 
-use crate::lexer_state::{CurrentChar, Lexer, State, TokenStart};
-use crate::previous::{after_token, meaning_after};
-use crate::tokens::token_between;
-use crate::{ScriptError, TokenKind, fault};
-use rc_model::{FaultKind, Mode, Place, Previous};
+use crate::TokenKind;
+use rc_model::Mode;
 
-/// How each operator is written.
-const OPERATORS: [(&str, TokenKind); 29] = [
-    (";", TokenKind::Semicolon),
-    ("&", TokenKind::Ampersand),
-    ("&&", TokenKind::AndAnd),
-    ("||", TokenKind::OrOr),
-    ("|", TokenKind::Bar(1)),
-    ("|[1]", TokenKind::Bar(1)),
-    ("|[2]", TokenKind::Bar(2)),
-    ("^", TokenKind::Caret),
-    ("=", TokenKind::Equals),
-    ("(", TokenKind::LeftParen),
-    (")", TokenKind::RightParen),
-    ("{", TokenKind::LeftBrace),
-    ("}", TokenKind::RightBrace),
-    ("`", TokenKind::Backquote),
-    (">", TokenKind::Redirection(Mode::Write, 1)),
-    (">[1]", TokenKind::Redirection(Mode::Write, 1)),
-    (">[2]", TokenKind::Redirection(Mode::Write, 2)),
-    (">>", TokenKind::Redirection(Mode::Append, 1)),
-    (">>[1]", TokenKind::Redirection(Mode::Append, 1)),
-    (">>[2]", TokenKind::Redirection(Mode::Append, 2)),
-    ("<", TokenKind::Redirection(Mode::Read, 0)),
-    ("<[0]", TokenKind::Redirection(Mode::Read, 0)),
-    (">[1=2]", TokenKind::CopyTo { to: 1, from: 2 }),
-    (">[2=1]", TokenKind::CopyTo { to: 2, from: 1 }),
-    ("<<", TokenKind::BareHere),
-    ("<<[0]", TokenKind::BareHere),
-    ("$", TokenKind::Dollar),
-    ("$#", TokenKind::DollarCount),
-    ("$\"", TokenKind::DollarFlat),
-];
-
-/// Whether an operator begins so.
-fn begins_operator(text: &[u8]) -> bool
-    ensures { result ≡ begins_operator text.now }
-{
-    for (operator, _) in &OPERATORS {
-        if operator.as_bytes().starts_with(text) {
-            return true;
-        }
-    }
-    false
+/// What is read of an operator.
+#[derive(Clone, Copy)]
+pub(crate) enum Op {
+    /// `&`
+    And1,
+    /// `&&`
+    And2,
+    /// `|`
+    Bar0,
+    /// `||`
+    BarBar,
+    /// `|[`
+    BarOpen,
+    /// `|[1`
+    BarOne,
+    /// `|[2`
+    BarTwo,
+    /// `|[1]`
+    BarOneEnd,
+    /// `|[2]`
+    BarTwoEnd,
+    /// `>`
+    Out0,
+    /// `>[`
+    OutOpen,
+    /// `>[1`
+    OutOne,
+    /// `>[2`
+    OutTwo,
+    /// `>[1]`
+    OutOneEnd,
+    /// `>[2]`
+    OutTwoEnd,
+    /// `>[1=`
+    OutOneIs,
+    /// `>[2=`
+    OutTwoIs,
+    /// `>[1=2`
+    OutOneTwo,
+    /// `>[2=1`
+    OutTwoOne,
+    /// `>[1=2]`
+    OutOneTwoEnd,
+    /// `>[2=1]`
+    OutTwoOneEnd,
+    /// `>>`
+    App0,
+    /// `>>[`
+    AppOpen,
+    /// `>>[1`
+    AppOne,
+    /// `>>[2`
+    AppTwo,
+    /// `>>[1]`
+    AppOneEnd,
+    /// `>>[2]`
+    AppTwoEnd,
+    /// `<`
+    In0,
+    /// `<[`
+    InOpen,
+    /// `<[0`
+    InZero,
+    /// `<[0]`
+    InZeroEnd,
+    /// `<<`
+    Here0,
+    /// `<<[`
+    HereOpen,
+    /// `<<[0`
+    HereZero,
+    /// `<<[0]`
+    HereZeroEnd,
+    /// `$`
+    Dollar0,
+    /// `$#`
+    DollarHash,
+    /// `$"`
+    DollarQuote,
 }
 
-/// The operator that is written so.
-fn operator(text: &[u8]) -> Option<TokenKind>
-    ensures { MatchOption result (operator text.now ≡ None)
-        (λ kind. (script slice : List ℕ) → operator text.now ≡ Some (lexeme_of script kind slice)) }
+/// The operator that begins with this byte.
+pub(crate) fn first_op(b: u8) -> Op
+    ensures { result ≡ first_op b }
 {
-    for (operator, kind) in &OPERATORS {
-        if operator.as_bytes() == text {
-            return Some(*kind);
-        }
+    match b {
+        b'&' => Op::And1,
+        b'|' => Op::Bar0,
+        b'>' => Op::Out0,
+        b'<' => Op::In0,
+        _ => Op::Dollar0,
     }
-    None
 }
 
-impl Lexer {
-    /// The character after an operator that is read so far.
-    pub(crate) fn continue_operator(
-        &mut self,
-        script: &[u8],
-        start: TokenStart,
-        current: CurrentChar,
-    ) -> Result<State, ScriptError>
-        requires current { IsCurrent script.now current }
-        requires stands { Stands script.now current.place.byte (State.Operator start) }
-        ensures does { Takes script.now current self.old self.new result
-            (reading.step (reading.Operator start.previous (dollars_in script.now self.old) start.place
-            (between script.now start.place current.place))) }
-        ensures stands { IfOk result (λ s. Stands script.now current.next.byte s) }
+impl Op {
+    /// The operator with one more byte, if one begins so.
+    pub(crate) fn next(self, b: u8) -> Option<Op>
+        ensures { result ≡ next_op self b }
     {
-        if begins_operator(&script[start.place.byte..current.next.byte]) {
-            return Ok(State::Operator(start));
+        match self {
+            Op::And1 if b == b'&' => Some(Op::And2),
+            Op::Bar0 => match b {
+                b'|' => Some(Op::BarBar),
+                b'[' => Some(Op::BarOpen),
+                _ => None,
+            },
+            Op::BarOpen => match b {
+                b'1' => Some(Op::BarOne),
+                b'2' => Some(Op::BarTwo),
+                _ => None,
+            },
+            Op::BarOne if b == b']' => Some(Op::BarOneEnd),
+            Op::BarTwo if b == b']' => Some(Op::BarTwoEnd),
+            Op::Out0 => match b {
+                b'[' => Some(Op::OutOpen),
+                b'>' => Some(Op::App0),
+                _ => None,
+            },
+            Op::OutOpen => match b {
+                b'1' => Some(Op::OutOne),
+                b'2' => Some(Op::OutTwo),
+                _ => None,
+            },
+            Op::OutOne => match b {
+                b']' => Some(Op::OutOneEnd),
+                b'=' => Some(Op::OutOneIs),
+                _ => None,
+            },
+            Op::OutTwo => match b {
+                b']' => Some(Op::OutTwoEnd),
+                b'=' => Some(Op::OutTwoIs),
+                _ => None,
+            },
+            Op::OutOneIs if b == b'2' => Some(Op::OutOneTwo),
+            Op::OutTwoIs if b == b'1' => Some(Op::OutTwoOne),
+            Op::OutOneTwo if b == b']' => Some(Op::OutOneTwoEnd),
+            Op::OutTwoOne if b == b']' => Some(Op::OutTwoOneEnd),
+            Op::App0 if b == b'[' => Some(Op::AppOpen),
+            Op::AppOpen => match b {
+                b'1' => Some(Op::AppOne),
+                b'2' => Some(Op::AppTwo),
+                _ => None,
+            },
+            Op::AppOne if b == b']' => Some(Op::AppOneEnd),
+            Op::AppTwo if b == b']' => Some(Op::AppTwoEnd),
+            Op::In0 => match b {
+                b'[' => Some(Op::InOpen),
+                b'<' => Some(Op::Here0),
+                _ => None,
+            },
+            Op::InOpen if b == b'0' => Some(Op::InZero),
+            Op::InZero if b == b']' => Some(Op::InZeroEnd),
+            Op::Here0 if b == b'[' => Some(Op::HereOpen),
+            Op::HereOpen if b == b'0' => Some(Op::HereZero),
+            Op::HereZero if b == b']' => Some(Op::HereZeroEnd),
+            Op::Dollar0 => match b {
+                b'#' => Some(Op::DollarHash),
+                b'"' => Some(Op::DollarQuote),
+                _ => None,
+            },
+            _ => None,
         }
-        self.end_operator(script, start, current)
     }
 
-    /// The character after an operator that it ends.
-    fn end_operator(
-        &mut self,
-        script: &[u8],
-        start: TokenStart,
-        current: CurrentChar,
-    ) -> Result<State, ScriptError>
-        requires current { IsCurrent script.now current }
-        requires stands { Stands script.now current.place.byte (State.Operator start) }
-        ensures does { Takes script.now current self.old self.new result
-            (reading.end_operator start.previous (dollars_in script.now self.old) start.place
-            (model.operator (between script.now start.place current.place))) }
-        ensures stands { IfOk result (λ s. Stands script.now current.next.byte s) }
+    /// The token that is written so, if one is.
+    pub(crate) fn kind(self) -> Option<TokenKind>
+        ensures { result ≡ op_kind self }
     {
-        let TokenStart { previous, place } = start;
-        let stop = current.place;
-        let Some(kind) = operator(&script[place.byte..stop.byte]) else {
-            return Err(fault(FaultKind::BadDescriptor, place.line));
-        };
-        match kind {
-            TokenKind::BareHere => self.begin_token(script, Previous::Here(place, stop), current),
-            TokenKind::Dollar => {
-                self.push_caret(previous, TokenKind::Dollar, place)?;
-                self.dollars.push(token_between(kind, place, stop))?;
-                self.continue_dollars(script, current)
-            }
-            TokenKind::DollarCount | TokenKind::DollarFlat => {
-                self.push_caret(previous, TokenKind::Dollar, place)?;
-                self.push_bare_dollars()?;
-                self.dollars.push(token_between(kind, place, stop))?;
-                self.continue_dollars(script, current)
-            }
-            _ => {
-                let meaning = meaning_after(previous, kind);
-                self.push_token(previous, meaning, place, stop)?;
-                self.begin_token(script, after_token(previous, meaning), current)
-            }
+        match self {
+            Op::And1 => Some(TokenKind::Ampersand),
+            Op::And2 => Some(TokenKind::AndAnd),
+            Op::Bar0 => Some(TokenKind::Bar(1)),
+            Op::BarBar => Some(TokenKind::OrOr),
+            Op::BarOneEnd => Some(TokenKind::Bar(1)),
+            Op::BarTwoEnd => Some(TokenKind::Bar(2)),
+            Op::Out0 => Some(TokenKind::Redirection(Mode::Write, 1)),
+            Op::OutOneEnd => Some(TokenKind::Redirection(Mode::Write, 1)),
+            Op::OutTwoEnd => Some(TokenKind::Redirection(Mode::Write, 2)),
+            Op::OutOneTwoEnd => Some(TokenKind::CopyTo { to: 1, from: 2 }),
+            Op::OutTwoOneEnd => Some(TokenKind::CopyTo { to: 2, from: 1 }),
+            Op::App0 => Some(TokenKind::Redirection(Mode::Append, 1)),
+            Op::AppOneEnd => Some(TokenKind::Redirection(Mode::Append, 1)),
+            Op::AppTwoEnd => Some(TokenKind::Redirection(Mode::Append, 2)),
+            Op::In0 => Some(TokenKind::Redirection(Mode::Read, 0)),
+            Op::InZeroEnd => Some(TokenKind::Redirection(Mode::Read, 0)),
+            Op::Here0 => Some(TokenKind::BareHere),
+            Op::HereZeroEnd => Some(TokenKind::BareHere),
+            Op::Dollar0 => Some(TokenKind::Dollar),
+            Op::DollarHash => Some(TokenKind::DollarCount),
+            Op::DollarQuote => Some(TokenKind::DollarFlat),
+            _ => None,
         }
-    }
-
-    /// The script ends after an operator.
-    pub(crate) fn finish_operator(
-        &mut self,
-        script: &[u8],
-        start: TokenStart,
-        place: Place,
-    ) -> Result<(), ScriptError>
-        requires order { start.place.byte ≤ place.byte }
-        requires within { place.byte ≤ length script.now }
-        requires apart { model.awaits_mark start.previous ≡ false }
-        ensures { Ends script.now self.old self.new result
-            (reading.finish_operator start.previous (dollars_in script.now self.old)
-            start.place (model.operator (between script.now start.place place))
-            (pending_in self.old) place) }
-    {
-        let Some(kind) = operator(&script[start.place.byte..place.byte]) else {
-            return Err(fault(FaultKind::BadDescriptor, start.place.line));
-        };
-        let meaning = meaning_after(start.previous, kind);
-        self.push_bare_dollars()?;
-        self.push_token(start.previous, meaning, start.place, place)?;
-        self.expect_none_pending()
     }
 }

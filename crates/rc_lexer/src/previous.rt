@@ -1,17 +1,17 @@
 //! What stands directly before a token, and what it makes of the token.
 
-ghost use Rattle.std.specs.Prelude.{false, ◌≡◌, ℕ, List, []};
+ghost use Rattle.std.specs.Prelude.{false, ◌≡◌};
 ghost use Rattle.rc_model.specs.Syntax.Tokens as model;
 ghost use Rattle.rc_model.specs.Mirrors.Reading as reading;
-ghost use Rattle.rc_lexer.specs.Views.{lexeme_of};
+ghost use Rattle.rc_lexer.specs.Spans.{meaning, shape};
 
 use crate::TokenKind;
+use crate::classes::is_name_byte;
 use rc_model::Previous;
-use rc_text::is_name_char;
 
 /// Whether a `^` is inserted before the token.
 pub(crate) fn wants_caret(previous: Previous, kind: TokenKind) -> bool
-    ensures { (script text : List ℕ) → result ≡ model.wants_caret previous (lexeme_of script kind text) }
+    ensures { result ≡ model.wants_caret previous (shape kind) }
 {
     let begins_part = matches!(
         kind,
@@ -42,7 +42,6 @@ pub(crate) fn after_blank(previous: Previous) -> Previous
 /// The same where the mark of a `<<` no longer comes.
 pub(crate) fn without_here(previous: Previous) -> Previous
     ensures value { result ≡ reading.without_here previous }
-    ensures apart { model.awaits_mark result ≡ false }
 {
     match previous {
         Previous::Here(_, _) => Previous::Apart,
@@ -50,20 +49,19 @@ pub(crate) fn without_here(previous: Previous) -> Previous
     }
 }
 
-/// Whether the character begins the name of a `$`.
-pub(crate) fn begins_name(previous: Previous, c: char) -> bool
-    ensures { result ≡ model.begins_name previous c }
+/// Whether the byte begins the name of a `$`.
+pub(crate) fn begins_name(previous: Previous, b: u8) -> bool
+    ensures { result ≡ model.begins_name previous b }
 {
     match previous {
-        Previous::Dollar => is_name_char(c),
+        Previous::Dollar => is_name_byte(b),
         _ => false,
     }
 }
 
 /// What the token is for what follows.
 pub(crate) fn after_token(previous: Previous, kind: TokenKind) -> Previous
-    ensures { (script text : List ℕ) → result
-        ≡ model.after_token previous (lexeme_of script kind text) }
+    ensures { result ≡ model.after_token previous (shape kind) }
 {
     match (previous, kind) {
         (Previous::Here(_, _), _) => Previous::Apart,
@@ -76,10 +74,9 @@ pub(crate) fn after_token(previous: Previous, kind: TokenKind) -> Previous
     }
 }
 
-/// What the operator means here, where no name follows: what the definitions call `meant`.
+/// What the operator means here, where no name follows.
 pub(crate) fn meaning_after(previous: Previous, kind: TokenKind) -> TokenKind
-    ensures { (script text : List ℕ) → lexeme_of script result text
-        ≡ model.meant previous [] (lexeme_of script kind text) }
+    ensures { result ≡ meaning previous kind }
 {
     match (previous, kind) {
         (Previous::Name, TokenKind::LeftParen) => TokenKind::Subscript,

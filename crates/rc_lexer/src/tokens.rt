@@ -1,14 +1,12 @@
 //! Tokens that are put after those that are read so far.
 
-ghost use Rattle.std.specs.Prelude.{◌≡◌, ℕ, ◌≤◌, List, ◌++◌, length, OnOk};
-ghost use Rattle.rc_model.specs.Syntax.Tokens as model;
-ghost use Rattle.rc_model.specs.Mirrors.Reading as reading;
-ghost use Rattle.rc_lexer.specs.Views.{lexeme_of};
-ghost use Rattle.rc_lexer.specs.Machine.{IfPushed, Keeps, PushedHereDoc};
-ghost use Rattle.rc_lexer.specs.Machine.{between, lexeme_tokens, tokens_in};
+ghost use Rattle.std.specs.Prelude.{◌≡◌, ◌<◌, ◌≤◌, ◌+◌, ◌^◌, length, IfOk, OnOk};
+ghost use Rattle.law_syntax.specs.ByteReading as bytes;
+ghost use Rattle.rc_lexer.specs.Spans as spans;
+ghost use Rattle.rc_lexer.specs.Machine.{Adds, AddsWord};
 
-use crate::lexer_state::{Lexer, PendingHereDoc, TokenStart};
 use crate::previous::{after_token, wants_caret};
+use crate::state::{PendingHereDoc, Reading, TokenStart};
 use crate::{ScriptError, Span, Token, TokenKind};
 use rc_model::{Place, Previous};
 use rc_text::unquote;
@@ -16,8 +14,7 @@ use std::alloc::AllocError;
 
 /// The token of this kind between two places.
 pub(crate) fn token_between(kind: TokenKind, start: Place, stop: Place) -> Token
-    ensures { result
-        ≡ record { kind = kind; span = record { start = start.byte; stop = stop.byte }; line = start.line } }
+    ensures { result ≡ spans.token kind start stop }
 {
     Token {
         kind,
@@ -29,12 +26,26 @@ pub(crate) fn token_between(kind: TokenKind, start: Place, stop: Place) -> Token
     }
 }
 
-impl Lexer {
+/// The place after a byte.
+pub(crate) fn after_byte(place: Place, b: u8) -> Place
+    requires byte { place.byte < 2 ^ 63 }
+    requires line { place.line < 2 ^ 63 + 1 }
+    ensures { result ≡ bytes.after_byte place b }
+{
+    Place {
+        byte: place.byte + 1,
+        line: if b == b'\n' {
+            place.line + 1
+        } else {
+            place.line
+        },
+    }
+}
+
+impl Reading {
     /// A `<<` whose mark does not come.
     pub(crate) fn push_bare_here(&mut self, previous: Previous) -> Result<(), AllocError>
-        ensures tokens { OnOk result ((script : List ℕ) → tokens_in script self.new
-            ≡ tokens_in script self.old ++ reading.bare_here previous) }
-        ensures rest { OnOk result (Keeps self.old self.new) }
+        ensures { OnOk result (Adds (spans.bare_here previous) self.old self.new) }
     {
         if let Previous::Here(start, stop) = previous {
             self.tokens
@@ -50,9 +61,7 @@ impl Lexer {
         kind: TokenKind,
         start: Place,
     ) -> Result<(), AllocError>
-        ensures tokens { OnOk result ((script text : List ℕ) → tokens_in script self.new
-            ≡ tokens_in script self.old ++ model.caret previous (lexeme_of script kind text) start) }
-        ensures rest { OnOk result (Keeps self.old self.new) }
+        ensures { OnOk result (Adds (spans.caret previous kind start) self.old self.new) }
     {
         if wants_caret(previous, kind) {
             self.tokens
@@ -69,76 +78,55 @@ impl Lexer {
         start: Place,
         stop: Place,
     ) -> Result<(), AllocError>
-        ensures tokens { OnOk result ((script : List ℕ) → tokens_in script self.new
-            ≡ tokens_in script self.old ++ lexeme_tokens script previous kind start stop) }
-        ensures rest { OnOk result (Keeps self.old self.new) }
+        ensures { OnOk result (Adds (spans.tokens_of previous kind start stop) self.old self.new) }
     {
         self.push_caret(previous, kind, start)?;
         self.tokens.push(token_between(kind, start, stop))?;
         Ok(())
     }
 
-    /// A `<<` with its mark, whose body is still to come.
-    fn push_here_doc(
-        &mut self,
-        is_quoted: bool,
-        mark: Vec<u8>,
-        start: Place,
-        stop: Place,
-    ) -> Result<(), AllocError>
-        ensures { OnOk result (PushedHereDoc is_quoted mark.items start stop self.old self.new) }
+    /// The mark of a here document.
+    fn mark_of(&self, quoted: bool, word: &[u8]) -> Result<Vec<u8>, AllocError>
+        ensures { IfOk result (λ mark. mark.items ≡ spans.mark_of quoted word.now) }
     {
-        let body = Span { start: 0, stop: 0 };
-        self.pending.push_back(PendingHereDoc {
-            mark,
-            line: start.line,
-        })?;
-        let kind = TokenKind::HereDoc { is_quoted, body };
-        self.tokens.push(token_between(kind, start, stop))?;
-        Ok(())
+        if quoted {
+            return unquote(self.alloc, word);
+        }
+        word.to_vec(self.alloc)
     }
 
-    /// An unquoted word. What it is for what follows.
+    /// A word, quoted or not. What it is for what follows.
     pub(crate) fn push_word(
         &mut self,
         script: &[u8],
+        quoted: bool,
         start: TokenStart,
         stop: Place,
-    ) -> Result<Previous, ScriptError>
+    ) -> Result<Previous, AllocError>
         requires order { start.place.byte ≤ stop.byte }
         requires within { stop.byte ≤ length script.now }
-        ensures { IfPushed script.now start.previous
-            (model.Word (between script.now start.place stop)) start.place stop self.old self.new
-            result }
+        ensures { IfOk result (λ after.
+            AddsWord quoted script.now start.previous after start.place stop self.old self.new) }
     {
         if let Previous::Here(here, _) = start.previous {
-            let mark = script[start.place.byte..stop.byte].to_vec(self.alloc)?;
-            self.push_here_doc(false, mark, here, stop)?;
+            let mark = self.mark_of(quoted, &script[start.place.byte..stop.byte])?;
+            self.pending.push_back(PendingHereDoc {
+                mark,
+                line: here.line,
+            })?;
+            let kind = TokenKind::HereDoc {
+                is_quoted: quoted,
+                body: Span { start: 0, stop: 0 },
+            };
+            self.tokens.push(token_between(kind, here, stop))?;
             return Ok(Previous::Apart);
         }
-        self.push_token(start.previous, TokenKind::Word, start.place, stop)?;
-        Ok(after_token(start.previous, TokenKind::Word))
-    }
-
-    /// A quoted word. What it is for what follows.
-    pub(crate) fn push_quoted(
-        &mut self,
-        script: &[u8],
-        start: TokenStart,
-        stop: Place,
-    ) -> Result<Previous, ScriptError>
-        requires order { start.place.byte ≤ stop.byte }
-        requires within { stop.byte ≤ length script.now }
-        ensures { IfPushed script.now start.previous
-            (model.Quoted (model.unquoted_text (between script.now start.place stop))) start.place stop
-            self.old self.new result }
-    {
-        if let Previous::Here(here, _) = start.previous {
-            let mark = unquote(self.alloc, &script[start.place.byte..stop.byte])?;
-            self.push_here_doc(true, mark, here, stop)?;
-            return Ok(Previous::Apart);
-        }
-        self.push_token(start.previous, TokenKind::Quoted, start.place, stop)?;
-        Ok(after_token(start.previous, TokenKind::Quoted))
+        let kind = if quoted {
+            TokenKind::Quoted
+        } else {
+            TokenKind::Word
+        };
+        self.push_token(start.previous, kind, start.place, stop)?;
+        Ok(after_token(start.previous, kind))
     }
 }

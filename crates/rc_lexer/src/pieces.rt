@@ -1,0 +1,248 @@
+//! A text that comes in pieces, cut anywhere, also within a character.
+
+ghost use Rattle.std.specs.Prelude.{◌≡◌, ◌<◌, ◌≤◌, true, IfOk, ◌^◌, ◌++◌, List, ℕ, [], length};
+ghost use Rattle.std.specs.Prelude.{MatchOption, Some, None, OnErr, OnOk};
+ghost use Rattle.rc_model.specs.Mirrors.Reading as reading;
+ghost use Rattle.rc_lexer.specs.Spans.{EndsWord};
+ghost use Rattle.rc_lexer.specs.declared.state.State.TheVariants as state;
+ghost use Rattle.rc_lexer.specs.Reads.{Comes, Finishes, HasRead, IsReading, ReadsOn};
+
+use crate::classes::{ByteClass, class_of};
+use crate::previous::{after_blank, begins_name};
+use crate::state::{Reading, State, TokenStart};
+use crate::tokens::after_byte;
+use crate::{ScriptError, Token, fault};
+use rc_model::{FaultKind, InputError, Place, Previous, SyntaxFault};
+use std::alloc::{AllocError, Global};
+use std::marker::Model;
+
+/// The end of a word that has begun, if it is here yet.
+fn word_end(reading: &Reading, text: &[u8], start: TokenStart, place: Place) -> Place
+    requires short { length text.now < 2 ^ 63 }
+    requires read { HasRead text.now reading.now (state.Word start) place }
+    ensures read { HasRead text.now reading.now (state.Word start) result }
+    ensures on { place.byte ≤ result.byte }
+{
+    let mut place = place;
+    while place.byte < text.len() {
+        let b = text[place.byte];
+        match class_of(b) {
+            ByteClass::Ordinary => place = after_byte(place, b),
+            _ => return place,
+        }
+    }
+    place
+}
+
+/// Whether a byte of this class ends a word.
+fn ends_word(class: ByteClass) -> bool
+    ensures { result ≡ true → EndsWord class }
+{
+    match class {
+        ByteClass::Ordinary | ByteClass::Backslash => false,
+        _ => true,
+    }
+}
+
+/// Reads blanks, words and tokens of one byte, until something else comes.
+fn read_plain(
+    reading: &mut Reading,
+    text: &[u8],
+    previous: Previous,
+    place: Place,
+) -> Result<(State, Place), AllocError>
+    requires short { length text.now < 2 ^ 63 }
+    requires read { HasRead text.now reading.old (state.Between previous) place }
+    ensures { IfOk result (λ x. HasRead text.now reading.new x.0 x.1 × (place.byte ≤ x.1.byte)) }
+{
+    let mut previous = previous;
+    let mut place = place;
+    while place.byte < text.len() {
+        let b = text[place.byte];
+        match class_of(b) {
+            ByteClass::Blank => previous = after_blank(previous),
+            ByteClass::Alone => previous = reading.push_one(previous, place, b)?,
+            ByteClass::Ordinary => {
+                if begins_name(previous, b) {
+                    return Ok((State::Between(previous), place));
+                }
+                let start = TokenStart { previous, place };
+                let end = word_end(reading, text, start, after_byte(place, b));
+                if end.byte >= text.len() || !ends_word(class_of(text[end.byte])) {
+                    return Ok((State::Word(start), end));
+                }
+                previous = reading.push_word(text, false, start, end)?;
+                place = end;
+                continue;
+            }
+            _ => return Ok((State::Between(previous), place)),
+        }
+        place = after_byte(place, b);
+    }
+    Ok((State::Between(previous), place))
+}
+
+/// Reads on to the end of the text.
+fn read_on(
+    reading: &mut Reading,
+    text: &[u8],
+    state: State,
+    place: Place,
+) -> Result<(State, Place), ScriptError>
+    requires short { length text.now < 2 ^ 63 }
+    requires read { HasRead text.now reading.old state place }
+    ensures { ReadsOn text.now reading.new result }
+{
+    let mut state = state;
+    let mut place = place;
+    while place.byte < text.len() {
+        let b = text[place.byte];
+        state = reading.step(text, state, place, b, class_of(b))?;
+        place = after_byte(place, b);
+        if let State::Between(previous) = state {
+            (state, place) = read_plain(reading, text, previous, place)?;
+        }
+    }
+    Ok((state, place))
+}
+
+/// Reads the rest of the text, which is all of it.
+fn finish_reading(
+    reading: Reading,
+    text: &[u8],
+    state: State,
+    place: Place,
+) -> Result<Vec<Token>, ScriptError>
+    requires short { length text.now < 2 ^ 63 }
+    requires read { HasRead text.now reading state place }
+    ensures { Comes text.now result }
+{
+    let mut reading = reading;
+    let (state, place) = read_on(&mut reading, text, state, place)?;
+    reading.finish(text, state, place)?;
+    Ok(reading.into_tokens())
+}
+
+/// The line of the first byte 0.
+fn zero_line(text: &[u8]) -> Option<usize>
+    requires { length text.now < 2 ^ 63 }
+    ensures { MatchOption result (reading.zero_line 1 text.now ≡ None)
+        (λ line. reading.zero_line 1 text.now ≡ Some line) }
+{
+    if !text.contains(&0) {
+        return None;
+    }
+    let mut line = 1usize;
+    for b in text {
+        if *b == 0 {
+            return Some(line);
+        }
+        if *b == b'\n' {
+            line += 1;
+        }
+    }
+    None
+}
+
+/// The tokens of a text that is read so far, or its first fault.
+fn finished(
+    reading: Reading,
+    text: &[u8],
+    state: State,
+    place: Place,
+    found: Option<SyntaxFault>,
+) -> Result<Vec<Token>, ScriptError>
+    requires short { length text.now < 2 ^ 63 }
+    requires read { IsReading text.now reading state place found }
+    ensures { Finishes text.now result }
+{
+    if let Some(line) = zero_line(text) {
+        return Err(fault(FaultKind::ZeroByte, line));
+    }
+    if let Some(found) = found {
+        return Err(InputError::Fault(found));
+    }
+    finish_reading(reading, text, state, place)
+}
+
+/// A text so far, and what is read of it.
+#[derive(Drop)]
+pub struct Pieces {
+    text: Vec<u8>,
+    reading: Reading,
+    state: State,
+    place: Place,
+    fault: Option<SyntaxFault>,
+}
+
+impl Model for Pieces {
+    ghost Value = { List ℕ };
+
+    ghost view = { λ l. l.text.items };
+
+    ghost invariant = { λ l. IsReading l.text.items l.reading l.state l.place l.fault };
+}
+
+impl Pieces {
+    /// No text yet.
+    pub fn new(alloc: Global) -> Self
+        ensures { result ≡ [] }
+    {
+        Pieces {
+            text: Vec::new(alloc),
+            reading: Reading::new(alloc),
+            state: State::Between(Previous::Apart),
+            place: Place { byte: 0, line: 1 },
+            fault: None,
+        }
+    }
+
+    /// One more piece. If memory is refused, the text stays as it is.
+    pub fn feed(&mut self, piece: &[u8]) -> Result<(), AllocError>
+        ensures ok { OnOk result (self.new ≡ self.old ++ piece.now) }
+        ensures err { OnErr result (self.new ≡ self.old) }
+    {
+        let before = self.text.len();
+        self.text.extend_from_slice(piece)?;
+        if self.fault.is_some() {
+            return Ok(());
+        }
+        match read_on(
+            &mut self.reading,
+            self.text.as_slice(),
+            self.state,
+            self.place,
+        ) {
+            Ok((state, place)) => {
+                self.state = state;
+                self.place = place;
+            }
+            Err(InputError::Fault(fault)) => self.fault = Some(fault),
+            // What was read is given up, and is read again with the next piece.
+            Err(InputError::NoMemory) => {
+                self.text.truncate(before);
+                self.reading = Reading::new(self.reading.alloc);
+                self.state = State::Between(Previous::Apart);
+                self.place = Place { byte: 0, line: 1 };
+                return Err(AllocError);
+            }
+        }
+        Ok(())
+    }
+
+    /// The text, and its tokens or its first fault. A byte 0 is looked for first.
+    pub fn finish(self) -> (Vec<u8>, Result<Vec<Token>, ScriptError>)
+        ensures text { result.0.items ≡ self }
+        ensures tokens { Finishes self result.1 }
+    {
+        let Pieces {
+            text,
+            reading,
+            state,
+            place,
+            fault,
+        } = self;
+        let tokens = finished(reading, text.as_slice(), state, place, fault);
+        (text, tokens)
+    }
+}

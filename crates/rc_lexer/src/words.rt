@@ -1,0 +1,183 @@
+//! What a byte begins, and what goes on with it or ends before it: words, names, quoted words and backslashes.
+
+ghost use Rattle.std.specs.Prelude.{◌≡◌, ◌<◌, ◌≤◌, ◌+◌, ◌^◌, [], length, Ok, IfOk};
+ghost use Rattle.rc_lexer.specs.Spans as spans;
+ghost use Rattle.rc_lexer.specs.Machine.{Takes, pending_in};
+ghost use Rattle.rc_lexer.specs.declared.state.State.TheVariants as state;
+ghost use Rattle.rc_lexer.specs.declared.classes.ByteClass.TheVariants as byte_class;
+
+use crate::classes::{ByteClass, alone_kind, is_name_byte};
+use crate::operators::first_op;
+use crate::previous::{after_blank, after_token, begins_name, meaning_after, without_here};
+use crate::state::{Reading, State, TokenStart};
+use crate::tokens::{after_byte, token_between};
+use crate::{ScriptError, TokenKind};
+use rc_model::{Place, Previous};
+use std::alloc::AllocError;
+
+impl Reading {
+    /// A byte that is a token. What it is for what follows.
+    pub(crate) fn push_one(
+        &mut self,
+        previous: Previous,
+        place: Place,
+        b: u8,
+    ) -> Result<Previous, AllocError>
+        requires byte { place.byte < 2 ^ 63 }
+        requires line { place.line < 2 ^ 63 + 1 }
+        ensures { IfOk result (λ after. Takes self.old self.new (Ok (state.Between after))
+            (spans.begin previous (pending_in self.old) place b byte_class.Alone)) }
+    {
+        self.push_bare_here(previous)?;
+        let before = without_here(previous);
+        let kind = meaning_after(before, alone_kind(b));
+        self.push_token(before, kind, place, after_byte(place, b))?;
+        Ok(after_token(before, kind))
+    }
+
+    /// A byte that is a token.
+    fn push_alone(&mut self, previous: Previous, place: Place, b: u8) -> Result<State, ScriptError>
+        requires byte { place.byte < 2 ^ 63 }
+        requires line { place.line < 2 ^ 63 + 1 }
+        ensures { Takes self.old self.new result (spans.begin previous (pending_in self.old) place b byte_class.Alone) }
+    {
+        let after = self.push_one(previous, place, b)?;
+        Ok(State::Between(after))
+    }
+
+    /// A newline, which ends a command.
+    fn push_newline(
+        &mut self,
+        previous: Previous,
+        place: Place,
+        b: u8,
+    ) -> Result<State, ScriptError>
+        requires byte { place.byte < 2 ^ 63 }
+        requires line { place.line < 2 ^ 63 + 1 }
+        ensures { Takes self.old self.new result
+            (spans.begin previous (pending_in self.old) place b byte_class.LineEnd) }
+    {
+        self.push_bare_here(previous)?;
+        let next = after_byte(place, b);
+        self.tokens
+            .push(token_between(TokenKind::Newline, place, next))?;
+        Ok(self.begin_line(next.byte))
+    }
+
+    /// What the byte begins.
+    pub(crate) fn begin_token(
+        &mut self,
+        previous: Previous,
+        place: Place,
+        b: u8,
+        class: ByteClass,
+    ) -> Result<State, ScriptError>
+        requires byte { place.byte < 2 ^ 63 }
+        requires line { place.line < 2 ^ 63 + 1 }
+        ensures { Takes self.old self.new result (spans.begin previous (pending_in self.old) place b class) }
+    {
+        match class {
+            ByteClass::Blank => Ok(State::Between(after_blank(previous))),
+            ByteClass::Quote => Ok(State::Quoted(TokenStart { previous, place })),
+            ByteClass::Backslash => Ok(State::Backslash(TokenStart { previous, place })),
+            ByteClass::Ordinary if begins_name(previous, b) => Ok(State::Name(place)),
+            ByteClass::Ordinary => Ok(State::Word(TokenStart { previous, place })),
+            ByteClass::Hash => {
+                self.push_bare_here(previous)?;
+                Ok(State::Comment)
+            }
+            ByteClass::Begins => {
+                self.push_bare_here(previous)?;
+                self.dollars.clear();
+                let previous = without_here(previous);
+                Ok(State::Operator(TokenStart { previous, place }, first_op(b)))
+            }
+            ByteClass::Alone => self.push_alone(previous, place, b),
+            ByteClass::LineEnd => self.push_newline(previous, place, b),
+        }
+    }
+
+    /// The byte after a word, quoted or not, that it ends.
+    pub(crate) fn end_word(
+        &mut self,
+        script: &[u8],
+        quoted: bool,
+        start: TokenStart,
+        place: Place,
+        b: u8,
+        class: ByteClass,
+    ) -> Result<State, ScriptError>
+        requires byte { place.byte < 2 ^ 63 }
+        requires line { place.line < 2 ^ 63 + 1 }
+        requires order { start.place.byte ≤ place.byte }
+        requires within { place.byte ≤ length script.now }
+        ensures { Takes self.old self.new result
+            (spans.ends_word quoted script.now start (pending_in self.old) place b class) }
+    {
+        let after = self.push_word(script, quoted, start, place)?;
+        self.begin_token(after, place, b, class)
+    }
+
+    /// The byte after a word that is read so far.
+    pub(crate) fn continue_word(
+        &mut self,
+        script: &[u8],
+        start: TokenStart,
+        place: Place,
+        b: u8,
+        class: ByteClass,
+    ) -> Result<State, ScriptError>
+        requires byte { place.byte < 2 ^ 63 }
+        requires line { place.line < 2 ^ 63 + 1 }
+        requires order { start.place.byte ≤ place.byte }
+        requires within { place.byte ≤ length script.now }
+        ensures { Takes self.old self.new result
+            (spans.in_word script.now start (pending_in self.old) place b class) }
+    {
+        match class {
+            ByteClass::Ordinary => Ok(State::Word(start)),
+            ByteClass::Backslash => Ok(State::WordBackslash(start, place)),
+            _ => self.end_word(script, false, start, place, b, class),
+        }
+    }
+
+    /// The newline after a word and a backslash: the two are a blank.
+    pub(crate) fn end_continued(
+        &mut self,
+        script: &[u8],
+        start: TokenStart,
+        stop: Place,
+        place: Place,
+        b: u8,
+    ) -> Result<State, ScriptError>
+        requires order { start.place.byte ≤ stop.byte }
+        requires within { stop.byte ≤ length script.now }
+        ensures { Takes self.old self.new result
+            (spans.step script.now (state.WordBackslash start stop) self.old.dollars.items (pending_in self.old)
+            place b byte_class.LineEnd) }
+    {
+        let _ = self.push_word(script, false, start, stop)?;
+        Ok(State::Between(Previous::Apart))
+    }
+
+    /// The byte after a name that is read so far.
+    pub(crate) fn continue_name(
+        &mut self,
+        start: Place,
+        place: Place,
+        b: u8,
+        class: ByteClass,
+    ) -> Result<State, ScriptError>
+        requires byte { place.byte < 2 ^ 63 }
+        requires line { place.line < 2 ^ 63 + 1 }
+        ensures { Takes self.old self.new result
+            (spans.step [] (state.Name start) self.old.dollars.items (pending_in self.old) place b class) }
+    {
+        if is_name_byte(b) {
+            return Ok(State::Name(start));
+        }
+        self.tokens
+            .push(token_between(TokenKind::Name, start, place))?;
+        self.begin_token(Previous::Name, place, b, class)
+    }
+}
