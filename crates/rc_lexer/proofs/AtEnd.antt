@@ -15,8 +15,8 @@ use Rattle.rc_model.specs.declared.syntax.Previous.{Previous}
 use Rattle.rc_lexer.specs.declared.Span.{Span}
 use Rattle.rc_lexer.specs.declared.Token.{Token}
 use Rattle.rc_lexer.specs.declared.TokenKind.{TokenKind}
-use Rattle.rc_lexer.specs.declared.state.TokenStart.{TokenStart}
-use Rattle.rc_lexer.specs.declared.state.Reading.{Reading}
+use Rattle.rc_lexer.specs.declared.lexer_state.TokenStart.{TokenStart}
+use Rattle.rc_lexer.specs.declared.lexer_state.Reading.{Reading}
 
 closed_ok : (ts : List Token) (bodies : List Span) (due : List t.PendingHereDoc) → closed [] [] due ≡ Ok ([], []) → closed ts bodies due ≡ Ok (ts, bodies)
 closed_ok ts bodies [] h = refl

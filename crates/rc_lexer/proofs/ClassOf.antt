@@ -9,8 +9,8 @@ use Rattle.rc_lexer.specs.Spans.{alone_kind, byte_class}
 use Rattle.rc_lexer.specs.Trie.{first_op, spelled}
 use Rattle.rc_model.specs.declared.syntax.Class.{Class}
 use Rattle.rc_model.specs.declared.syntax.Class.TheVariants as class
-use Rattle.rc_lexer.specs.declared.classes.ByteClass.{ByteClass}
-use Rattle.rc_lexer.specs.declared.classes.ByteClass.TheVariants.{Alone, Begins, Blank, LineEnd, Hash, Quote, Backslash, Ordinary}
+use Rattle.rc_lexer.specs.declared.byte_classes.ByteClass.{ByteClass}
+use Rattle.rc_lexer.specs.declared.byte_classes.ByteClass.TheVariants.{Alone, Begins, Blank, LineEnd, Hash, Quote, Backslash, Ordinary}
 
 -- what the definitions call it
 abbrev pub seen_class : ByteClass → Class

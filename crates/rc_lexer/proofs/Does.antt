@@ -13,13 +13,13 @@ use Rattle.rc_model.specs.declared.syntax.Previous.TheVariants as previous
 use Rattle.rc_lexer.specs.declared.TokenKind.{TokenKind}
 use Rattle.rc_lexer.specs.declared.TokenKind.TheVariants as tk
 use Rattle.rc_lexer.specs.declared.operators.Op.TheVariants.{Dollar0}
-use Rattle.rc_lexer.specs.declared.state.State.TheVariants as state
+use Rattle.rc_lexer.specs.declared.lexer_state.State.TheVariants as state
 use Rattle.rc_lexer.specs.declared.Span.{Span}
 use Rattle.rc_lexer.specs.declared.Token.{Token}
-use Rattle.rc_lexer.specs.declared.state.State.{State}
-use Rattle.rc_lexer.specs.declared.state.TokenStart.{TokenStart}
-use Rattle.rc_lexer.specs.declared.state.Reading.{Reading}
-use Rattle.rc_lexer.specs.declared.classes.ByteClass.{ByteClass}
+use Rattle.rc_lexer.specs.declared.lexer_state.State.{State}
+use Rattle.rc_lexer.specs.declared.lexer_state.TokenStart.{TokenStart}
+use Rattle.rc_lexer.specs.declared.lexer_state.Reading.{Reading}
+use Rattle.rc_lexer.specs.declared.byte_classes.ByteClass.{ByteClass}
 
 pub appended_emit : (ts us : List Token) (bodies : List Span) (x : Step) → appended ts bodies (spans.emit us x) ≡ appended (ts ++ us) bodies x
 appended_emit ts us bodies (Ok x) = ap (λ z. Ok (z, bodies ++ x.1, x.2, x.3, x.4)) (sym (append_assoc ts us x.0))

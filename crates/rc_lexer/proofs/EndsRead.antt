@@ -19,8 +19,8 @@ use Rattle.rc_lexer.specs.declared.Token.{Token}
 use Rattle.rc_lexer.specs.declared.TokenKind.{TokenKind}
 use Rattle.rc_lexer.specs.declared.TokenKind.TheVariants as tk
 use Rattle.rc_model.specs.declared.fault.FaultKind.TheVariants.{OpenHere}
-use Rattle.rc_lexer.specs.declared.state.State.TheVariants as state
-use Rattle.rc_lexer.specs.declared.state.TokenStart.{TokenStart}
+use Rattle.rc_lexer.specs.declared.lexer_state.State.TheVariants as state
+use Rattle.rc_lexer.specs.declared.lexer_state.TokenStart.{TokenStart}
 
 closed_seen : (script : List ℕ) (ts : List Token) (bodies : List Span) (due : List PendingHereDoc) →
     outcome_seen script (e.closed ts bodies due) ≡ r.closed (tokens_of script ts) (map (slice_at script) bodies) due

@@ -30,8 +30,8 @@ use Rattle.rc_model.specs.declared.syntax.Place.{Place}
 use Rattle.rc_model.specs.declared.syntax.Previous.TheVariants as previous
 use Rattle.rc_lexer.specs.declared.Span.{Span}
 use Rattle.rc_lexer.specs.declared.Token.{Token}
-use Rattle.rc_lexer.specs.declared.state.State.{State}
-use Rattle.rc_lexer.specs.declared.state.Reading.{Reading}
+use Rattle.rc_lexer.specs.declared.lexer_state.State.{State}
+use Rattle.rc_lexer.specs.declared.lexer_state.Reading.{Reading}
 
 -- a byte 0 among bytes and among characters
 zero_at : (line c : ℕ) (v w : Bool) (xs ys : List ℕ) → ((n : ℕ) → r.zero_line n xs ≡ r.zero_line n ys) →

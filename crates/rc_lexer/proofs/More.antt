@@ -10,11 +10,11 @@ use Rattle.rc_model.specs.declared.syntax.Place.{Place}
 use Rattle.rc_model.specs.declared.syntax.Previous.{Previous}
 use Rattle.rc_model.specs.declared.syntax.Previous.TheVariants as previous
 use Rattle.rc_lexer.specs.declared.Token.{Token}
-use Rattle.rc_lexer.specs.declared.state.State.{State}
-use Rattle.rc_lexer.specs.declared.state.State.TheVariants as state
-use Rattle.rc_lexer.specs.declared.state.TokenStart.{TokenStart}
-use Rattle.rc_lexer.specs.declared.classes.ByteClass.{ByteClass}
-use Rattle.rc_lexer.specs.declared.classes.ByteClass.TheVariants.{LineEnd, Quote, Backslash, Ordinary}
+use Rattle.rc_lexer.specs.declared.lexer_state.State.{State}
+use Rattle.rc_lexer.specs.declared.lexer_state.State.TheVariants as state
+use Rattle.rc_lexer.specs.declared.lexer_state.TokenStart.{TokenStart}
+use Rattle.rc_lexer.specs.declared.byte_classes.ByteClass.{ByteClass}
+use Rattle.rc_lexer.specs.declared.byte_classes.ByteClass.TheVariants.{LineEnd, Quote, Backslash, Ordinary}
 
 pub slice_more : (xs ys : List ℕ) (a b : ℕ) → a ≤ b → b ≤ length xs → slice_range (xs ++ ys) a b ≡ slice_range xs a b
 slice_more xs ys a b h k =

@@ -15,12 +15,12 @@ use Rattle.rc_lexer.proofs.ReadsOn.{class_reads_on, by_step, rest_at}
 use Rattle.rc_lexer.proofs.Does.{appended_emit}
 use Rattle.rc_model.specs.declared.syntax.Place.{Place}
 use Rattle.rc_model.specs.declared.syntax.Previous.{Previous}
-use Rattle.rc_lexer.specs.declared.state.State.{State}
-use Rattle.rc_lexer.specs.declared.state.State.TheVariants as state
-use Rattle.rc_lexer.specs.declared.state.TokenStart.{TokenStart}
-use Rattle.rc_lexer.specs.declared.state.Reading.{Reading}
-use Rattle.rc_lexer.specs.declared.classes.ByteClass.{ByteClass}
-use Rattle.rc_lexer.specs.declared.classes.ByteClass.TheVariants as k
+use Rattle.rc_lexer.specs.declared.lexer_state.State.{State}
+use Rattle.rc_lexer.specs.declared.lexer_state.State.TheVariants as state
+use Rattle.rc_lexer.specs.declared.lexer_state.TokenStart.{TokenStart}
+use Rattle.rc_lexer.specs.declared.lexer_state.Reading.{Reading}
+use Rattle.rc_lexer.specs.declared.byte_classes.ByteClass.{ByteClass}
+use Rattle.rc_lexer.specs.declared.byte_classes.ByteClass.TheVariants as k
 
 -- a step that changes the state alone
 goes_takes : (reading : Reading) (s : State) → dollars_in s reading ≡ [] → Takes reading reading (Ok s) (spans.goes [] s (pending_in reading))

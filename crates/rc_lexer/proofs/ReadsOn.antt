@@ -25,10 +25,10 @@ use Rattle.rc_model.specs.declared.fault.InputError.TheVariants.{Fault, NoMemory
 use Rattle.rc_lexer.specs.declared.Span.{Span}
 use Rattle.rc_lexer.specs.declared.Token.{Token}
 use Rattle.rc_model.specs.declared.syntax.Previous.TheVariants as previous
-use Rattle.rc_lexer.specs.declared.state.State.{State}
-use Rattle.rc_lexer.specs.declared.state.State.TheVariants as state
-use Rattle.rc_lexer.specs.declared.state.Reading.{Reading}
-use Rattle.rc_lexer.specs.declared.classes.ByteClass.{ByteClass}
+use Rattle.rc_lexer.specs.declared.lexer_state.State.{State}
+use Rattle.rc_lexer.specs.declared.lexer_state.State.TheVariants as state
+use Rattle.rc_lexer.specs.declared.lexer_state.Reading.{Reading}
+use Rattle.rc_lexer.specs.declared.byte_classes.ByteClass.{ByteClass}
 
 pub stands_at : (script rest : List ℕ) (at b : ℕ) → drop at script ≡ b ∷ rest → StandsAt script at b
 stands_at script rest at b e a h =

@@ -28,11 +28,11 @@ use Rattle.rc_lexer.specs.declared.Token.{Token}
 use Rattle.rc_lexer.specs.declared.TokenKind.{TokenKind}
 use Rattle.rc_lexer.specs.declared.TokenKind.TheVariants as tk
 use Rattle.rc_lexer.specs.declared.operators.Op.{Op}
-use Rattle.rc_lexer.specs.declared.state.State.{State}
-use Rattle.rc_lexer.specs.declared.state.State.TheVariants as state
-use Rattle.rc_lexer.specs.declared.state.TokenStart.{TokenStart}
-use Rattle.rc_lexer.specs.declared.classes.ByteClass.{ByteClass}
-use Rattle.rc_lexer.specs.declared.classes.ByteClass.TheVariants.{Alone, Begins, Blank, LineEnd, Hash, Quote, Backslash, Ordinary}
+use Rattle.rc_lexer.specs.declared.lexer_state.State.{State}
+use Rattle.rc_lexer.specs.declared.lexer_state.State.TheVariants as state
+use Rattle.rc_lexer.specs.declared.lexer_state.TokenStart.{TokenStart}
+use Rattle.rc_lexer.specs.declared.byte_classes.ByteClass.{ByteClass}
+use Rattle.rc_lexer.specs.declared.byte_classes.ByteClass.TheVariants.{Alone, Begins, Blank, LineEnd, Hash, Quote, Backslash, Ordinary}
 
 pub slice_empty : (xs : List ℕ) (a : ℕ) → slice_range xs a a ≡ []
 slice_empty xs a = ap (λ n. take n (drop a xs)) (none a)

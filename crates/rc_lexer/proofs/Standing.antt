@@ -20,11 +20,11 @@ use Rattle.rc_lexer.specs.declared.Token.{Token}
 use Rattle.rc_lexer.specs.declared.TokenKind.{TokenKind}
 use Rattle.rc_lexer.specs.declared.TokenKind.TheVariants as tk
 use Rattle.rc_lexer.specs.declared.operators.Op.{Op}
-use Rattle.rc_lexer.specs.declared.state.State.{State}
-use Rattle.rc_lexer.specs.declared.state.State.TheVariants as state
-use Rattle.rc_lexer.specs.declared.state.TokenStart.{TokenStart}
-use Rattle.rc_lexer.specs.declared.classes.ByteClass.{ByteClass}
-use Rattle.rc_lexer.specs.declared.classes.ByteClass.TheVariants.{Alone, Begins, Blank, LineEnd, Hash, Quote, Backslash, Ordinary}
+use Rattle.rc_lexer.specs.declared.lexer_state.State.{State}
+use Rattle.rc_lexer.specs.declared.lexer_state.State.TheVariants as state
+use Rattle.rc_lexer.specs.declared.lexer_state.TokenStart.{TokenStart}
+use Rattle.rc_lexer.specs.declared.byte_classes.ByteClass.{ByteClass}
+use Rattle.rc_lexer.specs.declared.byte_classes.ByteClass.TheVariants.{Alone, Begins, Blank, LineEnd, Hash, Quote, Backslash, Ordinary}
 
 -- a backslash stands there
 abbrev IsThere : ByteClass → ℕ → Type 0

@@ -10,10 +10,10 @@ use Rattle.rc_model.specs.declared.syntax.Previous.{Previous}
 use Rattle.rc_model.specs.declared.syntax.Previous.TheVariants as previous
 use Rattle.rc_lexer.specs.declared.Span.{Span}
 use Rattle.rc_lexer.specs.declared.Token.{Token}
-use Rattle.rc_lexer.specs.declared.state.State.{State}
-use Rattle.rc_lexer.specs.declared.state.State.TheVariants.{Between, Operator, Body}
-use Rattle.rc_lexer.specs.declared.state.PendingHereDoc.{PendingHereDoc}
-use Rattle.rc_lexer.specs.declared.state.Reading.{Reading}
+use Rattle.rc_lexer.specs.declared.lexer_state.State.{State}
+use Rattle.rc_lexer.specs.declared.lexer_state.State.TheVariants.{Between, Operator, Body}
+use Rattle.rc_lexer.specs.declared.lexer_state.PendingHereDoc.{PendingHereDoc}
+use Rattle.rc_lexer.specs.declared.lexer_state.Reading.{Reading}
 
 -- a here document that is due
 abbrev pub pending_of : PendingHereDoc → t.PendingHereDoc

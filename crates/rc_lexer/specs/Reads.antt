@@ -14,8 +14,8 @@ use Rattle.rc_model.specs.declared.fault.SyntaxFault.{SyntaxFault}
 use Rattle.rc_model.specs.declared.fault.InputError.TheVariants.{Fault, NoMemory}
 use Rattle.rc_model.specs.declared.syntax.Place.{Place}
 use Rattle.rc_model.specs.declared.syntax.Previous.TheVariants as previous
-use Rattle.rc_lexer.specs.declared.state.State.{State}
-use Rattle.rc_lexer.specs.declared.state.Reading.{Reading}
+use Rattle.rc_lexer.specs.declared.lexer_state.State.{State}
+use Rattle.rc_lexer.specs.declared.lexer_state.Reading.{Reading}
 
 -- what comes of the script, from what is read of it on
 abbrev pub answers : List ℕ → Reading → State → Place → t.Outcome

@@ -11,9 +11,9 @@ use Rattle.rc_lexer.specs.Views.{slice_at, tokens_of}
 use Rattle.rc_model.specs.declared.syntax.Place.{Place}
 use Rattle.rc_model.specs.declared.syntax.Previous.TheVariants as previous
 use Rattle.rc_lexer.specs.declared.Token.{Token}
-use Rattle.rc_lexer.specs.declared.state.State.{State}
-use Rattle.rc_lexer.specs.declared.state.State.TheVariants.{Between, Comment, Backslash, WordBackslash, Word, Name}
-use Rattle.rc_lexer.specs.declared.state.State.TheVariants.{Quoted, Closed, Operator, Body}
+use Rattle.rc_lexer.specs.declared.lexer_state.State.{State}
+use Rattle.rc_lexer.specs.declared.lexer_state.State.TheVariants.{Between, Comment, Backslash, WordBackslash, Word, Name}
+use Rattle.rc_lexer.specs.declared.lexer_state.State.TheVariants.{Quoted, Closed, Operator, Body}
 
 -- the body of the first here document that is due
 abbrev pub body_of : List PendingHereDoc → List ℕ → List ℕ → r.State

@@ -21,12 +21,12 @@ use Rattle.rc_lexer.specs.declared.TokenKind.{TokenKind}
 use Rattle.rc_lexer.specs.declared.TokenKind.TheVariants as tk
 use Rattle.rc_lexer.specs.declared.operators.Op.{Op}
 use Rattle.rc_lexer.specs.declared.operators.Op.TheVariants.{Dollar0}
-use Rattle.rc_lexer.specs.declared.state.State.{State}
-use Rattle.rc_lexer.specs.declared.state.State.TheVariants as state
-use Rattle.rc_lexer.specs.declared.state.TokenStart.{TokenStart}
-use Rattle.rc_lexer.specs.declared.classes.ByteClass.{ByteClass}
-use Rattle.rc_lexer.specs.declared.classes.ByteClass.TheVariants.{Alone, Begins, Blank, LineEnd, Hash, Quote}
-use Rattle.rc_lexer.specs.declared.classes.ByteClass.TheVariants.{Backslash, Ordinary}
+use Rattle.rc_lexer.specs.declared.lexer_state.State.{State}
+use Rattle.rc_lexer.specs.declared.lexer_state.State.TheVariants as state
+use Rattle.rc_lexer.specs.declared.lexer_state.TokenStart.{TokenStart}
+use Rattle.rc_lexer.specs.declared.byte_classes.ByteClass.{ByteClass}
+use Rattle.rc_lexer.specs.declared.byte_classes.ByteClass.TheVariants.{Alone, Begins, Blank, LineEnd, Hash, Quote}
+use Rattle.rc_lexer.specs.declared.byte_classes.ByteClass.TheVariants.{Backslash, Ordinary}
 
 -- what a byte is
 abbrev pub byte_class : ℕ → ByteClass

@@ -6,10 +6,10 @@ ghost use Rattle.rc_lexer.specs.Spans as spans;
 ghost use Rattle.rc_lexer.specs.Trie.{next_op};
 ghost use Rattle.rc_lexer.specs.Machine.{PushedDollars, Takes, pending_in};
 
-use crate::classes::{ByteClass, is_name_byte};
+use crate::byte_classes::{ByteClass, is_name_byte};
+use crate::lexer_state::{Reading, State, TokenStart};
 use crate::operators::Op;
 use crate::previous::{after_token, meaning_after};
-use crate::state::{Reading, State, TokenStart};
 use crate::tokens::token_between;
 use crate::{ScriptError, Token, TokenKind, fault};
 use rc_model::{FaultKind, Place, Previous};

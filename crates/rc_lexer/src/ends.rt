@@ -8,10 +8,10 @@ ghost use Rattle.rc_lexer.specs.Views.{slice_at, token_of, tokens_of};
 ghost use Rattle.rc_lexer.specs.Ends as ends;
 ghost use Rattle.rc_lexer.specs.Ends.{Ends, IsClosed};
 ghost use Rattle.rc_lexer.specs.Machine.{dollars_in, pending_in};
-ghost use Rattle.rc_lexer.specs.declared.state.State.TheVariants as state;
+ghost use Rattle.rc_lexer.specs.declared.lexer_state.State.TheVariants as state;
 
+use crate::lexer_state::{Reading, State, TokenStart};
 use crate::previous::meaning_after;
-use crate::state::{Reading, State, TokenStart};
 use crate::tokens::token_between;
 use crate::{ScriptError, Span, Token, TokenKind, fault};
 use rc_model::{FaultKind, Place};

@@ -3,10 +3,10 @@
 ghost use Rattle.std.specs.Prelude.{◌≡◌, ◌<◌, ◌≤◌, ◌+◌, ◌^◌, length};
 ghost use Rattle.rc_lexer.specs.Spans as spans;
 ghost use Rattle.rc_lexer.specs.Machine.{Takes, line_of, pending_in};
-ghost use Rattle.rc_lexer.specs.declared.state.State.TheVariants as state;
+ghost use Rattle.rc_lexer.specs.declared.lexer_state.State.TheVariants as state;
 
-use crate::classes::ByteClass;
-use crate::state::{Reading, State};
+use crate::byte_classes::ByteClass;
+use crate::lexer_state::{Reading, State};
 use crate::{ScriptError, Span};
 use rc_model::{Place, Previous};
 

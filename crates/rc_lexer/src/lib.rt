@@ -4,18 +4,18 @@
 
 ghost use Rattle.std.specs.Prelude.{◌≡◌};
 
-mod classes;
+mod byte_classes;
 mod dollars;
 mod ends;
 mod here_docs;
 mod lexer;
+mod lexer_state;
 mod machine;
 mod operators;
 mod pieces;
 mod previous;
-mod state;
 mod tokens;
-mod words;
+mod word_bytes;
 
 pub use lexer::{Lexer, lex};
 pub use pieces::Pieces;

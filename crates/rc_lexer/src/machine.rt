@@ -6,9 +6,9 @@ ghost use Rattle.rc_lexer.specs.SpanLaws.{Stands};
 ghost use Rattle.rc_lexer.specs.Machine.{Takes, dollars_in, pending_in};
 
 use crate::ScriptError;
-use crate::classes::ByteClass;
+use crate::byte_classes::ByteClass;
+use crate::lexer_state::{Reading, State};
 use crate::previous::after_blank;
-use crate::state::{Reading, State};
 use rc_model::{Place, Previous};
 
 impl Reading {

@@ -4,12 +4,12 @@ ghost use Rattle.std.specs.Prelude.{◌≡◌, ◌<◌, ◌≤◌, true, IfOk, �
 ghost use Rattle.std.specs.Prelude.{MatchOption, Some, None, OnErr, OnOk};
 ghost use Rattle.rc_model.specs.Mirrors.Reading as reading;
 ghost use Rattle.rc_lexer.specs.Spans.{EndsWord};
-ghost use Rattle.rc_lexer.specs.declared.state.State.TheVariants as state;
+ghost use Rattle.rc_lexer.specs.declared.lexer_state.State.TheVariants as state;
 ghost use Rattle.rc_lexer.specs.Reads.{Comes, Finishes, HasRead, IsReading, ReadsOn};
 
-use crate::classes::{ByteClass, class_of};
+use crate::byte_classes::{ByteClass, class_of};
+use crate::lexer_state::{Reading, State, TokenStart};
 use crate::previous::{after_blank, begins_name};
-use crate::state::{Reading, State, TokenStart};
 use crate::tokens::after_byte;
 use crate::{ScriptError, Token, fault};
 use rc_model::{FaultKind, InputError, Place, Previous, SyntaxFault};

@@ -6,7 +6,7 @@ ghost use Rattle.rc_model.specs.Mirrors.Reading as reading;
 ghost use Rattle.rc_lexer.specs.Spans.{meaning, shape};
 
 use crate::TokenKind;
-use crate::classes::is_name_byte;
+use crate::byte_classes::is_name_byte;
 use rc_model::Previous;
 
 /// Whether a `^` is inserted before the token.

@@ -5,8 +5,8 @@ ghost use Rattle.law_syntax.specs.ByteReading as bytes;
 ghost use Rattle.rc_lexer.specs.Spans as spans;
 ghost use Rattle.rc_lexer.specs.Machine.{Adds, AddsWord};
 
+use crate::lexer_state::{PendingHereDoc, Reading, TokenStart};
 use crate::previous::{after_token, wants_caret};
-use crate::state::{PendingHereDoc, Reading, TokenStart};
 use crate::{ScriptError, Span, Token, TokenKind};
 use rc_model::{Place, Previous};
 use rc_text::unquote;

@@ -1,6 +1,6 @@
 use Rattle.std.proofs.Common.{sym, ◌∙◌}
 use Rattle.rc_lexer.proofs.Does.{named_does}
-use Rattle.rc_lexer.proofs.state.Reading.continue_dollars.Goals as goal
+use Rattle.rc_lexer.proofs.lexer_state.Reading.continue_dollars.Goals as goal
 
 pub returns-then-begins_dollar_name : goal.returns-then-begins_dollar_name
 returns-then-begins_dollar_name c =

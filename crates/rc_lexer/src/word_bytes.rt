@@ -3,13 +3,13 @@
 ghost use Rattle.std.specs.Prelude.{◌≡◌, ◌<◌, ◌≤◌, ◌+◌, ◌^◌, [], length, Ok, IfOk};
 ghost use Rattle.rc_lexer.specs.Spans as spans;
 ghost use Rattle.rc_lexer.specs.Machine.{Takes, pending_in};
-ghost use Rattle.rc_lexer.specs.declared.state.State.TheVariants as state;
-ghost use Rattle.rc_lexer.specs.declared.classes.ByteClass.TheVariants as byte_class;
+ghost use Rattle.rc_lexer.specs.declared.lexer_state.State.TheVariants as state;
+ghost use Rattle.rc_lexer.specs.declared.byte_classes.ByteClass.TheVariants as byte_class;
 
-use crate::classes::{ByteClass, alone_kind, is_name_byte};
+use crate::byte_classes::{ByteClass, alone_kind, is_name_byte};
+use crate::lexer_state::{Reading, State, TokenStart};
 use crate::operators::first_op;
 use crate::previous::{after_blank, after_token, begins_name, meaning_after, without_here};
-use crate::state::{Reading, State, TokenStart};
 use crate::tokens::{after_byte, token_between};
 use crate::{ScriptError, TokenKind};
 use rc_model::{Place, Previous};

@@ -2,7 +2,7 @@ use Rattle.std.proofs.Common.{refl, ap, ◌∙◌}
 use Rattle.std.specs.Prelude.{Some}
 use Rattle.rc_lexer.specs.Spans as spans
 use Rattle.rc_lexer.proofs.Does.{dollar_does, sigils_do, plain_does}
-use Rattle.rc_lexer.proofs.state.Reading.end_operator.Goals as goal
+use Rattle.rc_lexer.proofs.lexer_state.Reading.end_operator.Goals as goal
 use Rattle.std.proofs.Common.{◌++◌, ◌∷◌, []}
 
 pub returns-in_ok-push-in-Dollar : goal.returns-in_ok-push-in-Dollar
