@@ -3,10 +3,10 @@ use rc_host::entries_by_place;
 use std::env::{Env, FillError};
 use std::test::Fail;
 
-/// An environment of these entries.
+/// An environment with a long entry, one that is not UTF-8 and one without a name among its five.
 #[derive(Clone, Copy)]
 struct Given<'a> {
-    entries: &'a [&'a [u8]],
+    long: &'a [u8],
 }
 
 impl Env for Given<'_> {
@@ -19,8 +19,13 @@ impl Env for Given<'_> {
     }
 
     fn var_at(&self, place: usize, buffer: &mut [u8]) -> Result<usize, FillError> {
-        let Some(entry) = self.entries.get(place) else {
-            return Err(FillError::NotPresent);
+        let entry = match place {
+            0 => &b"first=1"[..],
+            1 => self.long,
+            2 => &b"bad=\xff"[..],
+            3 => &b""[..],
+            4 => &b"last=2"[..],
+            _ => return Err(FillError::NotPresent),
         };
         let Some((front, _)) = buffer.split_at_mut_checked(entry.len()) else {
             return Err(FillError::TooLong);
@@ -33,15 +38,7 @@ impl Env for Given<'_> {
 #[test]
 fn is_taken_by_place(rt: HostRuntime) -> Result<(), Fail> {
     let long = [b'l'; 300];
-    let given = Given {
-        entries: &[
-            &b"first=1"[..],
-            &long[..],
-            &b"bad=\xff"[..],
-            &b""[..],
-            &b"last=2"[..],
-        ],
-    };
+    let given = Given { long: &long };
     let entries = entries_by_place(&(given, rt.alloc()))?;
     assert!(rt; entries.len() == 4);
     assert!(rt; entries[0].as_str() == "first=1");
