@@ -1,7 +1,7 @@
 -- How the plans of the program stand for plans.
 use Rattle.std.specs.Prelude.{map, string_bytes}
-use Rattle.rc_host.specs.declared.planned.Plan.{Plan as HostPlan}
-use Rattle.rc_host.specs.declared.planning.Copying.{Copying as HostCopying}
+use Rattle.rc_host.specs.declared.launches.planned.Plan.{Plan as HostPlan}
+use Rattle.rc_host.specs.declared.launches.planning.Copying.{Copying as HostCopying}
 use Rattle.rc_host.specs.Plan.{Plan, Copying}
 
 -- the texts of a plan, and its descriptors

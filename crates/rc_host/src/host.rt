@@ -14,12 +14,12 @@ ghost use Rattle.rc_host.specs.Host.{shell_of, files_of, children_of, ChangesFil
 ghost use Rattle.rc_host.specs.Host.{HoldsAllAlike, AddsFile, AddsPipe, AddsChild, IsThere, AreThere, IsOwn, IsNamed};
 
 use crate::answers::{answer, end_of, kind_found};
-use crate::command::command_of;
 use crate::directory::names_in;
 use crate::files::{OpenFile, here_file, options_of, write_text};
+use crate::launches::command::command_of;
+use crate::launches::planning::plan;
+use crate::launches::streams::{Connected, Stream, own_copy, set_errors, set_input, set_output};
 use crate::leaving::{Leaving, give_up};
-use crate::planning::plan;
-use crate::streams::{Connected, Stream, own_copy, set_errors, set_input, set_output};
 use crate::table::Table;
 use rc_world::{ChildNo, Ending, Fault, Handle, Kind, Launch, Mode, Slot, Slots, World};
 use std::fs::File;

@@ -2,23 +2,20 @@
 #![tactic(auto)]
 
 mod answers;
-mod command;
 mod directory;
 mod ended;
 mod files;
 mod host;
 mod input;
+mod launches;
 mod leaving;
-mod planned;
-mod planning;
 mod process;
-mod streams;
 mod table;
 
 pub use host::HostWorld;
 pub use input::Input;
+pub use launches::planned::Plan;
+pub use launches::planning::plan;
 pub use leaving::Leaving;
-pub use planned::Plan;
-pub use planning::plan;
 pub use process::{ArgumentsFault, arguments, entries, entries_by_place, open_standard, own_path};
 pub use rc_model::InputError;

@@ -1,6 +1,6 @@
 use Rattle.std.proofs.Common.{◌≡◌, map, string_bytes, take}
 use Rattle.std.specs.Process.{command_program, command_args}
-use Rattle.rc_host.proofs.command.with_args.Given as goal
+use Rattle.rc_host.proofs.launches.command.with_args.Given as goal
 
 abbrev pub invariant-loop-arg : goal.invariant-loop-arg
 invariant-loop-arg l = record {

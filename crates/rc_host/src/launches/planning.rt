@@ -6,7 +6,7 @@ ghost use Rattle.rc_world.specs.Views.{launch_of, program_of};
 ghost use Rattle.rc_host.specs.Plan.{plan_of, plain_plan, copying_plan, copying_of, is_in_place, has_equals};
 ghost use Rattle.rc_host.specs.PlanViews.{plan_view, copying_view};
 
-use crate::planned::Plan;
+use crate::launches::planned::Plan;
 use rc_world::{Fault, Launch, Program, Slot, Slots};
 use std::alloc::{AllocError, Global};
 

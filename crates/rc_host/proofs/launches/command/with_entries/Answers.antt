@@ -4,7 +4,7 @@ use Rattle.std.proofs.lemmas.Result.{err_from_is_err_and}
 use Rattle.rc_model.specs.declared.call.Fault.{Fault}
 use Rattle.rc_model.specs.declared.call.Fault.TheVariants.{NotFound, Denied, Exists, Broken, Full, Other, Halt, NoMemory}
 use Rattle.rc_host.specs.Commands.{IsNotMade}
-use Rattle.rc_host.proofs.command.with_entries.Goals as goal
+use Rattle.rc_host.proofs.launches.command.with_entries.Goals as goal
 
 -- an entry that is none is one of the entries
 not_made_at : (entries : List (List ℕ)) (k : ℕ) (entry : List ℕ) (fault : Fault)

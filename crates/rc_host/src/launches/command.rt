@@ -4,7 +4,7 @@ ghost use Rattle.std.specs.Process.{command_program, command_args, SameProgramAn
 ghost use Rattle.rc_host.specs.Commands.{AsksFor, HasEnvironment, SetsEntry, IsNotMade};
 ghost use Rattle.rc_host.specs.PlanViews.{plan_view};
 
-use crate::planned::Plan;
+use crate::launches::planned::Plan;
 use rc_world::Fault;
 use std::alloc::{AllocError, Global};
 use std::process::Command;

@@ -1,0 +1,6 @@
+//! Launches: what is asked of Linux to start a child, and the descriptors that the child gets.
+
+pub(crate) mod command;
+pub(crate) mod planned;
+pub(crate) mod planning;
+pub(crate) mod streams;
