@@ -45,3 +45,10 @@ returns-in-Ok-clause-limits g c =
 
 pub returns-in-Err-NoMemory-clause-limits : goal.returns-in-Err-NoMemory-clause-limits
 returns-in-Err-NoMemory-clause-limits g c = let before = g.W.World.events c.args.world.now in λ t s e. not_cut_short before before c.args.limit t s (Err NoMemory) (returns-in-Err-NoMemory-clause-meant g c t s e)
+
+pub returns-in-Err-NoMemory-clause-handed : goal.returns-in-Err-NoMemory-clause-handed
+returns-in-Err-NoMemory-clause-handed g c =
+    let before = g.W.World.events c.args.world.now in
+    λ t s e.
+    let x = reads_scripts c.args.strict (map string_bytes c.args.words.now) (map string_bytes c.args.entries.now) (t, s) e in
+    reads_back before before c.args.limit t s (Err NoMemory) x.0 x.1 (returns-in-Err-NoMemory-clause-meant g c t s e)
