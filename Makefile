@@ -45,13 +45,7 @@ toolchain:
 	    'the program: docs/packaging.md says more' >&2; exit 1; }
 
 check: rc
-	tests/check ./rc
-	tests/descriptors ./rc
-	tests/surprises ./rc
-	tests/idioms ./rc
-	tests/early ./rc
-	tests/editors ./rc
-	tests/packaging ./rc
+	printf 'tests/%s\n' check packaging idioms surprises editors early descriptors | xargs -P 4 -n 1 sh -c '"$$0" ./rc'
 
 # The hash is taken before the build: sources that change meanwhile don't fit it.
 release: tracked toolchain
