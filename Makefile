@@ -1,19 +1,20 @@
-# make            puts the shell at ./rc and runs `echo hello` through it: the release where it is that of the sources,
-#                 and else what `make prove` builds
-# make prove      proves and builds ./rc
-# make release    proves and builds the program, and puts it and the hash of its sources into release/
+# make            puts the shell at ./rc, beside it ./rccheck, which looks at scripts, and runs `echo hello` through the
+#                 shell: the release where it is that of the sources, and else what `make prove` builds
+# make prove      proves and builds ./rc and ./rccheck
+# make release    proves and builds the programs, and puts them and the hash of their sources into release/
 # make check      runs a table of one-line scripts, the examples and a command between two pipes on ./rc, installs it
 #                 elsewhere, and looks at what editors highlight, in seconds
-# make test       proves, builds and tests everything from nothing, and compares the program with the release, where
+# make test       proves, builds and tests everything from nothing, and compares the programs with the release, where
 #                 there is one
 # make editors    makes the highlighting of editors anew, from the shell's keywords and built-in commands
-# make install    copies the shell, its manual page, documents, examples and highlighting below PREFIX, with DESTDIR
-#                 before it
+# make install    copies the programs, their manual pages, documents, examples and highlighting below PREFIX, with
+#                 DESTDIR before it
 # make uninstall  removes what make install copies
-# make dist       makes the archives of the last commit in DIST: its sources, and the program as it is installed
+# make dist       makes the archives of the last commit in DIST: its sources, and the programs as they are installed
 
 RT = rt
 NAME = rc
+CHECKER = rccheck
 PREFIX = /usr/local
 BINDIR = $(PREFIX)/bin
 MANDIR = $(PREFIX)/share/man/man1
@@ -22,6 +23,8 @@ VIMDIR = $(PREFIX)/share/vim/vimfiles
 DIST = dist
 RELEASE = release/rc-x86_64-linux
 BUILT = crates/rc_main/out/rc_main
+RELEASED_CHECKER = release/rccheck-x86_64-linux
+BUILT_CHECKER = crates/rccheck/out/rccheck
 EXAMPLES = $(wildcard examples/*)
 DOCUMENTS = README.md CHANGELOG.md $(wildcard docs/*.md) $(EXAMPLES) editors/rc.tmLanguage.json
 VIM = ftdetect/rcshell.vim ftplugin/rcshell.vim syntax/rcshell.vim
@@ -32,27 +35,32 @@ hello: rc
 # A copy that is there already stays: another run may be using it.
 rc:
 	if ! release/fits; then $(MAKE) prove; \
-	    elif release/runs; then cmp -s $(RELEASE) rc || install -m 755 $(RELEASE) rc; else exit 1; fi
+	    elif release/runs; then cmp -s $(RELEASE) rc || install -m 755 $(RELEASE) rc; \
+	    cmp -s $(RELEASED_CHECKER) rccheck || install -m 755 $(RELEASED_CHECKER) rccheck; else exit 1; fi
 
 prove: build
 	install -m 755 $(BUILT) rc
+	install -m 755 $(BUILT_CHECKER) rccheck
 
 build: toolchain
 	cd crates/rc_main && $(RT) run < /dev/null
+	cd crates/rccheck && $(RT) run -- data/fine.rc
 
 toolchain:
 	@command -v $(RT) >/dev/null || { echo 'there is no command $(RT), with which the Rattle toolchain proves and builds' \
 	    'the program: docs/packaging.md says more' >&2; exit 1; }
 
 check: rc
-	printf 'tests/%s\n' check packaging idioms surprises editors early descriptors | xargs -P 4 -n 1 sh -c '"$$0" ./rc'
+	printf '%s\n' 'check ./rc' 'idioms ./rc' 'surprises ./rc' 'editors ./rc' 'early ./rc' 'descriptors ./rc' \
+	    'packaging ./rc ./rccheck' | xargs -P 4 -I TEST sh -c tests/TEST
 
 # The hash is taken before the build: sources that change meanwhile don't fit it.
 release: tracked toolchain
-	rm -f $(RELEASE)
+	rm -f $(RELEASE) $(RELEASED_CHECKER)
 	release/hash > release/sources
 	$(MAKE) build
 	install -m 755 $(BUILT) $(RELEASE)
+	install -m 755 $(BUILT_CHECKER) $(RELEASED_CHECKER)
 
 # The hash covers each file that is built.
 tracked:
@@ -70,14 +78,14 @@ test: toolchain
 	tests/idioms $(BUILT)
 	tests/early $(BUILT)
 	tests/editors $(BUILT)
-	tests/packaging $(BUILT)
+	tests/packaging $(BUILT) $(BUILT_CHECKER)
 	tests/background $(BUILT)
 	tests/input $(BUILT)
 	tests/refusals
 	tests/refused_images
 	tests/refused_runs
 	tests/growth $(BUILT)
-	if [ -e $(RELEASE) ]; then cmp $(BUILT) $(RELEASE); fi
+	if [ -e $(RELEASE) ]; then cmp $(BUILT) $(RELEASE) && cmp $(BUILT_CHECKER) $(RELEASED_CHECKER); fi
 
 editors:
 	editors/generate editors
@@ -85,7 +93,9 @@ editors:
 # The first line of each example names the shell as it is installed.
 install: rc
 	install -D -m 755 rc "$(DESTDIR)$(BINDIR)/$(NAME)"
+	install -D -m 755 rccheck "$(DESTDIR)$(BINDIR)/$(CHECKER)"
 	install -D -m 644 man/rc.1 "$(DESTDIR)$(MANDIR)/$(NAME).1"
+	install -D -m 644 man/rccheck.1 "$(DESTDIR)$(MANDIR)/$(CHECKER).1"
 	for file in $(DOCUMENTS); do if test -x $$file; then mode=755; else mode=644; fi; \
 	    install -D -m $$mode $$file "$(DESTDIR)$(DOCDIR)/$$file" || exit 1; done
 	cd "$(DESTDIR)$(DOCDIR)" && sed -i '1s|^#!/usr/local/bin/rc|#!$(BINDIR)/$(NAME)|' $(EXAMPLES)
@@ -94,6 +104,7 @@ install: rc
 # Other files stay, and the directories that hold some.
 uninstall:
 	rm -f "$(DESTDIR)$(BINDIR)/$(NAME)" "$(DESTDIR)$(MANDIR)/$(NAME).1"
+	rm -f "$(DESTDIR)$(BINDIR)/$(CHECKER)" "$(DESTDIR)$(MANDIR)/$(CHECKER).1"
 	for file in $(DOCUMENTS); do rm -f "$(DESTDIR)$(DOCDIR)/$$file"; done
 	for file in $(VIM); do rm -f "$(DESTDIR)$(VIMDIR)/$$file"; done
 	for directory in $(DOCDIR)/docs $(DOCDIR)/examples $(DOCDIR)/editors $(DOCDIR); do \

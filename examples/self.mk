@@ -6,6 +6,8 @@
 RT = rt
 RELEASE = release/rc-x86_64-linux
 BUILT = crates/rc_main/out/rc_main
+CHECKER = release/rccheck-x86_64-linux
+BUILT_CHECKER = crates/rccheck/out/rccheck
 
 # The shell does not read PATH, so make hands it on as the list $path, with byte 1 between its members.
 export path := $(subst :,$(shell printf '\001'),$(PATH))
@@ -25,7 +27,10 @@ rc:
 prove: rc
 	cd crates/rc_main
 	$(RT) run </dev/null
+	cd ../rccheck
+	$(RT) run -- data/fine.rc
 	cd ../..
+	install -m 755 $(BUILT_CHECKER) rccheck
 	install -m 755 $(BUILT) rc.new
 	mv rc.new rc
 
@@ -35,11 +40,14 @@ release: rc
 	untracked=`{git ls-files --others --exclude-standard -- ':(glob)crates/*/src/**'}
 	~ $$status '' || exit 1
 	if(! ~ $$#untracked 0) { echo git add first: $$untracked; exit 1 }
-	rm -f $(RELEASE)
+	rm -f $(RELEASE) $(CHECKER)
 	./release/hash >release/sources
 	cd crates/rc_main
 	$(RT) run </dev/null
+	cd ../rccheck
+	$(RT) run -- data/fine.rc
 	cd ../..
 	install -m 755 $(BUILT) $(RELEASE)
+	install -m 755 $(BUILT_CHECKER) $(CHECKER)
 
 .PHONY: check prove release

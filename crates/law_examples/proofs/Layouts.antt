@@ -75,6 +75,24 @@ a_pipeline_jumps_where_it_was_refused :
 unfolding ops
 a_pipeline_jumps_where_it_was_refused = refl
 
+-- a file of the last stage is opened when the others have been started
+a_pipeline_ends_in_a_file :
+    ops (codes "echo $x.c | cat >f") ≡
+    Some
+    (Stages 0 12 ∷ Word (codes "f") false ∷ Glob ∷ Open Write 1 ∷ Nil ∷ Word (codes "cat") false ∷ Join ∷ Glob
+    ∷ Run ∷ Check ∷ Unredir 1 ∷ EndPipe ∷ Return ∷ [])
+unfolding ops
+a_pipeline_ends_in_a_file = refl
+
+-- a value is joined to the word after it
+a_joined_word_is_one_argument :
+    ops (codes "echo $x.c") ≡
+    Some
+    (Nil ∷ Word (codes "echo") false ∷ Join ∷ Word (codes "x") false ∷ Value ∷ Word (codes ".c") false ∷ Concat
+    ∷ Join ∷ Glob ∷ Run ∷ Check ∷ Return ∷ [])
+unfolding ops
+a_joined_word_is_one_argument = refl
+
 -- values, counts, subscripts and joined words
 words_are_put_on_the_stack :
     ops (codes "x $y $#y $z(1 2)^a") ≡

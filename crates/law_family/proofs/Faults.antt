@@ -3,7 +3,8 @@ use Rattle.std.proofs.Common.{refl, subst, arith}
 use Rattle.rc_model.specs.Run.Calls.{Call, Answer, answers}
 use Rattle.rc_model.specs.Run.Plans.{IsAnswered}
 use Rattle.rc_model.specs.Family.Family.{Process, IsPending, HasEnded}
-use Rattle.law_family.specs.Steps.{NoProcess, AtEnd, WrongKind, AtLimit, OneFault}
+use Rattle.rc_model.specs.Family.Steps.{NoProcess, AtEnd, WrongKind, AtLimit}
+use Rattle.law_family.specs.StepLaws.{OneFault}
 use Rattle.law_family.proofs.Outcome.{one_outcome, one_pending}
 use Rattle.law_machine.proofs.Turns.{turns_go_on}
 

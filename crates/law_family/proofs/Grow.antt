@@ -10,7 +10,7 @@ use Rattle.rc_model.specs.Run.State.{State}
 use Rattle.rc_model.specs.Syntax.Tree.{Node, cmd}
 use Rattle.rc_model.specs.Family.Accounts.{put}
 use Rattle.rc_model.specs.Family.Family.{Process, Family, Step, shell_started, child_process, recorded, with_trace, with_child, stepped, family, first}
-use Rattle.law_family.specs.Steps.{IsMade, AreMade, IsMadeBy, answers_at}
+use Rattle.rc_model.specs.Family.Steps.{IsMade, AreMade, IsMadeBy, answers_at}
 use Rattle.law_traces.proofs.Keep.{put_self, put_other}
 
 -- ** one step more

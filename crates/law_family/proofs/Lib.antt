@@ -1,5 +1,6 @@
 pub mod Accounts
 pub mod WriteEnds
+pub mod Counts
 pub mod Family
 pub mod Members
 pub mod Outcome
@@ -8,5 +9,7 @@ pub mod Read
 mod Answered
 pub mod Processes
 pub mod Steps
+pub mod Promised
+mod Starts
 pub mod Grow
 pub mod Reached

@@ -6,7 +6,7 @@ use Rattle.rc_model.specs.Run.Script.{run, script, Within}
 use Rattle.rc_model.specs.Run.State.{State}
 use Rattle.rc_model.specs.Code.Machine.{exec, begin}
 use Rattle.rc_model.specs.Family.Family.{Process, IsPending, HasEnded, GoesAsMeant, recorded}
-use Rattle.law_family.specs.Steps.{HitsLimit, WaitsInTime, EndsInTime, IsInTime, IsCutShort}
+use Rattle.rc_model.specs.Family.Steps.{HitsLimit, WaitsInTime, EndsInTime, IsInTime, IsCutShort}
 use Rattle.law_machine.proofs.Ends.{agrees}
 use Rattle.law_machine.proofs.Turns.{turns_go_on}
 use Rattle.law_family.proofs.Outcome as outcome

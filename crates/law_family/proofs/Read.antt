@@ -52,4 +52,4 @@ module _ (c : Node cmd) (s : State) (b : IsProperTree c) (p : IsProper s) (f : F
   all_below (suc n) (suc j) l m = next j m (λ k lt below. all_below n k (omega arith) below)
 
 pub families_read : FamiliesRead
-families_read c s es b p h = λ j l. all_below c s b p (family read_launch (first read_launch c s) es) h.as_meant (handed_so read_launch c s es h.possible) (suc j) j (omega arith) l
+families_read c s es b p possible meant = λ j l. all_below c s b p (family read_launch (first read_launch c s) es) meant (handed_so read_launch c s es possible) (suc j) j (omega arith) l

@@ -8,8 +8,8 @@ use Rattle.rc_model.specs.Run.State.{State}
 use Rattle.rc_model.specs.Syntax.Tree.{Node, cmd}
 use Rattle.rc_model.specs.Family.Accounts.{put}
 use Rattle.rc_model.specs.Family.Family.{Process, Family, Step, IsPending, GoesAsMeant, EachOf, shell_started, child_process, recorded, with_trace, with_child, stepped, family, first, ArePossible, IsPossible, AreFresh, Sane}
-use Rattle.law_family.specs.Steps.{HitsLimit, IsInTime, IsCutShort, StepFault, NoProcess, AtEnd, WrongKind, AtLimit, AppendsSuch, IsRefused, IsMade, CanMake, AreMade, IsMadeBy, IsAsMade}
-use Rattle.law_family.specs.Steps.{OneBeginning}
+use Rattle.rc_model.specs.Family.Steps.{HitsLimit, IsInTime, IsCutShort, StepFault, NoProcess, AtEnd, WrongKind, AtLimit, AppendsSuch, IsRefused, IsMade, CanMake, AreMade, IsMadeBy, IsAsMade}
+use Rattle.law_family.specs.StepLaws.{OneBeginning}
 use Rattle.law_traces.proofs.Keep.{put_self, put_other}
 use Rattle.law_family.proofs.Family.{stays}
 use Rattle.law_family.proofs.Members.{one_per_start, handed_so, family_is_sane}

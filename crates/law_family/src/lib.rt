@@ -2,10 +2,13 @@
 #![tactic(auto)]
 
 ghost use Rattle.rc_model.specs.Family.Family.{FamiliesRead, Family, HasEnded, IsFamily, IsPending, IsPossible};
-ghost use Rattle.rc_model.specs.Family.Family.{ArePossible, EachOf, GoesAsMeant, OneAtATime, OnePerStart, Process, Sane};
+ghost use Rattle.rc_model.specs.Family.Family.{ArePossible, EachOf, GoesAsMeant, OneAtATime, OnePerStart};
+ghost use Rattle.rc_model.specs.Family.Family.{Process, Sane};
 ghost use Rattle.rc_model.specs.Family.Family.{Step, family, first, recorded, shell_started, stepped};
-ghost use Rattle.law_family.specs.Steps.{AnswersAreGiven, AppendsSuch, IsCutShort, MadeAreAsMade, MadeAreSane};
-ghost use Rattle.law_family.specs.Steps.{MadeOrRefused, NeverBoth, OneBeginning, OneCall, OneFault};
+ghost use Rattle.rc_model.specs.Family.Steps.{AppendsSuch, IsCutShort};
+ghost use Rattle.law_family.specs.StepLaws.{AnswersAreGiven, EachStartMakes, MadeAreAsMade, MadeAreSane, MadeOrRefused};
+ghost use Rattle.law_family.specs.StepLaws.{NeverBoth, OneBeginning, OneCall, OneChild, OneFault, OneStart};
+ghost use Rattle.law_family.specs.StepLaws.{PromisesAreKept};
 ghost use Rattle.rc_model.specs.Run.Calls.{Call, Launch};
 ghost use Rattle.rc_model.specs.Run.State.{State};
 ghost use Rattle.rc_model.specs.Syntax.Tree.{Node, cmd};
@@ -30,7 +33,7 @@ pub fn family_is_sane()
 {}
 
 /// Shells that read the arguments and entries of their launches begin with the script, the variables and the functions
-/// that they were handed.
+/// that they were handed, over whatever answers.
 pub fn families_read()
     ensures { FamiliesRead }
 {}
@@ -85,7 +88,27 @@ pub fn made_are_sane()
     ensures { MadeAreSane }
 {}
 
+/// What is promised of a family of shells that read what they are handed is kept, after any number of steps.
+pub fn promises_are_kept()
+    ensures { PromisesAreKept }
+{}
+
 /// The answers of a process are those of its steps.
 pub fn answers_are_given()
     ensures { AnswersAreGiven }
+{}
+
+/// A process was started by one event of one trace, also where the number of its child is given again.
+pub fn one_start()
+    ensures { OneStart }
+{}
+
+/// Two processes were started by two events.
+pub fn one_child()
+    ensures { OneChild }
+{}
+
+/// Each start of a shell that was answered by a child made a process.
+pub fn each_start_makes()
+    ensures { EachStartMakes }
 {}

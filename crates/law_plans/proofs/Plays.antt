@@ -47,15 +47,16 @@ goes_answers (ask c go) (e ∷ es) q more g =
 goes_answers (done_with x) (e ∷ es) q more g = absurd g
 goes_answers cut (e ∷ es) q more g = absurd g
 
-preceded_ends : {X : Type 0} (made : List Call) (x : X) (left : List Answer) → preceded made (Ends [] x left) ≡ Ends made x left
+-- what comes of the rest of a plan, with the calls before it
+pub preceded_ends : {X : Type 0} (made : List Call) (x : X) (left : List Answer) → preceded made (Ends [] x left) ≡ Ends made x left
 preceded_ends [] x left = refl
 preceded_ends (c ∷ cs) x left = ap (after_call c) (preceded_ends cs x left)
 
-preceded_waits : {X : Type 0} (made : List Call) (c : Call) → preceded {X = X} made (Waits (c ∷ [])) ≡ Waits (made ++ c ∷ [])
+pub preceded_waits : {X : Type 0} (made : List Call) (c : Call) → preceded {X = X} made (Waits (c ∷ [])) ≡ Waits (made ++ c ∷ [])
 preceded_waits [] c = refl
 preceded_waits (d ∷ ds) c = ap (after_call d) (preceded_waits ds c)
 
-preceded_cut : {X : Type 0} (made : List Call) → preceded {X = X} made (Cut []) ≡ Cut made
+pub preceded_cut : {X : Type 0} (made : List Call) → preceded {X = X} made (Cut []) ≡ Cut made
 preceded_cut [] = refl
 preceded_cut (c ∷ cs) = ap (after_call c) (preceded_cut cs)
 

@@ -11,7 +11,7 @@ use Rattle.rc_model.specs.Mirrors.Greedy.{class_holds, class_with, class_end, cl
 use Rattle.law_values.proofs.Steps.{FitsLater, FitsOne, Fits-cons, Fits-nil, after_one-Fits, after_one-shorter}
 
 -- what the parts of a word begin with, by the kind of its first character
-abbrev by_kind : Kind → ℕ → Word → List Pattern
+abbrev pub by_kind : Kind → ℕ → Word → List Pattern
 by_kind Star x w = AnyRun ∷ parts_from Outside w
 by_kind Question x w = AnyOne ∷ parts_from Outside w
 by_kind Open x w = parts_from (Inside []) w
@@ -36,16 +36,16 @@ and_false : (b : Bool) → (b && false) ≡ false
 and_false true = refl
 and_false false = refl
 
-not_both : (c d : ℕ) (m : ℕ × Bool) → eqb c d ≡ false → is_marked c m ≡ true → is_marked d m ≡ false
+pub not_both : (c d : ℕ) (m : ℕ × Bool) → eqb c d ≡ false → is_marked c m ≡ true → is_marked d m ≡ false
 not_both c d m h k =
     let x = eqb-true m.0 c (and_parts m.1 (eqb m.0 c) k).1 in
     ap (λ z. m.1 && eqb z d) x ∙ ap (λ z. m.1 && z) h ∙ and_false m.1
 
-parts_cons : (m : ℕ × Bool) (w : Word) → parts_from Outside (m ∷ w) ≡ by_kind (kind m) m.0 w
+pub parts_cons : (m : ℕ × Bool) (w : Word) → parts_from Outside (m ∷ w) ≡ by_kind (kind m) m.0 w
 parts_cons m w = parts_by (is_marked 42 m) (is_marked 63 m) (is_marked 91 m) m.0 w (not_both 42 91 m refl) (not_both 63 91 m refl)
 
 -- the parts from inside a class on
-abbrev inside_parts : Word → Option (Word × Word) → List Pattern
+abbrev pub inside_parts : Word → Option (Word × Word) → List Pattern
 inside_parts ms None = Nothing ∷ []
 inside_parts ms (Some p) = class_of (ms ++ p.0) ∷ parts_from Outside p.1
 
@@ -58,7 +58,7 @@ inside_by : (ms : Word) (m : ℕ × Bool) (w : Word) (b : Bool) → parts_from (
 inside_by ms m w true h = ap (λ z. class_of z ∷ parts_from Outside w) (sym (append-nil ms))
 inside_by ms m w false h = h ∙ inside_with ms m (class_end w)
 
-parts_inside : (w ms : Word) → parts_from (Inside ms) w ≡ inside_parts ms (class_end w)
+pub parts_inside : (w ms : Word) → parts_from (Inside ms) w ≡ inside_parts ms (class_end w)
 parts_inside [] ms = refl
 parts_inside (m ∷ w) ms = inside_by ms m w (is_close m) (parts_inside w (ms ++ m ∷ []))
 

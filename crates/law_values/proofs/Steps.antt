@@ -332,7 +332,7 @@ claim_end e W T s bw bt k = k.here end
 pub claim_fails : (e : Bool) (W : List (ℕ × Bool)) (T : List ℕ) (w : List (ℕ × Bool)) (t : List ℕ) (s : Bool) (bw : List (ℕ × Bool)) (bt : List ℕ) → (Fits e w t → ⊥) → (Back e s bw bt → ⊥) → Claim e W T w t s bw bt → Fits e W T → ⊥
 claim_fails e W T w t s bw bt no_fit no_back k f = neither no_fit no_back (k.forth f)
 
-length_after_class : (w : List (ℕ × Bool)) (p : List (ℕ × Bool) × List (ℕ × Bool)) → IsClass w p → length p.1 < length w
+pub length_after_class : (w : List (ℕ × Bool)) (p : List (ℕ × Bool) × List (ℕ × Bool)) → IsClass w p → length p.1 < length w
 length_after_class w p r = omega (arith, ap length r.parts, length-append p.0 (r.close ∷ p.1))
 
 shorter_class : (e : Bool) (w : List (ℕ × Bool)) (o : Option (List (ℕ × Bool) × List (ℕ × Bool))) (c : ℕ) (v : List (ℕ × Bool)) → class_end w ≡ o → class_after e o c ≡ Some v → length v < length w

@@ -1,6 +1,6 @@
 -- What a text comes to that is run as a script.
 use Rattle.std.proofs.Common.{rules, ◌≡◌, ℕ, List, ◌∷◌, Option, Some, None, Result, Ok, Err, map, string_bytes, refl, ap, sym, subst, ◌∙◌}
-use Rattle.std.specs.Prelude.{IfOk, Vec, codes}
+use Rattle.std.specs.Prelude.{IfErr, IfOk, Vec, codes}
 use Rattle.std.specs.Result.{IsOkAnd, MatchResult}
 use Rattle.std.specs.declared.alloc.AllocError.{AllocError}
 use Rattle.std.specs.declared.alloc.Global.{Global}
@@ -23,19 +23,32 @@ use Rattle.rc_model.specs.Run.State.{State, with_status}
 use Rattle.rc_model.specs.Syntax.Accepted.{IsAccepted, IsRefused}
 use Rattle.rc_model.specs.declared.fault.SyntaxFault.{SyntaxFault}
 use Rattle.rc_model.specs.Syntax.Tree.{Node, cmd}
-use Rattle.rc_pipes.specs.Readings.{after_file, got_of}
-use Rattle.rc_pipes.specs.declared.output_reading.ReadBytes.{ReadBytes}
+use Rattle.rc_model.specs.declared.fault.InputError.{InputError}
+use Rattle.rc_model.specs.declared.fault.InputError.TheVariants.{Fault}
+use Rattle.rc_parser.specs.Faults.{Refuses}
+use Rattle.rc_parser.specs.Parsed.{Parses}
+use Rattle.rc_tree.specs.declared.types.Cmd.{Cmd}
+use Rattle.rc_builtin.specs.Files.{after_file, got_of}
+use Rattle.rc_builtin.specs.declared.files.ReadFile.{ReadFile}
 use Rattle.rc_world.specs.Comes.{Left}
 use Rattle.rc_world.specs.declared.starts.Stop.{Stop}
 use Rattle.rc_world.specs.declared.starts.Stop.TheVariants.{NoMemory}
 use Rattle.rc_world.proofs.Joins.{left_here, ran_as}
 use Rattle.rc_builtin.specs.declared.simple_commands.Outcome.{Outcome}
 use Rattle.rc_builtin.proofs.Left.{words_after}
+use Rattle.law_handed.proofs.Characters.{accepted_are_scripts}
+use Rattle.rc_model.specs.Handed.Proper.{IsProperTree}
+use Rattle.rc_tree.specs.declared.types.Cmd.{Cmd}
+use Rattle.rc_tree.specs.View.{cmd_tree}
 
 -- a text that is refused has no tree
 no_tree : (text : List ℕ) (fault : SyntaxFault) → IsRefused text fault → (found : Option (Node cmd)) → tree_of text ≡ found → found ≡ None
 no_tree text fault refused None h = refl
 no_tree text fault refused (Some d) h = absurd (never_both text fault d refused ((finds_the_tree text d).0 h))
+
+-- the fault of a text that is refused
+pub fault_of : (text : List ℕ) (parsed : Result Cmd (InputError SyntaxFault)) (e : InputError SyntaxFault) (f : SyntaxFault) → parsed ≡ Err e → e ≡ Fault f → Parses text parsed → IsRefused text f
+fault_of text parsed e f is same parses = subst (λ z. Refuses z text) same (subst (λ r. IfErr r (λ x. Refuses x text)) is parses.refused)
 
 -- a text is compiled, or refused
 module _ (s : State) (text : List ℕ) where
@@ -82,8 +95,8 @@ module _ (recorded : Option (List Event)) (s t : State) (text : List ℕ) where
 -- ** a file of commands
 
 module _ (a b : Option (List Event)) (s : State) (ws : List (List ℕ)) (name : List ℕ) (args : List (List ℕ)) (is : ws ≡ name ∷ args)
-    (file : Option ReadBytes) (f : Ran a b (dot (name ∷ args) s) (after_file args s file)) where
-  came_to : (this : Option ReadBytes) → file ≡ this → Ran a b (dot ws s) (after_file args s this)
+    (file : Option ReadFile) (f : Ran a b (dot (name ∷ args) s) (after_file args s file)) where
+  came_to : (this : Option ReadFile) → file ≡ this → Ran a b (dot ws s) (after_file args s this)
   came_to this e = subst (λ o. Ran a b (dot ws s) (after_file args s o)) e (ran_as a b _ _ _ (ap (λ xs. dot xs s) is) f)
 
   -- memory was refused after it was read
@@ -94,9 +107,9 @@ module _ (a b : Option (List Event)) (s : State) (ws : List (List ℕ)) (name : 
   pub not_opened : (t : State) → file ≡ None → t ≡ with_status s (codes "cannot open") → Ran a b (dot ws s) (done_with (Next Finished t))
   not_opened t e set = subst (λ u. Ran a b (dot ws s) (done_with (Next Finished u))) (sym set) (came_to None e)
 
-  module _ (read : ReadBytes) (e : file ≡ Some read) where
-    came_so : (why : Option (List ℕ)) → (got_of read).why ≡ why → Ran a b (dot ws s) (whole_file args read.bytes.items why s)
-    came_so why h = subst (λ o. Ran a b (dot ws s) (whole_file args read.bytes.items o s)) h (came_to (Some read) e)
+  module _ (read : ReadFile) (e : file ≡ Some read) where
+    came_so : (why : Option (List ℕ)) → (got_of read).why ≡ why → Ran a b (dot ws s) (whole_file args read.reader why s)
+    came_so why h = subst (λ o. Ran a b (dot ws s) (whole_file args read.reader o s)) h (came_to (Some read) e)
 
     -- it was not read to the end
     pub not_read : (why : List ℕ) (t : State) → (got_of read).why ≡ Some why → t ≡ with_status s why → Ran a b (dot ws s) (done_with (Next Finished t))
@@ -104,5 +117,10 @@ module _ (a b : Option (List Event)) (s : State) (ws : List (List ℕ)) (name : 
 
     -- it is run
     pub runs_file : (d : Option (List Event)) (t : State) (r : Result Outcome Stop) → (got_of read).why ≡ None
-        → RunsWords b d (as_body_with args (tree_of read.bytes.items) s) t r → RunsWords a d (dot ws s) t r
+        → RunsWords b d (as_body_with args (tree_of read.reader) s) t r → RunsWords a d (dot ws s) t r
     runs_file d t r h k = words_after a b d _ _ t r (came_so None h) k
+
+-- the tree that is found is that of an accepted script, and so it is proper
+pub proper_if_accepted : {E : Type 0} (text : List ℕ) (r : Result Cmd E) → IfOk r (λ x. IsAccepted text (cmd_tree x)) → IfOk r (λ x. IsProperTree (cmd_tree x))
+proper_if_accepted text (Ok x) h = accepted_are_scripts text (cmd_tree x) h
+proper_if_accepted text (Err e) h = tt

@@ -1,3 +1,4 @@
+pub mod Files
 pub mod Outcomes
 pub mod Scripts
 pub mod Words

@@ -16,8 +16,9 @@ ghost use Rattle.rc_scope.specs.States.{state_of};
 use crate::shown::value_line;
 use rc_model::{Builtin, InputError};
 use rc_pipes::find_program;
+use rc_print::{PrintFault, print};
 use rc_scope::State;
-use rc_tree::{Cmd, PrintFault, print};
+use rc_tree::Cmd;
 use rc_world::{Slots, Stop, World, calls};
 use std::alloc::{AllocError, Global};
 

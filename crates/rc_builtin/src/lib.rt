@@ -4,6 +4,7 @@
 mod builtins;
 mod directories;
 mod exits;
+mod files;
 mod known_names;
 mod scripts;
 mod shifts;

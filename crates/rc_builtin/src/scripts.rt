@@ -1,30 +1,41 @@
 //! Texts that are run as scripts: `eval`, and the files of `.`.
 
-ghost use Rattle.std.specs.Prelude.{◌≡◌, IfOk, List, Ok, OnErr, Option, map, string_bytes};
+ghost use Rattle.std.specs.Prelude.{◌≡◌, IfOk, List, Ok, OnErr, ℕ, Option, map, string_bytes};
+ghost use Rattle.rc_model.specs.Handed.Proper.{IsProperTree};
 ghost use Rattle.rc_model.specs.Mirrors.TreeOfText.{tree_of};
 ghost use Rattle.rc_model.specs.Run.Builtins.{as_body, as_body_with, dot};
 ghost use Rattle.rc_model.specs.Run.Calls.{Event};
 ghost use Rattle.rc_model.specs.Syntax.Text.{spaced};
 ghost use Rattle.rc_builtin.specs.Outcomes.{RunsWords};
 ghost use Rattle.rc_builtin.specs.Scripts.{Compiles};
+ghost use Rattle.rc_parser.specs.Parsed.{Parses};
 ghost use Rattle.rc_scope.specs.States.{state_of};
+ghost use Rattle.rc_tree.specs.View.{cmd_tree};
 
 use crate::builtins::name_and_args;
+use crate::files::read_file;
 use crate::simple_commands::Outcome;
 use rc_code::{Code, compile};
-use rc_parser::{InputError, parse};
-use rc_pipes::{misuse, read_file};
+use rc_parser::{InputError, Reader, ScriptError, parse};
+use rc_pipes::misuse;
 use rc_scope::State;
 use rc_text::flat;
+use rc_tree::Cmd;
 use rc_world::{Stop, World};
 use std::alloc::{AllocError, Global};
 
-/// The code of a text. A text that is refused has none, and the status says so.
-fn compiled(alloc: Global, state: &mut State, text: &[u8]) -> Result<Option<Code>, AllocError>
-    ensures ok { IfOk result (λ code. Compiles text.now (state_of state.old) (state_of state.new) code) }
+/// The code of a text of which the parser answers this. A text that is refused has none, and the status says so.
+fn compiled(
+    alloc: Global,
+    state: &mut State,
+    parsed: Result<Cmd, ScriptError>,
+) -> Result<Option<Code>, AllocError>
+    requires { IfOk parsed (λ cmd. IsProperTree (cmd_tree cmd)) }
+    ensures ok { (text : List ℕ) → Parses text parsed →
+        IfOk result (λ code. Compiles text (state_of state.old) (state_of state.new) code) }
     ensures err { OnErr result (state_of state.new ≡ state_of state.old) }
 {
-    match parse(alloc, text) {
+    match parsed {
         Ok(cmd) => compile(alloc, &cmd).map(Some),
         Err(InputError::Fault(_)) => {
             state.set_status("syntax error")?;
@@ -46,25 +57,25 @@ pub(crate) fn eval(
     ensures err { OnErr result (state_of state.new ≡ state_of state.old) }
 {
     let text = flat(alloc, words)?;
-    match compiled(alloc, state, text.as_bytes())? {
+    match compiled(alloc, state, parse(alloc, text.as_bytes()))? {
         Some(body) => Ok(Outcome::Body(body)),
         None => Ok(Outcome::Finished),
     }
 }
 
-/// A text is a script that is run with these arguments.
-fn run_text(
+/// The text that was read is a script that is run with these arguments.
+fn run_read(
     alloc: Global,
     state: &mut State,
-    text: &[u8],
+    reader: Reader,
     args: Vec<String>,
 ) -> Result<Outcome, AllocError>
     ensures ok { IfOk result (λ outcome. (recorded : Option (List Event)) → RunsWords recorded recorded
-        (as_body_with (map string_bytes args.items) (tree_of text.now) (state_of state.old))
+        (as_body_with (map string_bytes args.items) (tree_of reader) (state_of state.old))
         (state_of state.new) (Ok outcome)) }
     ensures err { OnErr result (state_of state.new ≡ state_of state.old) }
 {
-    let Some(body) = compiled(alloc, state, text)? else {
+    let Some(body) = compiled(alloc, state, reader.finish())? else {
         return Ok(Outcome::Finished);
     };
     Ok(Outcome::Call { args, body })
@@ -94,5 +105,5 @@ pub(crate) fn dot<W: World>(
         state.set_status(why)?;
         return Ok(Outcome::Finished);
     }
-    Ok(run_text(alloc, state, &file.bytes, args)?)
+    Ok(run_read(alloc, state, file.reader, args)?)
 }

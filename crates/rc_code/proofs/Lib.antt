@@ -2,3 +2,4 @@ pub mod Redirecting
 pub mod Parts
 pub mod Branches
 pub mod OtherForms
+pub mod ProperTrees

@@ -1,3 +1,5 @@
+pub mod Listings
 pub mod Views
 pub mod Writing
 pub mod Emission
+pub mod ProperCode

@@ -1,7 +1,7 @@
 -- How a part is written: at the end of the code, with each jump put in when its target is known.
 use Rattle.std.specs.Prelude.{◌≡◌, ℕ, List, [], ◌∷◌, ◌++◌, length, slice_set}
 use Rattle.rc_model.specs.Code.Layout.{Op, Jump, Kept, Code, Part, ops_of, kept_of}
-use Rattle.rc_code.specs.Views.{listing_of}
+use Rattle.rc_code.specs.Listings.{listing_of}
 use Rattle.rc_code.specs.declared.listing.Listing as program
 
 -- the code with a part at its end

@@ -1,9 +1,12 @@
 //! The instructions, and the code that they stand in.
 
-ghost use Rattle.std.specs.Prelude.{◌≡◌, ◌<◌, ◌^◌, IfOk, IsOk, IsSome, OnOk, option_map, slice_get};
+ghost use Rattle.std.specs.Prelude.{◌≡◌, ◌<◌, ◌^◌, IfOk, IfSome, IsOk, IsSome, OnOk, option_map, slice_get};
 ghost use Rattle.std.specs.Option.{option_copied};
+ghost use Rattle.law_handed.specs.Kept.{AllKeptProper};
+ghost use Rattle.rc_model.specs.Handed.Proper.{IsProperTree};
 ghost use Rattle.rc_tree.specs.View.{cmd_tree, stages_tree, pieces_tree};
-ghost use Rattle.rc_code.specs.Views.{op_of, code_of, listing_of, tree_at, stages_at, pieces_at};
+ghost use Rattle.rc_code.specs.Listings.{op_of, listing_of};
+ghost use Rattle.rc_code.specs.ProperCode.{kept_prop};
 
 use crate::listing::Listing;
 use rc_text::Literal;
@@ -106,9 +109,14 @@ pub(crate) enum Kept {
 
 /// The instructions of a command, and what they keep of its tree. Nothing changes it once it is made, so it is shared.
 #[derive(Drop)]
-pub struct Code(Rc<Listing>);
+pub struct Code {
+    listing: Rc<Listing>,
+    ghost proper: { AllKeptProper (listing_of listing.value).kept } by { kept_prop (listing_of listing.value).kept },
+}
 
 impl Code {
+    ghost use Rattle.rc_code.specs.Views.{code_of, tree_at, stages_at, pieces_at};
+
     /// The code of a listing, if all of it was written.
     #[tactic(auto, unfolding(crate::specs::Views::code_of))]
     pub(crate) fn of(
@@ -116,11 +124,14 @@ impl Code {
         listing: Listing,
         written: Result<(), AllocError>,
     ) -> Result<Code, AllocError>
+        requires { OnOk written (AllKeptProper (listing_of listing).kept) }
         ensures whole { OnOk result (IsOk written) }
         ensures code { IfOk result (λ code. code_of code ≡ listing_of listing) }
     {
         written?;
-        Ok(Code(Rc::new(alloc, listing)?))
+        Ok(Code {
+            listing: Rc::new(alloc, listing)?,
+        })
     }
 
     /// The same code once more, which is not copied. It fails only where it has too many owners.
@@ -128,46 +139,57 @@ impl Code {
     pub fn share(&self) -> Result<Code, AllocError>
         ensures { IfOk result (λ shared. code_of shared ≡ code_of self.now) }
     {
-        Ok(Code(self.0.clone()?))
+        Ok(Code {
+            listing: self.listing.clone()?,
+        })
     }
 
     /// The instruction at a place: none past the end.
-    #[tactic(auto, unfolding(crate::specs::Views::code_of, crate::specs::Views::listing_of))]
+    #[tactic(auto, unfolding(crate::specs::Views::code_of, crate::specs::Listings::listing_of))]
     pub fn op(&self, place: usize) -> Option<&Op>
         ensures op { option_map op_of (option_copied result) ≡ slice_get (code_of self.now).ops place }
         ensures within { IsSome result → place < 2 ^ 63 }
     {
-        self.0.ops.get(place)
+        self.listing.ops.get(place)
     }
 
-    /// The tree of this number: `None` where it is not that of a tree.
-    #[tactic(auto, unfolding(crate::specs::Views::code_of, crate::specs::Views::listing_of))]
+    /// The tree of this number, which is well formed: `None` where it is not that of a tree.
     pub fn tree(&self, number: usize) -> Option<&Rc<Cmd>>
+        ensures tree { option_map (λ tree. cmd_tree tree.value) (option_copied result)
+            ≡ tree_at (code_of self.now) number }
+        ensures proper { IfSome (option_copied result) (λ tree. IsProperTree (cmd_tree tree.value)) }
+    {
+        self.found_tree(number)
+    }
+
+    /// What has this number, where it is a tree.
+    #[tactic(auto, unfolding(crate::specs::Views::code_of, crate::specs::Listings::listing_of))]
+    fn found_tree(&self, number: usize) -> Option<&Rc<Cmd>>
         ensures { option_map (λ tree. cmd_tree tree.value) (option_copied result) ≡ tree_at (code_of self.now) number }
     {
-        match self.0.kept.get(number) {
+        match self.listing.kept.get(number) {
             Some(Kept::Tree(tree)) => Some(tree),
             _ => None,
         }
     }
 
     /// The stages of this number: `None` where it is not that of stages.
-    #[tactic(auto, unfolding(crate::specs::Views::code_of, crate::specs::Views::listing_of))]
+    #[tactic(auto, unfolding(crate::specs::Views::code_of, crate::specs::Listings::listing_of))]
     pub fn stages(&self, number: usize) -> Option<&[Stage]>
         ensures { option_map stages_tree (option_copied result) ≡ stages_at (code_of self.now) number }
     {
-        match self.0.kept.get(number) {
+        match self.listing.kept.get(number) {
             Some(Kept::Stages(stages)) => Some(stages),
             _ => None,
         }
     }
 
     /// The here document of this number: `None` where it is not that of one.
-    #[tactic(auto, unfolding(crate::specs::Views::code_of, crate::specs::Views::listing_of))]
+    #[tactic(auto, unfolding(crate::specs::Views::code_of, crate::specs::Listings::listing_of))]
     pub fn pieces(&self, number: usize) -> Option<&[Piece]>
         ensures { option_map pieces_tree (option_copied result) ≡ pieces_at (code_of self.now) number }
     {
-        match self.0.kept.get(number) {
+        match self.listing.kept.get(number) {
             Some(Kept::Pieces(pieces)) => Some(pieces),
             _ => None,
         }

@@ -5,7 +5,7 @@ ghost use Rattle.rc_model.specs.Syntax.Tree as tree;
 ghost use Rattle.rc_model.specs.Code.Layout.{Past, IfNot, cmd_code, items_code, branches_code};
 ghost use Rattle.rc_tree.specs.View.{cmd_tree, arg_tree, pairs_tree, redirs_tree, items_tree};
 ghost use Rattle.rc_tree.specs.View.{stages_tree, links_tree, branch_tree, branches_tree};
-ghost use Rattle.rc_code.specs.Views.{listing_of};
+ghost use Rattle.rc_code.specs.Listings.{listing_of};
 ghost use Rattle.rc_code.specs.Writing.{Writes};
 ghost use Rattle.rc_code.specs.Emission.{test_code, turns_code, branch_to};
 

@@ -4,7 +4,7 @@ ghost use Rattle.std.specs.Prelude.{◌≡◌};
 ghost use Rattle.rc_model.specs.Syntax.Tree.{has_no_items, guards};
 ghost use Rattle.rc_model.specs.Code.Layout.{skip_by};
 ghost use Rattle.rc_tree.specs.View.{cmd_tree, links_tree};
-ghost use Rattle.rc_code.specs.Views.{op_of};
+ghost use Rattle.rc_code.specs.Listings.{op_of};
 
 use crate::code::Op;
 use rc_tree::{Cmd, Logic};

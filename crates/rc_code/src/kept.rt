@@ -3,7 +3,7 @@
 ghost use Rattle.std.specs.Prelude.{◌≡◌, IfOk};
 ghost use Rattle.rc_model.specs.Code.Layout as model;
 ghost use Rattle.rc_tree.specs.View.{cmd_tree, stages_tree, pieces_tree};
-ghost use Rattle.rc_code.specs.Views.{kept_of};
+ghost use Rattle.rc_code.specs.Listings.{kept_of};
 
 use crate::code::Kept;
 use rc_tree::{Cmd, Piece, Stage, clone_tree};

@@ -11,6 +11,7 @@ mod listing;
 
 ghost use Rattle.std.specs.Prelude.{◌≡◌, false, IfOk, OnOk};
 ghost use Rattle.rc_model.specs.Code.Layout.{code, cmd_code, Do, Return, ◌⨾◌};
+ghost use Rattle.rc_model.specs.Handed.Proper.{IsProperTree};
 ghost use Rattle.rc_tree.specs.View.{cmd_tree};
 ghost use Rattle.rc_code.specs.Views.{code_of};
 ghost use Rattle.rc_code.specs.Writing.{Writes};
@@ -23,6 +24,7 @@ use std::alloc::{AllocError, Global};
 
 /// The code of a command, with its `Return`.
 pub fn compile(alloc: Global, cmd: &Cmd) -> Result<Code, AllocError>
+    requires { IsProperTree (cmd_tree cmd.now) }
     ensures { IfOk result (λ done. code_of done ≡ code (cmd_tree cmd.now)) }
 {
     let mut listing = Listing::empty(alloc);

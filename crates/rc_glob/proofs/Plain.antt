@@ -24,14 +24,15 @@ no_class : (m : ℕ × Bool) → is_pattern m ≡ false → begun_by m ≡ Outsi
 no_class (c, true) h = ap (λ b. cond b (Inside []) Outside) (or_parts ((c == 42) || (c == 63)) (c == 91) h).1
 no_class (c, false) h = refl
 
+pub first_plain : (m : ℕ × Bool) (w : Word) → is_pattern m ≡ false → parts_from Outside (m ∷ w) ≡ This m.0 ∷ parts_from Outside w
+first_plain m w h = ap (λ ps. ps ++ parts_from (begun_by m) w) (itself m h) ∙ ap (λ b. This m.0 ∷ parts_from b w) (no_class m h)
+
 -- the parts of such a word are its characters
 parts_plain : (w : Word) → has_pattern w ≡ false → parts_from Outside w ≡ map (λ m. This m.0) w
 parts_plain [] h = refl
 parts_plain (m ∷ w) h =
     let n = or_parts (is_pattern m) (has_pattern w) h in
-    ap (λ ps. ps ++ parts_from (begun_by m) w) (itself m n.0)
-    ∙ ap (λ b. This m.0 ∷ parts_from b w) (no_class m n.0)
-    ∙ ap (λ ps. This m.0 ∷ ps) (parts_plain w n.1)
+    first_plain m w n.0 ∙ ap (λ ps. This m.0 ∷ ps) (parts_plain w n.1)
 
 same_characters : (e : Bool) (w : Word) (cs : List ℕ) → parts_match e (map (λ m. This m.0) w) cs ≡ bytes_eq cs (map (λ m. m.0) w)
 same_characters e [] [] = refl

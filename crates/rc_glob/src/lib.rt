@@ -6,6 +6,8 @@ mod components;
 mod expansion;
 mod file_names;
 mod matching;
+mod search;
+mod stars;
 
 pub use expansion::{expand, expand_all};
 pub use matching::{matched, matches};

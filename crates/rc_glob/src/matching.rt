@@ -1,14 +1,16 @@
 //! Which texts a word matches: from left to right, with one star to go back to.
 ghost use Rattle.std.specs.Prelude.{◌≡◌, false, option_map};
-ghost use Rattle.std.specs.List.{list_all, list_any};
+ghost use Rattle.std.specs.List.{list_any};
 ghost use Rattle.std.specs.Str.{chars};
-ghost use Rattle.rc_model.specs.Run.Patterns.{is_dots, matched, matches, Outside, parts_from, parts_match, stands_for};
+ghost use Rattle.rc_model.specs.Run.Patterns.{is_dots, matched, matches, Outside, parts_from, parts_match};
 ghost use Rattle.rc_model.specs.Mirrors.Greedy.{after_one, after_star, move};
 ghost use Rattle.rc_text.specs.Literals.{marks};
 ghost use Rattle.rc_glob.specs.Moves.{move_of, LeavesLess};
 ghost use Rattle.rc_glob.specs.Subjects.{is_met};
 
 use crate::classes::{class_end, class_holds};
+use crate::search::stands_for;
+use crate::stars::{Start, later_place, next_place, start_of};
 use rc_text::{Ch, Word, any_pattern, first_char};
 
 /// What comes next in a match.
@@ -19,13 +21,6 @@ enum Move<'a> {
     PastOne(char, &'a [Ch], &'a str),
     AtEnd,
     Miss,
-}
-
-/// Whether a pattern character may stand for the character.
-fn stands_for(explicit: bool, c: char) -> bool
-    ensures { result ≡ stands_for explicit c }
-{
-    !(explicit && c == '/')
 }
 
 /// What follows the first character or class of the word, if that is no star and stands for the character.
@@ -88,32 +83,27 @@ fn next_move<'a>(explicit: bool, word: &'a [Ch], text: &'a str) -> Move<'a>
     }
 }
 
-/// Whether a star may stand for the whole text.
-fn star_stands_for(explicit: bool, text: &str) -> bool
-    ensures { result ≡ list_all (λ c. stands_for explicit c) (chars text.now) }
-{
-    text.chars().all(|c| stands_for(explicit, c))
-}
-
-/// Whether the whole word stands for the whole text.
+/// Whether the whole word stands for the whole text. What follows a star is tried only at the places at which it can
+/// begin.
 fn fits(whole: &[Ch], text: &str, explicit: bool) -> bool
     ensures { result ≡ parts_match explicit (parts_from Outside (marks whole.now)) (chars text.now) }
 {
-    let mut word = whole;
-    let mut rest = text;
+    let (mut word, mut star_word) = (whole, whole);
+    let (mut rest, mut star_text) = (text, text);
     let mut has_star = false;
-    let mut star_word = whole;
-    let mut star_text = text;
+    let mut start = Start::AtFront(&[]);
     'moves: loop {
         match next_move(explicit, word, rest) {
             Move::PastStar(after) => {
-                if after.is_empty() {
-                    return star_stands_for(explicit, rest);
-                }
+                start = start_of(after);
+                let Some(place) = next_place(explicit, start, rest) else {
+                    return false;
+                };
                 has_star = true;
                 star_word = after;
-                star_text = rest;
+                star_text = place;
                 word = after;
+                rest = place;
             }
             Move::PastOne(c, after, more) => {
                 has_star = has_star && stands_for(explicit, c);
@@ -121,15 +111,13 @@ fn fits(whole: &[Ch], text: &str, explicit: bool) -> bool
                 rest = more;
             }
             Move::AtEnd => return true,
+            Move::Miss if !has_star => return false,
             Move::Miss => {
-                let Some((c, more)) = first_char(star_text) else {
+                let Some(place) = later_place(explicit, start, star_text) else {
                     return false;
                 };
-                if !has_star || !stands_for(explicit, c) {
-                    return false;
-                }
-                star_text = more;
-                rest = more;
+                star_text = place;
+                rest = place;
                 word = star_word;
             }
         }
@@ -155,8 +143,10 @@ pub(crate) fn is_match(word: &[Ch], text: &str, explicit: bool) -> bool
 }
 
 /// Whether the word matches the whole text. In explicit form no pattern character stands for `/`,
-/// and a word that holds one matches neither `.` nor `..`. It allocates nothing, and takes at most
-/// as many steps as the word is long times the text.
+/// and a word that holds one matches neither `.` nor `..`. It allocates nothing. What follows the last
+/// star is compared with the end of the text alone. Characters between two stars are looked for by
+/// sums, mostly in about as many steps as the text has characters. No match takes more steps than a few
+/// times the length of the word times that of the text.
 pub fn matches(word: &Word, text: &str, explicit: bool) -> bool
     ensures { result ≡ matches word.now (chars text.now) explicit }
 {

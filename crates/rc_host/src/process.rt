@@ -15,7 +15,7 @@ use std::env::FillError;
 use std::os::fd::{AsFd, IntoRawFd};
 use std::path::PathBuf;
 use std::rt::{Env, HostRuntime};
-use std::{env, fs, io, process};
+use std::{env, fs, io};
 use thiserror::Error;
 
 /// Linux's number for a descriptor that is not open.
@@ -124,13 +124,9 @@ fn entry_at<R: Env + AllocGlobal>(rt: &R, place: usize) -> Result<Option<Vec<u8>
     Err(AllocError)
 }
 
-/// The path by which the program starts itself: its own as Linux names it, or else the link that
-/// Linux keeps to the program of a process.
-pub fn own_path(rt: &HostRuntime) -> Result<String, AllocError> {
-    path_or_link(rt.alloc(), env::current_exe(rt), process::id(rt.process()))
-}
-
-fn path_or_link(
+/// The path by which a program starts itself, by what Linux says of its path and by the number of its process: that
+/// path, or else the link that Linux keeps to the program of a process.
+pub fn own_path(
     alloc: Global,
     found: io::Result<PathBuf>,
     process: u32,

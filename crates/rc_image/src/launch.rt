@@ -2,10 +2,11 @@
 
 ghost use Rattle.std.specs.Prelude.{◌≡◌, IfOk, map, string_bytes};
 ghost use Rattle.rc_model.specs.Handed.Arguments.{handed};
+ghost use Rattle.rc_model.specs.Handed.Proper.{IsProperTree};
 ghost use Rattle.rc_tree.specs.View.{cmd_tree};
 ghost use Rattle.rc_scope.specs.States.{state_of};
 ghost use Rattle.rc_image.specs.Images.{Writes};
-ghost use Rattle.rc_image.specs.Launches.{args_with, handed_of, short_entries};
+ghost use Rattle.rc_image.specs.Launches.{ReadsBack, args_with, handed_of, short_entries};
 
 use crate::launch_environment::entries;
 use crate::launch_sizes::are_short;
@@ -53,7 +54,10 @@ pub fn write_env(alloc: Global, state: &State) -> Result<Vec<String>, ImageError
 /// What a shell is handed that is to run a command in a state. It is too large where an argument or an entry would be
 /// too long, or the image in too many pieces.
 pub fn handed(alloc: Global, cmd: &Cmd, state: &State) -> Result<Handover, ImageError>
-    ensures { Writes (λ h. handed_of h) result (handed (cmd_tree cmd.now) (state_of state.now)) }
+    ensures written { Writes (λ h. handed_of h) result (handed (cmd_tree cmd.now) (state_of state.now)) }
+    // A well-formed command is read back, with the state in which a subshell begins.
+    ensures back { IsProperTree (cmd_tree cmd.now) →
+        IfOk result (λ h. ReadsBack (cmd_tree cmd.now) (state_of state.now) h) }
 {
     let words = write_pieces(alloc, cmd)?;
     let args = shell_args(alloc, state, &words)?;

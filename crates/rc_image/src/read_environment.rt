@@ -2,6 +2,7 @@
 
 ghost use Rattle.std.specs.Prelude.{◌≡◌, [], if◌then◌else◌, Ok, OnOk, IfOk, map, string_bytes};
 ghost use Rattle.rc_model.specs.Handed.Environment.{Bindings, bindings, with_cut, cut_entry, read_state};
+ghost use Rattle.rc_model.specs.Handed.Proper.{IsProperTree};
 ghost use Rattle.rc_model.specs.Run.State.{define, is_function_name, is_name, set_value};
 ghost use Rattle.rc_tree.specs.View.{cmd_tree};
 ghost use Rattle.rc_scope.specs.States.{state_of};
@@ -64,6 +65,7 @@ fn read_values(alloc: Global, entries: &[String], own: bool) -> Result<State, Al
 
 /// Defines a function. One with a bad name is ignored.
 fn define(state: &mut State, name: &str, body: &Rc<Cmd>) -> Result<(), AllocError>
+    requires { IsProperTree (cmd_tree body.now.value) }
     ensures { OnOk result (state_of state.new
         ≡ (if is_function_name name.now
         then define (state_of state.old) name.now (cmd_tree body.now.value)

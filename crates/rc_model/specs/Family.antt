@@ -1,3 +1,3 @@
 pub mod Accounts
 pub mod Family
-pub mod StepFaults
+pub mod Steps

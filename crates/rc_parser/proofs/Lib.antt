@@ -5,3 +5,4 @@ pub mod Lines
 pub mod Spelled
 pub mod Parsing
 pub mod Scripts
+pub mod Kept

@@ -1,20 +1,44 @@
 -- The lines of tokens.
-use Rattle.std.proofs.Common.{◌≡◌, ℕ, zero, suc, ◌<◌, true, ◌||◌, List, [], ◌∷◌, length, sym, ap, ◌∙◌, arith}
+use Rattle.std.proofs.Common.{◌≡◌, ℕ, zero, suc, ◌<◌, ◌-◌, true, ◌||◌, List, [], ◌∷◌, length, inl, inr, refl, sym, ap, ◌∙◌, arith}
 use Rattle.std.proofs.Math.Bool.{or-true}
 use Rattle.std.proofs.lemmas.Bool.Decides.{nat_tests}
+use Rattle.std.proofs.lemmas.List.{length-map}
 use Rattle.std.specs.List.{list_any}
-use Rattle.std.specs.Prelude.{◌==◌, slice_index_or}
+use Rattle.std.specs.Prelude.{◌==◌, drop, slice_index_or}
+use Rattle.rc_model.specs.Syntax.Accepted.{IsLineOf}
+use Rattle.rc_model.specs.Syntax.Tokens as model
 use Rattle.rc_lexer.specs.declared.Token.{Token}
-use Rattle.rc_lexer.specs.Views.{tokens_of}
+use Rattle.rc_lexer.specs.Views.{token_of, tokens_of}
+use Rattle.rc_parser.specs.Faults.{first_line, line_left}
 
 same : (n : ℕ) → (n == n) ≡ true
 same n = grind (arith, nat_tests)
 
--- a token's line is the line of a token
-pub line_of_token : (script : List ℕ) (tokens : List Token) (i : ℕ) (x : Token) → i < length tokens → ((d : Token) → x ≡ slice_index_or tokens i d) →
-    list_any (λ t. t.line == x.line) (tokens_of script tokens) ≡ true
-line_of_token script [] i x h e = absurd (omega arith)
-line_of_token script (t ∷ ts) zero x h e =
-    ap (λ b. b || list_any (λ u. u.line == x.line) (tokens_of script ts)) (ap (λ y. y.line == x.line) (sym (e x)) ∙ same x.line)
-line_of_token script (t ∷ ts) (suc i) x h e =
-    ap (λ b. (t.line == x.line) || b) (line_of_token script ts i x (omega arith) e) ∙ or-true (t.line == x.line)
+-- the line of a later token or of the end is one of all tokens or of the end
+later : (script : List ℕ) (t : model.Token) (ts : List model.Token) (line : ℕ) → IsLineOf script ts line → IsLineOf script (t ∷ ts) line
+later script t ts line (inl e) = inl (ap (λ b. (t.line == line) || b) e ∙ or-true (t.line == line))
+later script t ts line (inr e) = inr e
+
+-- the line of the first token from a place on is that of a token or of the end
+pub is_line : (script : List ℕ) (tokens : List model.Token) (place : ℕ) → IsLineOf script tokens (first_line script (drop place tokens))
+is_line script [] zero = inr refl
+is_line script [] (suc place) = inr refl
+is_line script (t ∷ ts) zero = inl (ap (λ b. b || list_any (λ u. u.line == t.line) ts) (same t.line))
+is_line script (t ∷ ts) (suc place) = later script t ts _ (is_line script ts place)
+
+-- where a token stands it is that of this token
+line_of_token : (script : List ℕ) (tokens : List Token) (place : ℕ) (x : Token) → place < length tokens → ((d : Token) → x ≡ slice_index_or tokens place d) →
+    x.line ≡ first_line script (drop place (tokens_of script tokens))
+line_of_token script [] place x h e = absurd (omega arith)
+line_of_token script (t ∷ ts) zero x h e = ap (λ y. y.line) (e x)
+line_of_token script (t ∷ ts) (suc place) x h e = line_of_token script ts place x (omega arith) e
+
+-- a place that is counted from the end
+counted : (script : List ℕ) (tokens : List Token) (left place : ℕ) → place ≡ length tokens - left →
+    first_line script (drop place (tokens_of script tokens)) ≡ line_left script (tokens_of script tokens) left
+counted script tokens left place p =
+    ap (λ n. first_line script (drop n (tokens_of script tokens))) (p ∙ ap (λ n. n - left) (sym (length-map tokens (λ t. token_of script t))))
+
+pub line_of_token_left : (script : List ℕ) (tokens : List Token) (left place : ℕ) (x : Token) → place ≡ length tokens - left → place < length tokens →
+    ((d : Token) → x ≡ slice_index_or tokens place d) → x.line ≡ line_left script (tokens_of script tokens) left
+line_of_token_left script tokens left place x p h e = line_of_token script tokens place x h e ∙ counted script tokens left place p

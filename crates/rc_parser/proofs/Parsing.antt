@@ -1,16 +1,16 @@
 -- What the laws say of the trees of a script.
-use Rattle.std.specs.Prelude.{Vec, IfErr}
-use Rattle.std.proofs.Common.{◌≡◌, ℕ, ◌<◌, ◌≤◌, true, List, Result, Ok, Err, IfOk, length, ◌⊎◌, inl, inr, refl, sym, ap, subst, ◌∙◌}
+use Rattle.std.specs.Prelude.{Vec}
+use Rattle.std.specs.Result.{IsErrAnd}
+use Rattle.std.proofs.Common.{◌≡◌, ℕ, ◌<◌, ◌≤◌, ◌-◌, List, Result, Ok, Err, length, ◌⊎◌, inl, inr, refl, sym, ap, subst, ◌∙◌}
 use Rattle.std.proofs.lemmas.Str.{is_utf8-from_IsUtf8}
-use Rattle.std.specs.Str.{IsUtf8, is_utf8}
+use Rattle.std.specs.Str.{IsUtf8}
 use Rattle.rc_model.specs.Syntax.Tokens.{Token, Lexes}
 use Rattle.rc_model.specs.Syntax.Tokens as t
 use Rattle.rc_model.specs.Syntax.Tree.{Node, cmd}
 use Rattle.rc_model.specs.Syntax.WellFormed.{depth, most_stages}
-use Rattle.rc_model.specs.Syntax.Accepted.{HasTokens, IsAccepted, IsRefused, lexemes, longest_script}
+use Rattle.rc_model.specs.Syntax.Accepted.{HasTokens, IsAccepted, IsLineOf, IsRefused, lexemes, longest_script}
 use Rattle.rc_model.specs.Syntax.Accepted as script
-use Rattle.rc_model.specs.Syntax.Grammar.{HaveTree}
-use Rattle.rc_model.specs.Syntax.Grammar as grammar
+use Rattle.rc_model.specs.Syntax.Grammar.{HaveTree, HaveAcceptedTree}
 use Rattle.law_syntax.proofs.Decided.{same_tokens}
 use Rattle.rc_model.specs.declared.fault.SyntaxFault.{SyntaxFault}
 use Rattle.rc_model.specs.declared.fault.InputError.TheVariants as error
@@ -22,31 +22,23 @@ use Rattle.rc_model.specs.declared.fault.DescentFault.TheVariants as descent
 use Rattle.rc_lexemes.specs.declared.token_faults.TokenFault.{TokenFault}
 use Rattle.rc_lexemes.specs.Reading.{HasFault, TokenError}
 use Rattle.rc_tree.specs.declared.types.Cmd.{Cmd}
-use Rattle.rc_parser.specs.Faults.{IsPlaced, Refuses}
+use Rattle.rc_tree.specs.View.{cmd_tree}
+use Rattle.rc_parser.specs.Faults.{Refuses, line_left, placed}
+use Rattle.rc_parser.specs.Parsed.{Parses}
+use Rattle.rc_parser.proofs.Lines.{is_line}
 
 -- the lexer's tokens and its fault are the script's
-has_tokens : (bytes text : List ℕ) (tokens : List lexer.Token) → text ≡ bytes → length bytes ≤ longest_script → IsUtf8 text → Lexes text (Ok (tokens_of text tokens)) →
-    HasTokens bytes (tokens_of bytes tokens)
-has_tokens bytes text tokens e short utf8 read = record {
-  short = short;
-  text = subst (λ z. is_utf8 z ≡ true) e (is_utf8-from_IsUtf8 text utf8);
-  cut = subst (λ z. Lexes z (Ok (tokens_of z tokens))) e read;
-}
+pub is_cut : {Z : Type 0} (text : List ℕ) (tokens : Vec lexer.Token Z) → length text ≤ longest_script → IsUtf8 text → IsLexed text (Ok tokens) → HasTokens text (tokens_of text tokens.items)
+is_cut text tokens short utf8 read = record { short = short; text = is_utf8-from_IsUtf8 text utf8; cut = read.found }
 
-has_fault : (bytes text : List ℕ) (fault : SyntaxFault) → text ≡ bytes → length bytes ≤ longest_script → IsUtf8 text → Lexes text (Err fault) → IsRefused bytes fault
-has_fault bytes text fault e short utf8 read =
-    script.no_tokens fault short (subst (λ z. is_utf8 z ≡ true) e (is_utf8-from_IsUtf8 text utf8)) (subst (λ z. Lexes z (Err fault)) e read)
+pub is_not_cut : (Z : Type 0) (text : List ℕ) (e : ScriptError) → length text ≤ longest_script → IsUtf8 text → IsLexed {Z = Z} text (Err e) → Refuses e text
+is_not_cut Z text (error.Fault f) short utf8 read = script.no_tokens f short (is_utf8-from_IsUtf8 text utf8) read.found
+is_not_cut Z text error.NoMemory short utf8 read = tt
 
-pub tokens_cut : {Z : Type 0} (bytes text : List ℕ) (r : Result (Vec lexer.Token Z) ScriptError) → text ≡ bytes → length bytes ≤ longest_script → IsUtf8 text → IsLexed text r →
-    IfOk r (λ v. HasTokens bytes (tokens_of bytes v.items))
-tokens_cut bytes text (Ok v) e short utf8 read = has_tokens bytes text v.items e short utf8 read.found
-tokens_cut bytes text (Err f) e short utf8 read = tt
-
-pub tokens_refused : {Z : Type 0} (bytes text : List ℕ) (r : Result (Vec lexer.Token Z) ScriptError) → text ≡ bytes → length bytes ≤ longest_script → IsUtf8 text → IsLexed text r →
-    IfErr r (λ f. Refuses f bytes)
-tokens_refused bytes text (Ok v) e short utf8 read = tt
-tokens_refused bytes text (Err (error.Fault f)) e short utf8 read = has_fault bytes text f e short utf8 read.found
-tokens_refused bytes text (Err error.NoMemory) e short utf8 read = tt
+-- a fault is handed on
+pub handed_on : (text : List ℕ) (result : Result Cmd ScriptError) (e : ScriptError) → IsErrAnd result (λ x. x ≡ e) → Refuses e text → Parses text result
+handed_on text (Err x) e h refused = record { accepted = tt; only = tt; refused = subst (λ z. Refuses z text) (sym h) refused }
+handed_on text (Ok c) e h refused = absurd h
 
 -- the tree of a script's tokens is the script's only one
 pub has_no_other : (text : List ℕ) (tokens : List Token) (ts : List t.Lexeme) (tree : Node cmd) → HasTokens text tokens → ts ≡ lexemes tokens →
@@ -72,15 +64,39 @@ says o ts found e none stages levels = record { none = λ h. none (either h); st
     either (inl h) = inl (at h)
     either (inr h) = inr (at h)
 
--- a fault of the descent is the script's
-pub is_refused : (text : List ℕ) (tokens : List Token) (ts : List t.Lexeme) (fault : DescentFault) (f : SyntaxFault) → HasTokens text tokens → ts ≡ lexemes tokens → Says ts fault →
-    IsPlaced text tokens fault f → IsRefused text f
-is_refused text tokens ts descent.Unexpected f h e says p =
-    subst (IsRefused text) (sym p.0) (script.unexpected tokens f.line h p.1 (λ tree s. says.none (inl refl) tree (subst (λ z. HaveTree z tree) (sym e) s)))
-is_refused text tokens ts descent.IfNot f h e says p =
-    subst (IsRefused text) (sym p.0) (script.if_not tokens f.line h p.1 (λ tree s. says.none (inr refl) tree (subst (λ z. HaveTree z tree) (sym e) s)))
-is_refused text tokens ts descent.TooDeep f h e says p =
-    subst (IsRefused text) (sym p) (script.too_deep tokens h
-    (λ tree s. says.levels refl tree (subst (λ z. HaveTree z tree) (sym e) s)))
-is_refused text tokens ts descent.TooManyStages f h e says p =
-    subst (IsRefused text) (sym p.0) (script.too_many_stages tokens f.line h p.1 (λ tree s. says.stages refl tree (subst (λ z. HaveTree z tree) (sym e) s)))
+-- a fault of the descent at the line of a token or of the end is the script's
+is_refused_at : (text : List ℕ) (tokens : List Token) (ts : List t.Lexeme) (fault : DescentFault) (line : ℕ) → HasTokens text tokens → ts ≡ lexemes tokens → Says ts fault →
+    IsLineOf text tokens line → IsRefused text (placed line fault)
+is_refused_at text tokens ts descent.Unexpected line h e says at =
+    script.unexpected tokens line h at (λ tree s. says.none (inl refl) tree (subst (λ z. HaveTree z tree) (sym e) s))
+is_refused_at text tokens ts descent.IfNot line h e says at =
+    script.if_not tokens line h at (λ tree s. says.none (inr refl) tree (subst (λ z. HaveTree z tree) (sym e) s))
+is_refused_at text tokens ts descent.TooDeep line h e says at =
+    script.too_deep tokens h (λ tree s. says.levels refl tree (subst (λ z. HaveTree z tree) (sym e) s))
+is_refused_at text tokens ts descent.TooManyStages line h e says at =
+    script.too_many_stages tokens line h at (λ tree s. says.stages refl tree (subst (λ z. HaveTree z tree) (sym e) s))
+
+is_refused : (text : List ℕ) (tokens : List Token) (ts : List t.Lexeme) (fault : DescentFault) (left : ℕ) (f : SyntaxFault) → HasTokens text tokens → ts ≡ lexemes tokens →
+    Says ts fault → f ≡ placed (line_left text tokens left) fault → IsRefused text f
+is_refused text tokens ts fault left f h e says p =
+    subst (IsRefused text) (sym p) (is_refused_at text tokens ts fault _ h e says (is_line text tokens (length tokens - left)))
+
+-- the tree of a script's tokens is the script's
+pub is_found : (text : List ℕ) (tokens : List Token) (ts : List t.Lexeme) (c : Cmd) → HasTokens text tokens → ts ≡ lexemes tokens → HaveAcceptedTree ts (cmd_tree c) →
+    ((other : Node cmd) → HaveTree ts other → other ≡ cmd_tree c) → Parses text (Ok c)
+is_found text tokens ts c h e accepted only = record {
+  accepted = record { tokens = tokens; has = h; tree_is = subst (λ z. HaveAcceptedTree z (cmd_tree c)) e accepted };
+  only = has_no_other text tokens ts (cmd_tree c) h e only;
+  refused = tt;
+}
+
+-- and so is the fault that is placed for one of theirs
+pub is_not_found : (text : List ℕ) (tokens : List Token) (ts : List t.Lexeme) (o : Result Cmd TokenError) (found : TokenFault) (f : SyntaxFault) → HasTokens text tokens → ts ≡ lexemes tokens →
+    o ≡ Err (error.Fault found) → (HasFault o descent.Unexpected ⊎ HasFault o descent.IfNot → (tree : Node cmd) → HaveTree ts tree → ⊥) →
+    (HasFault o descent.TooManyStages → (tree : Node cmd) → HaveTree ts tree → 64 < most_stages tree) →
+    (HasFault o descent.TooDeep → (tree : Node cmd) → HaveTree ts tree → 200 < depth tree) → f ≡ placed (line_left text tokens found.left) found.fault → Parses text (Err (error.Fault f))
+is_not_found text tokens ts o found f h e is none stages levels at = record {
+  accepted = tt;
+  only = tt;
+  refused = is_refused text tokens ts found.fault found.left f h e (says o ts found is none stages levels) at;
+}

@@ -1,2 +1,4 @@
 pub mod Reading
 pub mod Faults
+pub mod Kept
+pub mod Parsed

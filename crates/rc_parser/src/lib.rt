@@ -1,25 +1,25 @@
-//! The parser: a script's tree, or why it has none. The grammar follows rc(1), the manual page of Plan 9's shell, and
-//! Tom Duff's paper "Rc - The Plan 9 Shell".
+//! The parser: a script's tree, or why it has none; the script comes whole or in pieces. The grammar follows rc(1), the
+//! manual page of Plan 9's shell, and Tom Duff's paper "Rc - The Plan 9 Shell".
 #![tactic(auto)]
 
 mod descent;
 mod lexemes;
+mod reader;
 mod syntax_faults;
 mod text;
 mod trees;
 
 ghost use Rattle.std.specs.Prelude.{◌≡◌, IfOk, IfErr};
-ghost use Rattle.rc_model.specs.Syntax.Accepted.{IsAccepted, HasTokens};
+ghost use Rattle.rc_model.specs.Syntax.Accepted.{IsAccepted};
 ghost use Rattle.rc_model.specs.Syntax.Tree.{Node, cmd};
-ghost use Rattle.rc_lexer.specs.Views.{tokens_of};
 ghost use Rattle.rc_parser.specs.Faults.{Refuses};
 ghost use Rattle.rc_tree.specs.View.{cmd_tree};
 
 pub use rc_lexemes::{Lexeme, TokenError, TokenFault};
 pub use rc_lexer::ScriptError;
-use rc_lexer::Token;
 pub use rc_model::{FaultKind, InputError, SyntaxFault};
 use rc_tree::Cmd;
+pub use reader::Reader;
 use std::alloc::Global;
 pub use trees::script;
 
@@ -32,22 +32,7 @@ pub fn parse(alloc: Global, script: &[u8]) -> Result<Cmd, ScriptError>
     ensures only { IfOk result (λ c. (other : Node cmd) → IsAccepted script.now other → other ≡ cmd_tree c) }
     ensures refused { IfErr result (λ e. Refuses e script.now) }
 {
-    let tokens = tokens(alloc, script)?;
-    let lexemes = lexemes::lexemes(alloc, script, &tokens)?;
-    match trees::script(alloc, &lexemes) {
-        Ok(cmd) => Ok(cmd),
-        Err(InputError::Fault(found)) => Err(InputError::Fault(syntax_faults::syntax_fault(
-            script, &tokens, found,
-        ))),
-        Err(InputError::NoMemory) => Err(InputError::NoMemory),
-    }
-}
-
-/// The tokens of a script.
-fn tokens(alloc: Global, script: &[u8]) -> Result<Vec<Token>, ScriptError>
-    ensures cut { IfOk result (λ v. HasTokens script.now (tokens_of script.now v.items)) }
-    ensures refused { IfErr result (λ e. Refuses e script.now) }
-{
-    let text = text::checked(script)?;
-    rc_lexer::lex(alloc, text)
+    let mut reader = Reader::new(alloc);
+    reader.feed(script)?;
+    reader.finish()
 }

@@ -1,9 +1,9 @@
 //! Why the tokens of a script have no tree.
 
-ghost use Rattle.std.specs.Prelude.{◌≤◌, length};
-ghost use Rattle.rc_model.specs.Syntax.Accepted.{IsLineOf, longest_script};
+ghost use Rattle.std.specs.Prelude.{◌≡◌, ◌≤◌, length};
+ghost use Rattle.rc_model.specs.Syntax.Accepted.{longest_script};
 ghost use Rattle.rc_lexer.specs.Views.{tokens_of};
-ghost use Rattle.rc_parser.specs.Faults.{IsPlaced};
+ghost use Rattle.rc_parser.specs.Faults.{line_left, placed};
 
 use crate::text::line_of;
 use rc_lexemes::TokenFault;
@@ -13,7 +13,7 @@ use rc_model::{DescentFault, FaultKind, SyntaxFault};
 /// The fault of a script whose tokens have this one.
 pub(crate) fn syntax_fault(script: &[u8], tokens: &[Token], found: TokenFault) -> SyntaxFault
     requires { length script.now ≤ longest_script }
-    ensures { IsPlaced script.now (tokens_of script.now tokens.now) found.fault result }
+    ensures { result ≡ placed (line_left script.now (tokens_of script.now tokens.now) found.left) found.fault }
 {
     let line = line_at(script, tokens, found.left);
     match found.fault {
@@ -39,7 +39,7 @@ pub(crate) fn syntax_fault(script: &[u8], tokens: &[Token], found: TokenFault) -
 /// The line of the first token that is left, or of the end of the script.
 fn line_at(script: &[u8], tokens: &[Token], left: usize) -> usize
     requires { length script.now ≤ longest_script }
-    ensures { IsLineOf script.now (tokens_of script.now tokens.now) result }
+    ensures { result ≡ line_left script.now (tokens_of script.now tokens.now) left }
 {
     match tokens.get(tokens.len().saturating_sub(left)) {
         Some(token) => token.line,

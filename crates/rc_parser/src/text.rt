@@ -1,26 +1,19 @@
 //! The text of a script.
 
-ghost use Rattle.std.specs.Prelude.{◌≡◌, ◌≤◌, length, IfOk, IfErr, IsUtf8, OnOk};
+ghost use Rattle.std.specs.Prelude.{◌≡◌, ◌≤◌, length, IfOk, IfErr, IsUtf8};
 ghost use Rattle.rc_model.specs.Syntax.Accepted.{line_of, longest_script, IsRefused};
 
-use rc_model::limits::LONGEST_SCRIPT;
 use rc_model::{FaultKind, SyntaxFault};
 use std::str;
 
-/// The script as text, if it is short enough and UTF-8.
+/// The script as text, if it is UTF-8.
 #[tactic(auto, using(crate::proofs::Texts::texts))]
 pub(crate) fn checked(script: &[u8]) -> Result<&str, SyntaxFault>
+    requires { length script.now ≤ longest_script }
     ensures text { IfOk result (λ s. s.now ≡ script.now) }
     ensures utf8 { IfOk result (λ s. IsUtf8 s.now) }
-    ensures short { OnOk result (length script.now ≤ longest_script) }
     ensures refused { IfErr result (λ f. IsRefused script.now f) }
 {
-    if script.len() > LONGEST_SCRIPT {
-        return Err(SyntaxFault {
-            kind: FaultKind::TooLong,
-            line: 0,
-        });
-    }
     str::from_utf8(script).map_err(|error| SyntaxFault {
         kind: FaultKind::NotText,
         line: line_of(script, error.valid_up_to()),

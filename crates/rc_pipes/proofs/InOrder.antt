@@ -11,7 +11,7 @@ use Rattle.rc_model.specs.Run.Shell.{Shell, Next, pure, leaves}
 use Rattle.rc_model.specs.Run.Acts.{waited, set_status}
 use Rattle.rc_model.specs.Run.State.{State, drop_child, with_status, without_child}
 use Rattle.law_plans.proofs.Runs.{ran_none, ran_join, ran_next}
-use Rattle.rc_scope.specs.States.{child_numbers}
+use Rattle.rc_scope.specs.Children.{child_numbers}
 use Rattle.rc_world.specs.Comes.{Comes, Left}
 use Rattle.rc_world.specs.declared.starts.Stop.{Stop}
 use Rattle.rc_world.proofs.Joins.{left_join}

@@ -7,7 +7,7 @@ use Rattle.rc_model.specs.Run.Shell as shell
 use Rattle.rc_model.specs.Run.State.{State}
 use Rattle.rc_model.specs.Syntax.Tree.{Node, Many, stage, more}
 use Rattle.rc_model.specs.declared.call.Slots.{Slots}
-use Rattle.rc_scope.specs.States.{child_numbers}
+use Rattle.rc_scope.specs.Children.{child_numbers}
 use Rattle.rc_world.specs.Comes.{GoesOn}
 use Rattle.rc_world.specs.declared.starts.Stop.{Stop}
 use Rattle.rc_pipes.specs.declared.stages.StageStart.{StageStart}

@@ -5,7 +5,8 @@ ghost use Rattle.rc_model.specs.Run.Acts.{waited, wait_each};
 ghost use Rattle.rc_model.specs.Run.Acts.{stages_status, end_stages, no_stages, Refused};
 ghost use Rattle.rc_model.specs.Run.State as model;
 ghost use Rattle.rc_world.specs.Comes.{Reads, Does};
-ghost use Rattle.rc_scope.specs.States.{child_numbers, state_of};
+ghost use Rattle.rc_scope.specs.Children.{child_numbers};
+ghost use Rattle.rc_scope.specs.States.{state_of};
 
 use crate::programs::ending_status;
 use rc_scope::State;

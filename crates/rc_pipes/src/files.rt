@@ -1,17 +1,14 @@
-//! Files of commands: the first that a name stands for is read.
+//! Files of commands: the first that a name stands for is opened.
 
-ghost use Rattle.std.specs.Prelude.{◌≡◌, ◌∷◌, ℕ, List, Some, IfOk, map, option_map, string_bytes};
+ghost use Rattle.std.specs.Prelude.{◌≡◌, ◌∷◌, ℕ, List, IfOk, map, option_map, string_bytes};
 ghost use Rattle.rc_pipes.specs.Starts.{paths_in};
 ghost use Rattle.rc_model.specs.Run.Acts.{candidates};
 ghost use Rattle.rc_model.specs.Run.Builtins.{dot, open_first, run_file};
 ghost use Rattle.rc_model.specs.Run.State as model;
 ghost use Rattle.rc_scope.specs.States.{state_of};
-ghost use Rattle.rc_pipes.specs.Readings.{after_file};
 ghost use Rattle.rc_world.specs.Comes.{GoesOn, Reads};
 
-use crate::output_reading::{ReadBytes, read_all};
 use crate::programs::{candidate, is_path};
-use rc_model::limits::LONGEST_SCRIPT;
 use rc_scope::State;
 use rc_world::{Handle, Mode, Stop, World, calls};
 use std::alloc::{AllocError, Global};
@@ -55,32 +52,18 @@ fn open_first<W: World>(world: &mut W, paths: &[String]) -> Result<Option<Handle
     Ok(None)
 }
 
-/// Reads a file of commands, and closes it.
-#[tactic(auto, unfolding(rc_model::specs::Run::Acts::longest_file))]
-fn read_and_close<W: World>(alloc: Global, world: &mut W, file: Handle) -> Result<ReadBytes, Stop>
-    ensures { (args : List (List ℕ)) (s : model.State) → GoesOn (W.events world.old) (W.events world.new)
-        (run_file args (Some file.0) s) (λ read. after_file args s (Some read)) result }
-{
-    let read = read_all(alloc, world, file, LONGEST_SCRIPT)?;
-    calls::close(world, file)?;
-    Ok(read)
-}
-
-/// Reads the first file of this name that opens, by `$path` where the name is no path; `None` where
-/// none opens.
-pub fn read_file<W: World>(
+/// Opens the first file of commands of this name that opens, by `$path` where the name is no path; `None` where none
+/// opens.
+pub fn open_file<W: World>(
     alloc: Global,
     world: &mut W,
     state: &State,
     name: &str,
-) -> Result<Option<ReadBytes>, Stop>
+) -> Result<Option<Handle>, Stop>
     ensures { (args : List (List ℕ)) → GoesOn (W.events world.old) (W.events world.new)
-        (dot (name.now ∷ args) (state_of state.now)) (after_file args (state_of state.now)) result }
+        (dot (name.now ∷ args) (state_of state.now))
+        (λ file. run_file args (option_map (λ f. f.0) file) (state_of state.now)) result }
 {
     let paths = candidates(alloc, state, name)?;
-    let Some(file) = open_first(world, &paths)? else {
-        return Ok(None);
-    };
-    let read = read_and_close(alloc, world, file)?;
-    Ok(Some(read))
+    open_first(world, &paths)
 }

@@ -11,7 +11,8 @@ ghost use Rattle.rc_model.specs.Run.Shell.{Next};
 ghost use Rattle.rc_tree.specs.View.{cmd_tree};
 ghost use Rattle.rc_world.specs.Comes.{Comes, Does};
 ghost use Rattle.rc_pipes.specs.Starts.{started_of};
-ghost use Rattle.rc_scope.specs.States.{child_numbers, state_of};
+ghost use Rattle.rc_scope.specs.Children.{child_numbers};
+ghost use Rattle.rc_scope.specs.States.{state_of};
 ghost use Rattle.rc_pipes.specs.Jobs.{arguments_of, with_jobs};
 
 use crate::child_statuses::wait_child;

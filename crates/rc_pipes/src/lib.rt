@@ -1,5 +1,5 @@
 //! Children: programs, the stages of pipelines, subshells, commands in the background and backquotes; files of commands
-//! are read.
+//! are opened.
 #![tactic(auto)]
 
 mod backquotes;
@@ -14,10 +14,9 @@ mod statuses;
 
 pub use backquotes::backquote;
 pub use child_statuses::{end_refused, end_stages, wait_stages};
-pub use files::read_file;
+pub use files::open_file;
 pub use jobs::{background, wait_for};
 pub use launches::subshell;
-pub use output_reading::ReadBytes;
 pub use programs::{fault, find_program, is_path, run_program};
 pub use stages::{StartedStages, start_stages};
 pub use statuses::misuse;

@@ -10,9 +10,9 @@ use std::alloc::Global;
 
 /// What was read up to the end, with why it stopped before.
 #[derive(Drop)]
-pub struct ReadBytes {
-    pub bytes: Vec<u8>,
-    pub why: Option<&'static str>,
+pub(crate) struct ReadBytes {
+    pub(crate) bytes: Vec<u8>,
+    pub(crate) why: Option<&'static str>,
 }
 
 /// Reads up to the empty answer, and until there are more than this many bytes.

@@ -13,8 +13,8 @@ use rc_host::{
 };
 use rc_image::read_pieces;
 use std::alloc::Global;
-use std::fs;
 use std::process::ExitCode;
+use std::{env, fs, process};
 
 /// Runs what the arguments ask for, and gives what the process ends with. An error is reported on descriptor 2.
 pub fn run(rt: HostRuntime, arguments: &[String]) -> ExitCode
@@ -50,7 +50,7 @@ fn status_of<'a>(rt: HostRuntime, arguments: &'a [String]) -> Result<u8, RunErro
     };
     // Before anything else is opened, so that no file of a script gets the number 0, 1 or 2.
     open_standard(&rt).map_err(|_| RunError::CannotRead("standard input"))?;
-    let shell = own_path(&rt)?;
+    let shell = own_path(rt.alloc(), env::current_exe(&rt), process::id(rt.process()))?;
     let entries = entries(&rt)?;
     let mut world = HostWorld::new(rt, shell);
     if let Source::Image = request.source {

@@ -5,3 +5,5 @@ pub mod Firsts
 pub mod Ends
 pub mod Newest
 pub mod Places
+pub mod Copies
+pub mod ProperStates

@@ -2,7 +2,7 @@
 use Rattle.std.proofs.Common.{◌≡◌, ◌-◌, List, map, length, take, ap, sym, ◌∙◌}
 use Rattle.std.proofs.lemmas.List.{take-map, length-map}
 use Rattle.rc_model.specs.declared.call.ChildNo.{ChildNo}
-use Rattle.rc_scope.specs.States.{child_numbers}
+use Rattle.rc_scope.specs.Children.{child_numbers}
 
 pub without_newest : (children : List ChildNo) →
     child_numbers (take (length children - 1) children)

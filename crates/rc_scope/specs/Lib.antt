@@ -3,4 +3,7 @@ pub mod Locals
 pub mod Stacks
 pub mod Bindings
 pub mod Bodies
+pub mod Children
+pub mod ProperStates
 pub mod States
+pub mod Copies

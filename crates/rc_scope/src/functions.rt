@@ -2,6 +2,7 @@
 
 ghost use Rattle.std.specs.Prelude.{◌≡◌, map, string_bytes, IfOk};
 ghost use Rattle.rc_model.specs.Code.Layout.{code};
+ghost use Rattle.rc_model.specs.Handed.Proper.{IsProperTree};
 ghost use Rattle.rc_tree.specs.View.{cmd_tree};
 ghost use Rattle.rc_code.specs.Views.{code_of};
 ghost use Rattle.rc_scope.specs.Bodies.{functions_of};
@@ -39,6 +40,24 @@ impl Model for Function {
     ghost invariant = { λ f. IfSome f.compiled (λ done. code_of done ≡ layout.code (cmd_tree f.body.value)) };
 }
 
+impl Clone for Function {
+    ghost use Rattle.std.specs.Prelude.{◌≡◌};
+
+    ghost is_clone = { λ f g. g ≡ f };
+
+    /// The body and its code are shared.
+    fn clone(&self) -> Result<Function, AllocError> {
+        let compiled = match &self.compiled {
+            Some(code) => Some(code.share()?),
+            None => None,
+        };
+        Ok(Function {
+            body: self.body.clone()?,
+            compiled,
+        })
+    }
+}
+
 impl Function {
     /// A function whose body is not compiled yet.
     pub(crate) fn new(body: Rc<Cmd>) -> Function
@@ -58,6 +77,7 @@ impl Function {
 
     /// The code of the body, which is compiled where it is first asked for.
     pub(crate) fn code(&mut self, alloc: Global) -> Result<Code, AllocError>
+        requires { IsProperTree (cmd_tree self.old) }
         ensures code { IfOk result (λ done. code_of done ≡ code (cmd_tree self.old)) }
         ensures same { self.new ≡ self.old }
     {

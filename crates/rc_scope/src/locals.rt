@@ -14,6 +14,20 @@ pub(crate) enum LocalName {
     Other(String),
 }
 
+impl Clone for LocalName {
+    ghost use Rattle.rc_scope.specs.Copies.{IsNameCopy};
+
+    ghost is_clone = { IsNameCopy };
+
+    fn clone(&self) -> Result<LocalName, AllocError> {
+        match self {
+            LocalName::Arguments => Ok(LocalName::Arguments),
+            LocalName::Status => Ok(LocalName::Status),
+            LocalName::Other(name) => Ok(LocalName::Other(name.clone()?)),
+        }
+    }
+}
+
 impl LocalName {
     /// This name.
     pub(crate) fn of(alloc: Global, name: &str) -> Result<LocalName, AllocError>
@@ -43,4 +57,17 @@ pub(crate) struct Local {
     pub name: LocalName,
     /// What it covers: nothing where its name had no value.
     pub covered: Value,
+}
+
+impl Clone for Local {
+    ghost use Rattle.rc_scope.specs.Copies.{IsLocalCopy};
+
+    ghost is_clone = { IsLocalCopy };
+
+    fn clone(&self) -> Result<Local, AllocError> {
+        Ok(Local {
+            name: self.name.clone()?,
+            covered: self.covered.clone()?,
+        })
+    }
 }

@@ -1,17 +1,19 @@
 //! The state of a shell.
 
 ghost use Rattle.std.specs.Prelude.{◌≡◌, ◌↔◌, ◌∷◌, [], IfOk, OnOk, OnErr, false, map};
-ghost use Rattle.std.specs.Prelude.{string_bytes, option_map, codes, drop, take, length, ◌-◌};
+ghost use Rattle.std.specs.Prelude.{string_bytes, option_map, codes, drop, take, length, ◌-◌, IsTrue};
 ghost use Rattle.std.specs.Option.{option_copied};
 ghost use Rattle.std.specs.Result.{IsErrOf};
 ghost use Rattle.rc_model.specs.Run.State.{new_state, value_of, got, set_value, with_status, with_flag, is_name};
 ghost use Rattle.rc_model.specs.Run.State.{push_local, pop_local, is_function_name, define, undefine, function_of};
 ghost use Rattle.rc_model.specs.Run.State.{add_child, drop_child};
+ghost use Rattle.rc_model.specs.Handed.Proper.{IsProper, IsProperTree};
 ghost use Rattle.rc_tree.specs.View.{cmd_tree};
 ghost use Rattle.rc_scope.specs.Bindings.{bindings_of, visible_values};
 ghost use Rattle.rc_scope.specs.Bodies.{IsCodeOf};
+ghost use Rattle.rc_scope.specs.ProperStates.{AreProper, proper_prop, state_with};
 ghost use Rattle.rc_scope.specs.Stacks.{flat_names};
-ghost use Rattle.rc_scope.specs.States.{child_numbers};
+ghost use Rattle.rc_scope.specs.Children.{child_numbers};
 
 use crate::background_children::place_of;
 use crate::functions::{Function, names};
@@ -37,6 +39,7 @@ pub struct State {
     if_not: bool,
     strict: bool,
     background: Vec<ChildNo>,
+    ghost proper: { AreProper variables functions.entries } by { proper_prop (state_with variables functions.entries) },
 }
 
 impl State {
@@ -169,6 +172,7 @@ impl State {
     /// Defines a function. An `Err` changes nothing.
     #[tactic(auto, using(crate::proofs::Bodies::bodies), unfolding(crate::specs::States::state_of))]
     pub fn define(&mut self, name: &str, body: Cmd) -> Result<(), InputError<NameFault>>
+        requires { IsProperTree (cmd_tree body) }
         ensures ok { OnOk result (state_of self.new ≡ define (state_of self.old) name.now (cmd_tree body)) }
         ensures bad_name { IsErrOf result (InputError.Fault NameFault.BadName) ↔ (is_function_name name.now ≡ false) }
         ensures err { OnErr result (state_of self.new ≡ state_of self.old) }
@@ -184,6 +188,7 @@ impl State {
     /// Defines a function by a body that others have, too. An `Err` changes nothing.
     #[tactic(auto, using(crate::proofs::Bodies::bodies), unfolding(crate::specs::States::state_of))]
     pub fn define_shared(&mut self, name: &str, body: &Rc<Cmd>) -> Result<(), InputError<NameFault>>
+        requires { IsProperTree (cmd_tree body.now.value) }
         ensures ok { OnOk result (state_of self.new ≡ define (state_of self.old) name.now (cmd_tree body.now.value)) }
         ensures bad_name { IsErrOf result (InputError.Fault NameFault.BadName) ↔ (is_function_name name.now ≡ false) }
         ensures err { OnErr result (state_of self.new ≡ state_of self.old) }
@@ -198,6 +203,8 @@ impl State {
     /// Puts a function in, or another body in the place of its body.
     #[tactic(auto, using(crate::proofs::Bodies::bodies), unfolding(crate::specs::States::state_of))]
     fn insert_function(&mut self, name: &str, body: Rc<Cmd>) -> Result<(), AllocError>
+        requires name { IsTrue (is_function_name name.now) }
+        requires body { IsProperTree (cmd_tree body.value) }
         ensures ok { OnOk result (state_of self.new ≡ define (state_of self.old) name.now (cmd_tree body.value)) }
         ensures err { OnErr result (state_of self.new ≡ state_of self.old) }
     {
@@ -346,5 +353,29 @@ impl State {
         ensures { state_of self.new ≡ record (state_of self.old) { background = [] } }
     {
         self.background.clear();
+    }
+
+    /// The same state once more. The bodies of functions are shared.
+    #[tactic(auto, using(crate::proofs::Copies::functions), unfolding(crate::specs::States::state_of))]
+    pub fn copy(&self) -> Result<State, AllocError>
+        ensures { IfOk result (λ copy. state_of copy ≡ state_of self.now) }
+    {
+        Ok(State {
+            variables: self.variables.copy()?,
+            functions: self.functions.clone()?,
+            status: self.status.clone()?,
+            if_not: self.if_not,
+            strict: self.strict,
+            background: self.background.clone()?,
+        })
+    }
+
+    /// What holds of every state: the names of variables and functions are such names and in byte order, and the body
+    /// of each function is well formed.
+    #[tactic(auto, unfolding(crate::specs::States::state_of))]
+    pub fn proper(&self)
+        ensures { IsProper (state_of self.now) }
+    {
+        let _ = &self.status;
     }
 }

@@ -22,6 +22,19 @@ pub(crate) struct Value {
     pub covers: bool,
 }
 
+impl Clone for Value {
+    ghost use Rattle.rc_scope.specs.Copies.{IsValueCopy};
+
+    ghost is_clone = { IsValueCopy };
+
+    fn clone(&self) -> Result<Value, AllocError> {
+        Ok(Value {
+            texts: self.texts.clone()?,
+            covers: self.covers,
+        })
+    }
+}
+
 /// The values of variables: a name is looked for only among those that begin with its first byte.
 #[derive(Drop)]
 pub(crate) struct Values {
@@ -69,6 +82,8 @@ fn grow(
 }
 
 impl Values {
+    ghost use Rattle.rc_scope.specs.Copies.{AreCopies};
+
     /// No values.
     pub(crate) fn new(alloc: Global) -> Values
         ensures { result ≡ [] }
@@ -160,6 +175,15 @@ impl Values {
         }
         let row = &mut self.rows[row];
         let _ = row.remove(name);
+    }
+
+    /// The same values once more.
+    pub(crate) fn copy(&self) -> Result<Values, AllocError>
+        ensures { IfOk result (λ copy. AreCopies self.now copy) }
+    {
+        Ok(Values {
+            rows: self.rows.clone()?,
+        })
     }
 
     /// The rows, in byte order of their names.

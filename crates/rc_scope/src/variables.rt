@@ -293,4 +293,16 @@ impl Variables {
         }
         Ok(all)
     }
+
+    /// The same variables once more, with the open locals.
+    #[tactic(auto, using(crate::proofs::Copies::variables))]
+    pub(crate) fn copy(&self) -> Result<Variables, AllocError>
+        ensures stacks { IfOk result (λ copy. stacks_of copy ≡ stacks_of self.now) }
+        ensures locals { IfOk result (λ copy. locals_of copy ≡ locals_of self.now) }
+    {
+        Ok(Variables {
+            values: self.values.copy()?,
+            log: self.log.clone()?,
+        })
+    }
 }

@@ -8,10 +8,11 @@ use Rattle.rc_model.specs.Run.Plans.{calls_made}
 use Rattle.rc_model.specs.Run.Script.{Recorded, EndsAsMeant, IsBegunAsMeant}
 use Rattle.rc_model.specs.Run.State as model
 use Rattle.rc_scope.specs.States.{state_of}
-use Rattle.law_handed.proofs.Played.{traces_start_by_rule, traces_end_proper}
+use Rattle.rc_scope.proofs.ProperStates.{is_proper}
+use Rattle.law_handed.proofs.Played.{traces_start_by_rule}
 use Rattle.law_traces.proofs.Traces.{begun_loses_nothing, ended_leaves_nothing}
 use Rattle.rc_shell.specs.Outcome.{RunsAsMeant}
-use Rattle.rc_shell.specs.Executed.{LosesNothing, LeavesNothing, HandsOver, IfEnded}
+use Rattle.rc_shell.specs.Executed.{LosesNothing, LeavesNothing, IfEnded}
 use Rattle.rc_shell.specs.declared.run.Ran.{Ran}
 use Rattle.rc_shell.specs.declared.run.Ran.TheVariants.{Ended, Limit, Halted}
 use Rattle.rc_shell.specs.declared.run.ShellFault.{ShellFault}
@@ -45,26 +46,12 @@ module _ (before after : Option (List Event)) (limit : ℕ) (t : Node cmd) (s : 
   pub leaves_nothing : IsMeant → Recorded before after (LeavesNothing s result)
   leaves_nothing k = (k.0, k.1, leaves limit t s k.0 result k.2)
 
-  pub hands_over : IsProperTree t → IsMeant → Recorded before after (HandsOver t s)
-  hands_over c k = (k.0, k.1, λ p. traces_start_by_rule t s k.0 c p (begun limit t s k.0 result k.2))
-
-  -- from a proper state
   pub reads_back : IsProperTree t → IsProper s → IsMeant → Recorded before after (StartsByRule t s)
   reads_back c p k = (k.0, k.1, traces_start_by_rule t s k.0 c p (begun limit t s k.0 result k.2))
 
--- the state at the end is one with which the meaning ends
-pub at_end : (P : model.State → Type 0) (before after : Option (List Event)) (limit : ℕ) (t : Node cmd) (s : model.State) (result : Result Ran ShellFault) →
-    ((end : model.State) (trace : List Event) → EndsAsMeant t s trace end → P end) → IsMeant before after limit t s result → IfEnded result P
-at_end P before after limit t s (Ok (Ended end)) h k = h (state_of end) k.0 k.2.meant
-at_end P before after limit t s (Ok Limit) h k = tt
-at_end P before after limit t s (Ok Halted) h k = tt
-at_end P before after limit t s (Err e) h k = tt
-
-pub ends_proper : (before after : Option (List Event)) (limit : ℕ) (t : Node cmd) (s : model.State) (result : Result Ran ShellFault) → IsProperTree t → IsMeant before after limit t s result →
-    IfEnded result (λ end. IsProper s → IsProper end)
-ends_proper before after limit t s result c k = at_end (λ end. IsProper s → IsProper end) before after limit t s result (λ end trace m p. traces_end_proper t s end trace c p m) k
-
--- from a proper state
-pub ended_proper : (before after : Option (List Event)) (limit : ℕ) (t : Node cmd) (s : model.State) (result : Result Ran ShellFault) → IsProperTree t → IsProper s → IsMeant before after limit t s result →
-    IfEnded result (λ end. IsProper end)
-ended_proper before after limit t s result c p k = at_end (λ end. IsProper end) before after limit t s result (λ end trace m. traces_end_proper t s end trace c p m) k
+-- the state at the end is one that a value stands for
+pub ended_proper : (result : Result Ran ShellFault) → IfEnded result (λ end. IsProper end)
+ended_proper (Ok (Ended end)) = is_proper end
+ended_proper (Ok Limit) = tt
+ended_proper (Ok Halted) = tt
+ended_proper (Err e) = tt

@@ -3,3 +3,10 @@ pub mod Scripts
 pub mod Images
 pub mod Kept
 pub mod Limits
+pub mod Replays
+pub mod ReplayRuns
+pub mod Givens
+pub mod Launches
+pub mod Advances
+pub mod Stands
+pub mod Promises

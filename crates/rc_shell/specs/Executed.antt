@@ -8,8 +8,6 @@ use Rattle.rc_model.specs.Run.State as model
 use Rattle.rc_model.specs.Syntax.Accepted.{IsAccepted}
 use Rattle.rc_model.specs.Syntax.Tree.{Node, cmd}
 use Rattle.rc_model.specs.Handed.Arguments.{read_image}
-use Rattle.rc_model.specs.Handed.Proper.{IsProper}
-use Rattle.rc_model.specs.Handed.Started.{StartsByRule}
 use Rattle.rc_model.specs.Family.Accounts.{IsFresh, NothingLost, NothingLeft}
 use Rattle.rc_model.specs.declared.fault.SyntaxFault.{SyntaxFault}
 use Rattle.rc_model.specs.declared.fault.ImageFault.{ImageFault}
@@ -33,11 +31,6 @@ LosesNothing s trace = IsFresh s trace → NothingLost s trace
 abbrev pub LeavesNothing : model.State → Result Ran ShellFault → List Event → Type 0
 LeavesNothing s (Ok (Ended end)) trace = IsFresh s trace → NothingLeft s trace (state_of end)
 LeavesNothing s _ trace = Unit {0}
-
--- from a proper state each shell that was started was handed the command and the state of the rule to which the script
--- had come, and reads them back
-abbrev pub HandsOver : Node cmd → model.State → List Event → Type 0
-HandsOver t s trace = IsProper s → StartsByRule t s trace
 
 -- a fact of the state at the end, where there is one
 abbrev pub IfEnded : Result Ran ShellFault → (model.State → Type 0) → Type 0

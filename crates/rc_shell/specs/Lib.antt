@@ -1,2 +1,9 @@
 pub mod Outcome
 pub mod Executed
+pub mod Made
+pub mod Replays
+pub mod Reached
+pub mod Held
+pub mod Standings
+pub mod Families
+pub mod Changes

@@ -1,6 +1,7 @@
 //! Runs a tree from a state.
 
 ghost use Rattle.rc_machine.specs.Machines.{config_of};
+ghost use Rattle.rc_model.specs.Handed.Proper.{IsProperTree};
 ghost use Rattle.rc_model.specs.Run.Script.{Recorded};
 ghost use Rattle.rc_scope.specs.States.{state_of};
 ghost use Rattle.rc_shell.specs.Outcome.{IsOutcome, RunsAsMeant};
@@ -47,6 +48,7 @@ pub(crate) fn run_tree<W: World>(
     state: State,
     limit: u64,
 ) -> Result<Ran, ShellFault>
+    requires { IsProperTree (cmd_tree cmd) }
     ensures { Recorded (W.events world.old) (W.events world.new)
         (λ trace. RunsAsMeant limit (cmd_tree cmd) (state_of state) trace result) }
 {

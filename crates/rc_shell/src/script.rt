@@ -2,13 +2,14 @@
 
 ghost use Rattle.std.specs.Prelude.{◌≡◌, List, IfErr, OnOk};
 ghost use Rattle.rc_model.specs.Handed.Proper.{IsProper};
+ghost use Rattle.rc_model.specs.Handed.Started.{StartsByRule};
 ghost use Rattle.rc_model.specs.Run.Calls.{Answer};
 ghost use Rattle.rc_model.specs.Syntax.Accepted.{IsAccepted, IsRefused};
 ghost use Rattle.rc_model.specs.Run.Script.{Agrees, Recorded};
 ghost use Rattle.rc_model.specs.Syntax.Tree.{Node, cmd};
 ghost use Rattle.rc_shell.specs.Outcome.{RunsAsMeant};
 ghost use Rattle.rc_scope.specs.States.{state_of};
-ghost use Rattle.rc_shell.specs.Executed.{HandsOver, IfAccepted, IfEnded, IfSyntax, LeavesNothing, LosesNothing};
+ghost use Rattle.rc_shell.specs.Executed.{IfAccepted, IfEnded, IfSyntax, LeavesNothing, LosesNothing};
 ghost use Rattle.rc_shell.specs.Executed.{IsNotCutShort};
 
 use crate::run::{Ran, ShellFault, run_tree};
@@ -42,11 +43,11 @@ pub fn execute<W: World>(
     ensures left { IfAccepted script.now (W.events world.old) (W.events world.new)
         (LeavesNothing (state_of state) result) }
 
-    // From a proper state each shell that was started was handed the command and the state of the rule to which the
-    // script had come, and reads them back; and the state at the end is proper.
+    // Each shell that was started was handed the command and the state of the rule to which the script had come, and
+    // reads them back; and the state at the end is proper.
     ensures handed { (t : Node cmd) → IsAccepted script.now t →
-        Recorded (W.events world.old) (W.events world.new) (HandsOver t (state_of state)) }
-    ensures proper { IfEnded result (λ end. IsProper (state_of state) → IsProper end) }
+        Recorded (W.events world.old) (W.events world.new) (StartsByRule t (state_of state)) }
+    ensures proper { IfEnded result (λ end. IsProper end) }
 
     // Where the meaning ends or waits, so does the code, from some number of instructions on.
     ensures converse { (t : Node cmd) → IsAccepted script.now t →

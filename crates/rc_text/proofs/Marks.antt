@@ -108,6 +108,12 @@ module _ (text left right : List ℕ) (u : IsUtf8 left) (e : text ≡ left ++ ri
       ∙ ap (λ z. z ++ map (λ c. (c, mark)) (map (λ (m : ℕ × Bool). m.0) w)) i
       ∙ ap (λ z. v ++ z) j
 
+-- a text whose characters all have one mark, and behind it that of a word whose characters all have that mark
+pub followed : (before after next : List ℕ) (mark : Bool) (w : Word) → IsUtf8 before → after ≡ before ++ next → chars next ≡ map (λ (m : ℕ × Bool). m.0) w →
+    HaveMark mark w → map (λ c. (c, mark)) (chars after) ≡ map (λ c. (c, mark)) (chars before) ++ w
+followed before after next mark w u e k j =
+    joined_marks after before next u e (map (λ c. (c, mark)) (chars before)) w mark (sym (without mark (chars before))) k (one_mark mark (chars before)) j
+
 -- the text of a word at the end of another text, and a space before it
 unmarked_written : (w : Word) → map (λ c. (c, false)) (map (λ (m : ℕ × Bool). m.0) w) ≡ unmarked w
 unmarked_written [] = refl

@@ -118,6 +118,24 @@ impl Word {
         }
     }
 
+    /// The word with the characters of another behind its own. If all of them have one mark, the text of the first grows
+    /// in place.
+    pub fn followed_by(self, alloc: Global, next: &Word) -> Result<Word, AllocError>
+        ensures { IfOk result (λ word. word ≡ self ++ next.now) }
+    {
+        match (self.0, next.common_mark()) {
+            (Letters::Plain(mut text), Some(false)) => {
+                text.push_str(next.text())?;
+                Ok(Word::plain(text))
+            }
+            (Letters::Marked(mut text), Some(true)) => {
+                text.push_str(next.text())?;
+                Ok(Word(Letters::Marked(text)))
+            }
+            (letters, _) => Word::joined(alloc, &Word(letters), next),
+        }
+    }
+
     /// A text whose characters all have this mark, and none of them is a pattern character.
     fn with_mark(text: String, mark: bool) -> Word
         requires { has_pattern (map (λ c. (c, mark)) (chars (string_bytes text))) ≡ false }

@@ -1,4 +1,3 @@
 pub mod View
-pub mod Lines
 pub mod Fits
 pub mod Levels

@@ -1,19 +1,15 @@
-//! The tree of a script: its types, copies, depth, well-formedness and its text.
+//! The tree of a script: its types, copies, depth and well-formedness.
 #![tactic(auto)]
 
 mod clone;
 mod depth;
-mod form;
-mod here_inside;
-mod printed;
-mod printing;
+mod empty;
 mod soundness;
 mod types;
 
 pub use clone::clone_tree;
 pub use depth::is_within;
-pub use form::is_empty;
-pub use printed::{PrintFault, print};
+pub use empty::is_empty;
 pub use rc_model::{InputError, Logic, Mode};
 pub use soundness::well_formed;
 pub use types::{Arg, Branch, Cmd, Item, Piece, Redir, Stage};

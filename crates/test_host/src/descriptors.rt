@@ -2,9 +2,9 @@
 //! own as descriptors 1 and 2.
 use crate::host::{
     again, contents, enter_fresh_directory, granted, host, is_started_again, leave_directory, run,
-    script,
+    script, this_program,
 };
-use rc_host::{HostWorld, own_path};
+use rc_host::HostWorld;
 use rc_world::{Ending, Fault, Mode, PLAIN_SLOTS, Slot, Slots, World};
 use std::alloc::Global;
 use std::test::Fail;
@@ -62,7 +62,7 @@ fn have_their_places(rt: HostRuntime) -> Result<(), Fail> {
         output: Slot::To(output),
         errors: Slot::To(errors),
     };
-    let this = own_path(&rt)?;
+    let this = this_program(rt)?;
     let again = again(alloc, &mut host, &this, &[], slots)?;
     assert!(rt; run(&mut host, &again)? == Ending::Code(0));
     let first = "own\nplain\nboth-1\nboth-1!\nfile-output!\noutput-file\n\ntest result: ok\n";

@@ -1,10 +1,10 @@
 //! A host, and what is launched on it.
-use rc_host::{HostWorld, entries};
+use rc_host::{HostWorld, entries, own_path};
 use rc_world::{Ending, Fault, Handle, Launch, Mode, PLAIN_SLOTS, Program, Slots, World};
 use std::alloc::{AllocError, Global};
-use std::process;
 use std::rt::HostRuntime;
 use std::test::Fail;
+use std::{env, process};
 
 /// The entry that says that this process was started by its own test.
 const AGAIN: &str = "RC_HOST_TEST=again";
@@ -13,6 +13,11 @@ const AGAIN: &str = "RC_HOST_TEST=again";
 pub fn host(rt: HostRuntime) -> Result<HostWorld, AllocError> {
     let shell = String::from_str(rt.alloc(), "/bin/false")?;
     Ok(HostWorld::new(rt, shell))
+}
+
+/// The path of this program.
+pub fn this_program(rt: HostRuntime) -> Result<String, AllocError> {
+    own_path(rt.alloc(), env::current_exe(&rt), process::id(rt.process()))
 }
 
 /// What a call gave. A refusal fails the test; one out of memory does so by its own error.

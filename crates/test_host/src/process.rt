@@ -1,6 +1,6 @@
 //! What a program takes from its process: the test starts itself again, by way of `/bin/sh`.
-use crate::host::{again, granted, host, is_started_again, run, run_script};
-use rc_host::{ArgumentsFault, InputError, arguments, entries, open_standard, own_path};
+use crate::host::{again, granted, host, is_started_again, run, run_script, this_program};
+use rc_host::{ArgumentsFault, InputError, arguments, entries, open_standard};
 use rc_world::{Ending, Mode, PLAIN_SLOTS, World};
 use std::test::Fail;
 
@@ -33,7 +33,7 @@ fn is_taken(rt: HostRuntime) -> Result<(), Fail> {
     }
     let words = arguments(&rt)?;
     assert!(rt; words.len() == 1 && words[0].as_str() == "process::is_taken");
-    let this = own_path(&rt)?;
+    let this = this_program(rt)?;
     let again = again(
         alloc,
         &mut host,

@@ -11,56 +11,55 @@ use std::fs;
 /// What stands between a call and its answer.
 const ARROW: &str = " > ";
 
-/// Makes the calls of some lines, and prints those that are answered otherwise.
-fn check_lines(rt: HostRuntime, alloc: Global, host: &mut HostWorld, lines: &str) -> Result<()> {
+/// Makes the calls of some lines, prints those that are answered otherwise, and says whether there is none.
+fn check_lines(rt: HostRuntime, alloc: Global, host: &mut HostWorld, lines: &str) -> Result<bool> {
+    let mut are_well = true;
     for line in lines.lines() {
         if let Some((call, wanted)) = line.split_once(ARROW) {
             let came = answer(alloc, host, call)?;
             if came.as_str() != wanted {
                 println!(rt; "{call} > {came} in place of {wanted}")?;
+                are_well = false;
             }
         }
     }
-    Ok(())
+    Ok(are_well)
 }
 
 /// Makes the calls of some lines as often as the line above them says.
-fn check_part(rt: HostRuntime, alloc: Global, host: &mut HostWorld, part: &str) -> Result<()> {
+fn check_part(rt: HostRuntime, alloc: Global, host: &mut HostWorld, part: &str) -> Result<bool> {
     let (times, lines) = match part.split_once(" times:\n") {
         Some((times, lines)) => (times.parse::<u32>()?, lines),
         None => (1, part),
     };
+    let mut are_well = true;
     for _ in 0..times {
-        check_lines(rt, alloc, host, lines)?;
+        are_well &= check_lines(rt, alloc, host, lines)?;
     }
-    Ok(())
+    Ok(are_well)
 }
 
 /// Makes the calls of a row, part by part: an empty line stands between two parts.
-fn check_row(rt: HostRuntime, alloc: Global, row: &str) -> Result<()> {
+fn check_row(rt: HostRuntime, alloc: Global, row: &str) -> Result<bool> {
     let shell = String::from_str(alloc, "/bin/false")?;
     let mut host = HostWorld::new(rt, shell);
+    let mut are_well = true;
     for part in row.split("\n\n") {
-        check_part(rt, alloc, &mut host, part)?;
+        are_well &= check_part(rt, alloc, &mut host, part)?;
     }
-    Ok(())
+    Ok(are_well)
 }
 
-/// Makes the calls of each row, and prints its name and those that are answered otherwise.
-pub fn check_all(rt: HostRuntime, alloc: Global) -> Result<()> {
-    for name in ["files.calls", "children.calls"] {
-        let text = fs::read_to_string(&rt, name)?;
-        check_file(rt, alloc, text.as_str())?;
-    }
-    Ok(())
-}
-
-/// Makes the calls of the rows of a file.
-fn check_file(rt: HostRuntime, alloc: Global, rows: &str) -> Result<()> {
-    for row in rows.split("## ").skip(1) {
+/// Makes the calls of the rows of a file, prints those that are answered otherwise, and says whether there is none.
+pub fn check_file(rt: HostRuntime, alloc: Global, file: &str) -> Result<bool> {
+    let text = fs::read_to_string(&rt, file)?;
+    let mut are_well = true;
+    for row in text.split("## ").skip(1) {
         let (name, calls) = row.split_once('\n').unwrap_or((row, ""));
-        println!(rt; "{name}")?;
-        check_row(rt, alloc, calls)?;
+        if !check_row(rt, alloc, calls)? {
+            println!(rt; "{name} differs")?;
+            are_well = false;
+        }
     }
-    Ok(())
+    Ok(are_well)
 }

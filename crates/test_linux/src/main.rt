@@ -1,6 +1,6 @@
 //! Calls of the world on Linux, and runs of the shell as a process of its own: what is answered, how it ends, and what
-//! it writes. With arguments, this program is itself the shell: after a first word `rc` with the others, and else with all
-//! of them, as it is started where a shell starts itself.
+//! it writes. With arguments, this program is itself the shell: after a first word `rc` with the others, and else with
+//! all of them, as it is started where a shell starts itself.
 #![tactic(auto)]
 
 mod answers;
@@ -14,6 +14,27 @@ use anyhow::Result;
 use rc_host::{arguments, own_path};
 use rc_process::{refuse, run};
 use std::process::ExitCode;
+use std::{env, process};
+
+/// Says whether the rows of this file are as wanted.
+fn report(rt: &HostRuntime, file: &str, are_well: bool) -> Result<()> {
+    let result = if are_well {
+        "as wanted"
+    } else {
+        "not as wanted"
+    };
+    println!(rt; "{file}: {result}")?;
+    Ok(())
+}
+
+/// Checks the rows of each file, and says of each whether they are as wanted.
+fn check_all(rt: HostRuntime) -> Result<()> {
+    for file in ["files.calls", "children.calls"] {
+        report(&rt, file, call_rows::check_file(rt, rt.alloc(), file)?)?;
+    }
+    let this = own_path(rt.alloc(), env::current_exe(&rt), process::id(rt.process()))?;
+    report(&rt, "runs.rows", runs::check_all(&rt, &this)?)
+}
 
 fn main(rt: HostRuntime) -> Result<ExitCode> {
     let arguments = match arguments(&rt) {
@@ -22,8 +43,7 @@ fn main(rt: HostRuntime) -> Result<ExitCode> {
     };
     match arguments.as_slice() {
         [] => {
-            call_rows::check_all(rt, rt.alloc())?;
-            runs::show_all(&rt, &own_path(&rt)?)?;
+            check_all(rt)?;
             Ok(ExitCode::SUCCESS)
         }
         [first, further @ ..] if first.as_str() == "rc" => Ok(run(rt, further)),

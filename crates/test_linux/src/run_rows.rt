@@ -3,7 +3,10 @@
 use anyhow::{Result, bail};
 use std::alloc::{AllocError, Global};
 
-/// A run: what it shows, and what the shell is given.
+/// What stands before the result of a run.
+const RESULT: &str = "\nresult: ";
+
+/// A run: what it shows, what the shell is given, and what is to come of it.
 #[derive(Drop)]
 pub struct Row {
     pub name: String,
@@ -14,6 +17,8 @@ pub struct Row {
     /// The file that the shell reads, if it reads no script.
     pub input: Option<String>,
     pub script: String,
+    /// The status, and the lines that the shell writes, each after its descriptor.
+    pub result: String,
 }
 
 /// A word, in which `\n` stands for a newline.
@@ -37,17 +42,30 @@ fn repeated(alloc: Global, text: &str, times: u32) -> Result<String, AllocError>
     Ok(whole)
 }
 
+/// The script of these lines, the last of which has an end, too.
+fn script_of(alloc: Global, lines: &str) -> Result<String, AllocError> {
+    let mut script = String::from_str(alloc, lines)?;
+    if !lines.is_empty() {
+        script.push('\n')?;
+    }
+    Ok(script)
+}
+
 impl Row {
     /// The row that is written so.
     pub fn read(alloc: Global, written: &str) -> Result<Row> {
-        let (head, script) = written.split_once("script:\n").unwrap_or((written, ""));
+        let Some((given, result)) = written.split_once(RESULT) else {
+            bail!("a row has no result");
+        };
+        let (head, script) = given.split_once("script:\n").unwrap_or((given, ""));
         let (name, options) = head.split_once('\n').unwrap_or((head, ""));
         let mut row = Row {
             name: String::from_str(alloc, name)?,
             words: Vec::new(alloc),
             starter: None,
             input: None,
-            script: String::from_str(alloc, script)?,
+            script: script_of(alloc, script)?,
+            result: String::from_str(alloc, result)?,
         };
         for option in options.lines() {
             row.take(alloc, option)?;

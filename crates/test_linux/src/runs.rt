@@ -1,4 +1,4 @@
-//! The runs, and how each is shown.
+//! The runs, and what comes of each.
 
 use crate::run_rows::Row;
 use anyhow::Result;
@@ -9,30 +9,38 @@ use std::io::{self, Write};
 use std::process::{Child, Command, Output, Processes, Stdio};
 use std::rt::Files;
 
-/// Shows the run of each row: its status, what it wrote to descriptor 1, and what to descriptor 2.
-pub fn show_all<R: Print + Files<File = File> + Processes + AllocGlobal>(
+/// Makes the run of each row, prints what comes of those that are not as wanted, and says whether there is none.
+pub fn check_all<R: Print + Files<File = File> + Processes + AllocGlobal>(
     rt: &R,
     own_path: &str,
-) -> Result<()> {
+) -> Result<bool> {
     let text = fs::read_to_string(rt, "runs.rows")?;
+    let mut are_well = true;
     for written in text.split("\n## ").skip(1) {
         let row = Row::read(rt.alloc(), written)?;
-        show_run(rt, &row, own_path)?;
+        are_well &= check_run(rt, &row, own_path)?;
     }
-    Ok(())
+    Ok(are_well)
 }
 
-fn show_run<R: Print + Files<File = File> + Processes + AllocGlobal>(
+fn check_run<R: Print + Files<File = File> + Processes + AllocGlobal>(
     rt: &R,
     row: &Row,
     own_path: &str,
-) -> Result<()> {
+) -> Result<bool> {
     let mut shell = shell_of(rt.alloc(), row, own_path)?;
     let output = match &row.input {
         Some(path) => with_file(rt, shell, path)?,
         None => with_script(rt, &mut shell, row.script.as_bytes())?,
     };
-    show(rt, &row.name, &output)
+    let result = result_of(rt.alloc(), &output)?;
+    if result.trim_end_matches('\n') == row.result.trim_end_matches('\n') {
+        return Ok(true);
+    }
+    let name = row.name.as_str();
+    let wanted = row.result.as_str();
+    println!(rt; "{name} differs: {result}in place of {wanted}")?;
+    Ok(false)
 }
 
 /// The shell as a process without an environment, which a row starts so.
@@ -107,16 +115,18 @@ fn give<W: Write + Drop>(input: Option<W>, script: &[u8]) -> io::Result<()> {
     Ok(())
 }
 
-fn show<R: Print>(rt: &R, what: &str, output: &Output) -> Result<()> {
+/// The status, and the lines that were written, as a row has them.
+fn result_of(alloc: Global, output: &Output) -> Result<String, AllocError> {
     let status = output.status.code().unwrap_or(-1);
-    println!(rt; "{what}: {status}")?;
-    show_lines(rt, "1", output.stdout.as_slice())?;
-    show_lines(rt, "2", output.stderr.as_slice())
+    let mut result = format!(in alloc; "{status}\n")?;
+    add_lines(&mut result, "1", output.stdout.as_slice())?;
+    add_lines(&mut result, "2", output.stderr.as_slice())?;
+    Ok(result)
 }
 
-fn show_lines<R: Print>(rt: &R, descriptor: &str, bytes: &[u8]) -> Result<()> {
+fn add_lines(out: &mut String, descriptor: &str, bytes: &[u8]) -> Result<(), AllocError> {
     for line in std::str::from_utf8(bytes).unwrap_or("not UTF-8").lines() {
-        println!(rt; "    {descriptor}> {line}")?;
+        write!(out, "{descriptor}> {line}\n")?;
     }
     Ok(())
 }

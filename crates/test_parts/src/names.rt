@@ -1,8 +1,7 @@
 //! `whatis`.
 
-use crate::support::{failure, list, state_with};
+use crate::support::{empty, failure, list, state_with};
 use rc_builtin::whatis;
-use rc_tree::Cmd;
 use rc_world::{Answer, Call, Kind, PLAIN_SLOTS, Tape};
 use std::test::Fail;
 
@@ -10,7 +9,7 @@ use std::test::Fail;
 fn out_of_memory_is_reported(rt: HostRuntime) -> Result<(), Fail> {
     let alloc = rt.alloc();
     let mut state = state_with(alloc, "path", &["/bin"])?;
-    state.define("f", Cmd::Empty)?;
+    state.define("f", empty())?;
     let mut tape = Tape::new(vec![in alloc; Answer::Found(Kind::Program), Answer::Done]?);
     let names = list(alloc, &["path", "f", "cd", "ls"])?;
     whatis(alloc, &mut tape, &mut state, PLAIN_SLOTS, &names).map_err(failure)?;

@@ -1,11 +1,18 @@
 //! The state of a shell, which stays as it is where memory is refused.
 
-use crate::support::{list, state_with};
+use crate::support::{empty, list, state_with};
 use rc_scope::State;
-use rc_tree::Cmd;
 use rc_world::ChildNo;
+use std::alloc::Global;
 use std::rc::Rc;
 use std::test::Fail;
+
+/// A state in which a local covers a variable.
+fn covering_state(alloc: Global) -> Result<State, Fail> {
+    let mut state = state_with(alloc, "x", &["a"])?;
+    state.push_local("x", list(alloc, &["b", "c"])?)?;
+    Ok(state)
+}
 
 #[test]
 fn out_of_memory_sets_no_variable(rt: HostRuntime) -> Result<(), Fail> {
@@ -60,7 +67,7 @@ fn out_of_memory_opens_no_local_of_the_status(rt: HostRuntime) -> Result<(), Fai
 #[test]
 fn out_of_memory_defines_nothing(rt: HostRuntime) -> Result<(), Fail> {
     let mut state = State::new(rt.alloc());
-    let defined = state.define("f", Cmd::Empty);
+    let defined = state.define("f", empty());
     assert_eq!(rt; state.function("f").is_some(), defined.is_ok());
     defined?;
     Ok(())
@@ -70,10 +77,43 @@ fn out_of_memory_defines_nothing(rt: HostRuntime) -> Result<(), Fail> {
 fn out_of_memory_shares_no_body(rt: HostRuntime) -> Result<(), Fail> {
     let alloc = rt.alloc();
     let mut state = State::new(alloc);
-    let body = Rc::new(alloc, Cmd::Empty)?;
+    let body = Rc::new(alloc, empty())?;
     let defined = state.define_shared("f", &body);
     assert_eq!(rt; state.function("f").is_some(), defined.is_ok());
     defined?;
+    Ok(())
+}
+
+#[test]
+fn out_of_memory_makes_no_copy(rt: HostRuntime) -> Result<(), Fail> {
+    let alloc = rt.alloc();
+    let state = covering_state(alloc)?;
+    let copied = state.copy();
+    assert_eq!(rt; state.value("x").len(), 2);
+    let copy = copied?;
+    assert_eq!(rt; copy.value("x").len(), 2);
+    Ok(())
+}
+
+#[test]
+fn a_copy_is_a_state_of_its_own(rt: HostRuntime) -> Result<(), Fail> {
+    let alloc = rt.alloc();
+    let mut state = covering_state(alloc)?;
+    state.define("f", empty())?;
+    assert!(rt; state.code("f")?.is_some());
+    state.set_if_not(true);
+    state.add_child(ChildNo(7))?;
+    let mut copy = state.copy()?;
+    state.remove("f");
+    state.set_if_not(false);
+    state.clear_children();
+    assert_eq!(rt; copy.value("x").len(), 2);
+    assert!(rt; copy.function("f").is_some());
+    assert!(rt; copy.if_not() && !copy.strict());
+    assert_eq!(rt; copy.children().len(), 1);
+    copy.pop_local();
+    assert_eq!(rt; copy.value("x").len(), 1);
+    assert_eq!(rt; state.value("x").len(), 2);
     Ok(())
 }
 

@@ -1,6 +1,10 @@
 //! What the tests share.
 
+ghost use Rattle.rc_model.specs.Handed.Proper.{IsProperTree};
+ghost use Rattle.rc_tree.specs.View.{cmd_tree};
+
 use rc_scope::State;
+use rc_tree::Cmd;
 use rc_world::Stop;
 use std::alloc::{AllocError, Global};
 use std::test::Fail;
@@ -18,6 +22,14 @@ pub fn state_with(alloc: Global, name: &str, members: &[&str]) -> Result<State, 
     let mut state = State::new(alloc);
     state.set(name, list(alloc, members)?)?;
     Ok(state)
+}
+
+/// The empty command, which is well formed.
+#[tactic(auto, unfolding(rc_tree::specs::View::cmd_tree))]
+pub fn empty() -> Cmd
+    ensures { IsProperTree (cmd_tree result) }
+{
+    Cmd::Empty
 }
 
 /// Where a command stopped, as the failure of its test.

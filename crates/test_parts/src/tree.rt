@@ -1,7 +1,8 @@
 //! The bounds of a well formed tree, and the text of a copy where memory is refused.
 
 use rc_parser::{ScriptError, parse};
-use rc_tree::{Cmd, InputError, PrintFault, Stage, clone_tree, print, well_formed};
+use rc_print::{PrintFault, print};
+use rc_tree::{Cmd, InputError, Stage, clone_tree, well_formed};
 use std::alloc::{AllocError, Global};
 use std::test::Fail;
 

@@ -1,5 +1,9 @@
 //! The run of a script on a machine over a world that refuses no call, for runs in which an allocation is refused.
 
+ghost use Rattle.std.specs.Prelude.{IfOk};
+ghost use Rattle.rc_model.specs.Handed.Proper.{IsProperTree};
+ghost use Rattle.rc_tree.specs.View.{cmd_tree};
+
 use crate::calls::print_call;
 use crate::runs::{LIMIT, state};
 use crate::scripts::Script;
@@ -63,6 +67,9 @@ fn code_of(alloc: Global, script: Script) -> Result<Code> {
 }
 
 /// The tree of a script, in a box: each place that may drop a tree takes long to prove.
-fn tree_of(alloc: Global, script: Script) -> Result<Box<Cmd>, InputError<SyntaxFault>> {
+#[tactic(auto, using(law_handed::proofs::Characters::accepted_are_scripts))]
+fn tree_of(alloc: Global, script: Script) -> Result<Box<Cmd>, InputError<SyntaxFault>>
+    ensures { IfOk result (λ tree. IsProperTree (cmd_tree tree.value)) }
+{
     Ok(Box::new(alloc, parse(alloc, script.text.as_bytes())?)?)
 }

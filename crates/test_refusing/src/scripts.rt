@@ -8,7 +8,7 @@ pub struct Script {
 }
 
 /// The scripts. Each kind of call is made by one of them.
-pub const SCRIPTS: [Script; 24] = [
+pub const SCRIPTS: [Script; 25] = [
     Script {
         name: "a_pattern_beside_a_value",
         text: "x='*'; echo $x *",
@@ -64,6 +64,10 @@ pub const SCRIPTS: [Script; 24] = [
     Script {
         name: "a_job_and_two_waits",
         text: "a & wait; wait",
+    },
+    Script {
+        name: "a_job_and_a_wait_for_it",
+        text: "a & wait $apid; wait",
     },
     Script {
         name: "a_program_of_the_path",

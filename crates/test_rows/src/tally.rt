@@ -36,10 +36,12 @@ impl Tally {
         write!(out, "{written}: {came} in place of {wanted}\n")
     }
 
-    /// Writes how many rows the file has, and how many of them differ.
+    /// Writes whether each row of the file is as wanted, or how many of them differ.
     pub fn report(&self, out: &mut String, file: &str) -> Result<(), AllocError> {
-        let rows = self.rows;
-        let differing = self.differing;
-        write!(out, "{file}: {rows} rows, {differing} differ\n")
+        match (self.rows, self.differing) {
+            (0, _) => write!(out, "{file}: no rows\n"),
+            (_, 0) => write!(out, "{file}: as wanted\n"),
+            (rows, differing) => write!(out, "{file}: {differing} of {rows} rows differ\n"),
+        }
     }
 }

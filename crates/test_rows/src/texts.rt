@@ -1,6 +1,6 @@
 //! How texts are written. After a backslash stand `n` for a newline, `t` for a tab, `s` for a space, `0`, `1` and `2`
-//! for these bytes, `f` and `e` for the bytes 0xff and 0xe2, and `\` for itself; and `(20*a\)` after one is 20 times
-//! `a`.
+//! for these bytes, `f`, `e` and `c` for the bytes 0xff, 0xe2 and 0xc3, and `\` for itself; and `(20*a\)` after one is
+//! 20 times `a`.
 
 use std::alloc::{AllocError, Global};
 use std::str;
@@ -16,6 +16,7 @@ fn escaped(byte: u8) -> u8 {
         b'2' => 2,
         b'f' => 0xff,
         b'e' => 0xe2,
+        b'c' => 0xc3,
         _ => byte,
     }
 }

@@ -4,6 +4,8 @@
 #[cfg(test)]
 mod copies;
 #[cfg(test)]
+mod family;
+#[cfg(test)]
 mod program;
 #[cfg(test)]
 mod shell;

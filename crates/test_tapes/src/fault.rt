@@ -4,6 +4,7 @@ use rc_model::{ImageFault, InputError, SyntaxFault};
 use rc_scope::NameFault;
 use std::alloc::{AllocError, AllocFailed};
 use std::num::ParseIntError;
+use test_calls::AnswerError;
 
 /// Why nothing comes of a row.
 #[derive(Clone, Copy)]
@@ -56,6 +57,15 @@ impl From<InputError<ImageFault>> for RowError {
         match error {
             InputError::Fault(_) => RowError::Refused,
             InputError::NoMemory => RowError::NoMemory,
+        }
+    }
+}
+
+impl From<AnswerError> for RowError {
+    fn from(error: AnswerError) -> Self {
+        match error {
+            AnswerError::NoAnswer => RowError::BadRow,
+            AnswerError::NoMemory => RowError::NoMemory,
         }
     }
 }

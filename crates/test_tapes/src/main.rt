@@ -1,4 +1,5 @@
-//! Runs each row of the files `*.rows` that lie here over a tape, and names it, or says what differs.
+//! Runs each row of the files `*.rows` that lie here over a tape, and says of each file whether its rows are as wanted,
+//! and of a row that is not what differs.
 #![tactic(auto)]
 
 mod answers;
@@ -37,28 +38,22 @@ fn difference_of(alloc: Global, written: &str) -> Result<Option<String>, RowErro
     difference(alloc, &row)
 }
 
-/// Adds the name of a row, with what differs, and says whether nothing does.
+/// Adds what differs in a row, and says whether nothing does.
 fn is_well(alloc: Global, out: &mut String, row: &str) -> Result<bool, AllocError> {
     let (name, written) = row.split_once('\n').unwrap_or((row, ""));
     match difference_of(alloc, written) {
-        Ok(None) => write!(out, "{name}\n")?,
-        Ok(Some(difference)) => {
-            write!(out, "{name} differs, {difference}\n")?;
-            return Ok(false);
-        }
+        Ok(None) => return Ok(true),
+        Ok(Some(difference)) => write!(out, "{name} differs, {difference}\n")?,
         Err(RowError::NoMemory) => return Err(AllocError),
-        Err(_) => {
-            write!(out, "{name} is no row\n")?;
-            return Ok(false);
-        }
+        Err(_) => write!(out, "{name} is no row\n")?,
     }
-    Ok(true)
+    Ok(false)
 }
 
-/// Adds the name of each row of a file, with what differs, and says whether none does.
+/// Adds what differs in the rows of a file, and says whether it has rows and nothing does.
 fn are_well(alloc: Global, out: &mut String, text: &str) -> Result<bool, AllocError> {
     let begun = format!(in alloc; "\n{text}")?;
-    let mut are_well = true;
+    let mut are_well = begun.contains("\n## ");
     for row in begun.split("\n## ").skip(1) {
         are_well &= is_well(alloc, out, row)?;
     }
@@ -70,7 +65,12 @@ fn check_file(rt: &HostRuntime, name: &str) -> Result<bool> {
     let text = fs::read_to_string(rt, name)?;
     let mut out = String::new(rt.alloc());
     let are_well = are_well(rt.alloc(), &mut out, text.as_str())?;
-    print!(rt; "{out}")?;
+    let result = if are_well {
+        "as wanted"
+    } else {
+        "not as wanted"
+    };
+    print!(rt; "{out}{name}: {result}\n")?;
     Ok(are_well)
 }
 

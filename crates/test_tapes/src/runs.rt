@@ -1,5 +1,9 @@
 //! The runs of a row.
 
+ghost use Rattle.std.specs.Prelude.{IfOk};
+ghost use Rattle.rc_model.specs.Handed.Proper.{IsProperTree};
+ghost use Rattle.rc_tree.specs.View.{cmd_tree};
+
 use crate::answers::Calls;
 use crate::fault::RowError;
 use crate::rows::{Handed, Row};
@@ -73,7 +77,10 @@ fn run_program(alloc: Global, row: &Row<'_>, tape: &mut Tape) -> Result<Story, R
 }
 
 /// The tree of a script, in a box: each place that may drop a tree takes long to prove.
-fn tree_of(alloc: Global, script: &[u8]) -> Result<Box<Cmd>, ScriptError> {
+#[tactic(auto, using(law_handed::proofs::Characters::accepted_are_scripts))]
+fn tree_of(alloc: Global, script: &[u8]) -> Result<Box<Cmd>, ScriptError>
+    ensures { IfOk result (λ tree. IsProperTree (cmd_tree tree.value)) }
+{
     Ok(Box::new(alloc, parse(alloc, script)?)?)
 }
 
@@ -91,7 +98,9 @@ fn machine_of_script(alloc: Global, row: &Row<'_>) -> Result<Box<Machine>, RowEr
 }
 
 /// The tree and the state of an image, in a box.
-fn image_of(alloc: Global, handed: &Handed) -> Result<Box<(Cmd, State)>, ImageError> {
+fn image_of(alloc: Global, handed: &Handed) -> Result<Box<(Cmd, State)>, ImageError>
+    ensures { IfOk result (λ image. IsProperTree (cmd_tree image.value.0)) }
+{
     let (words, entries) = (&handed.words, &handed.entries);
     Ok(Box::new(alloc, read_image(alloc, handed.is_strict, words, entries)?)?)
 }

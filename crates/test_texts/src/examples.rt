@@ -2,7 +2,8 @@
 
 use crate::trees::{fault_line, tree_of};
 use anyhow::Result;
-use rc_tree::{Cmd, InputError, PrintFault, print};
+use rc_print::{PrintFault, print};
+use rc_tree::{Cmd, InputError};
 use std::alloc::{AllocError, Global};
 use std::fs;
 

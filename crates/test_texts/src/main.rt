@@ -2,12 +2,14 @@
 //! examples that lie here.
 #![tactic(auto)]
 
+mod cuts;
 mod dump;
 mod examples;
 mod handed_layers;
 mod handed_rows;
 mod images;
 mod options;
+mod random_cuts;
 mod row_error;
 mod row_texts;
 mod script_layers;
@@ -18,6 +20,7 @@ mod trees;
 
 use anyhow::Result;
 use std::fs;
+use test_rows::Tally;
 
 /// Compares the rows of scripts.
 fn compare_scripts(rt: &HostRuntime, out: &mut String) -> Result<()> {
@@ -27,10 +30,22 @@ fn compare_scripts(rt: &HostRuntime, out: &mut String) -> Result<()> {
         ("trees", Layer::Trees),
         ("texts", Layer::Texts),
         ("faults", Layer::Faults),
+        ("cuts", Layer::Cuts),
     ] {
         let rows = fs::read_to_string(rt, name)?;
         script_rows::compare(rt.alloc(), out, rows.as_str(), layer, name)?;
     }
+    Ok(())
+}
+
+/// Cuts the scripts of these rows at random places.
+fn compare_cuts(rt: &HostRuntime, out: &mut String) -> Result<()> {
+    let mut tally = Tally::new();
+    for name in ["trees", "texts", "faults"] {
+        let rows = fs::read_to_string(rt, name)?;
+        random_cuts::compare(rt.alloc(), out, rows.as_str(), &mut tally)?;
+    }
+    tally.report(out, "cut at random places")?;
     Ok(())
 }
 
@@ -53,6 +68,7 @@ fn compare_handed(rt: &HostRuntime, out: &mut String) -> Result<()> {
 fn main(rt: HostRuntime) -> Result<()> {
     let mut out = String::new(rt.alloc());
     compare_scripts(&rt, &mut out)?;
+    compare_cuts(&rt, &mut out)?;
     compare_handed(&rt, &mut out)?;
     print!(rt; "{out}")?;
     examples::read_all(&rt)

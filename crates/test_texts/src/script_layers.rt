@@ -1,11 +1,13 @@
-//! What comes of a script: its tokens, its tree, the text of that, or its fault.
+//! What comes of a script: its tokens, its tree, the text of that, or its fault; and whether that comes of its pieces.
 
+use crate::cuts::cut_everywhere;
 use crate::dump::dump;
 use crate::tokens::tokens_shown;
 use crate::trees::{fault_line, refused, tree_of};
 use rc_lexer::lex;
 use rc_parser::InputError;
-use rc_tree::{Cmd, clone_tree, print};
+use rc_print::print;
+use rc_tree::{Cmd, clone_tree};
 use std::alloc::{AllocError, Global};
 use std::str;
 
@@ -16,6 +18,7 @@ pub enum Layer {
     Trees,
     Texts,
     Faults,
+    Cuts,
 }
 
 impl Layer {
@@ -26,6 +29,7 @@ impl Layer {
             Layer::Trees => tree_both_ways(alloc, script),
             Layer::Texts => text(alloc, script),
             Layer::Faults => fault(alloc, script),
+            Layer::Cuts => cut_everywhere(alloc, script),
         }
     }
 }

@@ -5,7 +5,7 @@ use std::alloc::{AllocError, Global};
 use test_rows::{Tally, bytes};
 
 /// What stands between a script and what is wanted.
-const ARROW: &str = "  ==>  ";
+pub const ARROW: &str = "  ==>  ";
 
 /// What stands between things one of which is wanted.
 const OR: &str = "  or  ";

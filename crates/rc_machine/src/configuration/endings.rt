@@ -4,7 +4,8 @@ ghost use Rattle.std.specs.Prelude.{◌≡◌, ◌<◌, ◌∷◌, [], Some};
 ghost use Rattle.rc_model.specs.Code.Machine.{Over, end_waits, unwind};
 ghost use Rattle.rc_model.specs.Run.State as model;
 ghost use Rattle.rc_machine.specs.Configurations.{scopes_of};
-ghost use Rattle.rc_scope.specs.States.{child_numbers, state_of};
+ghost use Rattle.rc_scope.specs.Children.{child_numbers};
+ghost use Rattle.rc_scope.specs.States.{state_of};
 ghost use Rattle.rc_world.specs.Comes.{Comes};
 ghost use Rattle.rc_model.specs.Run.Values.{bad_name};
 

@@ -3,6 +3,7 @@
 ghost use Rattle.std.specs.Prelude.{◌≡◌, ◌<◌, ◌^◌, OnOk, IfOk, Some, map, string_bytes};
 ghost use Rattle.rc_model.specs.Code.Machine.{act};
 ghost use Rattle.rc_model.specs.Code.Layout as op;
+ghost use Rattle.rc_model.specs.Handed.Proper.{IsProperTree};
 ghost use Rattle.rc_model.specs.Run.State.{undefine};
 ghost use Rattle.rc_code.specs.Views.{code_of};
 ghost use Rattle.rc_scope.specs.States.{state_of};
@@ -26,6 +27,7 @@ use std::rc::Rc;
 
 /// Gives each of these names this body as its function, up to the first that can't be one.
 fn define_each(state: &mut State, names: &[String], body: &Rc<Cmd>) -> Result<bool, AllocError>
+    requires { IsProperTree (cmd_tree body.now.value) }
     ensures { IfOk result (λ all.
         Defines (map string_bytes names.now) (cmd_tree body.now.value) (state_of state.old) (state_of state.new) all) }
 {

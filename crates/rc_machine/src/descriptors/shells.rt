@@ -6,7 +6,7 @@ ghost use Rattle.rc_model.specs.Code.Layout as op;
 ghost use Rattle.rc_machine.specs.Configurations.{config_of};
 ghost use Rattle.rc_machine.specs.Steps.{Steps};
 ghost use Rattle.rc_machine.specs.Pipelines.{last_begun};
-ghost use Rattle.rc_scope.specs.States.{child_numbers};
+ghost use Rattle.rc_scope.specs.Children.{child_numbers};
 
 use crate::configuration::lookups::put_members;
 use crate::configuration::parts::Scope;

@@ -1,6 +1,6 @@
 //! Instructions that work on the lists of words.
 
-ghost use Rattle.std.specs.Prelude.{◌≡◌, ℕ, Bool, List, ◌<◌, ◌^◌, Some, IfOk};
+ghost use Rattle.std.specs.Prelude.{◌≡◌, ℕ, Bool, List, ◌<◌, ◌^◌, Some, IfOk, MatchOption};
 ghost use Rattle.rc_model.specs.Code.Machine.{act};
 ghost use Rattle.rc_model.specs.Code.Layout as op;
 ghost use Rattle.rc_model.specs.Syntax.Words.{has_pattern, written};
@@ -55,6 +55,22 @@ pub(crate) fn join(machine: &mut Configuration) -> Move
     Move::On
 }
 
+/// The two lists on top become one if each has one word: the text of the first grows in place.
+fn concat_pair(machine: &mut Configuration, alloc: Global) -> Result<Option<Move>, AllocError>
+    requires { machine.old.place < 2 ^ 63 }
+    ensures { IfOk result (λ joined. MatchOption joined (config_of machine.new ≡ config_of machine.old)
+        (λ moved. Leads (act (Some op.Concat) (config_of machine.old)) (config_of machine.new) moved)) }
+{
+    let Some((first, second)) = machine.words.take_pair() else {
+        return Ok(None);
+    };
+    let joined = first.followed_by(alloc, &second)?;
+    machine.words.begin()?;
+    machine.words.push(joined)?;
+    machine.place += 1;
+    Ok(Some(Move::On))
+}
+
 /// The two lists on top become one, their words joined.
 #[tactic(auto, using(crate::proofs::Left::step_refused))]
 pub(crate) fn concat<W: World>(
@@ -66,6 +82,9 @@ pub(crate) fn concat<W: World>(
     ensures { Steps (W.events world.old) (W.events world.new)
         (act (Some op.Concat) (config_of machine.old)) (config_of machine.new) result }
 {
+    if let Some(moved) = concat_pair(machine, alloc)? {
+        return Ok(moved);
+    }
     let Some((first, second)) = machine.words.top_two() else {
         return Ok(Move::Ended);
     };

@@ -3,7 +3,7 @@
 pub(crate) mod nest;
 
 ghost use Rattle.std.specs.Prelude.{◌≡◌, [], ◌∷◌, length, option_map, OnOk, OnErr};
-ghost use Rattle.rc_machine.specs.Lists.{Joins, Extends, IsDropped, TakesLast, top_of, two_of, below_two};
+ghost use Rattle.rc_machine.specs.Lists.{Joins, Extends, IsDropped, TakesLast, TakesPair, top_of, two_of, below_two};
 
 use std::alloc::{AllocError, Global};
 use std::marker::Model;
@@ -114,6 +114,20 @@ impl<T: Drop> Stack<T> {
             return None;
         }
         self.items.pop()
+    }
+
+    /// Takes the two lists on top off if each has one element, and returns these, that of the lower list first.
+    pub(crate) fn take_pair(&mut self) -> Option<(T, T)>
+        ensures { TakesPair self.old self.new result }
+    {
+        let ([_], [_]) = self.top_two()? else {
+            return None;
+        };
+        let second = self.take_last()?;
+        self.drop_top();
+        let first = self.take_last()?;
+        self.drop_top();
+        Some((first, second))
     }
 
     /// Takes the list on top off.

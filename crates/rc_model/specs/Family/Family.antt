@@ -1,5 +1,6 @@
 -- A family of shells, each with its own answers, over every order of them.
-use Rattle.std.specs.Prelude.{◌≡◌, ◌≢◌, ℕ, zero, suc, ◌≤◌, ◌<◌, List, [], ◌∷◌, ◌++◌, Option, Some, None, unwrap_or, ◌⊎◌}
+use Rattle.std.specs.Prelude.{◌≡◌, ◌≢◌, ℕ, zero, suc, ◌+◌, ◌≤◌, ◌<◌, List, [], ◌∷◌, ◌++◌, Option, Some, None}
+use Rattle.std.specs.Prelude.{unwrap_or, ◌⊎◌}
 use Rattle.rc_model.specs.Run.Calls.{Slot, Own, To, slot_of, Launch, Call, Answer, start, wait, read, child, Event}
 use Rattle.rc_model.specs.Run.Calls.{event, calls, answers}
 use Rattle.rc_model.specs.Run.Plans.{IsAnswered, Waits}
@@ -9,8 +10,8 @@ use Rattle.rc_model.specs.Run.Script.{script, EndsAsMeant}
 use Rattle.rc_model.specs.Handed.Arguments.{entry_state, reads}
 use Rattle.rc_model.specs.Handed.Proper.{IsProperTree, IsProper}
 use Rattle.rc_model.specs.Handed.Handed.{IsHanded}
-use Rattle.rc_model.specs.Family.Accounts.{Thing, a_file, read_end, write_end, Account, put, account, at_start, IsFresh}
-use Rattle.rc_model.specs.Family.Accounts.{NothingLost, NothingLeft}
+use Rattle.rc_model.specs.Family.Accounts.{Thing, a_file, read_end, write_end, Account, one, put, account, at_start}
+use Rattle.rc_model.specs.Family.Accounts.{IsFresh, NothingLost, NothingLeft}
 
 -- what a descriptor stands for: an end of the pipe that a process, its maker, made at a place of its trace, or anything
 -- else
@@ -208,6 +209,26 @@ pub record NoRing (f : Family) : Type 0 where
   pub greatest : (k : ℕ) → ((j : ℕ) → j < f.count → k < j → HasEnded (f.at j)) → (j : ℕ) → WaitsFor f k j →
       HasEnded (f.at j)
 
+-- how many shells were started, one or none
+abbrev pub count_started : Option (Launch × ℕ) → ℕ
+count_started None = 0
+count_started (Some o) = 1
+
+-- how many shells these events started
+abbrev pub shells_started : List Event → ℕ
+shells_started [] = 0
+shells_started (e ∷ es) = count_started (shell_started e.call e.answer) + shells_started es
+
+-- whether a process of this origin was started by process k: 1 if it was, and else 0
+abbrev pub count_child : ℕ → Option (ℕ × ℕ) → ℕ
+count_child k None = 0
+count_child k (Some o) = one o.0 k
+
+-- how many of the first n processes were started by process k
+abbrev pub children_below : Family → ℕ → ℕ → ℕ
+children_below f k zero = 0
+children_below f k (suc n) = count_child k (f.at n).origin + children_below f k n
+
 -- ** the laws of a family
 
 -- the processes of a list of origins stand from this number on
@@ -239,6 +260,8 @@ module _ (reads : Launch → Node cmd × State) where
     pub shell : launch.program ≡ None
     pub in_trace : (f.at k).trace ≡ before ++ event (start launch) (child number) ∷ later
     pub origin : (f.at j).origin ≡ Some (k, number)
+    -- by this start and no other: as many starts of shells come before it as its maker has children before it
+    pub the_start : shells_started before ≡ children_below f k j
     pub tree : (f.at j).tree ≡ (reads launch).0
     pub state : (f.at j).state ≡ (reads launch).1
 
@@ -286,7 +309,9 @@ BeganSo f (suc j) = (k : ℕ) × BeganAsHanded f (suc j) k
 abbrev pub AllRead : Family → Type 0
 AllRead f = (j : ℕ) → j < f.count → IsProperTree (f.at j).tree × IsProper (f.at j).state × BeganSo f j
 
--- so it is in every family of shells that read what they are handed
+-- so it is in every family of shells that read what they are handed, over whatever answers
 abbrev pub FamiliesRead : Type 0
-FamiliesRead = (c : Node cmd) (s : State) (es : List Step) → IsProperTree c → IsProper s → IsFamily read_launch c s es →
+FamiliesRead = (c : Node cmd) (s : State) (es : List Step) → IsProperTree c → IsProper s →
+    ArePossible read_launch (first read_launch c s) es →
+    EachOf GoesAsMeant (family read_launch (first read_launch c s) es) →
     AllRead (family read_launch (first read_launch c s) es)

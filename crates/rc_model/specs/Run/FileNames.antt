@@ -2,7 +2,7 @@
 use Rattle.std.specs.Prelude.{ℕ, Bool, true, not, ◌&&◌, ◌||◌, ◌==◌, if◌then◌else◌, List, [], ◌∷◌, ◌++◌, length, codes}
 use Rattle.std.specs.Prelude.{map, filter, Option, unwrap_or, is_some}
 use Rattle.std.specs.List.{list_any, slice_split, join_with_byte}
-use Rattle.std.specs.Str.{chars, bytes_eq}
+use Rattle.std.specs.Str.{chars}
 use Rattle.std.specs.BTreeMap.{insert_entry}
 use Rattle.rc_model.specs.Syntax.Text.{text_cmp}
 use Rattle.rc_model.specs.Syntax.Words.{Word, word_text, plain_words, has_pattern}

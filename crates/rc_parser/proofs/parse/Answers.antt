@@ -1,25 +1,10 @@
-use Rattle.std.proofs.Common.{Err, ◌∙◌, ap, sym, subst}
-use Rattle.rc_lexemes.specs.Lexemes.{lexemes_of}
-use Rattle.rc_lexer.specs.Views.{tokens_of}
-use Rattle.rc_model.specs.Syntax.Accepted.{lexemes}
-use Rattle.rc_model.specs.Mirrors.Spelling.{AreSpelled}
-use Rattle.rc_parser.specs.Faults.{IsPlaced}
-use Rattle.rc_parser.proofs.Parsing.{has_no_other, is_refused, says}
-use Rattle.law_syntax.proofs.Decided.{are_spelled}
+use Rattle.std.proofs.Common.{rules, ◌≡◌, IfOk, subst}
+use Rattle.rc_model.specs.Syntax.Accepted.{IsAccepted}
+use Rattle.rc_model.specs.Syntax.Tree.{Node, cmd}
+use Rattle.rc_tree.specs.View.{cmd_tree}
 use Rattle.rc_parser.proofs.parse.Goals as goal
 
-pub lexemes-requires : goal.lexemes-requires
-lexemes-requires c =
-    subst (λ ts. AreSpelled (lexemes (tokens_of c.args.script.now ts))) (sym c.deref.ensures.value) (are_spelled c.in_ok-tokens.ensures.cut)
-
-pub returns-in-Ok-clause-only : goal.returns-in-Ok-clause-only
-returns-in-Ok-clause-only c =
-    let e = ap lexemes_of c.deref-2.ensures.value ∙ c.in_ok-lexemes.ensures ∙ ap (λ ts. lexemes (tokens_of c.args.script.now ts)) c.deref.ensures.value in
-    has_no_other _ _ _ _ c.in_ok-tokens.ensures.cut e c.in-Ok.ensures.only
-
-pub returns-in-Err-Fault-clause-refused : goal.returns-in-Err-Fault-clause-refused
-returns-in-Err-Fault-clause-refused c =
-    let e = ap lexemes_of c.deref-2.ensures.value ∙ c.in_ok-lexemes.ensures ∙ ap (λ ts. lexemes (tokens_of c.args.script.now ts)) c.deref.ensures.value in
-    let says = says _ _ _ (c.in-Err-Fault.is ∙ ap (λ r. Err r) c.in-Err-Fault.field-0-is) c.script.ensures.none c.script.ensures.stages c.script.ensures.levels in
-    let placed = subst (λ ts. IsPlaced c.args.script.now (tokens_of c.args.script.now ts) c.in-Err-Fault.found.fault c.syntax_fault.result) c.deref-in-Err-Fault.ensures.value c.syntax_fault.ensures in
-    is_refused _ _ _ _ _ c.in_ok-tokens.ensures.cut e says placed
+pub returns-clause-only : goal.returns-clause-only
+returns-clause-only c =
+    let fed : c.feed.new.self ≡ c.args.script.now = search rules in
+    subst (λ z. IfOk c.finish.result (λ x. (other : Node cmd) → IsAccepted z other → other ≡ cmd_tree x)) fed c.finish.ensures.only

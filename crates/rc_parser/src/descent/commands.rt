@@ -142,7 +142,9 @@ pub(crate) fn parse_inner_operand(
     parse_operand(alloc, left - 1, false, lexemes)
 }
 
-/// The operands after the first one.
+/// The operands after the first one. Its locals are not to take stack at each level of a nest, so it is never a part of
+/// `parse_command`.
+#[inline(never)]
 #[cycle(parse)]
 #[tactic(auto, using(crate::proofs::Turns::links))]
 fn parse_links(

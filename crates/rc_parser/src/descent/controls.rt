@@ -137,7 +137,9 @@ fn parse_over(
     }
 }
 
-/// What follows `for(name)`: a body.
+/// What follows `for(name)`: a body. Its locals are not to take stack where a list follows, so it is never a part of
+/// `parse_over`.
+#[inline(never)]
 #[cycle(parse)]
 #[tactic(auto, using(std::proofs::lemmas::Grind::common_steps))]
 fn parse_for_all(

@@ -3,7 +3,7 @@ use Rattle.std.specs.Prelude.{codes}
 use Rattle.rc_model.specs.Mirrors.TreeOfText.{tree_of}
 use Rattle.rc_model.specs.Run.Builtins.{as_body_with, dot}
 use Rattle.rc_model.specs.Run.State.{with_status}
-use Rattle.rc_pipes.specs.Readings.{got_of}
+use Rattle.rc_builtin.specs.Files.{got_of}
 use Rattle.rc_world.specs.declared.starts.Stop.TheVariants.{NoMemory}
 use Rattle.rc_world.proofs.Joins.{left_as}
 use Rattle.rc_scope.specs.States.{state_of}
@@ -58,12 +58,12 @@ returns-in-Some-why-clause-runs g c =
     not_read _ _ s (map string_bytes c.args.words.items) c.deref.result.now args (ap (map string_bytes) c.in-Some.ensures.some ∙ ap (λ x. x ∷ args) (sym named))
     c.in_ok-file.field-0 (c.in_ok-file.ensures args) c.in-Some-2.file c.in-Some-2.is c.in-Some-why.why.now (state_of c.set_status-in-Some-why.new.self) because set
 
-pub returns-in_err-run_text-clause-runs : goal.returns-in_err-run_text-clause-runs
-returns-in_err-run_text-clause-runs g c =
+pub returns-in_err-run_read-clause-runs : goal.returns-in_err-run_read-clause-runs
+returns-in_err-run_read-clause-runs g c =
     let s = state_of c.args.state.now in
     let args = map string_bytes c.in-Some.args.items in
     let named : c.deref.result.now ≡ string_bytes c.in-Some.name = search rules in
-    words_left _ _ _ _ c.from_residual-in_err-run_text.result NoMemory c.from_residual-in_err-run_text.ensures.1
+    words_left _ _ _ _ c.from_residual-in_err-run_read.result NoMemory c.from_residual-in_err-run_read.ensures.1
     (left_file _ _ s (map string_bytes c.args.words.items) c.deref.result.now args (ap (map string_bytes) c.in-Some.ensures.some ∙ ap (λ x. x ∷ args) (sym named))
     c.in_ok-file.field-0 (c.in_ok-file.ensures args))
 
@@ -73,9 +73,8 @@ returns-clause-runs g c =
     let args = map string_bytes c.in-Some.args.items in
     let named : c.deref.result.now ≡ string_bytes c.in-Some.name = search rules in
     let none : (got_of c.in-Some-2.file).why ≡ None = search rules in
-    let text : c.deref-2.result.now ≡ c.in-Some-2.file.bytes.items = c.deref-2.ensures.value in
     let after = g.W.World.events c.read_file.new.world in
-    let t = state_of c.run_text.new.state in
+    let t = state_of c.run_read.new.state in
     runs_file _ _ s (map string_bytes c.args.words.items) c.deref.result.now args (ap (map string_bytes) c.in-Some.ensures.some ∙ ap (λ x. x ∷ args) (sym named))
-    c.in_ok-file.field-0 (c.in_ok-file.ensures args) c.in-Some-2.file c.in-Some-2.is after t (Ok c.in_ok-run_text.field-0) none
-    (subst (λ x. RunsWords after after (as_body_with args (tree_of x) s) t (Ok c.in_ok-run_text.field-0)) text (c.in_ok-run_text.ensures.ok after))
+    c.in_ok-file.field-0 (c.in_ok-file.ensures args) c.in-Some-2.file c.in-Some-2.is after t (Ok c.in_ok-run_read.field-0) none
+    (c.in_ok-run_read.ensures.ok after)

@@ -3,7 +3,7 @@ use Rattle.rc_model.specs.Code.Layout.{args_code, more_parts_code, parts_code}
 use Rattle.rc_tree.specs.View.{args_tree}
 use Rattle.rc_code.specs.Writing.{with_part}
 use Rattle.rc_code.specs.Emission.{list_code}
-use Rattle.rc_code.specs.Views.{listing_of}
+use Rattle.rc_code.specs.Listings.{listing_of}
 use Rattle.rc_code.proofs.emit_args.+emit.Given as goal
 
 -- what is written and what is left is the whole

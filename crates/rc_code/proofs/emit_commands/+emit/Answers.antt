@@ -2,7 +2,7 @@ use Rattle.std.proofs.Common.{◌≡◌, ◌∙◌, ◌+◌, ◌≤◌, sym, ap,
 use Rattle.std.proofs.lemmas.Grind.{common_steps}
 use Rattle.rc_model.specs.Syntax.Tree.{more}
 use Rattle.rc_tree.specs.View.{branch_tree, branches_tree, tree_For}
-use Rattle.rc_code.specs.Views.{listing_of}
+use Rattle.rc_code.specs.Listings.{listing_of}
 use Rattle.rc_code.specs.Writing.{redirected}
 use Rattle.rc_code.proofs.Parts.{starts, stays, put_last, for_parts}
 use Rattle.rc_code.proofs.Redirecting.{length_patched}

@@ -4,7 +4,7 @@ use Rattle.rc_model.specs.Code.Layout.{items_code, links_code}
 use Rattle.rc_tree.specs.View.{items_tree, links_tree, branches_tree}
 use Rattle.rc_tree.proofs.types.Cmd.TheLaws as command
 use Rattle.rc_tree.proofs.types.Branch.TheLaws as branch
-use Rattle.rc_code.specs.Views.{listing_of}
+use Rattle.rc_code.specs.Listings.{listing_of}
 use Rattle.rc_code.specs.Writing.{with_part}
 use Rattle.rc_code.proofs.Branches.{Leaves}
 use Rattle.rc_code.proofs.emit_commands.+emit.Given as goal

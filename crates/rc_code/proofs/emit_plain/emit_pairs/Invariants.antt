@@ -1,6 +1,6 @@
 use Rattle.std.proofs.Common.{◌≡◌, drop}
 use Rattle.rc_tree.specs.View.{pairs_tree}
-use Rattle.rc_code.specs.Views.{listing_of}
+use Rattle.rc_code.specs.Listings.{listing_of}
 use Rattle.rc_code.specs.Writing.{with_part}
 use Rattle.rc_code.specs.Emission.{pairs_alone}
 use Rattle.rc_code.proofs.emit_plain.emit_pairs.Given as goal

@@ -1,7 +1,11 @@
 use Rattle.std.proofs.Common.{rules}
+use Rattle.law_image.proofs.ReadProper.{read_script}
 use Rattle.rc_scope.specs.States.{state_of}
 use Rattle.rc_image.proofs.Denoted.{nothing_new, is_there, passed_on, bad_image, is_defined}
 use Rattle.rc_image.proofs.read_environment.define_entry.Goals as goal
+
+pub define-requires : goal.define-requires
+define-requires c = rw c.in_ok-shared.ensures.ok (read_script c.in-Some.image.now _ c.in_ok-body.ensures)
 
 pub returns-in_default : goal.returns-in_default
 returns-in_default c = nothing_new (state_of c.args.state.now) c.args.entry.now c.in_default.ensures

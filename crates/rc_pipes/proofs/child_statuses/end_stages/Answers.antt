@@ -3,7 +3,8 @@ use Rattle.rc_model.specs.Run.Acts.{wait_each, stages_status}
 use Rattle.rc_model.specs.Run.Shell.{change}
 use Rattle.rc_model.specs.Run.State.{with_status}
 use Rattle.rc_world.specs.declared.starts.Stop.TheVariants.{NoMemory}
-use Rattle.rc_scope.specs.States.{child_numbers, state_of}
+use Rattle.rc_scope.specs.Children.{child_numbers}
+use Rattle.rc_scope.specs.States.{state_of}
 use Rattle.rc_world.proofs.Joins.{left_here, passed_up}
 use Rattle.rc_world.proofs.Shells.{left_do, left_done, ran_do}
 use Rattle.law_plans.proofs.Runs.{ran_none}

@@ -2,7 +2,7 @@ use Rattle.std.proofs.Common.{map, drop, string_bytes}
 use Rattle.rc_model.specs.Run.State.{State}
 use Rattle.rc_pipes.proofs.Waits.{HasWaited}
 use Rattle.rc_pipes.proofs.child_statuses.wait_stages.Given as goal
-use Rattle.rc_scope.specs.States.{child_numbers}
+use Rattle.rc_scope.specs.Children.{child_numbers}
 
 -- the children before this one were waited for
 abbrev pub invariant-loop-child : goal.invariant-loop-child

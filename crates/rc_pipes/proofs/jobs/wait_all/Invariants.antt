@@ -3,7 +3,7 @@ use Rattle.rc_model.specs.Run.Builtins.{wait_all}
 use Rattle.rc_model.specs.Run.Plans.{Ran}
 use Rattle.rc_model.specs.Run.State.{State}
 use Rattle.rc_pipes.specs.Jobs.{with_jobs}
-use Rattle.rc_scope.specs.States.{child_numbers}
+use Rattle.rc_scope.specs.Children.{child_numbers}
 use Rattle.rc_pipes.proofs.jobs.wait_all.Given as goal
 
 -- the children before this one were waited for

@@ -1,6 +1,7 @@
 use Rattle.std.proofs.Common.{◌≡◌, ◌+◌, [], ◌∷◌, ◌++◌, drop, option_map, arith}
 use Rattle.std.proofs.lemmas.Grind.{common_steps}
-use Rattle.rc_scope.specs.States.{child_numbers, state_of}
+use Rattle.rc_scope.specs.Children.{child_numbers}
+use Rattle.rc_scope.specs.States.{state_of}
 use Rattle.rc_tree.specs.View.{stages_tree}
 use Rattle.rc_world.specs.declared.starts.Stop.TheVariants.{NoMemory}
 use Rattle.rc_world.proofs.Joins.{given_up, left_here}

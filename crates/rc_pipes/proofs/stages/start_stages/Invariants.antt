@@ -1,7 +1,8 @@
 use Rattle.std.proofs.Common.{drop, option_map}
 use Rattle.rc_model.specs.Run.Acts.{start_stages, stages_from}
 use Rattle.rc_model.specs.Run.Plans.{Ran}
-use Rattle.rc_scope.specs.States.{child_numbers, state_of}
+use Rattle.rc_scope.specs.Children.{child_numbers}
+use Rattle.rc_scope.specs.States.{state_of}
 use Rattle.rc_tree.specs.View.{stages_tree}
 use Rattle.rc_pipes.proofs.stages.start_stages.Given as goal
 

@@ -10,6 +10,10 @@ use Rattle.rc_shell.proofs.Runs.{recorded_nothing}
 use Rattle.rc_shell.specs.declared.run.ShellFault.TheVariants.{NoMemory}
 use Rattle.rc_shell.proofs.image.execute_image.Goals as goal
 
+pub run_tree-requires : goal.run_tree-requires
+run_tree-requires g c =
+    (reads_scripts c.args.strict (map string_bytes c.args.words.now) (map string_bytes c.args.entries.now) (cmd_tree c.in-Ok.cmd, state_of c.in-Ok.state) c.in-Ok.ensures).0
+
 pub returns-in-Ok-clause-meant : goal.returns-in-Ok-clause-meant
 returns-in-Ok-clause-meant g c =
     meant_by (g.W.World.events c.args.world.now) (g.W.World.events c.run_tree.new.world) c.args.limit
@@ -30,11 +34,7 @@ returns-in-Ok-clause-handed g c =
     reads_back (g.W.World.events c.args.world.now) (g.W.World.events c.run_tree.new.world) c.args.limit t s c.run_tree.result x.0 x.1 (returns-in-Ok-clause-meant g c t s e)
 
 pub returns-in-Ok-clause-proper : goal.returns-in-Ok-clause-proper
-returns-in-Ok-clause-proper g c =
-    let t = cmd_tree c.in-Ok.cmd in
-    let s = state_of c.in-Ok.state in
-    let x = reads_scripts c.args.strict (map string_bytes c.args.words.now) (map string_bytes c.args.entries.now) (t, s) c.in-Ok.ensures in
-    ended_proper (g.W.World.events c.args.world.now) (g.W.World.events c.run_tree.new.world) c.args.limit t s c.run_tree.result x.0 x.1 c.run_tree.ensures
+returns-in-Ok-clause-proper g c = ended_proper c.run_tree.result
 
 pub returns-in-Err-NoMemory-clause-meant : goal.returns-in-Err-NoMemory-clause-meant
 returns-in-Err-NoMemory-clause-meant g c = let before = g.W.World.events c.args.world.now in λ t s e. recorded_nothing c.args.limit t s before before

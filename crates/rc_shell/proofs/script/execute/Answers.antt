@@ -1,13 +1,17 @@
 use Rattle.std.specs.Prelude.{Err}
 use Rattle.law_handed.proofs.Characters.{accepted_are_scripts}
 use Rattle.rc_tree.specs.View.{cmd_tree}
+use Rattle.rc_scope.proofs.ProperStates.{is_proper}
 use Rattle.rc_scope.specs.States.{state_of}
 use Rattle.rc_shell.specs.declared.run.ShellFault.TheVariants.{NoMemory}
-use Rattle.rc_shell.proofs.Kept.{ends_proper, hands_over, leaves_nothing, loses_nothing}
+use Rattle.rc_shell.proofs.Kept.{ended_proper, leaves_nothing, loses_nothing, reads_back}
 use Rattle.rc_shell.proofs.Limits.{not_cut_short}
 use Rattle.rc_shell.proofs.Runs.{recorded_nothing}
 use Rattle.rc_shell.proofs.Scripts.{meant_by, not_refused}
 use Rattle.rc_shell.proofs.script.execute.Goals as goal
+
+pub run_tree-requires : goal.run_tree-requires
+run_tree-requires g c = accepted_are_scripts c.args.script.now (cmd_tree c.in-Ok.cmd) c.in-Ok.ensures.accepted
 
 pub returns-in-Ok-clause-silent : goal.returns-in-Ok-clause-silent
 returns-in-Ok-clause-silent g c = not_refused _ _ c.in-Ok.ensures.accepted
@@ -27,13 +31,10 @@ returns-in-Ok-clause-left g c =
 
 pub returns-in-Ok-clause-handed : goal.returns-in-Ok-clause-handed
 returns-in-Ok-clause-handed g c =
-    λ t a. hands_over (g.W.World.events c.args.world.now) (g.W.World.events c.run_tree.new.world) c.args.limit t (state_of c.args.state) c.run_tree.result (accepted_are_scripts c.args.script.now t a) (returns-in-Ok-clause-meant g c t a)
+    λ t a. reads_back (g.W.World.events c.args.world.now) (g.W.World.events c.run_tree.new.world) c.args.limit t (state_of c.args.state) c.run_tree.result (accepted_are_scripts c.args.script.now t a) (is_proper c.args.state) (returns-in-Ok-clause-meant g c t a)
 
 pub returns-in-Ok-clause-proper : goal.returns-in-Ok-clause-proper
-returns-in-Ok-clause-proper g c =
-    let t = cmd_tree c.in-Ok.cmd in
-    let a = c.in-Ok.ensures.accepted in
-    ends_proper (g.W.World.events c.args.world.now) (g.W.World.events c.run_tree.new.world) c.args.limit t (state_of c.args.state) c.run_tree.result (accepted_are_scripts c.args.script.now t a) (returns-in-Ok-clause-meant g c t a)
+returns-in-Ok-clause-proper g c = ended_proper c.run_tree.result
 
 pub returns-clause-meant : goal.returns-clause-meant
 returns-clause-meant g c = let before = g.W.World.events c.args.world.now in λ t accepted. recorded_nothing c.args.limit t (state_of c.args.state) before before
@@ -45,7 +46,7 @@ pub returns-clause-left : goal.returns-clause-left
 returns-clause-left g c = let before = g.W.World.events c.args.world.now in λ t a. leaves_nothing before before c.args.limit t (state_of c.args.state) (Err NoMemory) (returns-clause-meant g c t a)
 
 pub returns-clause-handed : goal.returns-clause-handed
-returns-clause-handed g c = let before = g.W.World.events c.args.world.now in λ t a. hands_over before before c.args.limit t (state_of c.args.state) (Err NoMemory) (accepted_are_scripts c.args.script.now t a) (returns-clause-meant g c t a)
+returns-clause-handed g c = let before = g.W.World.events c.args.world.now in λ t a. reads_back before before c.args.limit t (state_of c.args.state) (Err NoMemory) (accepted_are_scripts c.args.script.now t a) (is_proper c.args.state) (returns-clause-meant g c t a)
 
 pub returns-in-Err-Fault-clause-meant : goal.returns-in-Err-Fault-clause-meant
 returns-in-Err-Fault-clause-meant g c = λ t accepted. not_refused c.args.script.now t accepted c.in-Err-Fault.fault (rw c.in-Err-Fault.field-0-is at c.in-Err-Fault.ensures.refused)

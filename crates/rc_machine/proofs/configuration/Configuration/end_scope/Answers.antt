@@ -1,5 +1,6 @@
 use Rattle.rc_model.specs.Code.Machine.{unwind}
-use Rattle.rc_scope.specs.States.{child_numbers, state_of}
+use Rattle.rc_scope.specs.Children.{child_numbers}
+use Rattle.rc_scope.specs.States.{state_of}
 use Rattle.rc_world.specs.declared.starts.Stop.TheVariants.{NoMemory}
 use Rattle.rc_world.proofs.Joins.{given_up}
 use Rattle.rc_machine.specs.Configurations.{scopes_of}

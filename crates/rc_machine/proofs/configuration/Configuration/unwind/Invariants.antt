@@ -1,7 +1,8 @@
 use Rattle.std.proofs.Common.{[], length}
 use Rattle.rc_model.specs.Code.Machine.{unwind}
 use Rattle.rc_model.specs.Run.Plans.{Ran}
-use Rattle.rc_scope.specs.States.{child_numbers, state_of}
+use Rattle.rc_scope.specs.Children.{child_numbers}
+use Rattle.rc_scope.specs.States.{state_of}
 use Rattle.rc_machine.specs.Configurations.{config_of}
 use Rattle.rc_machine.proofs.configuration.Configuration.unwind.Given as goal
 

@@ -3,7 +3,7 @@ use Rattle.rc_model.specs.Code.Machine.{end_waits}
 use Rattle.rc_model.specs.Run.Plans.{Ran}
 use Rattle.rc_model.specs.Run.State.{State}
 use Rattle.rc_machine.proofs.configuration.endings.wait_owed.Given as goal
-use Rattle.rc_scope.specs.States.{child_numbers}
+use Rattle.rc_scope.specs.Children.{child_numbers}
 
 -- the waits that are left
 abbrev pub invariant-loop-child : goal.invariant-loop-child

@@ -3,7 +3,8 @@ use Rattle.rc_model.specs.Code.Machine.{On, act, next}
 use Rattle.rc_model.specs.Run.Plans.{Ran, done_with}
 use Rattle.rc_model.specs.Code.Layout.{EndPipe}
 use Rattle.std.specs.Prelude.{Some}
-use Rattle.rc_scope.specs.States.{child_numbers, state_of}
+use Rattle.rc_scope.specs.Children.{child_numbers}
+use Rattle.rc_scope.specs.States.{state_of}
 use Rattle.rc_redir.specs.Redirections.{Redirections, newest_file, without_newest}
 use Rattle.rc_machine.specs.Configurations.{config_of, scopes_of}
 use Rattle.rc_machine.specs.declared.configuration.parts.Scope.TheVariants as scope

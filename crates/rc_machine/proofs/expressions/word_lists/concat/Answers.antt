@@ -1,5 +1,6 @@
 use Rattle.std.proofs.Common.{rules, ◌≡◌, ◌∷◌, ◌∙◌, sym, Ok, Err, Some, ap}
-use Rattle.rc_model.specs.Code.Machine.{goes, next}
+use Rattle.rc_model.specs.Code.Layout as op
+use Rattle.rc_model.specs.Code.Machine.{act, goes, next}
 use Rattle.rc_model.specs.Run.Lists.{concatenated}
 use Rattle.rc_machine.specs.Lists.{two_of, below_two}
 use Rattle.law_plans.proofs.Runs.{ran_none}
@@ -14,22 +15,24 @@ use Rattle.rc_machine.proofs.expressions.word_lists.concat.Goals as goal
 
 pub returns-in_ok-put-in-Ok : goal.returns-in_ok-put-in-Ok
 returns-in_ok-put-in-Ok g c =
-    let m = c.args.machine.now in
-    let a = c.in-Some.first.now in
-    let b = c.in-Some.second.now in
+    let m = c.concat_pair.new.machine in
+    let same : config_of m ≡ config_of c.args.machine.now = search rules in
+    let a = c.in-Some-top_two.first.now in
+    let b = c.in-Some-top_two.second.now in
     let two : two_of m.words ≡ Some (a, b) = search rules in
     let joined : concatenated a b ≡ Ok c.in-Ok.joined = search rules in
-    ran_as _ _ _ _ _ (concats (config_of m) a b (below_two m.words) (two_topped m.words a b two) c.in-Ok.joined joined ∙ (let e : c.in-Ok.joined ∷ below_two m.words ≡ c.put.new.self = search rules in ap (λ ws. goes (next (config_of m) ws (state_of m.state))) e))
+    ran_as _ _ _ _ _ (ap (act (Some op.Concat)) (sym same) ∙ concats (config_of m) a b (below_two m.words) (two_topped m.words a b two) c.in-Ok.joined joined ∙ (let e : c.in-Ok.joined ∷ below_two m.words ≡ c.put.new.self = search rules in ap (λ ws. goes (next (config_of m) ws (state_of m.state))) e))
     (ran_none _ _)
 
 pub returns-in-Err-Fault : goal.returns-in-Err-Fault
 returns-in-Err-Fault g c =
-    let m = c.args.machine.now in
-    let a = c.in-Some.first.now in
-    let b = c.in-Some.second.now in
+    let m = c.concat_pair.new.machine in
+    let same : config_of m ≡ config_of c.args.machine.now = search rules in
+    let a = c.in-Some-top_two.first.now in
+    let b = c.in-Some-top_two.second.now in
     let two : two_of m.words ≡ Some (a, b) = search rules in
     let refused : concatenated a b ≡ Err c.in-Err-Fault.fault = search rules in
-    steps_as _ _ _ _ _ _ (concats_not (config_of m) a b (below_two m.words) (two_topped m.words a b two) c.in-Err-Fault.fault refused ∙ ap (failed (config_of m)) (sym c.words.ensures)) c.fail.ensures
+    steps_as _ _ _ _ _ _ (ap (act (Some op.Concat)) (sym same) ∙ concats_not (config_of m) a b (below_two m.words) (two_topped m.words a b two) c.in-Err-Fault.fault refused ∙ ap (failed (config_of m)) (sym c.words.ensures)) c.fail.ensures
 
 pub returns-in-Err-NoMemory : goal.returns-in-Err-NoMemory
 returns-in-Err-NoMemory g c = left_memory _ _

@@ -1,0 +1,144 @@
+//! How long the steps of a family take: `bench_family SHELLS COMMANDS` runs so many shells, each of which runs so many
+//! commands, one step of each shell after the other. It prints the microseconds of the processor for each thousand
+//! steps.
+#![tactic(auto)]
+
+ghost use Rattle.std.specs.Prelude.{IfOk};
+ghost use Rattle.rc_model.specs.Handed.Proper.{IsProperTree};
+ghost use Rattle.rc_tree.specs.View.{cmd_tree};
+
+use anyhow::{Context, Result};
+use rc_parser::{ScriptError, parse};
+use rc_scope::State;
+use rc_shell::Family;
+use rc_tree::Cmd;
+use rc_world::{Answer, Call, ChildNo, Ending, Handle, Kind};
+use std::alloc::{AllocError, Global};
+use std::env;
+use std::time::CpuClock;
+
+/// Enough instructions for each shell.
+const LIMIT: u64 = 1_000_000_000;
+
+/// More rounds than there are.
+const MOST_ROUNDS: usize = 1_000_000;
+
+/// The numbers from 1 to this one.
+fn push_numbers(text: &mut String, last: usize) -> Result<(), AllocError> {
+    for number in 1..=last {
+        write!(text, " {number}")?;
+    }
+    Ok(())
+}
+
+/// A script that starts so many shells, each of which runs so many commands.
+fn script(alloc: Global, shells: usize, commands: usize) -> Result<String, AllocError> {
+    let mut text = String::from_str(alloc, "for(x in")?;
+    push_numbers(&mut text, shells)?;
+    text.push_str("){for(y in")?;
+    push_numbers(&mut text, commands)?;
+    text.push_str(") /bin/c $y &}\n")?;
+    Ok(text)
+}
+
+/// The tree of a script, in a box: each place that may drop a tree takes long to prove.
+#[tactic(auto, using(law_handed::proofs::Characters::accepted_are_scripts))]
+fn tree_of(alloc: Global, script: &str) -> Result<Box<Cmd>, ScriptError>
+    ensures { IfOk result (λ tree. IsProperTree (cmd_tree tree.value)) }
+{
+    Ok(Box::new(alloc, parse(alloc, script.as_bytes())?)?)
+}
+
+/// An answer to a call.
+fn answer(alloc: Global, call: &Call, number: u32) -> Answer {
+    match call {
+        Call::Open(_, _) | Call::Here(_) => Answer::File(Handle(number)),
+        Call::Pipe => Answer::Pair(Handle(number), Handle(number.saturating_add(1))),
+        Call::Read(_) => Answer::Bytes(Vec::new(alloc)),
+        Call::Start(_) => Answer::Child(ChildNo(number)),
+        Call::Wait(_) => Answer::Ended(Ending::Code(0)),
+        Call::List(_) => Answer::Names(Vec::new(alloc)),
+        Call::Probe(_) => Answer::Found(Kind::Program),
+        _ => Answer::Done,
+    }
+}
+
+/// A family that is run, and how long each thousand of its steps took.
+#[derive(Drop)]
+struct Run {
+    rt: HostRuntime,
+    family: Family,
+    steps: u32,
+    /// The microseconds so far when the last thousand began.
+    since: u128,
+}
+
+impl Run {
+    /// The microseconds of the processor so far.
+    fn micros(&self) -> Result<u128> {
+        Ok(self.rt.thread_cpu_time()?.as_micros())
+    }
+
+    /// Answers the call of a shell, if it has one, and says whether it had.
+    fn step(&mut self, shell: usize) -> Result<bool> {
+        let alloc = self.rt.alloc();
+        let Some(call) = self.family.pending(shell) else {
+            return Ok(false);
+        };
+        let answer = answer(alloc, call, self.steps);
+        self.family.step(alloc, shell, answer)?;
+        self.steps = self.steps.saturating_add(1);
+        if self.steps.is_multiple_of(1000) {
+            let now = self.micros()?;
+            let (steps, took) = (self.steps, now.saturating_sub(self.since));
+            println!(self.rt; "{steps} {took}")?;
+            self.since = now;
+        }
+        Ok(true)
+    }
+
+    /// One step of each shell that has a call, and whether there was one.
+    fn round(&mut self) -> Result<bool> {
+        let mut has_gone_on = false;
+        for shell in 0..self.family.count() {
+            has_gone_on |= self.step(shell)?;
+        }
+        Ok(has_gone_on)
+    }
+}
+
+/// Runs so many shells with so many commands.
+fn measure(rt: HostRuntime, shells: usize, commands: usize) -> Result<()> {
+    let alloc = rt.alloc();
+    let text = script(alloc, shells, commands)?;
+    let tree = tree_of(alloc, text.as_str())?;
+    let family = Family::new(alloc, &tree, State::new(alloc), LIMIT)?;
+    let mut run = Run {
+        rt,
+        family,
+        steps: 0,
+        since: 0,
+    };
+    run.since = run.micros()?;
+    for _ in 0..MOST_ROUNDS {
+        if !run.round()? {
+            break;
+        }
+    }
+    let (steps, count) = (run.steps, run.family.count());
+    println!(run.rt; "{steps} steps of {count} shells")?;
+    Ok(())
+}
+
+fn main(rt: HostRuntime) -> Result<()> {
+    let mut args = env::args(&rt)?.skip(1);
+    let (Some(shells), Some(commands)) = (args.next(), args.next()) else {
+        return Ok(());
+    };
+    let shells = shells.parse::<usize>().context("no number of shells")?;
+    measure(
+        rt,
+        shells,
+        commands.parse::<usize>().context("no number of commands")?,
+    )
+}

@@ -1,0 +1,3 @@
+pub mod Positions
+pub mod Findings
+pub mod Warnings

@@ -1,0 +1,7 @@
+-- Where warnings are.
+use Rattle.std.specs.Prelude.{List, ℕ, ◌≤◌, length, All}
+use Rattle.rc_check.specs.declared.warning.Warning.{Warning}
+
+-- the place of each warning lies in the script
+abbrev pub AreIn : List ℕ → List Warning → Type 0
+AreIn script warnings = All (λ w. w.place ≤ length script) warnings

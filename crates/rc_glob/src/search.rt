@@ -1,0 +1,205 @@
+//! Places in a text, from its front and from its end.
+ghost use Rattle.std.specs.Prelude.{◌≡◌, ◌<◌, ◌≤◌, ◌+◌, ◌*◌, ◌%◌, ◌^◌, ◌++◌, ◌∷◌, ◌==◌, [], true, length, take, drop, option_map, IfSome, MatchOption};
+ghost use Rattle.std.specs.Char.{encode_utf8};
+ghost use Rattle.std.specs.List.{list_all};
+ghost use Rattle.std.specs.Str.{chars, IsUtf8};
+ghost use Rattle.rc_model.specs.Run.Patterns.{stands_for};
+ghost use Rattle.rc_glob.specs.Characters.{characters};
+ghost use Rattle.rc_glob.specs.Places.{begins_with, first_place};
+ghost use Rattle.rc_glob.specs.Sums.{add_char, scale_from, sum_from};
+
+use rc_text::{Ch, first_char};
+
+/// By what a sum is multiplied before the next character is added.
+const FACTOR: u64 = 1_099_511_628_211;
+
+/// Whether a pattern character may stand for the character.
+pub(crate) fn stands_for(explicit: bool, c: char) -> bool
+    ensures { result ≡ stands_for explicit c }
+{
+    !(explicit && c == '/')
+}
+
+/// Whether a star may stand for the whole text.
+fn star_stands_for(explicit: bool, text: &str) -> bool
+    ensures { result ≡ list_all (λ c. stands_for explicit c) (chars text.now) }
+{
+    if !explicit {
+        return true;
+    }
+    text.chars().all(|c| stands_for(explicit, c))
+}
+
+/// What stands before the last character of the text, and that character.
+fn last_char(text: &str) -> Option<(&str, char)>
+    ensures bytes { IfSome result (λ x. text.now ≡ x.0.now ++ encode_utf8 x.1) }
+    ensures chars { MatchOption result (chars text.now ≡ []) (λ x. chars text.now ≡ chars x.0.now ++ x.1 ∷ []) }
+    ensures utf8 { IfSome result (λ x. IsUtf8 x.0.now) }
+{
+    let mut front = text.chars();
+    match front.next_back() {
+        Some(last) => Some((front.as_str(), last)),
+        None => None,
+    }
+}
+
+/// What stands before the last characters of the text, and these, if it has as many.
+fn split_last(count: usize, text: &str) -> Option<(&str, &str)>
+    ensures parts { MatchOption result (length (chars text.now) < count)
+        (λ x. (chars text.now ≡ chars x.0.now ++ chars x.1.now) × (length (chars x.1.now) ≡ count)) }
+    ensures shorter { IfSome result (λ x. length x.1.now ≤ length text.now) }
+    ensures utf8 { IfSome result (λ x. IsUtf8 x.1.now) }
+{
+    let mut front = text;
+    let mut left = count;
+    while left > 0 {
+        let Some((before, _)) = last_char(front) else {
+            return None;
+        };
+        front = before;
+        left -= 1;
+    }
+    Some(text.split_at(front.len()))
+}
+
+/// The last characters of the text, if it has as many and a star may stand for what is before them.
+pub(crate) fn last_place(explicit: bool, count: usize, text: &str) -> Option<&str>
+    ensures place { option_map (λ rest. chars rest.now) result
+        ≡ first_place explicit (λ rest. length rest == count) (chars text.now) }
+    ensures shorter { IfSome result (λ rest. length rest.now ≤ length text.now) }
+    ensures utf8 { IfSome result (λ rest. IsUtf8 rest.now) }
+{
+    let Some((front, end)) = split_last(count, text) else {
+        return None;
+    };
+    if star_stands_for(explicit, front) {
+        Some(end)
+    } else {
+        None
+    }
+}
+
+/// The product and the number in one sum, as far as 64 bits hold it.
+fn scaled(sum: u64, scale: u64, next: u64) -> u64
+    ensures { result ≡ (sum * scale + next) % 2 ^ 64 }
+{
+    sum.wrapping_mul(scale).wrapping_add(next)
+}
+
+fn add_char(sum: u64, c: char) -> u64
+    ensures { result ≡ add_char sum c }
+{
+    scaled(sum, FACTOR, c as u64)
+}
+
+fn sum_of(run: &[Ch]) -> u64
+    ensures { result ≡ sum_from 0 (characters run.now) }
+{
+    let mut sum = 0;
+    let mut rest = run;
+    'run: while let Some((first, others)) = rest.split_first() {
+        sum = add_char(sum, first.c);
+        rest = others;
+    }
+    sum
+}
+
+/// By what the characters multiply the sum of what is before them.
+fn scale_of(run: &[Ch]) -> u64
+    ensures { result ≡ scale_from 1 (characters run.now) }
+{
+    let mut scale: u64 = 1;
+    let mut rest = run;
+    'run: while let Some((_, others)) = rest.split_first() {
+        scale = scale.wrapping_mul(FACTOR);
+        rest = others;
+    }
+    scale
+}
+
+/// The sum of the first characters of the text, and what follows them, if it has as many.
+fn read(count: usize, text: &str) -> Option<(u64, &str)>
+    ensures parts { MatchOption result (length (chars text.now) < count)
+        (λ x. (count ≤ length (chars text.now)) × (x.0 ≡ sum_from 0 (take count (chars text.now)))
+        × (chars x.1.now ≡ drop count (chars text.now))) }
+    ensures utf8 { IfSome result (λ x. IsUtf8 x.1.now) }
+{
+    let mut sum = 0;
+    let mut rest = text;
+    let mut left = count;
+    while left > 0 {
+        let Some((c, more)) = first_char(rest) else {
+            return None;
+        };
+        sum = add_char(sum, c);
+        rest = more;
+        left -= 1;
+    }
+    Some((sum, rest))
+}
+
+/// Whether the text begins with the characters.
+fn begins_with(run: &[Ch], text: &str) -> bool
+    ensures { result ≡ begins_with (characters run.now) (chars text.now) }
+{
+    let mut left = run;
+    let mut rest = text;
+    'run: while let Some((first, others)) = left.split_first() {
+        let Some((c, more)) = first_char(rest) else {
+            return false;
+        };
+        if first.c != c {
+            return false;
+        }
+        left = others;
+        rest = more;
+    }
+    true
+}
+
+/// Whether the text begins with the characters. They are compared only where the sums are the same.
+fn stands_at(run: &[Ch], text: &str, sum: u64, wanted: u64) -> bool
+    requires { begins_with (characters run.now) (chars text.now) ≡ true → sum ≡ wanted }
+    ensures { result ≡ begins_with (characters run.now) (chars text.now) }
+{
+    if sum == wanted {
+        begins_with(run, text)
+    } else {
+        false
+    }
+}
+
+/// The text from the first place on at which the characters stand, if a star may stand for what is before them. The
+/// sum of as many characters of the text goes along with the place, and only where it is theirs are they compared.
+pub(crate) fn find<'a>(explicit: bool, run: &[Ch], text: &'a str) -> Option<&'a str>
+    ensures place { option_map (λ rest. chars rest.now) result
+        ≡ first_place explicit (begins_with (characters run.now)) (chars text.now) }
+    ensures shorter { IfSome result (λ rest. length rest.now ≤ length text.now) }
+    ensures utf8 { IfSome result (λ rest. IsUtf8 rest.now) }
+{
+    let goal = sum_of(run);
+    let scale = scale_of(run);
+    let mut before = 0;
+    let mut place = text;
+    let Some((mut sum, mut ahead)) = read(run.len(), text) else {
+        return None;
+    };
+    'places: loop {
+        if stands_at(run, place, sum, scaled(before, scale, goal)) {
+            return Some(place);
+        }
+        let Some((c, more)) = first_char(place) else {
+            return None;
+        };
+        if !stands_for(explicit, c) {
+            return None;
+        }
+        let Some((next, further)) = first_char(ahead) else {
+            return None;
+        };
+        before = add_char(before, c);
+        sum = add_char(sum, next);
+        place = more;
+        ahead = further;
+    }
+}

@@ -1,0 +1,145 @@
+//! A script that comes in pieces.
+
+ghost use Rattle.std.specs.Prelude.{◌≡◌, ◌≤◌, ◌<◌, ◌++◌, ◌↔◌, ℕ, List, [], length, map};
+ghost use Rattle.std.specs.Prelude.{IfErr, IfOk, IsTrue, OnErr, OnOk};
+ghost use Rattle.rc_model.specs.Syntax.Accepted.{HasTokens, IsAccepted, longest_script};
+ghost use Rattle.rc_model.specs.Syntax.Tree.{Node, cmd};
+ghost use Rattle.rc_lexer.specs.Reads.{Finishes};
+ghost use Rattle.rc_lexer.specs.Views.{tokens_of};
+ghost use Rattle.rc_parser.specs.Faults.{Refuses};
+ghost use Rattle.rc_parser.specs.Kept.{IsKept};
+ghost use Rattle.rc_parser.specs.Parsed.{Parses};
+ghost use Rattle.rc_tree.specs.View.{cmd_tree};
+
+use crate::lexemes::lexemes;
+use crate::syntax_faults::syntax_fault;
+use crate::text::checked;
+use crate::trees::script;
+use rc_lexer::{Pieces, ScriptError, Token};
+use rc_model::limits::LONGEST_SCRIPT;
+use rc_model::{FaultKind, InputError, SyntaxFault};
+use rc_tree::Cmd;
+use std::alloc::{AllocError, Global};
+use std::marker::Model;
+use std::snapshot::Snapshot;
+
+/// The tree of a script that has these tokens.
+fn tree_of_tokens(alloc: Global, text: &[u8], tokens: &[Token]) -> Result<Cmd, ScriptError>
+    requires { HasTokens text.now (tokens_of text.now tokens.now) }
+    ensures { Parses text.now result }
+{
+    let lexemes = lexemes(alloc, text, tokens)?;
+    match script(alloc, &lexemes) {
+        Ok(cmd) => Ok(cmd),
+        Err(InputError::Fault(found)) => {
+            Err(InputError::Fault(syntax_fault(text, tokens, found)))
+        }
+        Err(InputError::NoMemory) => Err(InputError::NoMemory),
+    }
+}
+
+/// The tree of a script that is short enough, of which the lexer answers this.
+fn tree_of(
+    alloc: Global,
+    text: &[u8],
+    tokens: Result<Vec<Token>, ScriptError>,
+) -> Result<Cmd, ScriptError>
+    requires short { length text.now ≤ longest_script }
+    requires tokens { Finishes text.now tokens }
+    ensures { Parses text.now result }
+{
+    checked(text)?;
+    let tokens = tokens?;
+    tree_of_tokens(alloc, text, &tokens)
+}
+
+/// Adds what the view alone keeps of a text that is too long. Snapshots have no bytes.
+fn pass(passed: &mut Vec<Snapshot<u8>>, piece: &[u8]) -> Result<(), AllocError>
+    ensures ok { OnOk result (map (λ s. s.value) passed.new.items ≡ map (λ s. s.value) passed.old.items ++ piece.now) }
+    ensures err { OnErr result (passed.new.items ≡ passed.old.items) }
+{
+    let before = passed.len();
+    for b in piece {
+        if passed.push(Snapshot::of(b)).is_err() {
+            passed.truncate(before);
+            return Err(AllocError);
+        }
+    }
+    Ok(())
+}
+
+/// A script so far. Past the longest one it takes no more memory, since it is known to be too long.
+#[derive(Drop)]
+pub struct Reader {
+    alloc: Global,
+    pieces: Pieces,
+    /// How many bytes more may come.
+    room: usize,
+    /// What came where there was no room.
+    passed: Vec<Snapshot<u8>>,
+}
+
+impl Model for Reader {
+    ghost Value = { List ℕ };
+
+    ghost view = { λ r. r.pieces ++ map (λ s. s.value) r.passed.items };
+
+    ghost invariant = { λ r. IsKept (length r.pieces) r.room (length r.passed.items) };
+}
+
+impl Reader {
+    /// No text yet.
+    pub fn new(alloc: Global) -> Self
+        ensures { result ≡ [] }
+    {
+        Reader {
+            alloc,
+            pieces: Pieces::new(alloc),
+            room: LONGEST_SCRIPT,
+            passed: Vec::new(alloc),
+        }
+    }
+
+    /// Whether the text has more bytes than a script may have.
+    pub fn is_too_long(&self) -> bool
+        ensures { IsTrue result ↔ (longest_script < length self.now) }
+    {
+        !self.passed.is_empty()
+    }
+
+    /// One more piece, which may begin and end within a character. If memory is refused, the text stays as it is.
+    pub fn feed(&mut self, piece: &[u8]) -> Result<(), AllocError>
+        ensures ok { OnOk result (self.new ≡ self.old ++ piece.now) }
+        ensures err { OnErr result (self.new ≡ self.old) }
+    {
+        if !self.passed.is_empty() || piece.len() > self.room {
+            return pass(&mut self.passed, piece);
+        }
+        self.pieces.feed(piece)?;
+        self.room -= piece.len();
+        Ok(())
+    }
+
+    /// The tree of the text, or its first fault, in the order of [`parse`](crate::parse).
+    pub fn finish(self) -> Result<Cmd, ScriptError>
+        ensures accepted { IfOk result (λ c. IsAccepted self (cmd_tree c)) }
+        // It has no other tree.
+        ensures only { IfOk result (λ c. (other : Node cmd) → IsAccepted self other → other ≡ cmd_tree c) }
+        ensures refused { IfErr result (λ e. Refuses e self) }
+    {
+        let Reader {
+            alloc,
+            pieces,
+            room: _,
+            passed,
+        } = self;
+        if !passed.is_empty() {
+            return Err(InputError::Fault(SyntaxFault {
+                kind: FaultKind::TooLong,
+                line: 0,
+            }));
+        }
+        let (text, tokens) = pieces.finish();
+        tree_of(alloc, &text, tokens)
+    }
+}

@@ -1,0 +1,10 @@
+-- A family by the values of its processes and steps.
+use Rattle.std.specs.Prelude.{ℕ, List}
+use Rattle.rc_shell.specs.declared.family.process.Process.{Process}
+use Rattle.rc_shell.specs.declared.family.process.Step.{Step}
+
+-- what the fields of a family hold
+pub record Held : Type 0 where
+  pub limit : ℕ
+  pub processes : List Process
+  pub steps : List Step

@@ -1,0 +1,8 @@
+//! How calls and their answers are written in the rows of files.
+#![tactic(auto)]
+
+mod answers;
+mod calls;
+
+pub use answers::{AnswerError, answer};
+pub use calls::write_call;
