@@ -1,10 +1,11 @@
-# make            puts the shell at ./rc, beside it ./rccheck, which looks at scripts, and runs `echo hello` through the
-#                 shell: the release where it is that of the sources, and else what `make prove` builds
-# make prove      proves and builds ./rc and ./rccheck
+# make            puts the shell at ./rc, beside it ./rccheck, which looks at scripts, and ./rctrace, which shows what they
+#                 call, and runs `echo hello` through the shell: the release if it is that of the sources, and otherwise
+#                 what `make prove` builds
+# make prove      proves and builds ./rc, ./rccheck and ./rctrace
 # make release    proves and builds the programs, and puts them and the hash of their sources into release/
 # make check      runs a table of one-line scripts, the examples and a command between two pipes on ./rc, installs it
 #                 elsewhere, and looks at what editors highlight, in seconds
-# make test       proves, builds and tests everything from nothing, and compares the programs with the release, where
+# make test       proves, builds and tests everything from nothing, and compares the programs with the release, if
 #                 there is one
 # make editors    makes the highlighting of editors anew, from the shell's keywords and built-in commands
 # make install    copies the programs, their manual pages, documents, examples and highlighting below PREFIX, with
@@ -15,6 +16,7 @@
 RT = rt
 NAME = rc
 CHECKER = rccheck
+TRACER = rctrace
 PREFIX = /usr/local
 BINDIR = $(PREFIX)/bin
 MANDIR = $(PREFIX)/share/man/man1
@@ -25,6 +27,8 @@ RELEASE = release/rc-x86_64-linux
 BUILT = crates/rc_main/out/rc_main
 RELEASED_CHECKER = release/rccheck-x86_64-linux
 BUILT_CHECKER = crates/rccheck/out/rccheck
+RELEASED_TRACER = release/rctrace-x86_64-linux
+BUILT_TRACER = crates/rctrace/out/rctrace
 EXAMPLES = $(wildcard examples/*)
 DOCUMENTS = README.md CHANGELOG.md $(wildcard docs/*.md) $(EXAMPLES) editors/rc.tmLanguage.json
 VIM = ftdetect/rcshell.vim ftplugin/rcshell.vim syntax/rcshell.vim
@@ -36,15 +40,18 @@ hello: rc
 rc:
 	if ! release/fits; then $(MAKE) prove; \
 	    elif release/runs; then cmp -s $(RELEASE) rc || install -m 755 $(RELEASE) rc; \
-	    cmp -s $(RELEASED_CHECKER) rccheck || install -m 755 $(RELEASED_CHECKER) rccheck; else exit 1; fi
+	    cmp -s $(RELEASED_CHECKER) rccheck || install -m 755 $(RELEASED_CHECKER) rccheck; \
+	    cmp -s $(RELEASED_TRACER) rctrace || install -m 755 $(RELEASED_TRACER) rctrace; else exit 1; fi
 
 prove: build
 	install -m 755 $(BUILT) rc
 	install -m 755 $(BUILT_CHECKER) rccheck
+	install -m 755 $(BUILT_TRACER) rctrace
 
 build: toolchain
 	cd crates/rc_main && $(RT) run < /dev/null
 	cd crates/rccheck && $(RT) run -- data/fine.rc
+	cd crates/rctrace && $(RT) run < /dev/null
 
 toolchain:
 	@command -v $(RT) >/dev/null || { echo 'there is no command $(RT), with which the Rattle toolchain proves and builds' \
@@ -52,15 +59,16 @@ toolchain:
 
 check: rc
 	printf '%s\n' 'check ./rc' 'idioms ./rc' 'surprises ./rc' 'editors ./rc' 'early ./rc' 'descriptors ./rc' \
-	    'packaging ./rc ./rccheck' | xargs -P 4 -I TEST sh -c tests/TEST
+	    'packaging ./rc ./rccheck ./rctrace' | xargs -P 4 -I TEST sh -c tests/TEST
 
 # The hash is taken before the build: sources that change meanwhile don't fit it.
 release: tracked toolchain
-	rm -f $(RELEASE) $(RELEASED_CHECKER)
+	rm -f $(RELEASE) $(RELEASED_CHECKER) $(RELEASED_TRACER)
 	release/hash > release/sources
 	$(MAKE) build
 	install -m 755 $(BUILT) $(RELEASE)
 	install -m 755 $(BUILT_CHECKER) $(RELEASED_CHECKER)
+	install -m 755 $(BUILT_TRACER) $(RELEASED_TRACER)
 
 # The hash covers each file that is built.
 tracked:
@@ -78,14 +86,16 @@ test: toolchain
 	tests/idioms $(BUILT)
 	tests/early $(BUILT)
 	tests/editors $(BUILT)
-	tests/packaging $(BUILT) $(BUILT_CHECKER)
+	tests/packaging $(BUILT) $(BUILT_CHECKER) $(BUILT_TRACER)
+	tests/trace $(BUILT) $(BUILT_TRACER)
 	tests/background $(BUILT)
 	tests/input $(BUILT)
 	tests/refusals
 	tests/refused_images
 	tests/refused_runs
 	tests/growth $(BUILT)
-	if [ -e $(RELEASE) ]; then cmp $(BUILT) $(RELEASE) && cmp $(BUILT_CHECKER) $(RELEASED_CHECKER); fi
+	if [ -e $(RELEASE) ]; then cmp $(BUILT) $(RELEASE) && cmp $(BUILT_CHECKER) $(RELEASED_CHECKER) && \
+	    cmp $(BUILT_TRACER) $(RELEASED_TRACER); fi
 
 editors:
 	editors/generate editors
@@ -94,8 +104,10 @@ editors:
 install: rc
 	install -D -m 755 rc "$(DESTDIR)$(BINDIR)/$(NAME)"
 	install -D -m 755 rccheck "$(DESTDIR)$(BINDIR)/$(CHECKER)"
+	install -D -m 755 rctrace "$(DESTDIR)$(BINDIR)/$(TRACER)"
 	install -D -m 644 man/rc.1 "$(DESTDIR)$(MANDIR)/$(NAME).1"
 	install -D -m 644 man/rccheck.1 "$(DESTDIR)$(MANDIR)/$(CHECKER).1"
+	install -D -m 644 man/rctrace.1 "$(DESTDIR)$(MANDIR)/$(TRACER).1"
 	for file in $(DOCUMENTS); do if test -x $$file; then mode=755; else mode=644; fi; \
 	    install -D -m $$mode $$file "$(DESTDIR)$(DOCDIR)/$$file" || exit 1; done
 	cd "$(DESTDIR)$(DOCDIR)" && sed -i '1s|^#!/usr/local/bin/rc|#!$(BINDIR)/$(NAME)|' $(EXAMPLES)
@@ -105,6 +117,7 @@ install: rc
 uninstall:
 	rm -f "$(DESTDIR)$(BINDIR)/$(NAME)" "$(DESTDIR)$(MANDIR)/$(NAME).1"
 	rm -f "$(DESTDIR)$(BINDIR)/$(CHECKER)" "$(DESTDIR)$(MANDIR)/$(CHECKER).1"
+	rm -f "$(DESTDIR)$(BINDIR)/$(TRACER)" "$(DESTDIR)$(MANDIR)/$(TRACER).1"
 	for file in $(DOCUMENTS); do rm -f "$(DESTDIR)$(DOCDIR)/$$file"; done
 	for file in $(VIM); do rm -f "$(DESTDIR)$(VIMDIR)/$$file"; done
 	for directory in $(DOCDIR)/docs $(DOCDIR)/examples $(DOCDIR)/editors $(DOCDIR); do \

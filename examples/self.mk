@@ -8,6 +8,8 @@ RELEASE = release/rc-x86_64-linux
 BUILT = crates/rc_main/out/rc_main
 CHECKER = release/rccheck-x86_64-linux
 BUILT_CHECKER = crates/rccheck/out/rccheck
+TRACER = release/rctrace-x86_64-linux
+BUILT_TRACER = crates/rctrace/out/rctrace
 
 # The shell does not read PATH, so make hands it on as the list $path, with byte 1 between its members.
 export path := $(subst :,$(shell printf '\001'),$(PATH))
@@ -29,8 +31,11 @@ prove: rc
 	$(RT) run </dev/null
 	cd ../rccheck
 	$(RT) run -- data/fine.rc
+	cd ../rctrace
+	$(RT) run </dev/null
 	cd ../..
 	install -m 755 $(BUILT_CHECKER) rccheck
+	install -m 755 $(BUILT_TRACER) rctrace
 	install -m 755 $(BUILT) rc.new
 	mv rc.new rc
 
@@ -40,14 +45,17 @@ release: rc
 	untracked=`{git ls-files --others --exclude-standard -- ':(glob)crates/*/src/**'}
 	~ $$status '' || exit 1
 	if(! ~ $$#untracked 0) { echo git add first: $$untracked; exit 1 }
-	rm -f $(RELEASE) $(CHECKER)
+	rm -f $(RELEASE) $(CHECKER) $(TRACER)
 	./release/hash >release/sources
 	cd crates/rc_main
 	$(RT) run </dev/null
 	cd ../rccheck
 	$(RT) run -- data/fine.rc
+	cd ../rctrace
+	$(RT) run </dev/null
 	cd ../..
 	install -m 755 $(BUILT) $(RELEASE)
 	install -m 755 $(BUILT_CHECKER) $(CHECKER)
+	install -m 755 $(BUILT_TRACER) $(TRACER)
 
 .PHONY: check prove release

@@ -110,9 +110,15 @@ def said_alone(function, text):
     of_it = rf"(?:invariant-)?(?:\w+::)*{function.path[-1]}-"
     goals = [(re.search(r": goal\.(\S+)", it), it) for it in text.split("\n\n")]
     text = "\n\n".join(it for goal, it in goals if not goal or re.match(of_it, goal[1]))
-    place = rf"\1.proofs.{'.'.join(function.path)}.\2 as goal"
-    text = re.sub(r"(use Rattle\.\w+)\.proofs\.\S+\.(Given|Goals) as goal", place, text)
-    named = rf"(^(?:abbrev )?(?:pub )?|goal\.)(invariant-)?(?:\w+::)*{function.path[-1]}-"
+    place = ".".join(function.path)
+    text = re.sub(r"(use Rattle\.\w+)\.proofs\.\S+\.(Given|Goals) as goal", rf"\1.proofs.{place}.\2 as goal", text)
+
+    def own_names(found):
+        own = [it for it in found[2].split(", ") if re.match(of_it, it)]
+        return f"{found[1]}.proofs.{place}.Goals.{{{', '.join(own)}}}\n" if own else ""
+
+    text = re.sub(r"(use Rattle\.\w+)\.proofs\.\S+\.Goals\.\{(.*)\}\n", own_names, text)
+    named = rf"(^(?:abbrev )?(?:pub )?|goal\.|(?<=[ {{])(?=\w+::))(invariant-)?(?:\w+::)*{function.path[-1]}-"
     text = re.sub(named, r"\1\2", text, flags=re.M)
     return re.sub(r"^([^\s:]+(?: g)?) t c\b", r"\1 c", text, flags=re.M)
 

@@ -1,6 +1,5 @@
-//! How long the steps of a family take: `bench_family SHELLS COMMANDS` runs so many shells, each of which runs so many
-//! commands, one step of each shell after the other. It prints the microseconds of the processor for each thousand
-//! steps.
+//! Measures the steps of a family: `bench_family SHELLS COMMANDS` runs this many shells with this many commands each,
+//! one step of each shell after the other. It prints the microseconds of processor time for each thousand steps.
 #![tactic(auto)]
 
 ghost use Rattle.std.specs.Prelude.{IfOk};
@@ -31,7 +30,7 @@ fn push_numbers(text: &mut String, last: usize) -> Result<(), AllocError> {
     Ok(())
 }
 
-/// A script that starts so many shells, each of which runs so many commands.
+/// A script that starts this many shells with this many commands each.
 fn script(alloc: Global, shells: usize, commands: usize) -> Result<String, AllocError> {
     let mut text = String::from_str(alloc, "for(x in")?;
     push_numbers(&mut text, shells)?;
@@ -63,7 +62,7 @@ fn answer(alloc: Global, call: &Call, number: u32) -> Answer {
     }
 }
 
-/// A family that is run, and how long each thousand of its steps took.
+/// A running family, and how long each thousand of its steps took.
 #[derive(Drop)]
 struct Run {
     rt: HostRuntime,
@@ -74,12 +73,12 @@ struct Run {
 }
 
 impl Run {
-    /// The microseconds of the processor so far.
+    /// The microseconds of processor time so far.
     fn micros(&self) -> Result<u128> {
         Ok(self.rt.thread_cpu_time()?.as_micros())
     }
 
-    /// Answers the call of a shell, if it has one, and says whether it had.
+    /// Answers the call of a shell, if it has one, and returns whether it had.
     fn step(&mut self, shell: usize) -> Result<bool> {
         let alloc = self.rt.alloc();
         let Some(call) = self.family.pending(shell) else {
@@ -97,7 +96,7 @@ impl Run {
         Ok(true)
     }
 
-    /// One step of each shell that has a call, and whether there was one.
+    /// Makes one step of each shell that has a call, and returns whether there was one.
     fn round(&mut self) -> Result<bool> {
         let mut has_gone_on = false;
         for shell in 0..self.family.count() {
@@ -107,7 +106,7 @@ impl Run {
     }
 }
 
-/// Runs so many shells with so many commands.
+/// Runs this many shells with this many commands each.
 fn measure(rt: HostRuntime, shells: usize, commands: usize) -> Result<()> {
     let alloc = rt.alloc();
     let text = script(alloc, shells, commands)?;

@@ -1,5 +1,4 @@
-//! How long reading takes: `bench_syntax lex|parse KIND BYTES` reads one text, and prints the microseconds of the
-//! processor.
+//! Measures reading: `bench_syntax lex|parse KIND BYTES` reads one text, and prints the microseconds of processor time.
 #![tactic(auto)]
 
 use anyhow::{Context, bail};
@@ -9,7 +8,7 @@ use std::alloc::{AllocError, Global};
 use std::env;
 use std::time::CpuClock;
 
-/// What the texts are made of. The last five are accepted whatever their length.
+/// The pieces of the texts. The last five are accepted whatever their length.
 const PIECES: [(&str, &str); 10] = [
     ("operators", "a&&b|[2]c>[1=2];\n"),
     ("dollars", "$$$x$#y$\"z $$ "),
@@ -26,7 +25,7 @@ const PIECES: [(&str, &str); 10] = [
     ),
 ];
 
-/// What a text of this kind is made of.
+/// The piece of a text of this kind.
 fn piece(kind: &str) -> Option<&'static str> {
     for (name, piece) in PIECES {
         if name == kind {
@@ -48,7 +47,7 @@ fn text(alloc: Global, piece: &str, size: usize) -> Result<String, AllocError> {
     Ok(text)
 }
 
-/// The microseconds of the processor that reading takes.
+/// The microseconds of processor time that reading takes.
 fn time(rt: &impl CpuClock, alloc: Global, what: &str, text: &str) -> anyhow::Result<u128> {
     let start = rt.thread_cpu_time()?;
     match what {

@@ -10,15 +10,15 @@ use Rattle.rc_model.specs.declared.call.Mode.{Mode}
 use Rattle.rc_model.specs.declared.call.Mode.TheVariants.{Read}
 use Rattle.rc_model.specs.Run.Calls.{to_file, with_slot, Launch, open_file, here, make_pipe, close, read, write, start, wait, list_names, probe, as_file, as_pair, as_bytes, as_kind, as_child, as_names}
 use Rattle.rc_model.specs.Run.Lists.{concatenated, list_words}
-use Rattle.rc_model.specs.Run.State.{State, got, is_name, is_readable, is_function_name, define, add_child}
+use Rattle.rc_model.specs.Run.State.{State, got, is_name, is_readable, is_function_name, define}
 use Rattle.rc_model.specs.Run.Shell.{Shell, ◌>>=◌, pure, call, say, change, exits}
 use Rattle.rc_model.specs.Run.FileNames.{components, directory, fitting_names, each_name, if_there, listed, step, walk, paths_of, or_itself, names_of, expanded_word, expanded}
-use Rattle.rc_model.specs.Run.Acts.{set_status, report, fault, fails, close_end, one_name, variable, value, value_words, count_words, flat_words, selected_words, joined_lists, concat_words, define_each, opened, open_one, here_text, open_here, is_path, candidates, is_program, first_program, find_program, waited, wait_each, Started, Child, NoChild, child_of, begun, start_shell, refuse, wait_started, run_found, run_program, wait_subshell, subshell, kept_child, background_with, background, Got, got_all, read_on, reading, read_all, longest_output, members_of, back_status, back_child, back_pipe, backquote, back_words}
+use Rattle.rc_model.specs.Run.Acts.{set_status, report, runtime_error, fails, close_end, one_name, variable, value, value_words, count_words, flat_words, selected_words, joined_lists, concat_words, define_each, opened, open_one, here_text, open_here, is_path, candidates, is_program, first_program, find_program, waited, wait_each, Started, Child, NoChild, as_started, ask_start, start_shell, refuse, wait_started, run_found, run_program, wait_subshell, subshell, kept_child, background_with, background, Got, got_all, read_on, reading, read_all, longest_output, output_members, back_status, back_child, back_pipe, backquote, back_words}
 use Rattle.rc_model.specs.Handed.Image.{is_fit, program_launch, shell_launch}
 use Rattle.rc_model.specs.declared.fault.ListFault.{ListFault}
 use Rattle.rc_model.specs.Run.Acts.{cannot_open, here_name, not_one_word}
 use Rattle.law_descriptors.specs.Covering.{AreAmong}
-use Rattle.law_descriptors.proofs.Keeps.{Meets, Keeps, bind, next, keeps_pure, keeps_skip, keeps_exits, keeps_call, keeps_say, keeps_change, keeps_status, keeps_from, keeps_at, keeps_if, among_file}
+use Rattle.law_descriptors.proofs.Keeps.{Keeps, bind, next, keeps_pure, keeps_skip, keeps_exits, keeps_call, keeps_say, keeps_change, keeps_status, keeps_from, keeps_at, keeps_if, among_file}
 
 module _ (P : ℕ → Type 0) (o : Bool) where
   pub keeps_close_end : (h : Option ℕ) → Keeps P o (close_end h)
@@ -64,14 +64,14 @@ module _ (P : ℕ → Type 0) (o : Bool) where
   keeps_waited_status n = bind (waited n) set_status (keeps_waited n) keeps_status
 
   -- starts, where the launch fits
-  keeps_started : (l : Launch) (t : Bool) → AreAmong P l.slots → Keeps P o (if t then begun l else pure (NoChild (codes "too large")))
-  keeps_started l true h = bind (call (start l)) _ (keeps_call (start l) h) (λ a. keeps_pure (child_of (as_child a)))
+  keeps_started : (l : Launch) (t : Bool) → AreAmong P l.slots → Keeps P o (if t then ask_start l else pure (NoChild (codes "too large")))
+  keeps_started l true h = bind (call (start l)) _ (keeps_call (start l) h) (λ a. keeps_pure (as_started (as_child a)))
   keeps_started l false h = keeps_pure (NoChild (codes "too large"))
 
   pub keeps_start_shell : (slots : Slots) → AreAmong P slots → (body : Node cmd) → Keeps P o (start_shell slots body)
   keeps_start_shell slots w body = keeps_from _ (λ t. keeps_started (shell_launch slots body t) (is_fit (shell_launch slots body t)) w)
 
-  keeps_start_program : (slots : Slots) → AreAmong P slots → (path : List ℕ) (args : List (List ℕ)) (t : State) → Keeps P o (if is_fit (program_launch slots path args t) then begun (program_launch slots path args t) else pure (NoChild (codes "too large")))
+  keeps_start_program : (slots : Slots) → AreAmong P slots → (path : List ℕ) (args : List (List ℕ)) (t : State) → Keeps P o (if is_fit (program_launch slots path args t) then ask_start (program_launch slots path args t) else pure (NoChild (codes "too large")))
   keeps_start_program slots w path args t = keeps_started (program_launch slots path args t) (is_fit (program_launch slots path args t)) w
 
   -- programs
@@ -122,7 +122,7 @@ module _ (P : ℕ → Type 0) (o : Bool) where
       (bind (read_all longest_output r) _ (keeps_read_all longest_output r)
       (λ out. next (say (close r)) _ (keeps_say (close r) tt)
       (bind (waited n) _ (keeps_waited n)
-      (λ status. next (set_status (back_status out.why status)) _ (keeps_status (back_status out.why status)) (keeps_from (λ s. pure (members_of s out.text)) (λ t. keeps_pure (members_of t out.text)))))))
+      (λ status. next (set_status (back_status out.why status)) _ (keeps_status (back_status out.why status)) (keeps_from (λ s. pure (output_members s out.text)) (λ t. keeps_pure (output_members t out.text)))))))
 
   keeps_back_pipe : (slots : Slots) → AreAmong P slots → (body : Node cmd) (ends : Option (ℕ × ℕ)) → Keeps P o (back_pipe slots body ends)
   keeps_back_pipe slots v body None = next (set_status (codes "cannot pipe")) _ (keeps_status (codes "cannot pipe")) (keeps_pure [])
@@ -140,7 +140,7 @@ module _ (P : ℕ → Type 0) (o : Bool) (slots : Slots) (w : AreAmong P slots) 
   keeps_report text = keeps_say (write slots.errors (codes "rc: " ++ text ++ 10 ∷ [])) w.errors
 
   pub keeps_fails : {A : Type 0} (text : List ℕ) → Keeps P o (fails {A = A} slots text)
-  keeps_fails text = next (fault slots text) exits (next (report slots text) (set_status (codes "error")) (keeps_report text) (keeps_status (codes "error"))) keeps_exits
+  keeps_fails text = next (runtime_error slots text) exits (next (report slots text) (set_status (codes "error")) (keeps_report text) (keeps_status (codes "error"))) keeps_exits
 
   keeps_one_name : (fits : List ℕ → Bool) (xs : List (List ℕ)) → Keeps P o (one_name slots fits xs)
   keeps_one_name fits [] = keeps_fails (codes "bad name")
@@ -168,7 +168,7 @@ module _ (P : ℕ → Type 0) (o : Bool) (slots : Slots) (w : AreAmong P slots) 
 
   keeps_joined : (r : Result (List Word) ListFault) → Keeps P o (joined_lists slots r)
   keeps_joined (Ok ws) = keeps_pure ws
-  keeps_joined (Err fault) = keeps_fails (list_words fault)
+  keeps_joined (Err runtime_error) = keeps_fails (list_words runtime_error)
 
   pub keeps_concat : (a b : List Word) → Keeps P o (concat_words slots a b)
   keeps_concat a b = keeps_joined (concatenated a b)

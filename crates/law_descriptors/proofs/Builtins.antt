@@ -1,5 +1,5 @@
 -- What the calls of pipelines and of the built-in commands are.
-use Rattle.std.proofs.Common.{◌≡◌, ℕ, List, [], ◌∷◌, ◌++◌, Option, Some, None, Bool, true, refl}
+use Rattle.std.proofs.Common.{◌≡◌, ℕ, List, [], ◌∷◌, ◌++◌, Option, Some, None, true, refl}
 use Rattle.std.specs.Prelude.{codes, ◌==◌, drop}
 use Rattle.std.specs.List.{list_any}
 use Rattle.rc_model.specs.Syntax.Text.{spaced}
@@ -9,12 +9,12 @@ use Rattle.rc_model.specs.declared.call.Slots.{Slots}
 use Rattle.rc_model.specs.declared.call.Mode.TheVariants.{Read}
 use Rattle.rc_model.specs.Run.Numbers.{number_of}
 use Rattle.rc_model.specs.Run.Calls.{to_file, with_slot, open_file, make_pipe, close, write, change_dir, as_file, as_pair, as_done}
-use Rattle.rc_model.specs.Run.State.{State, value_of, set_value, with_status, function_of, drop_child}
+use Rattle.rc_model.specs.Run.State.{value_of, set_value, with_status, function_of, drop_child}
 use Rattle.rc_model.specs.Run.Shell.{Shell, ◌>>=◌, pure, call, say, change, exits}
-use Rattle.rc_model.specs.Run.Acts.{set_status, close_end, candidates, run_program, waited, wait_each, read_all, longest_file, Started, Child, NoChild, start_shell, StartedStages, Running, Refused, stages_status, no_stages, from_pipe, next_stage, stage_with, stages_from, start_stages, end_stages, find_program}
+use Rattle.rc_model.specs.Run.Acts.{set_status, close_end, candidates, run_program, waited, wait_each, read_all, longest_file, Started, Child, NoChild, start_shell, LaunchedStages, Launched, NotLaunched, Running, Refused, stages_status, no_stages, from_pipe, next_stage, stage_with, stages_from, launch_stages, settled, start_stages, end_stages, find_program}
 use Rattle.rc_model.specs.declared.builtin.Builtin.{Builtin}
 use Rattle.rc_model.specs.declared.builtin.Builtin.TheVariants.{Dot, BuiltinWord, Cd, Eval, Exec, Exit as ExitWord, Shift, Wait, Whatis}
-use Rattle.rc_model.specs.Run.Builtins.{builtin_named, Called, Finished, Body, BodyWith, finished, usage, as_body, as_body_with, opened_or, open_first, whole_file, run_file, dot, first_dir, dirs_of, first_member, cd, exit_status, shifted, shift, wait_child, wait_all, wait_one, wait_numbered, wait_for, Known, value_line, function_line, program_line, other_line, command_line, known_of, known_each, met, write_lines, whatis, exec, run_builtin, run_command, without_functions, run_named, run_words}
+use Rattle.rc_model.specs.Run.Builtins.{builtin_named, Called, Finished, Body, BodyWith, finished, usage, as_body, as_body_with, opened_or, open_first, whole_file, run_file, dot, first_dir, dirs_of, first_member, cd, exit_status, shifted, shift, wait_child, wait_all, wait_one, wait_numbered, wait_for, value_line, function_line, program_line, other_line, command_line, known_of, known_each, met, write_lines, whatis, exec, run_builtin, run_command, without_functions, run_named, run_words}
 use Rattle.law_descriptors.specs.Covering.{AreAmong}
 use Rattle.law_descriptors.proofs.Keeps.{Keeps, bind, next, keeps_pure, keeps_skip, keeps_exits, keeps_call, keeps_say, keeps_change, keeps_status, keeps_from, keeps_if, among_file, among_pipe}
 use Rattle.law_descriptors.proofs.Acts.{keeps_fails, keeps_close_end, keeps_waited, keeps_wait_each, keeps_start_shell, keeps_find, keeps_program, keeps_read_all}
@@ -22,15 +22,13 @@ use Rattle.law_descriptors.proofs.Acts.{keeps_fails, keeps_close_end, keeps_wait
 module _ (P : ℕ → Type 0) where
   -- the stages of a pipeline
   keeps_no_stages : (before : Option ℕ) (children : List ℕ) (why : List ℕ) → Keeps P true (no_stages before children why)
-  keeps_no_stages before children why =
-      next (close_end before) _ (keeps_close_end P true before)
-      (bind (wait_each children) _ (keeps_wait_each P true children) (λ ts. next (set_status (stages_status (ts ++ why ∷ []))) _ (keeps_status (stages_status (ts ++ why ∷ []))) (keeps_pure Refused)))
+  keeps_no_stages before children why = next (close_end before) _ (keeps_close_end P true before) (keeps_pure (NotLaunched children why))
 
-  keeps_next_stage : (go : Option ℕ → List ℕ → Shell StartedStages) → ((h : Option ℕ) (children : List ℕ) → Keeps P true (go h children)) → (before : Option ℕ) (children : List ℕ) (r w : ℕ) (b : Started) → Keeps P true (next_stage go before children r w b)
+  keeps_next_stage : (go : Option ℕ → List ℕ → Shell LaunchedStages) → ((h : Option ℕ) (children : List ℕ) → Keeps P true (go h children)) → (before : Option ℕ) (children : List ℕ) (r w : ℕ) (b : Started) → Keeps P true (next_stage go before children r w b)
   keeps_next_stage go k before children r w (Child n) = next (say (close w)) _ (keeps_say (close w) tt) (next (close_end before) _ (keeps_close_end P true before) (k (Some r) (children ++ n ∷ [])))
   keeps_next_stage go k before children r w (NoChild why) = next (say (close w)) _ (keeps_say (close w) tt) (next (say (close r)) _ (keeps_say (close r) tt) (keeps_no_stages before children why))
 
-  keeps_stage_with : (go : Option ℕ → List ℕ → Shell StartedStages) → ((h : Option ℕ) (children : List ℕ) → Keeps P true (go h children)) → (slots : Slots) → AreAmong P slots → (body : Node cmd) (slot : ℕ) (before : Option ℕ) (children : List ℕ) (ends : Option (ℕ × ℕ))
+  keeps_stage_with : (go : Option ℕ → List ℕ → Shell LaunchedStages) → ((h : Option ℕ) (children : List ℕ) → Keeps P true (go h children)) → (slots : Slots) → AreAmong P slots → (body : Node cmd) (slot : ℕ) (before : Option ℕ) (children : List ℕ) (ends : Option (ℕ × ℕ))
       → Keeps P true (stage_with go slots body slot before children ends)
   keeps_stage_with go k slots v body slot before children None = keeps_no_stages before children (codes "cannot pipe")
   keeps_stage_with go k slots v body slot before children (Some (r, w)) =
@@ -38,12 +36,17 @@ module _ (P : ℕ → Type 0) where
       bind (start_shell (with_slot (from_pipe before slots) slot (to_file w)) body) _ (keeps_start_shell P true (with_slot (from_pipe before slots) slot (to_file w)) among body) (keeps_next_stage go k before children r w)
 
   keeps_stages : (slots : Slots) → AreAmong P slots → (stages : Many stage) (before : Option ℕ) (children : List ℕ) → Keeps P true (stages_from slots stages before children)
-  keeps_stages slots w none before children = keeps_pure (Running before children)
+  keeps_stages slots w none before children = keeps_pure (Launched before children)
   keeps_stages slots w (more (Stage body slot) rest) before children =
       bind (call make_pipe) _ (keeps_call make_pipe tt) (λ a. keeps_stage_with (stages_from slots rest) (keeps_stages slots w rest) slots w body slot before children (as_pair a))
 
+  keeps_settled : (l : LaunchedStages) → Keeps P true (settled l)
+  keeps_settled (Launched h children) = keeps_pure (Running h children)
+  keeps_settled (NotLaunched children why) =
+      bind (wait_each children) _ (keeps_wait_each P true children) (λ ts. next (set_status (stages_status (ts ++ why ∷ []))) _ (keeps_status (stages_status (ts ++ why ∷ []))) (keeps_pure Refused))
+
   pub keeps_start_stages : (slots : Slots) → AreAmong P slots → (stages : Many stage) → Keeps P true (start_stages slots stages)
-  keeps_start_stages slots w stages = keeps_stages slots w stages None []
+  keeps_start_stages slots w stages = bind (launch_stages slots stages) settled (keeps_stages slots w stages None []) keeps_settled
 
   pub keeps_end_stages : (h : Option ℕ) (children : List ℕ) → Keeps P true (end_stages h children)
   keeps_end_stages h children =

@@ -7,15 +7,14 @@ use Rattle.rc_model.specs.declared.syntax.Logic.{Logic}
 use Rattle.rc_model.specs.declared.syntax.Logic.TheVariants.{And, Or}
 use Rattle.rc_model.specs.declared.call.Slots.{Slots}
 use Rattle.rc_model.specs.Run.Patterns.{matched}
-use Rattle.rc_model.specs.Run.Calls.{to_file, plain, close, slot_of, with_slot}
+use Rattle.rc_model.specs.Run.Calls.{to_file, close, slot_of, with_slot}
 use Rattle.rc_model.specs.Run.Plans.{done_with}
-use Rattle.rc_model.specs.Run.State.{State, set_value, push_local, pop_local, with_flag, inverted, undefine, is_name, is_true}
-use Rattle.rc_model.specs.Run.Shell.{Result, Shell, Exit, under, leaves, skip, exits, change, stops}
+use Rattle.rc_model.specs.Run.State.{State, set_value, push_local, pop_local, with_flag, inverted, undefine, is_true}
+use Rattle.rc_model.specs.Run.Shell.{ShellResult, Shell, Exit, under, leaves, skip, exits, change, stops}
 use Rattle.rc_model.specs.Run.FileNames.{expanded}
 use Rattle.rc_model.specs.Run.Acts.{check, value_words, concat_words, match_status, open_one, open_here, variable, background, StartedStages, Running, Refused, start_stages, from_pipe, closing}
 use Rattle.rc_model.specs.Run.Builtins.{Called, Finished, Body, BodyWith, run_words}
-use Rattle.rc_model.specs.Run.Meaning.{checked, Runner, Caller, local_end, file_end, pipe_end, piped, called, if_true, linked, if_means, if_not_means, condition, turns, each_more, each, bound, if_so, cmd_means, arg_means, args_mean, parts_mean, more_parts_mean, items_mean, pairs_mean, redirs_mean, links_mean, branches_mean, meaning}
-use Rattle.rc_model.specs.Run.Script.{waits, whole}
+use Rattle.rc_model.specs.Run.Meaning.{checked, Runner, Caller, local_end, file_end, pipe_end, piped, called_means, if_true, linked, if_means, if_not_means, condition, turns, each_more, each, bound, if_so, cmd_means, arg_means, args_mean, parts_mean, more_parts_mean, items_mean, pairs_mean, redirs_mean, links_mean, branches_mean, meaning}
 use Rattle.law_descriptors.specs.Covering.{AreAmong}
 use Rattle.law_descriptors.proofs.Keeps.{Safe, Keeps, bind, next, keeps_pure, keeps_skip, keeps_exits, keeps_stops, keeps_say, keeps_change, keeps_status, keeps_choice, keeps_scope, among_file, among_copy, among_pipe}
 use Rattle.law_descriptors.proofs.Acts.{keeps_variable, keeps_value_words, keeps_count_words, keeps_flat_words, keeps_selected_words, keeps_concat, keeps_define, keeps_open_one, keeps_open_here, keeps_expanded, keeps_subshell, keeps_background, keeps_back}
@@ -30,7 +29,7 @@ module _ (P : ℕ → Type 0) where
   keeps_file h m k = keeps_scope m _ _ k (λ a. keeps_say (close h) tt) (λ t owed. (tt, λ x. tt))
 
   -- the last stage of a pipeline
-  safe_closing : (h : Option ℕ) (t : State) (owed : List ℕ) → Safe {X = Result (Unit {0})} P true (closing h (done_with (Exit t owed)))
+  safe_closing : (h : Option ℕ) (t : State) (owed : List ℕ) → Safe {X = ShellResult (Unit {0})} P true (closing h (done_with (Exit t owed)))
   safe_closing None t owed = tt
   safe_closing (Some h) t owed = (tt, λ x. tt)
 
@@ -121,7 +120,7 @@ module _ (P : ℕ → Type 0) (o : Bool) (call : Caller) (n : ℕ) (slots : Slot
     keeps_more_parts (more a rest) before = bind (arg_means a call n slots) _ (keeps_arg a) (λ v. bind (concat_words slots before v) _ (keeps_concat P o slots w before v) (λ u. keeps_more_parts rest u))
 
 module _ (P : ℕ → Type 0) (call : Caller) (kc : (slots : Slots) → AreAmong P slots → (c : Node cmd) → Keeps P true (call slots c)) (n : ℕ) where
-  keeps_called : (slots : Slots) → AreAmong P slots → (c : Called) → Keeps P true (called call slots c)
+  keeps_called : (slots : Slots) → AreAmong P slots → (c : Called) → Keeps P true (called_means call slots c)
   keeps_called slots w Finished = keeps_skip
   keeps_called slots w (Body c) = kc slots w c
   keeps_called slots w (BodyWith args c) = next (change (λ s. push_local s (codes "*") args)) _ (keeps_change (λ s. push_local s (codes "*") args)) (keeps_local P (call slots c) (kc slots w c))
@@ -132,7 +131,7 @@ module _ (P : ℕ → Type 0) (call : Caller) (kc : (slots : Slots) → AreAmong
     keeps_cmd (Seq items) g slots w = keeps_items items g slots w
     keeps_cmd (Simple words) g slots w =
         bind (args_mean words call n slots []) _ (keeps_args P true call n slots w words [])
-        (λ v. bind (expanded v) _ (keeps_expanded P true v) (λ u. keeps_checked P g _ (bind (run_words slots (word_texts u)) (called call slots) (keeps_words P slots w (word_texts u)) (keeps_called slots w))))
+        (λ v. bind (expanded v) _ (keeps_expanded P true v) (λ u. keeps_checked P g _ (bind (run_words slots (word_texts u)) (called_means call slots) (keeps_words P slots w (word_texts u)) (keeps_called slots w))))
     keeps_cmd (Assign pairs body) g slots w = keeps_pairs pairs (is_empty body) (cmd_means body g call n slots) slots w (keeps_cmd body g slots w)
     keeps_cmd (Redirect redirs body) g slots w = keeps_redirs redirs (cmd_means body g call n) (λ slots w. keeps_cmd body g slots w) slots w
     keeps_cmd (Pipeline stages last) g slots w =

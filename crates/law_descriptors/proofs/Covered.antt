@@ -2,19 +2,19 @@
 use Rattle.std.proofs.Common.{◌≡◌, refl, sym, ap, subst, inl, inr, ℕ, zero, suc, List, [], ◌∷◌, Option, Some, None, Bool, true, false}
 use Rattle.std.specs.Prelude.{if◌then◌else◌}
 use Rattle.rc_model.specs.Syntax.Words.{word_texts}
-use Rattle.rc_model.specs.Syntax.Tree.{Node, Many, cmd, arg, pair, redir, is_empty, none, more, Assign, Redirect, Pair, Open, Copy, Here}
+use Rattle.rc_model.specs.Syntax.Tree.{Node, Many, cmd, pair, redir, is_empty, none, more, Assign, Redirect, Pair, Open, Copy, Here}
 use Rattle.rc_model.specs.declared.call.Mode.{Mode}
 use Rattle.rc_model.specs.declared.call.Slot.{Slot}
 use Rattle.rc_model.specs.declared.call.Slot.TheVariants.{Own, To}
 use Rattle.rc_model.specs.declared.call.Slots.{Slots}
-use Rattle.rc_model.specs.Run.Calls.{Call, Answer, open_file, here, close, write, start, wait, as_file, plain, to_file, slot_of, with_slot}
+use Rattle.rc_model.specs.Run.Calls.{Call, Answer, open_file, here, write, start, as_file, plain, to_file, slot_of, with_slot}
 use Rattle.rc_model.specs.Run.Plans.{Plan, done_with, ask, cut}
 use Rattle.rc_model.specs.Run.State.{State, set_value, push_local}
-use Rattle.rc_model.specs.Run.Shell.{Result, Next, Exit, Shell, under, leaves, stops}
+use Rattle.rc_model.specs.Run.Shell.{ShellResult, Next, Exit, under, leaves, stops}
 use Rattle.rc_model.specs.Run.FileNames.{expanded}
 use Rattle.rc_model.specs.Run.Acts.{opened, open_one, variable, here_name}
 use Rattle.rc_model.specs.Run.Meaning.{Runner, Caller, file_end, bound, cmd_means, arg_means, pairs_mean, redirs_mean, meaning}
-use Rattle.rc_model.specs.Run.Script.{waits, whole}
+use Rattle.rc_model.specs.Run.Script.{waits}
 use Rattle.law_descriptors.specs.Covering.{opens_in, opens_of, slots_in, if_opens, slots_after, IsAmong, AreAmong, NamesOnly, Stands, AllCalls, is_file, is_opened, AfterOpens, NoCoveredIsNamed}
 use Rattle.law_descriptors.proofs.Keeps.{Meets, Safe, all_under, Keeps, keeps_stops}
 use Rattle.law_descriptors.proofs.Acts.{keeps_expanded, keeps_variable}
@@ -44,7 +44,7 @@ quiet P k Q (ask c go) h = λ a. subst (λ b. AfterOpens (if b then k else suc k
 quiet P k Q cut h = tt
 
 -- what opens no file, and what comes then
-after_quiet : {A X : Type 0} (P : ℕ → Type 0) (k : ℕ) (Q : Call → Type 0) (p : Plan (Result A)) (go : A → State → Plan X) (leave : State → List ℕ → Plan X)
+after_quiet : {A X : Type 0} (P : ℕ → Type 0) (k : ℕ) (Q : Call → Type 0) (p : Plan (ShellResult A)) (go : A → State → Plan X) (leave : State → List ℕ → Plan X)
     → Safe P false p → ((x : A) (s : State) → AfterOpens (suc k) Q (go x s)) → ((s : State) (owed : List ℕ) → AfterOpens (suc k) Q (leave s owed)) → AfterOpens (suc k) Q (under p go leave)
 after_quiet P k Q (done_with (Next x s)) go leave h kg kl = kg x s
 after_quiet P k Q (done_with (Exit s owed)) go leave h kg kl = kl s owed
@@ -53,7 +53,7 @@ after_quiet P k Q (ask c rest) go leave h kg kl =
 after_quiet P k Q cut go leave h kg kl = tt
 
 -- a scope whose end opens no file
-after_scope : {A X : Type 0} (P : ℕ → Type 0) (k : ℕ) (Q : Call → Type 0) (p : Plan (Result A)) (go : A → State → Plan X) (leave : State → List ℕ → Plan X)
+after_scope : {A X : Type 0} (P : ℕ → Type 0) (k : ℕ) (Q : Call → Type 0) (p : Plan (ShellResult A)) (go : A → State → Plan X) (leave : State → List ℕ → Plan X)
     → AfterOpens k Q p → ((x : A) (s : State) → AllCalls Q (go x s) × Safe P false (go x s)) → ((s : State) (owed : List ℕ) → AllCalls Q (leave s owed) × Safe P false (leave s owed))
     → AfterOpens k Q (under p go leave)
 after_scope P zero Q p go leave h kg kl = all_under Q p go leave h (λ x s. (kg x s).0) (λ s owed. (kl s owed).0)

@@ -1,13 +1,12 @@
 -- What each call of an act is: it names none of the shell's own descriptors but these, and opens a file only where it may.
-use Rattle.std.proofs.Common.{◌≡◌, refl, ℕ, zero, suc, List, Bool, true, false, Option, Some, None}
+use Rattle.std.proofs.Common.{◌≡◌, ℕ, zero, suc, List, Bool, true, false, Option, Some, None}
 use Rattle.std.specs.Prelude.{if◌then◌else◌}
 use Rattle.rc_model.specs.declared.call.Slot.{Slot}
-use Rattle.rc_model.specs.declared.call.Slot.TheVariants.{Own, To}
 use Rattle.rc_model.specs.declared.call.Slots.{Slots}
-use Rattle.rc_model.specs.Run.Calls.{Call, Answer, open_file, here, write, start, to_file, slot_of, with_slot}
+use Rattle.rc_model.specs.Run.Calls.{Call, open_file, here, write, start, to_file, slot_of, with_slot}
 use Rattle.rc_model.specs.Run.Plans.{Plan, done_with, ask, cut}
 use Rattle.rc_model.specs.Run.State.{State, with_status}
-use Rattle.rc_model.specs.Run.Shell.{Result, Next, Exit, Shell, under, leaves, pure, skip, call, say, get, change, exits, stops}
+use Rattle.rc_model.specs.Run.Shell.{ShellResult, Next, Exit, Shell, under, leaves, pure, skip, call, say, get, change, exits, stops}
 use Rattle.rc_model.specs.Run.Acts.{set_status, from_pipe}
 use Rattle.rc_model.specs.Run.Meaning.{Runner}
 use Rattle.law_descriptors.specs.Covering.{IsAmong, AreAmong, AllCalls}
@@ -23,7 +22,7 @@ Meets P o c = Unit {0}
 abbrev pub Safe : {X : Type 0} → (ℕ → Type 0) → Bool → Plan X → Type 0
 Safe P o p = AllCalls (Meets P o) p
 
-pub all_under : {A X : Type 0} (Q : Call → Type 0) (p : Plan (Result A)) (go : A → State → Plan X) (leave : State → List ℕ → Plan X)
+pub all_under : {A X : Type 0} (Q : Call → Type 0) (p : Plan (ShellResult A)) (go : A → State → Plan X) (leave : State → List ℕ → Plan X)
     → AllCalls Q p → ((x : A) (s : State) → AllCalls Q (go x s)) → ((s : State) (owed : List ℕ) → AllCalls Q (leave s owed)) → AllCalls Q (under p go leave)
 all_under Q (done_with (Next x s)) go leave k hn he = hn x s
 all_under Q (done_with (Exit s owed)) go leave k hn he = he s owed
@@ -84,7 +83,7 @@ keeps_choice {P} {o} test m f km kf = record { by = λ s. by_test s (test s) }
     by_test s false = kf.by s
 
 -- a scope, however its body ends
-pub keeps_scope : {P : ℕ → Type 0} {o : Bool} (m : Runner) (go : Unit {0} → Runner) (leave : State → List ℕ → Plan (Result (Unit {0}))) → Keeps P o m → ((x : Unit {0}) → Keeps P o (go x)) → ((t : State) (owed : List ℕ) → Safe P o (leave t owed))
+pub keeps_scope : {P : ℕ → Type 0} {o : Bool} (m : Runner) (go : Unit {0} → Runner) (leave : State → List ℕ → Plan (ShellResult (Unit {0}))) → Keeps P o m → ((x : Unit {0}) → Keeps P o (go x)) → ((t : State) (owed : List ℕ) → Safe P o (leave t owed))
     → Keeps P o (λ s. under (m s) go leave)
 keeps_scope {P} {o} m go leave km kg kl = record { by = λ s. all_under (Meets P o) (m s) go leave (km.by s) (λ x t. (kg x).by t) kl }
 

@@ -3,8 +3,8 @@
 
 ghost use Rattle.law_descriptors.specs.Covering.{NoCoveredIsNamed};
 
-/// Once the last file of the redirections around a command is open, no call of its run names a descriptor of the
-/// shell's own that is none of the three then, whatever the answers.
+/// After the last file of the redirections around a command is opened, no call of its run names a descriptor of the
+/// shell's own that isn't one of the three then, whatever the answers.
 pub fn no_covered_is_named()
     ensures { NoCoveredIsNamed }
 {}

@@ -1,5 +1,5 @@
 -- How a worked example is written: the text of a script, the state that it begins in, its calls with their answers, and
--- what it comes to.
+-- its end.
 use Rattle.std.proofs.Common.{◌≡◌, List, [], ◌∷◌, ◌++◌}
 use Rattle.std.proofs.Math.Utf8.{encode}
 use Rattle.std.specs.Prelude.{ℕ, true, codes, Some, None, Option, option_map}
@@ -56,17 +56,17 @@ use Rattle.rc_model.specs.Handed.TreeReading.{cmd_at, arg_at}
 use Rattle.rc_model.specs.Handed.Arguments.{reads}
 use Rattle.rc_model.specs.Handed.Image.{many_image, node_image}
 
--- ** states, and the environment that they give
+-- ** states, and their environments
 
 -- path=(/bin), and nothing else
 abbrev pub fresh : State
 fresh = set_value new_state (codes "path") (codes "/bin" ∷ [])
 
--- the same of a strict shell
+-- the same for a strict shell
 abbrev pub strict : State
 strict = record fresh { strict = true }
 
--- a state with one variable more
+-- a state with one more variable
 abbrev pub with_value : State → List ℕ → List (List ℕ) → State
 with_value s name value = set_value s name value
 
@@ -76,7 +76,7 @@ usual = codes "path=/bin" ∷ codes "status=" ∷ []
 
 -- ** launches and calls
 
--- what the three descriptors stand for
+-- the three descriptors
 abbrev pub slots : Slot → Slot → Slot → Slots
 slots input output errors = record { input = input; output = output; errors = errors }
 
@@ -96,11 +96,11 @@ writing_to file = record plain { output = to_file file }
 abbrev pub reading_from : ℕ → Slots
 reading_from file = record plain { input = to_file file }
 
--- a subshell without arguments is started with a command
+-- the start of a subshell with a command and without arguments
 abbrev pub subshell : (image : List ℕ) → (entries : List (List ℕ)) → Slots → Call
 subshell image entries slots = start (shell (codes "-S" ∷ image ∷ []) entries slots)
 
--- the same by a strict shell
+-- the same for a strict shell
 abbrev pub strict_subshell : (image : List ℕ) → (entries : List (List ℕ)) → Slots → Call
 strict_subshell image entries slots = start (shell (codes "-e" ∷ codes "-S" ∷ image ∷ []) entries slots)
 
@@ -120,9 +120,9 @@ runs_in slots name args entries n c =
 abbrev pub runs : List ℕ → List (List ℕ) → List (List ℕ) → (child code : ℕ) → List Event
 runs name args entries n c = runs_in plain name args entries n c
 
--- ** what a script comes to
+-- ** the end of a script
 
--- the tree of a text, where it has one
+-- the tree of a text, if it has one
 unfoldable pub tree : List ℕ → Option (Node cmd)
 unfolding chars encode is_utf8 digits utf8_lossy utf8_valid_len utf8_error_len Descent_arg_by Descent_assigned_by
     Descent_block_by Descent_body_by Descent_brace_by Descent_branch_by Descent_branches_by Descent_branches_from
@@ -139,22 +139,22 @@ unfolding chars encode is_utf8 digits utf8_lossy utf8_valid_len utf8_error_len D
     many_image
 tree text = tree_of text
 
--- the calls, the final state and the answers that are left, where a script ends
+-- the calls, the final state and the answers that are left, if a script ends
 abbrev ended_so : Played State → Option (List Call × State × List Answer)
 ended_so (Ends made s left) = Some (made, s, left)
 ended_so _ = None
 
--- the calls, where a script was cut
+-- the calls, if a script was cut
 abbrev cut_so : Played State → Option (List Call)
 cut_so (Cut made) = Some made
 cut_so _ = None
 
--- the calls, where a script waits for an answer
+-- the calls, if a script waits for an answer
 abbrev waits_so : Played State → Option (List Call)
 waits_so (Waits made) = Some made
 waits_so _ = None
 
--- what follows a value, where there is one
+-- goes on with a value, if there is one
 abbrev then : {A B : Type 0} → (A → Option B) → Option A → Option B
 then f None = None
 then f (Some x) = f x
@@ -167,7 +167,7 @@ by_meaning text s given = option_map (λ c. script 9 c s given) (tree text)
 abbrev by_code : List ℕ → State → List Answer → Option (Played State)
 by_code text s given = option_map (λ c. run 900 c s given) (tree text)
 
--- of the final state the status alone
+-- only the status of the final state
 abbrev seen : Option (List Call × State × List Answer) → Option (List Call × List ℕ × List Answer)
 seen x = option_map (λ y. (y.0, y.1.status, y.2)) x
 
@@ -176,7 +176,7 @@ unfoldable pub meant : List ℕ → State → List Answer → Option (List Call 
 unfolding tree
 meant text s given = seen (then ended_so (by_meaning text s given))
 
--- how it ends by its code
+-- how a script ends by its code
 unfoldable pub ran : List ℕ → State → List Answer → Option (List Call × List ℕ × List Answer)
 unfolding tree
 ran text s given = seen (then ended_so (by_code text s given))
@@ -187,7 +187,7 @@ Does text s trace status =
     (meant text s (answers trace) ≡ Some (calls trace, status, [])) ×
     (ran text s (answers trace) ≡ Some (calls trace, status, []))
 
--- of the final state one value alone
+-- only one value of the final state
 abbrev value_in : List ℕ → Option (List Call × State × List Answer) → Option (List Call × List (List ℕ))
 value_in name x = option_map (λ y. (y.0, value_of y.1 name)) x
 
@@ -207,12 +207,12 @@ Leaves text s trace name value =
     (meant_value name text s (answers trace) ≡ Some (calls trace, value)) ×
     (ran_value name text s (answers trace) ≡ Some (calls trace, value))
 
--- where a script waits by its meaning
+-- the calls of a script that waits, by its meaning
 unfoldable pub meant_wait : List ℕ → State → List Answer → Option (List Call)
 unfolding tree
 meant_wait text s given = then waits_so (by_meaning text s given)
 
--- where it waits by its code
+-- the calls of a script that waits, by its code
 unfoldable pub ran_wait : List ℕ → State → List Answer → Option (List Call)
 unfolding tree
 ran_wait text s given = then waits_so (by_code text s given)
@@ -222,21 +222,21 @@ abbrev pub Awaits : (text : List ℕ) → State → List Event → Type 0
 Awaits text s trace =
     (meant_wait text s (answers trace) ≡ Some (calls trace)) × (ran_wait text s (answers trace) ≡ Some (calls trace))
 
--- the calls of `limit` instructions, where they were cut
+-- the calls of `limit` instructions, if they were cut
 unfoldable pub cut_at : ℕ → List ℕ → State → List Answer → Option (List Call)
 unfolding tree
 cut_at limit text s given = then cut_so (option_map (λ c. run limit c s given) (tree text))
 
--- `limit` instructions make these calls, and don't come to the end.
+-- `limit` instructions make these calls, and don't reach the end.
 abbrev pub StopsAt : (limit : ℕ) → (text : List ℕ) → State → List Event → Type 0
 StopsAt limit text s trace = cut_at limit text s (answers trace) ≡ Some (calls trace)
 
--- the calls of at most `limit` instructions, where they came to the end
+-- the calls of at most `limit` instructions, if they reached the end
 unfoldable pub ends_by : ℕ → List ℕ → State → List Answer → Option (List Call)
 unfolding tree
 ends_by limit text s given = option_map (λ y. y.0) (then ended_so (option_map (λ c. run limit c s given) (tree text)))
 
--- what a shell does with what it is handed
+-- the effect of a shell with what it is handed
 unfoldable pub does_handed : (args entries : List (List ℕ)) → List Answer → Option (List Call × List ℕ × List Answer)
 unfolding tree cmd_at arg_at
 does_handed args entries given = seen (then ended_so (option_map (λ c. script 9 c.0 c.1 given) (reads args entries)))

@@ -1,5 +1,5 @@
-//! Worked examples of the definitions: what scripts ask of the world and how they end, by meaning and by code.
-//! The first is a contract, the others stand in `proofs/`, by their subjects.
+//! Worked examples of the definitions: the calls of scripts and how they end, by meaning and by code. The first is a
+//! contract, the others are in `proofs/`, by subject.
 #![tactic(auto)]
 
 ghost use Rattle.std.specs.Prelude.{[], ◌∷◌, codes};

@@ -7,7 +7,7 @@ use Rattle.rc_model.specs.declared.call.Fault.TheVariants.{Halt}
 use Rattle.std.proofs.lemmas.List.{append-nil}
 use Rattle.rc_model.specs.Run.Plans.{play, calls_made}
 use Rattle.rc_model.specs.Run.Script.{whole, IsBegunAsMeant}
-use Rattle.rc_model.specs.Family.Accounts.{Settled, NothingLost, Due, free, made, used, passed, Account, put, next_due, called, add_file, add_pair, add_child, past, after, Fresh, FreshFrom, Allowed, AllAllowed, account, at_start, IsFresh, OneWriteEnd}
+use Rattle.rc_model.specs.Family.Accounts.{Settled, NothingLost, Due, free, made, used, passed, Account, put, next_due, with_call, add_file, add_pair, add_child, past, after, Fresh, FreshFrom, Allowed, AllAllowed, account, at_start, IsFresh, OneWriteEnd}
 use Rattle.rc_model.specs.Family.Family.{Process, holding, IsPending, GoesAsMeant}
 use Rattle.law_traces.proofs.Keep.{put_self, put_other}
 use Rattle.law_traces.proofs.Cmds.{keeps_whole}
@@ -39,22 +39,22 @@ no_made (used p v i) _ q w e = absurd cc
 pub newest : (a : Account) (c : Call) (x : Answer) (q w : ℕ) → (after a c x).due ≡ made q w → q ≡ a.place
 newest a (open_file p m) x q w e = by_file (as_file x) e
   where
-    by_file : (o : Option ℕ) → (add_file o (called (open_file p m) a)).due ≡ made q w → q ≡ a.place
+    by_file : (o : Option ℕ) → (add_file o (with_call (open_file p m) a)).due ≡ made q w → q ≡ a.place
     by_file (Some h) e = absurd (no_made a.due (open_file p m) q w e)
     by_file None e = absurd (no_made a.due (open_file p m) q w e)
 newest a (here t) x q w e = by_file (as_file x) e
   where
-    by_file : (o : Option ℕ) → (add_file o (called (here t) a)).due ≡ made q w → q ≡ a.place
+    by_file : (o : Option ℕ) → (add_file o (with_call (here t) a)).due ≡ made q w → q ≡ a.place
     by_file (Some h) e = absurd (no_made a.due (here t) q w e)
     by_file None e = absurd (no_made a.due (here t) q w e)
 newest a make_pipe x q w e = by_pair (as_pair x) e
   where
-    by_pair : (o : Option (ℕ × ℕ)) → (add_pair o (called make_pipe a)).due ≡ made q w → q ≡ a.place
+    by_pair : (o : Option (ℕ × ℕ)) → (add_pair o (with_call make_pipe a)).due ≡ made q w → q ≡ a.place
     by_pair (Some (r, v)) e = cc
     by_pair None e = absurd (no_made a.due make_pipe q w e)
 newest a (start l) x q w e = by_child (as_child x) e
   where
-    by_child : (o : Option ℕ) → (add_child o (called (start l) a)).due ≡ made q w → q ≡ a.place
+    by_child : (o : Option ℕ) → (add_child o (with_call (start l) a)).due ≡ made q w → q ≡ a.place
     by_child (Some h) e = absurd (no_made a.due (start l) q w e)
     by_child None e = absurd (no_made a.due (start l) q w e)
 newest a (close h) x q w e = absurd (no_made a.due (close h) q w e)
@@ -68,22 +68,22 @@ newest a (change_dir p) x q w e = absurd (no_made a.due (change_dir p) q w e)
 pub place_on : (a : Account) (c : Call) (x : Answer) → (after a c x).place ≡ suc a.place
 place_on a (open_file p m) x = by_file (as_file x)
   where
-    by_file : (o : Option ℕ) → (past (add_file o (called (open_file p m) a))).place ≡ suc a.place
+    by_file : (o : Option ℕ) → (past (add_file o (with_call (open_file p m) a))).place ≡ suc a.place
     by_file (Some h) = refl
     by_file None = refl
 place_on a (here t) x = by_file (as_file x)
   where
-    by_file : (o : Option ℕ) → (past (add_file o (called (here t) a))).place ≡ suc a.place
+    by_file : (o : Option ℕ) → (past (add_file o (with_call (here t) a))).place ≡ suc a.place
     by_file (Some h) = refl
     by_file None = refl
 place_on a make_pipe x = by_pair (as_pair x)
   where
-    by_pair : (o : Option (ℕ × ℕ)) → (past (add_pair o (called make_pipe a))).place ≡ suc a.place
+    by_pair : (o : Option (ℕ × ℕ)) → (past (add_pair o (with_call make_pipe a))).place ≡ suc a.place
     by_pair (Some (r, w)) = refl
     by_pair None = refl
 place_on a (start l) x = by_child (as_child x)
   where
-    by_child : (o : Option ℕ) → (past (add_child o (called (start l) a))).place ≡ suc a.place
+    by_child : (o : Option ℕ) → (past (add_child o (with_call (start l) a))).place ≡ suc a.place
     by_child (Some k) = refl
     by_child None = refl
 place_on a (close h) x = refl

@@ -7,7 +7,7 @@ use Rattle.rc_model.specs.Run.Calls.{Launch, Event, event}
 use Rattle.rc_model.specs.Syntax.Tree.{Node, cmd}
 use Rattle.rc_model.specs.Run.State.{State}
 use Rattle.rc_model.specs.Family.Accounts.{one, put}
-use Rattle.rc_model.specs.Family.Family.{Family, Step, shell_started, child_process, recorded, with_trace, with_child, first, count_started, shells_started, count_child, children_below}
+use Rattle.rc_model.specs.Family.Family.{Family, FamilyEvent, shell_started, child_process, recorded, with_trace, with_child, first, count_started, shells_started, count_child, children_below}
 use Rattle.law_traces.proofs.Keep.{put_self, put_other}
 use Rattle.law_family.proofs.Accounts.{put_field}
 
@@ -53,10 +53,10 @@ other_more : (i k : ℕ) (o : Option (Launch × ℕ)) → (i ≡ k → ⊥) → 
 other_more i k None e = refl
 other_more i k (Some o) e = other_one i k e
 
-pub origin_kept : (f : Family) (e : Step) (j : ℕ) → ((with_trace f e).at j).origin ≡ (f.at j).origin
+pub origin_kept : (f : Family) (e : FamilyEvent) (j : ℕ) → ((with_trace f e).at j).origin ≡ (f.at j).origin
 origin_kept f e j = put_field (λ p. p.origin) f.at e.at (recorded (f.at e.at) e.call e.answer) refl j
 
-after_event : (f : Family) (e : Step) → Counted f → (o : Option (Launch × ℕ)) → shell_started e.call e.answer ≡ o → (k : ℕ) → k < f.count
+after_event : (f : Family) (e : FamilyEvent) → Counted f → (o : Option (Launch × ℕ)) → shell_started e.call e.answer ≡ o → (k : ℕ) → k < f.count
     → shells_started ((with_trace f e).at k).trace ≡ more_at e.at k o + children_below f k f.count
 after_event f e v o s k l = elim (eqb_tells e.at k) [
   | inl y ↦
@@ -83,7 +83,7 @@ module _ (reads : Launch → Node cmd × State) where
   pub counted_first : (c : Node cmd) (s : State) → Counted (first reads c s)
   counted_first c s = record { earlier = λ j l k n e. absurd cc; counts = λ k l. refl }
 
-  module _ (f : Family) (e : Step) (v : Counted f) (r : e.at < f.count) where
+  module _ (f : Family) (e : FamilyEvent) (v : Counted f) (r : e.at < f.count) where
     module _ (l : Launch) (n : ℕ) (s : shell_started e.call e.answer ≡ Some (l, n)) where
       abbrev Grown : Family
       Grown = with_child reads (with_trace f e) e.at (f.at e.at) (Some (l, n))

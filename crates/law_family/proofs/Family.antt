@@ -8,7 +8,7 @@ use Rattle.rc_model.specs.declared.call.Slots.{Slots}
 use Rattle.rc_model.specs.Syntax.Tree.{Node, cmd}
 use Rattle.rc_model.specs.Run.State.{State}
 use Rattle.rc_model.specs.Family.Accounts.{Thing, a_file, read_end, write_end, Due, free, made, used, passed, Account, HoldsSlot, HoldsSlots, InTurn, Allowed, at_start, IsDue}
-use Rattle.rc_model.specs.Family.Family.{writes_to, Process, Family, Step, holding, IsPending, ArePossible, end_of, stood_for, shell_of, shell_started, child_process, recorded, with_trace, with_child, stepped, family, first, EachOf, Descends, itself, started_by, HoldsWrite, WritesTo, WasHanded, WriteEnds, WaitsBy, WaitsFor, WaitsLong, directly, through, NoRing}
+use Rattle.rc_model.specs.Family.Family.{writes_to, Process, Family, FamilyEvent, holding, IsPending, ArePossible, end_of, stood_for, shell_of, shell_started, child_process, recorded, with_trace, with_child, stepped, family, first, EachOf, Descends, itself, started_by, HoldsWrite, WritesTo, WasHanded, WriteEnds, WaitsBy, WaitsFor, WaitsLong, directly, through, NoRing}
 use Rattle.law_traces.proofs.Keep.{put_self, put_other}
 use Rattle.law_family.proofs.Accounts.{allowed_on, fresh_on, newest, Good, Sound, sound_good}
 use Rattle.law_family.proofs.WriteEnds.{Inv, held_on_step, child_back, writes_back, writes_on, place_grows, inv_trace, Fits, inv_grown}
@@ -50,7 +50,7 @@ launch_is (start k) _ l n e = absurd cc
 launch_is _ x l n e = absurd cc
 
 module _ (reads : Launch → Node cmd × State) where
-  child_fits : (f : Family) (e : Step) (l : Launch) (n : ℕ) → e.at < f.count → Inv f → Good (holding (f.at e.at)) → Allowed (holding (f.at e.at)) (start l) → Fits (with_trace f e) e.at n (child_process reads e.at (f.at e.at) l n)
+  child_fits : (f : Family) (e : FamilyEvent) (l : Launch) (n : ℕ) → e.at < f.count → Inv f → Good (holding (f.at e.at)) → Allowed (holding (f.at e.at)) (start l) → Fits (with_trace f e) e.at n (child_process reads e.at (f.at e.at) l n)
   child_fits f e l n r v g a = record {
     parent = r;
     origin = refl;
@@ -71,7 +71,7 @@ module _ (reads : Launch → Node cmd × State) where
         | inr y ↦ absurd (let k = v.came e.at r e.at q y in omega (arith, k.below))
       ]
 
-  inv_stepped : (f : Family) (e : Step) → e.at < f.count → Inv f → Good (holding (f.at e.at)) → Allowed (holding (f.at e.at)) e.call → Inv (stepped reads f e)
+  inv_stepped : (f : Family) (e : FamilyEvent) → e.at < f.count → Inv f → Good (holding (f.at e.at)) → Allowed (holding (f.at e.at)) e.call → Inv (stepped reads f e)
   inv_stepped f e r v g a = with_one (shell_started e.call e.answer) refl
     where
       with_one : (o : Option (Launch × ℕ)) → shell_started e.call e.answer ≡ o → Inv (with_child reads (with_trace f e) e.at (f.at e.at) o)
@@ -88,21 +88,21 @@ module _ (reads : Launch → Node cmd × State) where
   }
 
   -- the other processes stay as they are
-  pub stays : (f : Family) (e : Step) (j : ℕ) → j < f.count → (stepped reads f e).at j ≡ (with_trace f e).at j
+  pub stays : (f : Family) (e : FamilyEvent) (j : ℕ) → j < f.count → (stepped reads f e).at j ≡ (with_trace f e).at j
   stays f e j l = by_child (shell_started e.call e.answer)
     where
       by_child : (o : Option (Launch × ℕ)) → (with_child reads (with_trace f e) e.at (f.at e.at) o).at j ≡ (with_trace f e).at j
       by_child None = refl
       by_child (Some (k, n)) = put_other (with_trace f e).at f.count _ j (λ z. absurd (omega arith))
 
-  pub more : (f : Family) (e : Step) → f.count ≤ (stepped reads f e).count
+  pub more : (f : Family) (e : FamilyEvent) → f.count ≤ (stepped reads f e).count
   more f e = by_child (shell_started e.call e.answer)
     where
       by_child : (o : Option (Launch × ℕ)) → f.count ≤ (with_child reads (with_trace f e) e.at (f.at e.at) o).count
       by_child None = omega arith
       by_child (Some (k, n)) = omega arith
 
-  abbrev pub InRange : Family → List Step → Type 0
+  abbrev pub InRange : Family → List FamilyEvent → Type 0
   InRange f [] = Unit {0}
   InRange f (e ∷ es) = (e.at < f.count) × InRange (stepped reads f e) es
 
@@ -112,7 +112,7 @@ module _ (reads : Launch → Node cmd × State) where
       let a = allowed_on (at_start p.state) p.trace (event c x) s.1 in
       ((f.0, a.0), a.1)
 
-  sound_back : (f : Family) (e : Step) → e.at < f.count → EachOf Sound (stepped reads f e) → EachOf Sound f × Allowed (holding (f.at e.at)) e.call
+  sound_back : (f : Family) (e : FamilyEvent) → e.at < f.count → EachOf Sound (stepped reads f e) → EachOf Sound f × Allowed (holding (f.at e.at)) e.call
   sound_back f e r s = (
     λ j l. elim (eqb_tells e.at j) [
       | inl y ↦ subst (λ i. Sound (f.at i)) y.1 own.0
@@ -127,11 +127,11 @@ module _ (reads : Launch → Node cmd × State) where
       own : Sound (f.at e.at) × Allowed (holding (f.at e.at)) e.call
       own = sound_before (f.at e.at) e.call e.answer (subst Sound (put_self f.at e.at (recorded (f.at e.at) e.call e.answer)) (at_trace e.at r))
 
-  sound_all_back : (es : List Step) (f : Family) → InRange f es → EachOf Sound (family reads f es) → EachOf Sound f
+  sound_all_back : (es : List FamilyEvent) (f : Family) → InRange f es → EachOf Sound (family reads f es) → EachOf Sound f
   sound_all_back [] f r s = s
   sound_all_back (e ∷ es) f r s = (sound_back f e r.0 (sound_all_back es (stepped reads f e) r.1 s)).0
 
-  pub inv_family : (es : List Step) (f : Family) → InRange f es → EachOf Sound (family reads f es) → Inv f → Inv (family reads f es)
+  pub inv_family : (es : List FamilyEvent) (f : Family) → InRange f es → EachOf Sound (family reads f es) → Inv f → Inv (family reads f es)
   inv_family [] f r s v = v
   inv_family (e ∷ es) f r s v =
       let b = sound_back f e r.0 (sound_all_back es (stepped reads f e) r.1 s) in
@@ -189,6 +189,6 @@ no_ring f v s a = record {
   greatest = λ k ended j w. ended j w.other (waits_up f v s a k j w);
 }
 
-pub in_range : (reads : Launch → Node cmd × State) (es : List Step) (f : Family) → ArePossible reads f es → InRange reads f es
+pub in_range : (reads : Launch → Node cmd × State) (es : List FamilyEvent) (f : Family) → ArePossible reads f es → InRange reads f es
 in_range reads [] f p = tt
 in_range reads (e ∷ es) f p = (p.0.in_family, in_range reads es (stepped reads f e) p.1)

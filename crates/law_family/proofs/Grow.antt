@@ -9,21 +9,21 @@ use Rattle.rc_model.specs.Run.Calls.{Launch, Call, Answer, Event, event, answers
 use Rattle.rc_model.specs.Run.State.{State}
 use Rattle.rc_model.specs.Syntax.Tree.{Node, cmd}
 use Rattle.rc_model.specs.Family.Accounts.{put}
-use Rattle.rc_model.specs.Family.Family.{Process, Family, Step, shell_started, child_process, recorded, with_trace, with_child, stepped, family, first}
+use Rattle.rc_model.specs.Family.Family.{Process, Family, FamilyEvent, shell_started, child_process, recorded, with_trace, with_child, stepped, family, first}
 use Rattle.rc_model.specs.Family.Steps.{IsMade, AreMade, IsMadeBy, answers_at}
 use Rattle.law_traces.proofs.Keep.{put_self, put_other}
 
 -- ** one step more
 module _ (reads : Launch → Node cmd × State) where
-  pub family_on : (es : List Step) (f : Family) (e : Step) → family reads f (es ++ e ∷ []) ≡ stepped reads (family reads f es) e
+  pub family_on : (es : List FamilyEvent) (f : Family) (e : FamilyEvent) → family reads f (es ++ e ∷ []) ≡ stepped reads (family reads f es) e
   family_on [] f e = refl
   family_on (d ∷ es) f e = family_on es (stepped reads f d) e
 
-  made_on : (limit : ℕ) (es : List Step) (f : Family) (e : Step) → AreMade reads limit f es → IsMade reads limit (family reads f es) e → AreMade reads limit f (es ++ e ∷ [])
+  made_on : (limit : ℕ) (es : List FamilyEvent) (f : Family) (e : FamilyEvent) → AreMade reads limit f es → IsMade reads limit (family reads f es) e → AreMade reads limit f (es ++ e ∷ [])
   made_on limit [] f e m n = (n, tt)
   made_on limit (d ∷ es) f e m n = (m.0, made_on limit es (stepped reads f d) e m.1 n)
 
-  pub sound_on : (limit : ℕ) (c : Node cmd) (s : State) (es : List Step) (e : Step) → IsMadeBy reads limit c s es → IsMade reads limit (family reads (first reads c s) es) e
+  pub sound_on : (limit : ℕ) (c : Node cmd) (s : State) (es : List FamilyEvent) (e : FamilyEvent) → IsMadeBy reads limit c s es → IsMade reads limit (family reads (first reads c s) es) e
       → IsMadeBy reads limit c s (es ++ e ∷ [])
   sound_on limit c s es e m n = record { begun = m.begun; made = made_on limit es (first reads c s) e m.made n }
 
@@ -58,10 +58,10 @@ pub record Known (f : Family) (k : ℕ) (given : List Answer) : Type 0 where
   pub unborn : f.count ≤ k → (f.at k).trace ≡ []
 
 module _ (reads : Launch → Node cmd × State) (limit : ℕ) where
-  abbrev more : ℕ → Step → List Answer
+  abbrev more : ℕ → FamilyEvent → List Answer
   more k e = if nat_eq e.at k then e.answer ∷ [] else []
 
-  known_trace : (f : Family) (k : ℕ) (given : List Answer) (e : Step) → IsMade reads limit f e → Known f k given → Known (with_trace f e) k (given ++ more k e)
+  known_trace : (f : Family) (k : ℕ) (given : List Answer) (e : FamilyEvent) → IsMade reads limit f e → Known f k given → Known (with_trace f e) k (given ++ more k e)
   known_trace f k given e m w = elim (eqb_tells e.at k) [
     | inl y ↦
         let t : ((with_trace f e).at k).trace ≡ (f.at k).trace ++ event e.call e.answer ∷ [] =
@@ -101,27 +101,27 @@ module _ (reads : Launch → Node cmd × State) (limit : ℕ) where
         }
   ]
 
-  with_more : (k : ℕ) (e : Step) (es : List Step) (b : Bool) → nat_eq e.at k ≡ b → more k e ++ answers_at k es ≡ answers_at k (e ∷ es)
+  with_more : (k : ℕ) (e : FamilyEvent) (es : List FamilyEvent) (b : Bool) → nat_eq e.at k ≡ b → more k e ++ answers_at k es ≡ answers_at k (e ∷ es)
   with_more k e es true n =
       ap (λ l. l ++ answers_at k es) (at_true (nat_eq e.at k) (e.answer ∷ []) [] n) ∙ sym (at_true (nat_eq e.at k) (e.answer ∷ answers_at k es) (answers_at k es) n)
   with_more k e es false n =
       ap (λ l. l ++ answers_at k es) (at_false (nat_eq e.at k) (e.answer ∷ []) [] n) ∙ sym (at_false (nat_eq e.at k) (e.answer ∷ answers_at k es) (answers_at k es) n)
 
-  known_all : (es : List Step) (f : Family) (k : ℕ) (given : List Answer) → AreMade reads limit f es → Known f k given → Known (family reads f es) k (given ++ answers_at k es)
+  known_all : (es : List FamilyEvent) (f : Family) (k : ℕ) (given : List Answer) → AreMade reads limit f es → Known f k given → Known (family reads f es) k (given ++ answers_at k es)
   known_all [] f k given m w = subst (Known f k) (sym (append-nil given)) w
   known_all (e ∷ es) f k given m w =
       subst (Known (family reads (stepped reads f e) es) k) (append_assoc given (more k e) (answers_at k es) ∙ ap (λ l. given ++ l) (with_more k e es (nat_eq e.at k) refl))
       (known_all es (stepped reads f e) k (given ++ more k e) m.1 (known_child (with_trace f e) e.at (f.at e.at) k (given ++ more k e) (shell_started e.call e.answer) (known_trace f k given e m.0 w)))
 
-  known : (c : Node cmd) (s : State) (es : List Step) (k : ℕ) → IsMadeBy reads limit c s es → Known (family reads (first reads c s) es) k (answers_at k es)
+  known : (c : Node cmd) (s : State) (es : List FamilyEvent) (k : ℕ) → IsMadeBy reads limit c s es → Known (family reads (first reads c s) es) k (answers_at k es)
   known c s es k m = known_all es (first reads c s) k [] m.made (record { no_halts = tt; are = refl; unborn = λ l. refl })
 
   -- the answers of a process are those of its steps
-  pub answers_given : (c : Node cmd) (s : State) (es : List Step) (k : ℕ) → IsMadeBy reads limit c s es → answers ((family reads (first reads c s) es).at k).trace ≡ answers_at k es
+  pub answers_given : (c : Node cmd) (s : State) (es : List FamilyEvent) (k : ℕ) → IsMadeBy reads limit c s es → answers ((family reads (first reads c s) es).at k).trace ≡ answers_at k es
   answers_given c s es k m = (known c s es k m).are
 
   -- and one more
-  pub answers_and_one : (c : Node cmd) (s : State) (es : List Step) (k : ℕ) (d : Call) (x : Answer) → IsMadeBy reads limit c s es → is_halt x ≡ false
+  pub answers_and_one : (c : Node cmd) (s : State) (es : List FamilyEvent) (k : ℕ) (d : Call) (x : Answer) → IsMadeBy reads limit c s es → is_halt x ≡ false
       → answers (recorded ((family reads (first reads c s) es).at k) d x).trace ≡ answers_at k es ++ x ∷ []
   answers_and_one c s es k d x m n =
       let w = known c s es k m in
@@ -132,7 +132,7 @@ first_or_not : (b : Bool) (x : Answer) (all some more : List Answer) → all ≡
 first_or_not true x all some more h = ap (λ l. x ∷ l) h
 first_or_not false x all some more h = h
 
-pub answers_at_more : (k : ℕ) (es : List Step) (e : Step) → answers_at k (es ++ e ∷ []) ≡ answers_at k es ++ (if nat_eq e.at k then e.answer ∷ [] else [])
+pub answers_at_more : (k : ℕ) (es : List FamilyEvent) (e : FamilyEvent) → answers_at k (es ++ e ∷ []) ≡ answers_at k es ++ (if nat_eq e.at k then e.answer ∷ [] else [])
 answers_at_more k [] e = refl
 answers_at_more k (d ∷ es) e = first_or_not (nat_eq d.at k) d.answer (answers_at k (es ++ e ∷ [])) (answers_at k es) (if nat_eq e.at k then e.answer ∷ [] else []) (answers_at_more k es e)
 

@@ -5,7 +5,7 @@ use Rattle.std.proofs.lemmas.Bool.Decides.{eqb_tells}
 use Rattle.rc_model.specs.Run.Calls.{Launch, Call, start, child, Event, event}
 use Rattle.rc_model.specs.Run.State.{State}
 use Rattle.rc_model.specs.Syntax.Tree.{Node, cmd}
-use Rattle.rc_model.specs.Family.Family.{Family, Step, shell_of, shell_started, family, first, ArePossible, WasStarted, HandedSo, count_started, shells_started, count_child, children_below}
+use Rattle.rc_model.specs.Family.Family.{Family, FamilyEvent, shell_of, shell_started, family, first, ArePossible, WasStarted, HandedSo, count_started, shells_started, count_child, children_below}
 use Rattle.law_family.specs.StepLaws.{OneStart, OneChild, IsStart, IsChild, EachStartMakes}
 use Rattle.law_family.proofs.Counts.{Counted, counted_first, self_one, other_one}
 use Rattle.law_family.proofs.Family.{in_range}
@@ -142,5 +142,5 @@ each_start_makes reads c s es p k before l t =
     child_there reads (family reads (first reads c s) es) k before t v l
     (started_so reads (family reads (first reads c s) es) c s g.at k g.number g.origin (first_origin reads c s es p) (handed_so reads c s es p g.at g.below))
   where
-    first_origin : (reads : Launch → Node cmd × State) (c : Node cmd) (s : State) (es : List Step) → ArePossible reads (first reads c s) es → ((family reads (first reads c s) es).at 0).origin ≡ None
+    first_origin : (reads : Launch → Node cmd × State) (c : Node cmd) (s : State) (es : List FamilyEvent) → ArePossible reads (first reads c s) es → ((family reads (first reads c s) es).at 0).origin ≡ None
     first_origin reads c s es p = (one_per_start reads c s es p).0

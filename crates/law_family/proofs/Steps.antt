@@ -7,7 +7,7 @@ use Rattle.rc_model.specs.Run.Plans.{IsAnswered}
 use Rattle.rc_model.specs.Run.State.{State}
 use Rattle.rc_model.specs.Syntax.Tree.{Node, cmd}
 use Rattle.rc_model.specs.Family.Accounts.{put}
-use Rattle.rc_model.specs.Family.Family.{Process, Family, Step, IsPending, GoesAsMeant, EachOf, shell_started, child_process, recorded, with_trace, with_child, stepped, family, first, ArePossible, IsPossible, AreFresh, Sane}
+use Rattle.rc_model.specs.Family.Family.{Process, Family, FamilyEvent, IsPending, GoesAsMeant, EachOf, shell_started, child_process, recorded, with_trace, with_child, stepped, family, first, ArePossible, IsPossible, AreFresh, Sane}
 use Rattle.rc_model.specs.Family.Steps.{HitsLimit, IsInTime, IsCutShort, StepFault, NoProcess, AtEnd, WrongKind, AtLimit, AppendsSuch, IsRefused, IsMade, CanMake, AreMade, IsMadeBy, IsAsMade}
 use Rattle.law_family.specs.StepLaws.{OneBeginning}
 use Rattle.law_traces.proofs.Keep.{put_self, put_other}
@@ -18,7 +18,7 @@ use Rattle.law_family.proofs.Processes.{pending_of, ended_of, meant_of, not_both
 
 -- ** it holds of each process after a step, where it holds of the one that was answered and of the child
 module _ (P : Process → Type 0) (reads : Launch → Node cmd × State) where
-  on_trace : (f : Family) (e : Step) → EachOf P f → P (recorded (f.at e.at) e.call e.answer) → (j : ℕ) → j < f.count → P ((with_trace f e).at j)
+  on_trace : (f : Family) (e : FamilyEvent) → EachOf P f → P (recorded (f.at e.at) e.call e.answer) → (j : ℕ) → j < f.count → P ((with_trace f e).at j)
   on_trace f e t u j l = elim (eqb_tells e.at j) [
     | inl y ↦ subst (λ i. P (put f.at e.at (recorded (f.at e.at) e.call e.answer) i)) y.1 (subst P (sym (put_self f.at e.at (recorded (f.at e.at) e.call e.answer))) u)
     | inr y ↦ subst P (sym (put_other f.at e.at (recorded (f.at e.at) e.call e.answer) j y.1)) (t j l)
@@ -35,11 +35,11 @@ module _ (P : Process → Type 0) (reads : Launch → Node cmd × State) where
     | inr y ↦ subst P (sym (put_other f.at f.count (child_process reads k p d n) j y.1)) (t j (omega arith))
   ]
 
-  pub on_step : (f : Family) (e : Step) → EachOf P f → P (recorded (f.at e.at) e.call e.answer) → OfChild e.at (f.at e.at) (shell_started e.call e.answer) → EachOf P (stepped reads f e)
+  pub on_step : (f : Family) (e : FamilyEvent) → EachOf P f → P (recorded (f.at e.at) e.call e.answer) → OfChild e.at (f.at e.at) (shell_started e.call e.answer) → EachOf P (stepped reads f e)
   on_step f e t u v = on_child (with_trace f e) e.at (f.at e.at) (shell_started e.call e.answer) (on_trace f e t u) v
 
   -- and back
-  pub own_of : (f : Family) (e : Step) → e.at < f.count → EachOf P (stepped reads f e) → P (recorded (f.at e.at) e.call e.answer)
+  pub own_of : (f : Family) (e : FamilyEvent) → e.at < f.count → EachOf P (stepped reads f e) → P (recorded (f.at e.at) e.call e.answer)
   own_of f e r t = subst P (stays reads f e e.at r ∙ put_self f.at e.at (recorded (f.at e.at) e.call e.answer)) (subst (λ n. P ((stepped reads f e).at n)) refl (t e.at (in_stepped (shell_started e.call e.answer))))
     where
       in_stepped : (o : Option (Launch × ℕ)) → e.at < (with_child reads (with_trace f e) e.at (f.at e.at) o).count
@@ -102,7 +102,7 @@ module _ (reads : Launch → Node cmd × State) (limit : ℕ) where
   no_child k p None t h = h
   no_child k p (Some (l, n)) t h = not_hit limit (child_process reads k p l n) t h
 
-  in_time_not_at_limit : (f : Family) (e : Step) → IsMade reads limit f e → HitsLimit limit (recorded (f.at e.at) e.call e.answer) ⊎ AppendsSuch reads (HitsLimit limit) e.at (f.at e.at) (shell_started e.call e.answer) → ⊥
+  in_time_not_at_limit : (f : Family) (e : FamilyEvent) → IsMade reads limit f e → HitsLimit limit (recorded (f.at e.at) e.call e.answer) ⊎ AppendsSuch reads (HitsLimit limit) e.at (f.at e.at) (shell_started e.call e.answer) → ⊥
   in_time_not_at_limit f e m (inl h) = not_hit limit (recorded (f.at e.at) e.call e.answer) (own_of (IsInTime limit) reads f e m.in_family m.in_time) h
   in_time_not_at_limit f e m (inr h) = no_child e.at (f.at e.at) (shell_started e.call e.answer) (child_of (IsInTime limit) reads (with_trace f e) e.at (f.at e.at) (shell_started e.call e.answer) m.in_time) h
 
@@ -115,19 +115,19 @@ module _ (reads : Launch → Node cmd × State) (limit : ℕ) where
       in_time_not_at_limit f (record { at = k; call = m.call; answer = x }) m.made
       (subst (λ d. HitsLimit limit (recorded (f.at k) d x) ⊎ AppendsSuch reads (HitsLimit limit) k (f.at k) (shell_started d x)) same r.1.3)
 
-  pub one_call : (f : Family) (d e : Step) → IsMade reads limit f d → IsMade reads limit f e → d.at ≡ e.at → d.call ≡ e.call
+  pub one_call : (f : Family) (d e : FamilyEvent) → IsMade reads limit f d → IsMade reads limit f e → d.at ≡ e.at → d.call ≡ e.call
   one_call f d e m n s = one_pending (f.at d.at) d.call e.call m.pending (subst (λ i. IsPending (f.at i) e.call) (sym s) n.pending)
 
   -- ** families that were made
-  pub possible : (es : List Step) (f : Family) → AreMade reads limit f es → ArePossible reads f es
+  pub possible : (es : List FamilyEvent) (f : Family) → AreMade reads limit f es → ArePossible reads f es
   possible [] f m = tt
   possible (e ∷ es) f m = (record { in_family = m.0.in_family; pending = m.0.pending; answered = m.0.answered }, possible es (stepped reads f e) m.1)
 
-  all_in_time : (es : List Step) (f : Family) → EachOf (IsInTime limit) f → AreMade reads limit f es → EachOf (IsInTime limit) (family reads f es)
+  all_in_time : (es : List FamilyEvent) (f : Family) → EachOf (IsInTime limit) f → AreMade reads limit f es → EachOf (IsInTime limit) (family reads f es)
   all_in_time [] f t m = t
   all_in_time (e ∷ es) f t m = all_in_time es (stepped reads f e) m.0.in_time m.1
 
-  module _ (c : Node cmd) (s : State) (es : List Step) (m : IsMadeBy reads limit c s es) where
+  module _ (c : Node cmd) (s : State) (es : List FamilyEvent) (m : IsMadeBy reads limit c s es) where
     pub in_time_after : EachOf (IsInTime limit) (family reads (first reads c s) es)
     in_time_after = all_in_time es (first reads c s) m.begun m.made
 
@@ -146,7 +146,7 @@ module _ (reads : Launch → Node cmd × State) (limit : ℕ) where
     sane f = family_is_sane reads c s es (record { possible = possible es (first reads c s) m.made; as_meant = meant_after; fresh = f })
 
 -- ** where the processes go as they are meant, and nothing is known of their limit
-pub next_goes_as_meant : (reads : Launch → Node cmd × State) (limit : ℕ) (f : Family) (e : Step) → EachOf GoesAsMeant f → IsPossible f e
+pub next_goes_as_meant : (reads : Launch → Node cmd × State) (limit : ℕ) (f : Family) (e : FamilyEvent) → EachOf GoesAsMeant f → IsPossible f e
     → (IsCutShort limit (recorded (f.at e.at) e.call e.answer) → ⊥)
     → (AppendsSuch reads (IsCutShort limit) e.at (f.at e.at) (shell_started e.call e.answer) → ⊥)
     → EachOf GoesAsMeant (stepped reads f e)

@@ -3,7 +3,7 @@ use Rattle.std.proofs.Common.{◌≡◌, ◌⊎◌, inl, inr, ℕ, suc, ◌≤�
 use Rattle.std.proofs.lemmas.Bool.Decides.{eqb_tells}
 use Rattle.rc_model.specs.Run.Calls.{event}
 use Rattle.rc_model.specs.Family.Accounts.{made, put, after, at_start}
-use Rattle.rc_model.specs.Family.Family.{writes_to, Process, Family, Step, holding, recorded, with_trace, IsChildOf, WritesTo, WasHanded}
+use Rattle.rc_model.specs.Family.Family.{writes_to, Process, Family, FamilyEvent, holding, recorded, with_trace, IsChildOf, WritesTo, WasHanded}
 use Rattle.law_traces.proofs.Keep.{put_self, put_other}
 use Rattle.law_family.proofs.Accounts.{account_on, newest, place_on, put_field}
 
@@ -19,7 +19,7 @@ pub record Inv (f : Family) : Type 0 where
   pub spent : (j : ℕ) → j < f.count → (m q : ℕ) → WasHanded f j m q → (w : ℕ) → (holding (f.at m)).due ≡ made q w → ⊥
   pub once : (m q i j : ℕ) → i < f.count → j < f.count → WasHanded f i m q → WasHanded f j m q → i ≡ j
 
-pub held_on_step : (f : Family) (e : Step) (m : ℕ) → ((e.at ≡ m) × (holding ((with_trace f e).at m) ≡ after (holding (f.at m)) e.call e.answer)) ⊎ ((e.at ≡ m → ⊥) × ((with_trace f e).at m ≡ f.at m))
+pub held_on_step : (f : Family) (e : FamilyEvent) (m : ℕ) → ((e.at ≡ m) × (holding ((with_trace f e).at m) ≡ after (holding (f.at m)) e.call e.answer)) ⊎ ((e.at ≡ m → ⊥) × ((with_trace f e).at m ≡ f.at m))
 held_on_step f e m = elim (eqb_tells e.at m) [
   | inl y ↦ inl (
     y.1,
@@ -29,31 +29,31 @@ held_on_step f e m = elim (eqb_tells e.at m) [
   | inr y ↦ inr (y.1, put_other f.at e.at (recorded (f.at e.at) e.call e.answer) m y.1)
 ]
 
-origin_same : (f : Family) (e : Step) (j : ℕ) → ((with_trace f e).at j).origin ≡ (f.at j).origin
+origin_same : (f : Family) (e : FamilyEvent) (j : ℕ) → ((with_trace f e).at j).origin ≡ (f.at j).origin
 origin_same f e j = put_field (λ p. p.origin) f.at e.at (recorded (f.at e.at) e.call e.answer) refl j
 
-stands_same : (f : Family) (e : Step) (j : ℕ) → ((with_trace f e).at j).stands ≡ (f.at j).stands
+stands_same : (f : Family) (e : FamilyEvent) (j : ℕ) → ((with_trace f e).at j).stands ≡ (f.at j).stands
 stands_same f e j = put_field (λ p. p.stands) f.at e.at (recorded (f.at e.at) e.call e.answer) refl j
 
-pub child_back : (f : Family) (e : Step) (j m : ℕ) → IsChildOf (with_trace f e) j m → IsChildOf f j m
+pub child_back : (f : Family) (e : FamilyEvent) (j m : ℕ) → IsChildOf (with_trace f e) j m → IsChildOf f j m
 child_back f e j m c = (c.0, sym (origin_same f e j) ∙ c.1)
 
-child_on : (f : Family) (e : Step) (j m : ℕ) → IsChildOf f j m → IsChildOf (with_trace f e) j m
+child_on : (f : Family) (e : FamilyEvent) (j m : ℕ) → IsChildOf f j m → IsChildOf (with_trace f e) j m
 child_on f e j m c = (c.0, origin_same f e j ∙ c.1)
 
-pub writes_back : (f : Family) (e : Step) (j m q : ℕ) → WritesTo ((with_trace f e).at j) m q → WritesTo (f.at j) m q
+pub writes_back : (f : Family) (e : FamilyEvent) (j m q : ℕ) → WritesTo ((with_trace f e).at j) m q → WritesTo (f.at j) m q
 writes_back f e j m q w = (w.0, ap (λ s. s w.0) (sym (stands_same f e j)) ∙ w.1)
 
-pub writes_on : (f : Family) (e : Step) (j m q : ℕ) → WritesTo (f.at j) m q → WritesTo ((with_trace f e).at j) m q
+pub writes_on : (f : Family) (e : FamilyEvent) (j m q : ℕ) → WritesTo (f.at j) m q → WritesTo ((with_trace f e).at j) m q
 writes_on f e j m q w = (w.0, ap (λ s. s w.0) (stands_same f e j) ∙ w.1)
 
-pub place_grows : (f : Family) (e : Step) (m : ℕ) → (holding (f.at m)).place ≤ (holding ((with_trace f e).at m)).place
+pub place_grows : (f : Family) (e : FamilyEvent) (m : ℕ) → (holding (f.at m)).place ≤ (holding ((with_trace f e).at m)).place
 place_grows f e m = elim (held_on_step f e m) [
   | inl y ↦ let s = ap (λ a. a.place) y.1 in let t = place_on (holding (f.at m)) e.call e.answer in omega arith
   | inr y ↦ let s = ap (λ p. (holding p).place) y.1 in omega arith
 ]
 
-pub inv_trace : (f : Family) (e : Step) → Inv f → Inv (with_trace f e)
+pub inv_trace : (f : Family) (e : FamilyEvent) → Inv f → Inv (with_trace f e)
 inv_trace f e v = record {
   parents = λ j l m c. v.parents j l m (child_back f e j m c);
   came = λ j l m q w. let k = v.came j l m q (writes_back f e j m q w) in record {

@@ -1,9 +1,10 @@
--- What is said of the steps of a family, of the families that they make, and of the start of each process.
+-- The laws of the steps of a family, of the families that they make, and of the start of each process.
 use Rattle.std.specs.Prelude.{◌≡◌, ℕ, ◌<◌, List, ◌∷◌, ◌++◌, None, ◌⊎◌}
 use Rattle.rc_model.specs.Run.Calls.{Launch, start, Answer, child, Event, event, answers}
 use Rattle.rc_model.specs.Run.State.{State}
 use Rattle.rc_model.specs.Syntax.Tree.{Node, cmd}
-use Rattle.rc_model.specs.Family.Family.{Process, Family, Step, EachOf, family, first, AreFresh, Sane, ArePossible}
+use Rattle.rc_model.specs.Family.Family.{Process, Family, FamilyEvent, EachOf, family, first}
+use Rattle.rc_model.specs.Family.Family.{AreFresh, Sane, ArePossible}
 use Rattle.rc_model.specs.Family.Family.{WasStarted, read_launch}
 use Rattle.rc_model.specs.Family.Steps.{HitsLimit, IsInTime, StepFault, IsRefused, IsMade, CanMake, IsMadeBy, IsAsMade}
 use Rattle.rc_model.specs.Family.Steps.{IsPromised, answers_at}
@@ -27,7 +28,7 @@ OneFault = (reads : Launch → Node cmd × State) (limit : ℕ) (f : Family) (k 
 
 -- It makes one step.
 abbrev pub OneCall : Type 0
-OneCall = (reads : Launch → Node cmd × State) (limit : ℕ) (f : Family) (d e : Step) → IsMade reads limit f d →
+OneCall = (reads : Launch → Node cmd × State) (limit : ℕ) (f : Family) (d e : FamilyEvent) → IsMade reads limit f d →
     IsMade reads limit f e → d.at ≡ e.at → d.call ≡ e.call
 
 -- The first process of a family is in time, or it hits the limit, and never both.
@@ -37,25 +38,26 @@ pub record OneBeginning (limit : ℕ) (p : Process) : Type 0 where
 
 -- ** families that were made
 
--- What is known of families that were made so, whatever the answers are.
+-- The properties of families that were made this way, whatever the answers are.
 abbrev pub MadeAreAsMade : Type 0
-MadeAreAsMade = (reads : Launch → Node cmd × State) (limit : ℕ) (c : Node cmd) (s : State) (es : List Step) →
+MadeAreAsMade = (reads : Launch → Node cmd × State) (limit : ℕ) (c : Node cmd) (s : State) (es : List FamilyEvent) →
     IsMadeBy reads limit c s es → IsAsMade reads limit c s es (family reads (first reads c s) es)
 
 -- Over fresh answers such families are sane, too.
 abbrev pub MadeAreSane : Type 0
-MadeAreSane = (reads : Launch → Node cmd × State) (limit : ℕ) (c : Node cmd) (s : State) (es : List Step) →
+MadeAreSane = (reads : Launch → Node cmd × State) (limit : ℕ) (c : Node cmd) (s : State) (es : List FamilyEvent) →
     IsMadeBy reads limit c s es → AreFresh (family reads (first reads c s) es) →
     Sane reads c s (family reads (first reads c s) es)
 
--- What is promised of shells that read what they are handed is kept, after any number of steps.
+-- The promises for shells that read what they are handed are kept, after any number of steps.
 abbrev pub PromisesAreKept : Type 0
-PromisesAreKept = (limit : ℕ) (c : Node cmd) (s : State) (es : List Step) → IsMadeBy read_launch limit c s es →
+PromisesAreKept = (limit : ℕ) (c : Node cmd) (s : State) (es : List FamilyEvent) → IsMadeBy read_launch limit c s es →
     IsPromised limit c s es (family read_launch (first read_launch c s) es)
 
 -- The answers of a process are those of its steps.
 abbrev pub AnswersAreGiven : Type 0
-AnswersAreGiven = (reads : Launch → Node cmd × State) (limit : ℕ) (c : Node cmd) (s : State) (es : List Step) (k : ℕ) →
+AnswersAreGiven =
+    (reads : Launch → Node cmd × State) (limit : ℕ) (c : Node cmd) (s : State) (es : List FamilyEvent) (k : ℕ) →
     IsMadeBy reads limit c s es → answers ((family reads (first reads c s) es).at k).trace ≡ answers_at k es
 
 -- ** the start of each process
@@ -70,7 +72,7 @@ abbrev pub OneChild : Type 0
 OneChild = (reads : Launch → Node cmd × State) (f : Family) (i j k : ℕ) (w : WasStarted reads f i k)
     (v : WasStarted reads f j k) → w.before ≡ v.before → i ≡ j
 
--- after these events of a process comes the start of a shell
+-- after these events of a process there is the start of a shell
 pub record IsStart (p : Process) (before : List Event) : Type 0 where
   pub launch : Launch
   pub number : ℕ
@@ -87,7 +89,7 @@ pub record IsChild (reads : Launch → Node cmd × State) (f : Family) (k : ℕ)
 
 -- Each start of a shell that was answered by a child made a process.
 abbrev pub EachStartMakes : Type 0
-EachStartMakes = (reads : Launch → Node cmd × State) (c : Node cmd) (s : State) (es : List Step) →
+EachStartMakes = (reads : Launch → Node cmd × State) (c : Node cmd) (s : State) (es : List FamilyEvent) →
     ArePossible reads (first reads c s) es → (k : ℕ) (before : List Event) →
     k < (family reads (first reads c s) es).count →
     IsStart ((family reads (first reads c s) es).at k) before →

@@ -13,9 +13,9 @@ use Rattle.rc_model.specs.Run.Calls.{to_file, with_slot, Launch, open_file, here
 use Rattle.rc_model.specs.Run.Lists.{concatenated, list_words}
 use Rattle.rc_model.specs.Run.State.{State, got, is_name, is_readable, is_function_name, define, add_child}
 use Rattle.rc_model.specs.Run.Plans.{Plan}
-use Rattle.rc_model.specs.Run.Shell.{Shell, Result, under, leaves, ◌>>=◌, pure, call, say, change, exits}
+use Rattle.rc_model.specs.Run.Shell.{Shell, ShellResult, under, leaves, ◌>>=◌, pure, call, say, change, exits}
 use Rattle.rc_model.specs.Run.FileNames.{components, directory, fitting_names, each_name, if_there, listed, step, walk, paths_of, or_itself, names_of, expanded_word, expanded}
-use Rattle.rc_model.specs.Run.Acts.{set_status, report, fault, fails, close_end, one_name, variable, value, value_words, count_words, flat_words, selected_words, joined_lists, concat_words, define_each, opened, open_one, here_text, open_here, is_path, candidates, is_program, first_program, find_program, waited, wait_each, Started, Child, NoChild, child_of, begun, start_shell, refuse, wait_started, run_found, run_program, wait_subshell, subshell, kept_child, background_with, background, Got, got_all, read_on, reading, read_all, longest_output, members_of, back_status, back_child, back_pipe, backquote, back_words}
+use Rattle.rc_model.specs.Run.Acts.{set_status, report, runtime_error, fails, close_end, one_name, variable, value, value_words, count_words, flat_words, selected_words, joined_lists, concat_words, define_each, opened, open_one, here_text, open_here, is_path, candidates, is_program, first_program, find_program, waited, wait_each, Started, Child, NoChild, as_started, ask_start, start_shell, refuse, wait_started, run_found, run_program, wait_subshell, subshell, kept_child, background_with, background, Got, got_all, read_on, reading, read_all, longest_output, output_members, back_status, back_child, back_pipe, backquote, back_words}
 use Rattle.rc_model.specs.Handed.Image.{is_fit, program_launch, shell_launch}
 use Rattle.rc_model.specs.Handed.Proper.{IsProperTree, IsProper}
 use Rattle.rc_model.specs.Handed.Started.{Starts, a_subshell, a_job, a_backquote}
@@ -30,7 +30,7 @@ pub keeps_report : (slots : Slots) (text : List ℕ) → Keeps (report slots tex
 keeps_report slots text = keeps_say (write slots.errors (codes "rc: " ++ text ++ 10 ∷ [])) tt
 
 pub gives_fails : {A : Type 0} {Q : A → Type 0} (slots : Slots) (text : List ℕ) → Gives Q (fails {A = A} slots text)
-gives_fails slots text = next (fault slots text) exits (next (report slots text) (set_status (codes "error")) (keeps_report slots text) (keeps_status (codes "error"))) gives_exits
+gives_fails slots text = next (runtime_error slots text) exits (next (report slots text) (set_status (codes "error")) (keeps_report slots text) (keeps_status (codes "error"))) gives_exits
 
 pub keeps_close_end : (h : Option ℕ) → Keeps (close_end h)
 keeps_close_end None = record { by = λ s p. (tt, p) }
@@ -70,7 +70,7 @@ keeps_selected_words slots x ss = bind (value slots x) _ (keeps_value slots x) (
 
 keeps_joined : (slots : Slots) (r : Joined (List Word) ListFault) → Keeps (joined_lists slots r)
 keeps_joined slots (Ok ws) = keeps_pure ws
-keeps_joined slots (Err fault) = gives_fails slots (list_words fault)
+keeps_joined slots (Err runtime_error) = gives_fails slots (list_words runtime_error)
 
 pub keeps_concat : (slots : Slots) (a b : List Word) → Keeps (concat_words slots a b)
 keeps_concat slots a b = keeps_joined slots (concatenated a b)
@@ -134,33 +134,33 @@ keeps_waited_status : (n : ℕ) → Keeps (waited n >>= set_status)
 keeps_waited_status n = bind (waited n) set_status (keeps_waited n) keeps_status
 
 -- programs are started where the launch fits
-keeps_started : (l : Launch) (t : Bool) → StartsNoShell (start l) → Keeps (if t then begun l else pure (NoChild (codes "too large")))
-keeps_started l true h = bind (call (start l)) _ (keeps_call (start l) h) (λ a. keeps_pure (child_of (as_child a)))
+keeps_started : (l : Launch) (t : Bool) → StartsNoShell (start l) → Keeps (if t then ask_start l else pure (NoChild (codes "too large")))
+keeps_started l true h = bind (call (start l)) _ (keeps_call (start l) h) (λ a. keeps_pure (as_started (as_child a)))
 keeps_started l false h = keeps_pure (NoChild (codes "too large"))
 
 -- shells are started by a rule, where the launch fits
-abbrev with_child : {A : Type 0} → Launch → (Started → Shell A) → State → Bool → Plan (Result A)
-with_child l f s t = under ((if t then begun l else pure (NoChild (codes "too large"))) s) f leaves
+abbrev with_child : {A : Type 0} → Launch → (Started → Shell A) → State → Bool → Plan (ShellResult A)
+with_child l f s t = under ((if t then ask_start l else pure (NoChild (codes "too large"))) s) f leaves
 
 started_by : {A : Type 0} {Q : A → Type 0} (slots : Slots) (body : Node cmd) (f : Started → Shell A) (s : State) (t : Bool) → is_fit (shell_launch slots body s) ≡ t → IsProperTree body → IsProper s → ((x : Started) → Gives Q (f x))
-    → Starts (Result A) (with_child (shell_launch slots body s) f s (is_fit (shell_launch slots body s))) slots body s → Safe (with_child (shell_launch slots body s) f s t) (EndsSo Q)
+    → Starts (ShellResult A) (with_child (shell_launch slots body s) f s (is_fit (shell_launch slots body s))) slots body s → Safe (with_child (shell_launch slots body s) f s t) (EndsSo Q)
 started_by {A = A} slots body f s true e b p kf at = (
   record {
     body = body;
     state = s;
-    starts = subst (λ z. Starts (Result A) (with_child (shell_launch slots body s) f s z) slots body s) e at;
+    starts = subst (λ z. Starts (ShellResult A) (with_child (shell_launch slots body s) f s z) slots body s) e at;
     is = refl;
     fits = e;
     tree = b;
     proper = p;
     back = launch_reads_back body s b p e;
   },
-  λ x. (kf (child_of (as_child x))).by s p,
+  λ x. (kf (as_started (as_child x))).by s p,
 )
 started_by slots body f s false e b p kf at = (kf (NoChild (codes "too large"))).by s p
 
 pub gives_shell : {A : Type 0} {Q : A → Type 0} (slots : Slots) (body : Node cmd) (f : Started → Shell A) → IsProperTree body → ((x : Started) → Gives Q (f x))
-    → ((t : State) → Starts (Result A) (under (start_shell slots body t) f leaves) slots body t) → Gives Q (λ s. under (start_shell slots body s) f leaves)
+    → ((t : State) → Starts (ShellResult A) (under (start_shell slots body t) f leaves) slots body t) → Gives Q (λ s. under (start_shell slots body s) f leaves)
 gives_shell slots body f b kf at = record { by = λ s p. started_by slots body f s (is_fit (shell_launch slots body s)) refl b p kf (at s) }
 
 -- programs
@@ -230,7 +230,7 @@ keeps_back_child r w (Child n) =
     (bind (read_all longest_output r) _ (keeps_read_all longest_output r)
     (λ out. next (say (close r)) _ (keeps_say (close r) tt)
     (bind (waited n) _ (keeps_waited n)
-    (λ status. next (set_status (back_status out.why status)) _ (keeps_status (back_status out.why status)) (gives_from (λ s. pure (members_of s out.text)) (λ t p. keeps_pure (members_of t out.text)))))))
+    (λ status. next (set_status (back_status out.why status)) _ (keeps_status (back_status out.why status)) (gives_from (λ s. pure (output_members s out.text)) (λ t p. keeps_pure (output_members t out.text)))))))
 
 keeps_back_pipe : (slots : Slots) (body : Node cmd) → IsProperTree body → (o : Option (ℕ × ℕ)) → Keeps (back_pipe slots body o)
 keeps_back_pipe slots body b None = next (set_status (codes "cannot pipe")) _ (keeps_status (codes "cannot pipe")) (keeps_pure [])

@@ -14,7 +14,7 @@ use Rattle.rc_model.specs.Run.Numbers.{number_of}
 use Rattle.rc_model.specs.Run.Calls.{to_file, with_slot, open_file, make_pipe, close, write, change_dir, as_file, as_pair, as_done}
 use Rattle.rc_model.specs.Run.State.{State, value_of, set_value, with_status, function_of, drop_child}
 use Rattle.rc_model.specs.Run.Shell.{Shell, leaves, ◌>>=◌, pure, call, say, change, exits}
-use Rattle.rc_model.specs.Run.Acts.{set_status, close_end, candidates, run_program, waited, wait_each, read_all, longest_file, Started, Child, NoChild, start_shell, StartedStages, Running, Refused, stages_status, no_stages, from_pipe, next_stage, stage_with, stages_from, start_stages, end_stages, find_program}
+use Rattle.rc_model.specs.Run.Acts.{set_status, close_end, candidates, run_program, waited, wait_each, read_all, longest_file, Started, Child, NoChild, LaunchedStages, Launched, NotLaunched, Running, Refused, stages_status, no_stages, from_pipe, next_stage, stage_with, stages_from, launch_stages, settled, start_stages, end_stages, find_program}
 use Rattle.rc_model.specs.declared.builtin.Builtin.{Builtin}
 use Rattle.rc_model.specs.declared.builtin.Builtin.TheVariants.{Dot, BuiltinWord, Cd, Eval, Exec, Exit as ExitWord, Shift, Wait, Whatis}
 use Rattle.rc_model.specs.Run.Builtins.{builtin_named, Called, Finished, Body, BodyWith, finished, usage, as_body, as_body_with, opened_or, open_first, whole_file, run_file, dot, first_dir, dirs_of, first_member, cd, exit_status, shifted, shift, wait_child, wait_all, wait_one, wait_numbered, wait_for, Known, value_line, function_line, program_line, other_line, command_line, known_of, known_each, met, write_lines, whatis, exec, run_builtin, run_command, without_functions, run_named, run_words}
@@ -29,11 +29,9 @@ use Rattle.law_handed.proofs.Acts.{gives_fails, keeps_close_end, keeps_waited, k
 
 -- the stages of a pipeline
 keeps_no_stages : (before : Option ℕ) (children : List ℕ) (why : List ℕ) → Keeps (no_stages before children why)
-keeps_no_stages before children why =
-    next (close_end before) _ (keeps_close_end before)
-    (bind (wait_each children) _ (keeps_wait_each children) (λ ts. next (set_status (stages_status (ts ++ why ∷ []))) _ (keeps_status (stages_status (ts ++ why ∷ []))) (keeps_pure Refused)))
+keeps_no_stages before children why = next (close_end before) _ (keeps_close_end before) (keeps_pure (NotLaunched children why))
 
-keeps_next_stage : (go : Option ℕ → List ℕ → Shell StartedStages) → ((h : Option ℕ) (children : List ℕ) → Keeps (go h children)) → (before : Option ℕ) (children : List ℕ) (r w : ℕ) (b : Started) → Keeps (next_stage go before children r w b)
+keeps_next_stage : (go : Option ℕ → List ℕ → Shell LaunchedStages) → ((h : Option ℕ) (children : List ℕ) → Keeps (go h children)) → (before : Option ℕ) (children : List ℕ) (r w : ℕ) (b : Started) → Keeps (next_stage go before children r w b)
 keeps_next_stage go k before children r w (Child n) = next (say (close w)) _ (keeps_say (close w) tt) (next (close_end before) _ (keeps_close_end before) (k (Some r) (children ++ n ∷ [])))
 keeps_next_stage go k before children r w (NoChild why) = next (say (close w)) _ (keeps_say (close w) tt) (next (say (close r)) _ (keeps_say (close r) tt) (keeps_no_stages before children why))
 
@@ -45,13 +43,18 @@ keeps_stage_with slots others k body b slot before children (Some (r, w)) =
     (λ t. a_stage slots slot others before children r w pure leaves (sym (alone (stage_with (stages_from slots others) slots body slot before children (Some (r, w)) t))) refl)
 
 keeps_stages : (slots : Slots) (stages : Many stage) → AreParts stages → (before : Option ℕ) (children : List ℕ) → Keeps (stages_from slots stages before children)
-keeps_stages slots none p before children = keeps_pure (Running before children)
+keeps_stages slots none p before children = keeps_pure (Launched before children)
 keeps_stages slots (more (Stage body slot) rest) p before children =
     let k = one_many (Stage body slot) rest p in
     bind (call make_pipe) _ (keeps_call make_pipe tt) (λ a. keeps_stage_with slots rest (keeps_stages slots rest k.1) body (script_of (without_first (is_output slot) k.0)) slot before children (as_pair a))
 
+keeps_settled : (l : LaunchedStages) → Keeps (settled l)
+keeps_settled (Launched h children) = keeps_pure (Running h children)
+keeps_settled (NotLaunched children why) =
+    bind (wait_each children) _ (keeps_wait_each children) (λ ts. next (set_status (stages_status (ts ++ why ∷ []))) _ (keeps_status (stages_status (ts ++ why ∷ []))) (keeps_pure Refused))
+
 pub keeps_start_stages : (slots : Slots) (stages : Many stage) → AreParts stages → Keeps (start_stages slots stages)
-keeps_start_stages slots stages p = keeps_stages slots stages p None []
+keeps_start_stages slots stages p = bind (launch_stages slots stages) settled (keeps_stages slots stages p None []) keeps_settled
 
 pub keeps_end_stages : (h : Option ℕ) (children : List ℕ) → Keeps (end_stages h children)
 keeps_end_stages h children =

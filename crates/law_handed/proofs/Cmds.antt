@@ -15,7 +15,7 @@ use Rattle.rc_model.specs.Run.Shell.{Shell, Exit, under, leaves, skip, exits, ch
 use Rattle.rc_model.specs.Run.FileNames.{expanded}
 use Rattle.rc_model.specs.Run.Acts.{check, value_words, concat_words, match_status, open_one, open_here, variable, background, StartedStages, Running, Refused, start_stages, from_pipe, closing}
 use Rattle.rc_model.specs.Run.Builtins.{Called, Finished, Body, BodyWith, run_words}
-use Rattle.rc_model.specs.Run.Meaning.{checked, Runner, Caller, local_end, file_end, pipe_end, piped, called, if_true, linked, if_means, if_not_means, condition, turns, each_more, each, bound, if_so, cmd_means, arg_means, args_mean, parts_mean, more_parts_mean, items_mean, pairs_mean, redirs_mean, links_mean, branches_mean, meaning}
+use Rattle.rc_model.specs.Run.Meaning.{checked, Runner, Caller, local_end, file_end, pipe_end, piped, called_means, if_true, linked, if_means, if_not_means, condition, turns, each_more, each, bound, if_so, cmd_means, arg_means, args_mean, parts_mean, more_parts_mean, items_mean, pairs_mean, redirs_mean, links_mean, branches_mean, meaning}
 use Rattle.rc_model.specs.Run.Script.{waits, whole}
 use Rattle.rc_model.specs.Handed.Proper.{IsProperTree, IsProper}
 use Rattle.law_image.proofs.Proper.{proper_set, proper_push, proper_pop, proper_undefine}
@@ -105,7 +105,7 @@ keeps_checked true m k = k
 keeps_checked false m k = next m check k keeps_check
 
 module _ (call : Caller) (kc : (slots : Slots) (c : Node cmd) → IsProperTree c → Keeps (call slots c)) (n : ℕ) where
-  keeps_called : (slots : Slots) (c : Called) → CallsScript c → Keeps (called call slots c)
+  keeps_called : (slots : Slots) (c : Called) → CallsScript c → Keeps (called_means call slots c)
   keeps_called slots Finished b = keeps_skip
   keeps_called slots (Body c) b = kc slots c b
   keeps_called slots (BodyWith args c) b = next (change (λ s. push_local s (codes "*") args)) _ (keeps_push (codes "*") args refl) (keeps_local (call slots c) (kc slots c b))
@@ -116,7 +116,7 @@ module _ (call : Caller) (kc : (slots : Slots) (c : Node cmd) → IsProperTree c
     keeps_cmd (Seq items) g slots p = keeps_items items g slots (down p)
     keeps_cmd (Simple words) g slots p =
         bind (args_mean words call n slots []) _ (keeps_args words slots [] (without_first (has_some words) (down p)))
-        (λ v. bind (expanded v) _ (keeps_expanded v) (λ w. keeps_checked g _ (bind_so (run_words slots (word_texts w)) (called call slots) (gives_words slots (word_texts w)) (keeps_called slots))))
+        (λ v. bind (expanded v) _ (keeps_expanded v) (λ w. keeps_checked g _ (bind_so (run_words slots (word_texts w)) (called_means call slots) (gives_words slots (word_texts w)) (keeps_called slots))))
     keeps_cmd (Assign pairs body) g slots p =
         let k = many_one pairs body (without_first (has_some pairs) (down p)) in
         keeps_pairs pairs (is_empty body) (cmd_means body g call n slots) slots k.0 (keeps_cmd body g slots k.1)

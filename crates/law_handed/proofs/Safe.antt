@@ -7,7 +7,7 @@ use Rattle.rc_model.specs.Syntax.Tree.{Node, cmd}
 use Rattle.rc_model.specs.Run.Calls.{Call, Launch, start, Answer}
 use Rattle.rc_model.specs.Run.Plans.{Plan, done_with, ask, cut}
 use Rattle.rc_model.specs.Run.State.{State, with_status}
-use Rattle.rc_model.specs.Run.Shell.{Result, Next, Exit, Shell, under, leaves, pure, skip, call, say, get, change, exits, stops}
+use Rattle.rc_model.specs.Run.Shell.{ShellResult, Next, Exit, Shell, under, leaves, pure, skip, call, say, get, change, exits, stops}
 use Rattle.rc_model.specs.Run.Acts.{set_status, stage_with, stages_from, subshell, background_with, back_pipe}
 use Rattle.rc_model.specs.Run.Meaning.{Runner}
 use Rattle.rc_model.specs.Handed.Proper.{IsProper}
@@ -15,7 +15,7 @@ use Rattle.rc_model.specs.Handed.Started.{Starts, a_stage, a_subshell, a_job, a_
 use Rattle.law_image.proofs.Proper.{proper_same}
 
 -- one plan under others, which are under others again
-under_under : {A B X : Type 0} (p : Plan (Result A)) (f : A → State → Plan (Result B)) (l : State → List ℕ → Plan (Result B)) (go : B → State → Plan X) (leave : State → List ℕ → Plan X)
+under_under : {A B X : Type 0} (p : Plan (ShellResult A)) (f : A → State → Plan (ShellResult B)) (l : State → List ℕ → Plan (ShellResult B)) (go : B → State → Plan X) (leave : State → List ℕ → Plan X)
     → under (under p f l) go leave ≡ under p (λ a s. under (f a s) go leave) (λ s owed. under (l s owed) go leave)
 under_under (done_with (Next a s)) f l go leave = refl
 under_under (done_with (Exit s owed)) f l go leave = refl
@@ -23,14 +23,14 @@ under_under (ask c more) f l go leave = λ i. ask c (λ x. under_under (more x) 
 under_under cut f l go leave = refl
 
 -- a plan alone
-pub alone : {A : Type 0} (p : Plan (Result A)) → under p pure leaves ≡ p
+pub alone : {A : Type 0} (p : Plan (ShellResult A)) → under p pure leaves ≡ p
 alone (done_with (Next a s)) = refl
 alone (done_with (Exit s owed)) = refl
 alone (ask c more) = λ i. ask c (λ x. alone (more x) i)
 alone cut = refl
 
 -- what is at the start of a shell is so with what follows it, too
-starts_under : {A X : Type 0} (q : Plan (Result A)) (go : A → State → Plan X) (leave : State → List ℕ → Plan X) (slots : Slots) (body : Node cmd) (s : State) → Starts (Result A) q slots body s → Starts X (under q go leave) slots body s
+starts_under : {A X : Type 0} (q : Plan (ShellResult A)) (go : A → State → Plan X) (leave : State → List ℕ → Plan X) (slots : Slots) (body : Node cmd) (s : State) → Starts (ShellResult A) q slots body s → Starts X (under q go leave) slots body s
 starts_under q go leave slots body s (a_stage outer slot others before children r w f l is at) =
     a_stage outer slot others before children r w (λ a t. under (f a t) go leave) (λ t owed. under (l t owed) go leave)
     (ap (λ z. under z go leave) is ∙ under_under (stage_with (stages_from outer others) outer body slot before children (Some (r, w)) s) f l go leave) at
@@ -41,7 +41,7 @@ starts_under q go leave slots body s (a_job outer file f l is at) =
 starts_under q go leave slots body s (a_backquote outer r w f l is at) =
     a_backquote outer r w (λ a t. under (f a t) go leave) (λ t owed. under (l t owed) go leave) (ap (λ z. under z go leave) is ∙ under_under (back_pipe outer body (Some (r, w)) s) f l go leave) at
 
-launched_under : {A X : Type 0} (q : Plan (Result A)) (go : A → State → Plan X) (leave : State → List ℕ → Plan X) (l : Launch) (o : Option (List ℕ)) → LaunchedByRule (Result A) q l o → LaunchedByRule X (under q go leave) l o
+launched_under : {A X : Type 0} (q : Plan (ShellResult A)) (go : A → State → Plan X) (leave : State → List ℕ → Plan X) (l : Launch) (o : Option (List ℕ)) → LaunchedByRule (ShellResult A) q l o → LaunchedByRule X (under q go leave) l o
 launched_under q go leave l None h = record {
   body = h.body;
   state = h.state;
@@ -54,7 +54,7 @@ launched_under q go leave l None h = record {
 }
 launched_under q go leave l (Some path) h = tt
 
-called_under : {A X : Type 0} (q : Plan (Result A)) (go : A → State → Plan X) (leave : State → List ℕ → Plan X) (c : Call) → CalledByRule (Result A) q c → CalledByRule X (under q go leave) c
+called_under : {A X : Type 0} (q : Plan (ShellResult A)) (go : A → State → Plan X) (leave : State → List ℕ → Plan X) (c : Call) → CalledByRule (ShellResult A) q c → CalledByRule X (under q go leave) c
 called_under q go leave (start l) h = launched_under q go leave l l.program h
 called_under q go leave _ h = tt
 
@@ -64,7 +64,7 @@ Safe (done_with x) Q = Q x
 Safe {X = X} (ask c go) Q = CalledByRule X (ask c go) c × ((x : Answer) → Safe (go x) Q)
 Safe cut Q = Unit {0}
 
-pub safe_under : {A X : Type 0} (p : Plan (Result A)) (go : A → State → Plan X) (leave : State → List ℕ → Plan X) (P : Result A → Type 0) (Q : X → Type 0)
+pub safe_under : {A X : Type 0} (p : Plan (ShellResult A)) (go : A → State → Plan X) (leave : State → List ℕ → Plan X) (P : ShellResult A → Type 0) (Q : X → Type 0)
     → Safe p P → ((x : A) (s : State) → P (Next x s) → Safe (go x s) Q) → ((s : State) (owed : List ℕ) → P (Exit s owed) → Safe (leave s owed) Q) → Safe (under p go leave) Q
 safe_under (done_with (Next x s)) go leave P Q k hn he = hn x s k
 safe_under (done_with (Exit s owed)) go leave P Q k hn he = he s owed k
@@ -89,7 +89,7 @@ no_shell now (start l) h = no_shell_by now l l.program h
 no_shell now _ h = tt
 
 -- the value is so, and the state is proper
-abbrev pub EndsSo : {A : Type 0} → (A → Type 0) → Result A → Type 0
+abbrev pub EndsSo : {A : Type 0} → (A → Type 0) → ShellResult A → Type 0
 EndsSo Q (Next x s) = Q x × IsProper s
 EndsSo Q (Exit s owed) = IsProper s
 
@@ -164,6 +164,6 @@ gives_choice {Q = Q} test m o km ko = record { by = λ s p. by_test s p (test s)
     by_test s p false = ko.by s p
 
 -- a scope, however its body ends
-pub keeps_scope : (m : Runner) (go : Unit {0} → Runner) (leave : State → List ℕ → Plan (Result (Unit {0}))) → Keeps m → ((x : Unit {0}) → Keeps (go x)) → ((t : State) (owed : List ℕ) → IsProper t → Safe (leave t owed) (EndsSo Anything))
+pub keeps_scope : (m : Runner) (go : Unit {0} → Runner) (leave : State → List ℕ → Plan (ShellResult (Unit {0}))) → Keeps m → ((x : Unit {0}) → Keeps (go x)) → ((t : State) (owed : List ℕ) → IsProper t → Safe (leave t owed) (EndsSo Anything))
     → Keeps (λ s. under (m s) go leave)
 keeps_scope m go leave km kg kl = record { by = λ s p. safe_under (m s) go leave (EndsSo Anything) (EndsSo Anything) (km.by s p) (λ x t h. (kg x).by t h.1) kl }

@@ -38,7 +38,7 @@ pub fn traces_start_by_rule()
     ensures { TracesStartByRule }
 {}
 
-/// Where a trace ends as a script means, the state at its end is proper.
+/// If a trace ends as a script means, the state at its end is proper.
 pub fn traces_end_proper()
     ensures { TracesEndProper }
 {}

@@ -1,20 +1,18 @@
 -- What is read of arguments and entries is the state that they denote, and no other.
-use Rattle.std.specs.Prelude.{Option, Some, None, IsTrue, Ok, Result, map, not, ◌==◌, ◌||◌, if◌then◌else◌, codes, drop, option_map}
+use Rattle.std.specs.Prelude.{Option, Some, None, Ok, map, not, ◌==◌, ◌||◌, if◌then◌else◌, codes, option_map}
 use Rattle.std.proofs.Common.{◌≡◌, ◌≢◌, ◌↔◌, ℕ, List, [], ◌∷◌, ◌++◌, Bool, true, false, ◌&&◌, refl, sym, ap, subst, ◌∙◌}
-use Rattle.std.specs.List.{list_all, list_any, slice_split, onto_first}
+use Rattle.std.specs.List.{list_all, slice_split, onto_first}
 use Rattle.std.specs.Str.{bytes_eq}
-use Rattle.std.specs.Map.{lookup}
 use Rattle.std.specs.BTreeMap.{insert_entry}
 use Rattle.std.proofs.lemmas.Bool.{and_parts, and_from, eqb-true, not-true, not_from_false, false≢true, false_from_ne_true, or_from, or_parts}
 use Rattle.std.proofs.lemmas.Slice.Eq.{bytes_eq-Decides}
-use Rattle.rc_model.specs.Syntax.Text.{text_cmp, begins_with, spaced}
+use Rattle.rc_model.specs.Syntax.Text.{text_cmp, spaced}
 use Rattle.rc_model.specs.Syntax.Tree.{Node, cmd}
-use Rattle.rc_model.specs.Run.State.{State, status_name, is_function_name, function_of}
-use Rattle.rc_model.specs.Handed.Image.{is_kept}
+use Rattle.rc_model.specs.Run.State.{State, status_name, is_function_name}
+use Rattle.rc_model.specs.Handed.Image.{stays_behind}
 use Rattle.rc_model.specs.Handed.TreeReading.{◌>>=◌, read_tree}
-use Rattle.rc_model.specs.Handed.Environment.{Bindings, Variables, Functions, unescaped, members_of, cut_entry, with_first, with_cut, bindings, is_variable, variables_in, status_in, is_function, with_function, functions_in, with_args, own_functions, own_status, fresh_state, read_state}
+use Rattle.rc_model.specs.Handed.Environment.{Bindings, Variables, Functions, unescaped, entry_members, cut_entry, with_first, with_cut, bindings, is_variable, variables_in, status_in, with_args, own_functions, own_status, fresh_state, read_state}
 use Rattle.rc_model.specs.Handed.Proper.{IsProper}
-use Rattle.rc_model.specs.declared.fault.ImageFault.{ImageFault}
 use Rattle.rc_model.specs.Handed.Denoted.{IsEntryOf, FirstOf, here, later, begins_letter, IsWritten, nothing, one, two, alone, itself, is_part, AreWritten, last, next, HasMembers, from_args, from_entry, HasBody, HasStatus, handed, null, Denotes, ReadsWhatIsDenoted}
 use Rattle.law_image.proofs.Exact.{ok_inj, bind_back, bind_on}
 use Rattle.law_image.proofs.Trees.{reads_spellings}
@@ -123,10 +121,10 @@ is_written [] = nothing
 is_written (b ∷ []) = last_byte b (b == 2) refl
 is_written (b ∷ c ∷ rest) = written_by b c rest (b == 2) (c == 65) (c == 66) refl refl refl (is_written rest) (is_written (c ∷ rest))
 
-members_are : (ms : List (List ℕ)) (text : List ℕ) → AreWritten ms text → members_of text ≡ ms
+members_are : (ms : List (List ℕ)) (text : List ℕ) → AreWritten ms text → entry_members text ≡ ms
 members_are ms text (last m part p w) = ap (map unescaped) (split_last part p) ∙ ap (λ z. z ∷ []) (unescaped_is m part w)
 members_are ms text (next m part ns rest text' is p w k) =
-    ap members_of is ∙ ap (map unescaped) (split_first part rest p) ∙ ap (λ z. z ∷ members_of rest) (unescaped_is m part w) ∙ ap (λ z. m ∷ z) (members_are ns rest k)
+    ap entry_members is ∙ ap (map unescaped) (split_first part rest p) ∙ ap (λ z. z ∷ entry_members rest) (unescaped_is m part w) ∙ ap (λ z. m ∷ z) (members_are ns rest k)
 
 -- parts with bytes 1 between them
 data Parts : List (List ℕ) → List ℕ → Type 0 where
@@ -149,24 +147,24 @@ written_parts : (parts : List (List ℕ)) (text : List ℕ) → Parts parts text
 written_parts parts text (last_part part p) = last (unescaped part) part p (is_written part)
 written_parts parts text (next_part part more rest text' is p k) = next (unescaped part) part (map unescaped more) rest text' is p (is_written part) (written_parts more rest k)
 
-are_written : (text : List ℕ) → AreWritten (members_of text) text
+are_written : (text : List ℕ) → AreWritten (entry_members text) text
 are_written text = written_parts (slice_split is_one text) text (parts_of text)
 
 -- ** variables
 
 abbrev value_in : Bool → Option (List ℕ) → Option (List (List (List ℕ)))
-value_in t o = if t then option_map (λ text. members_of text ∷ []) o else None
+value_in t o = if t then option_map (λ text. entry_members text ∷ []) o else None
 
 none_in : (t : Bool) → None ≡ value_in t None
 none_in true = refl
 none_in false = refl
 
 variable_step : (b : List ℕ × List ℕ) (bs : Bindings) (q : List ℕ) (t u : Bool) → is_variable b.0 ≡ t → bytes_eq q b.0 ≡ u → find q (variables_in bs) ≡ value_in (is_variable q) (find q bs)
-    → find q (if t then insert_entry text_cmp (variables_in bs) b.0 (members_of b.1 ∷ []) else variables_in bs) ≡ value_in (is_variable q) (if u then Some b.1 else find q bs)
+    → find q (if t then insert_entry text_cmp (variables_in bs) b.0 (entry_members b.1 ∷ []) else variables_in bs) ≡ value_in (is_variable q) (if u then Some b.1 else find q bs)
 variable_step b bs q true true h k f =
-    find_insert q (variables_in bs) b.0 (members_of b.1 ∷ []) ∙ ap (λ z. if z then Some (members_of b.1 ∷ []) else find q (variables_in bs)) k
+    find_insert q (variables_in bs) b.0 (entry_members b.1 ∷ []) ∙ ap (λ z. if z then Some (entry_members b.1 ∷ []) else find q (variables_in bs)) k
     ∙ sym (ap (λ z. value_in z (Some b.1)) (ap is_variable ((bytes_eq-Decides q b.0).0 k) ∙ h))
-variable_step b bs q true false h k f = find_insert q (variables_in bs) b.0 (members_of b.1 ∷ []) ∙ ap (λ z. if z then Some (members_of b.1 ∷ []) else find q (variables_in bs)) k ∙ f
+variable_step b bs q true false h k f = find_insert q (variables_in bs) b.0 (entry_members b.1 ∷ []) ∙ ap (λ z. if z then Some (entry_members b.1 ∷ []) else find q (variables_in bs)) k ∙ f
 variable_step b bs q false true h k f =
     let no : is_variable q ≡ false = ap is_variable ((bytes_eq-Decides q b.0).0 k) ∙ h in
     f ∙ ap (λ z. value_in z (find q bs)) no ∙ sym (ap (λ z. value_in z (Some b.1)) no)
@@ -182,8 +180,8 @@ Valued args entries name values = (members : List (List ℕ)) × (values ≡ mem
 valued_by : (args entries : List (List ℕ)) (name : List ℕ) (values : List (List (List ℕ))) (t : Bool) (o : Option (List ℕ)) → is_variable name ≡ t → find name (bindings entries) ≡ o → value_in t o ≡ Some values → Valued args entries name values
 valued_by args entries name values true None h k g = absurd cc
 valued_by args entries name values true (Some text) h k g =
-    let is : values ≡ members_of text ∷ [] = cc in
-    (members_of text, is, from_entry text h (found_first name text entries k) (are_written text))
+    let is : values ≡ entry_members text ∷ [] = cc in
+    (entry_members text, is, from_entry text h (found_first name text entries k) (are_written text))
 valued_by args entries name values false o h k g = absurd cc
 
 valued : (args entries : List (List ℕ)) (name : List ℕ) (values : List (List (List ℕ))) → find name (variables_in (bindings entries)) ≡ Some values → Valued args entries name values
@@ -208,7 +206,7 @@ star_found (a ∷ args) vs n = find_insert (codes "*") vs (codes "*") ((a ∷ ar
 past_args : (args : List (List ℕ)) (vs : Variables) (name : List ℕ) → is_variable name ≡ true → find name (with_args args vs) ≡ find name vs
 past_args [] vs name h = refl
 past_args (a ∷ args) vs name h =
-    let kept : (bytes_eq name (codes "*") || bytes_eq name status_name) ≡ false = not-true _ (and_parts _ (not (is_kept name)) h).1 in
+    let kept : (bytes_eq name (codes "*") || bytes_eq name status_name) ≡ false = not-true _ (and_parts _ (not (stays_behind name)) h).1 in
     find_insert name vs (codes "*") ((a ∷ args) ∷ []) ∙ ap (λ t. if t then Some ((a ∷ args) ∷ []) else find name vs) (or_parts (bytes_eq name (codes "*")) (bytes_eq name status_name) kept).0
 
 has_members : (args entries : List (List ℕ)) (name : List ℕ) (members : List (List ℕ)) → HasMembers args entries name members → find name (with_args args (variables_in (bindings entries))) ≡ Some (members ∷ [])
@@ -225,23 +223,23 @@ variables_so args entries name values = (valued_args args entries name values, �
 
 abbrev status_by : Option (List ℕ) → List ℕ
 status_by None = []
-status_by (Some text) = spaced (members_of text)
+status_by (Some text) = spaced (entry_members text)
 
 other_way : (a b : List ℕ) (t : Bool) → bytes_eq b a ≡ t → bytes_eq a b ≡ t
 other_way a b true h = (bytes_eq-Decides a b).1 (sym ((bytes_eq-Decides b a).0 h))
 other_way a b false h = turned b a h
 
-status_step : (b : List ℕ × List ℕ) (bs : Bindings) (t : Bool) → status_in bs ≡ status_by (find status_name bs) → (if t then spaced (members_of b.1) else status_in bs) ≡ status_by (if t then Some b.1 else find status_name bs)
+status_step : (b : List ℕ × List ℕ) (bs : Bindings) (t : Bool) → status_in bs ≡ status_by (find status_name bs) → (if t then spaced (entry_members b.1) else status_in bs) ≡ status_by (if t then Some b.1 else find status_name bs)
 status_step b bs true f = refl
 status_step b bs false f = f
 
 status_found : (bs : Bindings) → status_in bs ≡ status_by (find status_name bs)
 status_found [] = refl
-status_found (b ∷ bs) = ap (λ t. if t then spaced (members_of b.1) else status_in bs) (other_way b.0 status_name (bytes_eq status_name b.0) refl) ∙ status_step b bs (bytes_eq status_name b.0) (status_found bs)
+status_found (b ∷ bs) = ap (λ t. if t then spaced (entry_members b.1) else status_in bs) (other_way b.0 status_name (bytes_eq status_name b.0) refl) ∙ status_step b bs (bytes_eq status_name b.0) (status_found bs)
 
 status_has_by : (entries : List (List ℕ)) (o : Option (List ℕ)) → find status_name (bindings entries) ≡ o → HasStatus true entries (status_in (bindings entries))
 status_has_by entries None h = null (λ e text f. let there = first_found status_name text entries f in absurd cc) (status_found (bindings entries) ∙ ap status_by h)
-status_has_by entries (Some text) h = handed text (members_of text) refl (found_first status_name text entries h) (are_written text) (status_found (bindings entries) ∙ ap status_by h)
+status_has_by entries (Some text) h = handed text (entry_members text) refl (found_first status_name text entries h) (are_written text) (status_found (bindings entries) ∙ ap status_by h)
 
 has_status : (own : Bool) (entries : List (List ℕ)) → HasStatus own entries (own_status own (bindings entries))
 has_status true entries = status_has_by entries (find status_name (bindings entries)) refl

@@ -14,8 +14,8 @@ use Rattle.std.proofs.lemmas.Map.Text.{is_eq-slice_cmp}
 use Rattle.std.proofs.lemmas.Cmp.{nat_list_cmp_total}
 use Rattle.rc_model.specs.Syntax.Text.{text_cmp, spaced}
 use Rattle.rc_model.specs.Run.State.{visible, status_name, is_name}
-use Rattle.rc_model.specs.Handed.Image.{is_kept, value_text, with_binding, handed_values}
-use Rattle.rc_model.specs.Handed.Environment.{members_of, is_variable, variables_in, status_in, with_args}
+use Rattle.rc_model.specs.Handed.Image.{stays_behind, value_text, with_binding, handed_values}
+use Rattle.rc_model.specs.Handed.Environment.{entry_members, is_variable, variables_in, status_in, with_args}
 use Rattle.rc_model.specs.Handed.Arguments.{with_top, flat}
 use Rattle.rc_model.specs.Handed.Proper.{Above, Ordered, is_own_name}
 use Rattle.law_image.proofs.Members.{members_back}
@@ -56,7 +56,7 @@ keys_hold P {X = X} (e ∷ es) k v h p =
 
 -- variables: other bindings are passed over
 skip_variable : (k v : List ℕ) (es : List (List ℕ × List ℕ)) → is_variable k ≡ false → variables_in ((k, v) ∷ es) ≡ variables_in es
-skip_variable k v es h = ap (λ t. if t then insert_entry text_cmp (variables_in es) k (members_of v ∷ []) else variables_in es) h
+skip_variable k v es h = ap (λ t. if t then insert_entry text_cmp (variables_in es) k (entry_members v ∷ []) else variables_in es) h
 
 pub variables_skip : (es : List (List ℕ × List ℕ)) (k v : List ℕ) → is_variable k ≡ false → variables_in (insert_entry text_cmp es k v) ≡ variables_in es
 variables_skip [] k v h = skip_variable k v [] h
@@ -64,11 +64,11 @@ variables_skip (e ∷ es) k v h =
     by_order (λ (z : List (List ℕ × List ℕ)). variables_in z ≡ variables_in (e ∷ es)) (text_cmp k e.0) _ _ _
     (λ o. skip_variable k v (e ∷ es) h)
     (λ o. let g : is_variable e.0 ≡ false = ap is_variable (sym (equal_texts k e.0 o)) ∙ h in skip_variable e.0 v es g ∙ sym (skip_variable e.0 e.1 es g))
-    (λ o. ap (λ z. if is_variable e.0 then insert_entry text_cmp z e.0 (members_of e.1 ∷ []) else z) (variables_skip es k v h))
+    (λ o. ap (λ z. if is_variable e.0 then insert_entry text_cmp z e.0 (entry_members e.1 ∷ []) else z) (variables_skip es k v h))
 
 -- the status: other bindings are passed over
 skip_status : (k v : List ℕ) (es : List (List ℕ × List ℕ)) → bytes_eq k status_name ≡ false → status_in ((k, v) ∷ es) ≡ status_in es
-skip_status k v es h = ap (λ t. if t then spaced (members_of v) else status_in es) h
+skip_status k v es h = ap (λ t. if t then spaced (entry_members v) else status_in es) h
 
 pub status_skip : (es : List (List ℕ × List ℕ)) (k v : List ℕ) → bytes_eq k status_name ≡ false → status_in (insert_entry text_cmp es k v) ≡ status_in es
 status_skip [] k v h = skip_status k v [] h
@@ -76,20 +76,20 @@ status_skip (e ∷ es) k v h =
     by_order (λ (z : List (List ℕ × List ℕ)). status_in z ≡ status_in (e ∷ es)) (text_cmp k e.0) _ _ _
     (λ o. skip_status k v (e ∷ es) h)
     (λ o. let g : bytes_eq e.0 status_name ≡ false = ap (λ z. bytes_eq z status_name) (sym (equal_texts k e.0 o)) ∙ h in skip_status e.0 v es g ∙ sym (skip_status e.0 e.1 es g))
-    (λ o. ap (λ z. if bytes_eq e.0 status_name then spaced (members_of e.1) else z) (status_skip es k v h))
+    (λ o. ap (λ z. if bytes_eq e.0 status_name then spaced (entry_members e.1) else z) (status_skip es k v h))
 
-pub status_put : (es : List (List ℕ × List ℕ)) (v : List ℕ) → status_in (insert_entry text_cmp es status_name v) ≡ spaced (members_of v)
+pub status_put : (es : List (List ℕ × List ℕ)) (v : List ℕ) → status_in (insert_entry text_cmp es status_name v) ≡ spaced (entry_members v)
 status_put [] v = refl
 status_put (e ∷ es) v =
-    by_order (λ (z : List (List ℕ × List ℕ)). status_in z ≡ spaced (members_of v)) (text_cmp status_name e.0) _ _ _
+    by_order (λ (z : List (List ℕ × List ℕ)). status_in z ≡ spaced (entry_members v)) (text_cmp status_name e.0) _ _ _
     (λ o. refl)
-    (λ o. ap (λ t. if t then spaced (members_of v) else status_in es) (ap (λ z. bytes_eq z status_name) (sym (equal_texts status_name e.0 o))))
+    (λ o. ap (λ t. if t then spaced (entry_members v) else status_in es) (ap (λ z. bytes_eq z status_name) (sym (equal_texts status_name e.0 o))))
     (λ o. skip_status e.0 e.1 (insert_entry text_cmp es status_name v) (turned status_name e.0 (greater_differ status_name e.0 o)) ∙ status_put es v)
 
 -- the variables that are handed over, without `*`
 abbrev with_plain : List ℕ → List (List ℕ) → List (List ℕ × List (List (List ℕ))) → List (List ℕ × List (List (List ℕ)))
 with_plain name [] others = others
-with_plain name (m ∷ ms) others = if is_kept name then others else (name, (m ∷ ms) ∷ []) ∷ others
+with_plain name (m ∷ ms) others = if stays_behind name then others else (name, (m ∷ ms) ∷ []) ∷ others
 
 abbrev pub plain_flat : List (List ℕ × List (List (List ℕ))) → List (List ℕ × List (List (List ℕ)))
 plain_flat [] = []
@@ -101,26 +101,26 @@ above_if k name x false es e h = (e, h)
 
 above_plain : (k name : List ℕ) (value : List (List ℕ)) (es : List (List ℕ × List (List (List ℕ)))) → text_cmp k name ≡ Less → Above k es → Above k (with_plain name value es)
 above_plain k name [] es e h = h
-above_plain k name (m ∷ ms) es e h = above_if k name ((m ∷ ms) ∷ []) (is_kept name) es e h
+above_plain k name (m ∷ ms) es e h = above_if k name ((m ∷ ms) ∷ []) (stays_behind name) es e h
 
 above_flat : (k : List ℕ) (bs : List (List ℕ × List (List (List ℕ)))) → Above k bs → Above k (plain_flat bs)
 above_flat k [] h = h
 above_flat k (b ∷ bs) h = above_plain k b.0 (visible b.1) (plain_flat bs) h.0 (above_flat k bs h.1)
 
-read_if : (name : List ℕ) (m : List ℕ) (ms : List (List ℕ)) (t : Bool) → is_kept name ≡ t → IsTrue (is_name name) → (es : List (List ℕ × List ℕ)) (vs : List (List ℕ × List (List (List ℕ)))) → Above name vs → variables_in es ≡ vs
+read_if : (name : List ℕ) (m : List ℕ) (ms : List (List ℕ)) (t : Bool) → stays_behind name ≡ t → IsTrue (is_name name) → (es : List (List ℕ × List ℕ)) (vs : List (List ℕ × List (List (List ℕ)))) → Above name vs → variables_in es ≡ vs
     → variables_in (if t then es else (name, value_text (m ∷ ms)) ∷ es) ≡ (if t then vs else (name, (m ∷ ms) ∷ []) ∷ vs)
 read_if name m ms true e n es vs a h = h
 read_if name m ms false e n es vs a h =
     let v : is_variable name ≡ true = and_from (is_name name) _ n (ap not e) in
-    ap (λ t. if t then insert_entry text_cmp (variables_in es) name (members_of (value_text (m ∷ ms)) ∷ []) else variables_in es) v
-    ∙ ap (λ z. insert_entry text_cmp z name (members_of (value_text (m ∷ ms)) ∷ [])) h
+    ap (λ t. if t then insert_entry text_cmp (variables_in es) name (entry_members (value_text (m ∷ ms)) ∷ []) else variables_in es) v
+    ∙ ap (λ z. insert_entry text_cmp z name (entry_members (value_text (m ∷ ms)) ∷ [])) h
     ∙ ap (λ z. insert_entry text_cmp vs name (z ∷ [])) (members_back m ms)
     ∙ put_first vs name ((m ∷ ms) ∷ []) a
 
 read_one : (name : List ℕ) (value : List (List ℕ)) → IsTrue (is_name name) → (es : List (List ℕ × List ℕ)) (vs : List (List ℕ × List (List (List ℕ)))) → Above name vs → variables_in es ≡ vs
     → variables_in (with_binding name value es) ≡ with_plain name value vs
 read_one name [] n es vs a h = h
-read_one name (m ∷ ms) n es vs a h = read_if name m ms (is_kept name) refl n es vs a h
+read_one name (m ∷ ms) n es vs a h = read_if name m ms (stays_behind name) refl n es vs a h
 
 pub variables_back : (bs : List (List ℕ × List (List (List ℕ)))) → IsTrue (list_all (λ b. is_own_name b.0) bs) → Ordered bs → variables_in (handed_values bs) ≡ plain_flat bs
 variables_back [] n o = refl
@@ -133,10 +133,10 @@ abbrev star : List ℕ
 star = codes "*"
 
 -- a name of its own that isn't `*` is handed over
-not_kept : (name : List ℕ) → IsTrue (is_own_name name) → bytes_eq star name ≡ false → is_kept name ≡ false
+not_kept : (name : List ℕ) → IsTrue (is_own_name name) → bytes_eq star name ≡ false → stays_behind name ≡ false
 not_kept name n e = or_from (bytes_eq name star) (bytes_eq name status_name) (turned star name e) (not-true _ (and_parts (is_name name) _ n).1)
 
-same_top : (name : List ℕ) (value : List (List ℕ)) (es fs : List (List ℕ × List (List (List ℕ)))) → is_kept name ≡ false → es ≡ fs → with_plain name value es ≡ with_top name value fs
+same_top : (name : List ℕ) (value : List (List ℕ)) (es fs : List (List ℕ × List (List (List ℕ)))) → stays_behind name ≡ false → es ≡ fs → with_plain name value es ≡ with_top name value fs
 same_top name [] es fs k h = h
 same_top name (m ∷ ms) es fs k h = ap (λ t. if t then es else (name, (m ∷ ms) ∷ []) ∷ es) k ∙ ap (λ z. (name, (m ∷ ms) ∷ []) ∷ z) h
 
@@ -163,11 +163,11 @@ before_star k m ms (b ∷ bs) a h = star_by k m ms b bs a.0 (λ g. before_star k
 star_here : (name : List ℕ) (value : List (List ℕ)) (es fs : List (List ℕ × List (List (List ℕ)))) → star ≡ name → Above star es → es ≡ fs → with_args value (with_plain name value es) ≡ with_top name value fs
 star_here name [] es fs e a h = h
 star_here name (m ∷ ms) es fs e a h =
-    let kept : is_kept name ≡ true = ap (λ t. t || bytes_eq name status_name) ((bytes_eq-Decides name star).1 (sym e)) in
+    let kept : stays_behind name ≡ true = ap (λ t. t || bytes_eq name status_name) ((bytes_eq-Decides name star).1 (sym e)) in
     ap (λ t. insert_entry text_cmp (if t then es else (name, (m ∷ ms) ∷ []) ∷ es) star ((m ∷ ms) ∷ [])) kept
     ∙ put_first es star ((m ∷ ms) ∷ []) a ∙ ap (λ z. (z, (m ∷ ms) ∷ []) ∷ es) e ∙ ap (λ z. (name, (m ∷ ms) ∷ []) ∷ z) h
 
-star_past : (name : List ℕ) (value : List (List ℕ)) (es fs : List (List ℕ × List (List (List ℕ)))) (v : List (List (List ℕ))) → is_kept name ≡ false → text_cmp name star ≡ Less → insert_entry text_cmp es star v ≡ fs
+star_past : (name : List ℕ) (value : List (List ℕ)) (es fs : List (List ℕ × List (List (List ℕ)))) (v : List (List (List ℕ))) → stays_behind name ≡ false → text_cmp name star ≡ Less → insert_entry text_cmp es star v ≡ fs
     → insert_entry text_cmp (with_plain name value es) star v ≡ with_top name value fs
 star_past name [] es fs v k l h = h
 star_past name (m ∷ ms) es fs v k l h =
@@ -175,7 +175,7 @@ star_past name (m ∷ ms) es fs v k l h =
     ∙ ap (λ o. match_ordering o ((star, v) ∷ (name, (m ∷ ms) ∷ []) ∷ es) ((name, v) ∷ es) ((name, (m ∷ ms) ∷ []) ∷ insert_entry text_cmp es star v)) (greater_of name star l)
     ∙ ap (λ z. (name, (m ∷ ms) ∷ []) ∷ z) h
 
-star_other : (b : List ℕ × List (List (List ℕ))) (bs : List (List ℕ × List (List (List ℕ)))) (value : List (List ℕ)) → is_kept b.0 ≡ false → Above b.0 bs → star_value bs ≡ value → with_args value (plain_flat bs) ≡ flat bs
+star_other : (b : List ℕ × List (List (List ℕ))) (bs : List (List ℕ × List (List (List ℕ)))) (value : List (List ℕ)) → stays_behind b.0 ≡ false → Above b.0 bs → star_value bs ≡ value → with_args value (plain_flat bs) ≡ flat bs
     → with_args value (plain_flat (b ∷ bs)) ≡ flat (b ∷ bs)
 star_other b bs [] k a h ih = same_top b.0 (visible b.1) (plain_flat bs) (flat bs) k ih
 star_other b bs (m ∷ ms) k a h ih = star_past b.0 (visible b.1) (plain_flat bs) (flat bs) ((m ∷ ms) ∷ []) k (before_star b.0 m ms bs a h) ih

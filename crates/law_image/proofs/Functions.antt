@@ -10,7 +10,7 @@ use Rattle.rc_model.specs.Syntax.Text.{text_cmp, begins_with}
 use Rattle.rc_model.specs.Syntax.Tree.{Node, cmd}
 use Rattle.rc_model.specs.Syntax.Tokens.{is_name_char}
 use Rattle.rc_model.specs.Run.State.{visible, is_function_name}
-use Rattle.rc_model.specs.Handed.Image.{is_kept, value_text, image, with_binding, handed_values, with_functions}
+use Rattle.rc_model.specs.Handed.Image.{stays_behind, value_text, image, with_binding, handed_values, with_functions}
 use Rattle.rc_model.specs.Handed.TreeReading.{read_tree}
 use Rattle.rc_model.specs.Handed.Environment.{variables_in, status_in, is_function, with_function, functions_in}
 use Rattle.rc_model.specs.Handed.Proper.{Above, Ordered, IsProperTree, AllProperTrees, is_own_name}
@@ -168,7 +168,7 @@ names_if P name v false es p h = and_from (P name) _ p h
 
 names_one : (P : List ℕ → Bool) (name : List ℕ) (value : List (List ℕ)) (es : List (List ℕ × List ℕ)) → IsTrue (P name) → IsTrue (list_all (λ e. P e.0) es) → IsTrue (list_all (λ e. P e.0) (with_binding name value es))
 names_one P name [] es p h = h
-names_one P name (m ∷ ms) es p h = names_if P name (value_text (m ∷ ms)) (is_kept name) es p h
+names_one P name (m ∷ ms) es p h = names_if P name (value_text (m ∷ ms)) (stays_behind name) es p h
 
 pub names_handed : (P : List ℕ → Bool) → ((name : List ℕ) → IsTrue (is_own_name name) → IsTrue (P name)) → (bs : List (List ℕ × List (List (List ℕ)))) → IsTrue (list_all (λ b. is_own_name b.0) bs) → IsTrue (list_all (λ e. P e.0) (handed_values bs))
 names_handed P f [] h = refl

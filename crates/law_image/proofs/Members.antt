@@ -4,7 +4,7 @@ use Rattle.std.proofs.Common.{◌≡◌, ℕ, List, [], ◌∷◌, ◌++◌, Boo
 use Rattle.std.specs.List.{list_all, slice_split}
 use Rattle.std.proofs.lemmas.Bool.{and_parts, and_from, eqb-true, not-true}
 use Rattle.rc_model.specs.Handed.Image.{escaped, value_text, entry}
-use Rattle.rc_model.specs.Handed.Environment.{unescaped, members_of, cut_entry, with_cut, bindings}
+use Rattle.rc_model.specs.Handed.Environment.{unescaped, entry_members, cut_entry, with_cut, bindings}
 
 abbrev pub is_one : ℕ → Bool
 is_one b = b == 1
@@ -62,7 +62,7 @@ unescaped_all [] = refl
 unescaped_all (m ∷ ms) = ap (λ z. z ∷ map unescaped (map escaped ms)) (unescaped_escaped m) ∙ ap (λ z. m ∷ z) (unescaped_all ms)
 
 -- the members of a value that isn't empty are read back
-pub members_back : (m : List ℕ) (ms : List (List ℕ)) → members_of (value_text (m ∷ ms)) ≡ m ∷ ms
+pub members_back : (m : List ℕ) (ms : List (List ℕ)) → entry_members (value_text (m ∷ ms)) ≡ m ∷ ms
 members_back m ms = ap (map unescaped) (split_joined m ms) ∙ unescaped_all (m ∷ ms)
 
 -- names without `=`

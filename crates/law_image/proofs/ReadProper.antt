@@ -10,7 +10,7 @@ use Rattle.rc_model.specs.Syntax.Tree.{Node, cmd}
 use Rattle.rc_model.specs.Run.State.{State, status_name, is_name, is_function_name}
 use Rattle.rc_model.specs.Handed.TreeReading.{◌>>=◌, read_tree}
 use Rattle.rc_model.specs.Handed.WordsReading.{read_pieces}
-use Rattle.rc_model.specs.Handed.Environment.{Bindings, Variables, Functions, bindings, members_of, is_variable, variables_in, is_function, with_function, functions_in, with_args, own_functions, own_status, fresh_state, read_state}
+use Rattle.rc_model.specs.Handed.Environment.{Bindings, Variables, Functions, bindings, entry_members, is_variable, variables_in, is_function, with_function, functions_in, with_args, own_functions, own_status, fresh_state, read_state}
 use Rattle.rc_model.specs.Handed.Proper.{Ordered, IsProperTree, AllProperTrees, is_own_name, IsProper}
 use Rattle.rc_model.specs.Handed.HandedLaws.{ReadsProper, ReadsScripts}
 use Rattle.law_image.proofs.Exact.{ok_inj, bind_back}
@@ -37,8 +37,8 @@ variable_own name h =
 with_value : (vs : Variables) (name : List ℕ) (value : List (List (List ℕ))) → IsTrue (is_own_name name) → ProperValues vs → ProperValues (insert_entry text_cmp vs name value)
 with_value vs name value n p = record { names = keys_hold is_own_name vs name value p.names n; ordered = ordered_insert vs name value p.ordered }
 
-one_variable : (vs : Variables) (name text : List ℕ) (t : Bool) → is_variable name ≡ t → ProperValues vs → ProperValues (if t then insert_entry text_cmp vs name (members_of text ∷ []) else vs)
-one_variable vs name text true e p = with_value vs name (members_of text ∷ []) (variable_own name e) p
+one_variable : (vs : Variables) (name text : List ℕ) (t : Bool) → is_variable name ≡ t → ProperValues vs → ProperValues (if t then insert_entry text_cmp vs name (entry_members text ∷ []) else vs)
+one_variable vs name text true e p = with_value vs name (entry_members text ∷ []) (variable_own name e) p
 one_variable vs name text false e p = p
 
 variables_proper : (bs : Bindings) → ProperValues (variables_in bs)

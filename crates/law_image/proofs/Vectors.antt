@@ -6,7 +6,7 @@ use Rattle.rc_model.specs.Syntax.Tree as t
 use Rattle.std.specs.Str.{is_utf8, chars}
 use lib.Utf8.{encode}
 use Rattle.rc_model.specs.Handed.TreeReading.{read_tree, cmd_at, arg_at}
-use Rattle.rc_model.specs.Handed.Environment.{members_of}
+use Rattle.rc_model.specs.Handed.Environment.{entry_members}
 use Rattle.rc_model.specs.declared.fault.ImageFault.{ImageFault}
 use Rattle.rc_model.specs.declared.fault.ImageFault.TheVariants.{BadLength, BadTag, TooDeep, Trailing, Version}
 
@@ -83,7 +83,7 @@ too_deep : read_tree (codes "rc1;" ++ bangs 198 (codes "s1,;c1,w1:a")) ≡ Err T
 unfolding cmd_at arg_at bangs
 too_deep = refl
 
-members : members_of (1 ∷ 2 ∷ 65 ∷ 2 ∷ 66 ∷ 2 ∷ 67 ∷ 2 ∷ []) ≡ [] ∷ (1 ∷ 2 ∷ 2 ∷ 67 ∷ 2 ∷ []) ∷ []
+members : entry_members (1 ∷ 2 ∷ 65 ∷ 2 ∷ 66 ∷ 2 ∷ 67 ∷ 2 ∷ []) ≡ [] ∷ (1 ∷ 2 ∷ 2 ∷ 67 ∷ 2 ∷ []) ∷ []
 members = refl
 
 -- ** spellings that are cut

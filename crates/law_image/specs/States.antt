@@ -15,7 +15,7 @@ abbrev pub FunctionsStayProper : Type 0
 FunctionsStayProper = (s : State) (name : List ℕ) (body : Node cmd) → IsTrue (is_function_name name) →
     IsProperTree body → IsProper s → IsProper (define s name body)
 
--- ending a local keeps a state proper, and so does taking functions away
+-- ending a local keeps a state proper, and so does removing functions
 abbrev pub EndsStayProper : Type 0
 EndsStayProper = (s : State) (names : List (List ℕ)) → IsProper s → IsProper (pop_local s) × IsProper (undefine s names)
 

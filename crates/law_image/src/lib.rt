@@ -8,31 +8,30 @@ ghost use Rattle.rc_model.specs.Handed.WordsLaws.{WordsByRule, WordsReadBack};
 ghost use Rattle.rc_model.specs.Handed.Denoted.{ReadsWhatIsDenoted};
 ghost use Rattle.law_image.specs.States.{BeginsProper, EndsStayProper, FunctionsStayProper, VariablesStayProper};
 
-/// A tree has no spelling but the one that is written, and has that one if its numbers are not too great; a text
-/// spells one tree at most.
+/// A tree has no spelling but its image, and has that one if its numbers are not too great; a text spells at most one
+/// tree.
 pub fn trees_have_one_spelling()
     ensures { OneSpelling × HasSpelling × OneTree }
 {}
 
-/// A text is read as a tree exactly where it spells that tree and the tree is well formed; so what is written of a
-/// tree reads back.
+/// A text is read as a tree exactly if it spells that tree and the tree is well formed; so the image of a tree reads
+/// back.
 pub fn spellings_are_read()
     ensures { ReadsSpellings × TreesReadBack }
 {}
 
-/// The pieces and words computed of a text are those of the rule; there are none where the pieces would be too
-/// many.
+/// The pieces and words computed of a text are those of the rule; there are none if there would be too many pieces.
 pub fn pieces_are_longest()
     ensures { PiecesByRule × WordsByRule }
 {}
 
-/// A tree has no list of words but the one that is written, if one is; words spell one tree at most.
+/// A tree has no list of words but that of its image, if there is one; words spell at most one tree.
 pub fn trees_have_one_list_of_words()
     ensures { OneListOfWords × HasWords × OneTreeOfWords }
 {}
 
-/// Words are read as a tree exactly where the first of them spell it and it is well formed; so what is written
-/// reads back, whatever follows.
+/// Words are read as a tree exactly if the first of them spell it and it is well formed; so what is written reads back,
+/// whatever follows.
 pub fn words_are_read()
     ensures { ReadsWords × WordsReadBack }
 {}
@@ -42,7 +41,7 @@ pub fn handed_is_read()
     ensures { HandedReadsBack }
 {}
 
-/// The state that is read of arguments and entries is the one that they denote.
+/// The state that is read from arguments and entries is the one that they denote.
 pub fn denoted_is_read()
     ensures { ReadsWhatIsDenoted }
 {}
@@ -52,7 +51,7 @@ pub fn proper_is_read()
     ensures { ReadsProper × ReadsScripts }
 {}
 
-/// The empty state is proper, and what changes a state keeps it so.
+/// The empty state is proper, and the operations on states keep them so.
 pub fn states_stay_proper()
     ensures begins { BeginsProper }
     ensures variables { VariablesStayProper }

@@ -16,8 +16,8 @@ pub fn code_loses_nothing()
         Goes (exec m (begin c s)) trace p → IsFresh s trace → NothingLost s trace }
 {}
 
-/// Where the code ends, over fresh answers, no file is held, and the children that are owed are those of the
-/// background list.
+/// If the code ends, over fresh answers, no file is held, and the children that are owed are those of the background
+/// list.
 pub fn code_leaves_nothing()
     ensures { (m : ℕ) (c : Node cmd) (s t : State) (trace : List Event) →
         Goes (exec m (begin c s)) trace (done_with t) → IsFresh s trace → NothingLeft s trace t }

@@ -7,7 +7,7 @@ use Rattle.rc_model.specs.Run.Calls.{Answer, Call, wait, fitting, is_halt, plain
 use Rattle.rc_model.specs.Syntax.Tree.{Node, cmd}
 use Rattle.rc_model.specs.Run.Plans.{Plan, done_with, ask, cut, and_then, Played, Ends, Waits, Cut, after_call, play, calls_made}
 use Rattle.rc_model.specs.Run.State.{State}
-use Rattle.rc_model.specs.Run.Shell.{Result, Next, Exit, under}
+use Rattle.rc_model.specs.Run.Shell.{ShellResult, Next, Exit, under}
 use Rattle.rc_model.specs.Run.Meaning.{meaning}
 use Rattle.rc_model.specs.Code.Layout.{Return}
 use Rattle.rc_model.specs.Code.Machine.{Config, end_waits, after, exec, begin}
@@ -62,7 +62,7 @@ owed_enough n j (c ∷ cs) s (a ∷ rest) = enough_answered n j j (wait c) (is_h
 abbrev last : Node cmd → State → State → Config
 last d s t = spot (begin d s) (end_of d) [] t
 
-follows_from : (n : ℕ) (d : Node cmd) (s0 : State) (p : Plan (Result (Unit {0}))) (f : Point) (given : List Answer)
+follows_from : (n : ℕ) (d : Node cmd) (s0 : State) (p : Plan (ShellResult (Unit {0}))) (f : Point) (given : List Answer)
     → Runs n f (λ a t. at (last d s0 t)) [] p → Follows n f given (play (under p (λ a t. done_with t) waits) given)
 follows_from n d s0 (done_with (Next a t)) f given r =
     let over = (does (last d s0 t) Return (at_return d)).by 0 in

@@ -11,7 +11,7 @@ use Rattle.rc_model.specs.Run.Shell.{under, leaves, stops}
 use Rattle.rc_model.specs.Run.FileNames.{expanded}
 use Rattle.rc_model.specs.Run.Acts.{check, variable, value_words, count_words, flat_words, selected_words, concat_words, match_status, define_each, open_one, open_here, subshell, background, back_words}
 use Rattle.rc_model.specs.Run.Builtins.{run_words}
-use Rattle.rc_model.specs.Run.Meaning.{checked, called, Runner, Caller, cmd_means, arg_means, args_mean, parts_mean, more_parts_mean, items_mean, pairs_mean, redirs_mean, links_mean, branches_mean, meaning}
+use Rattle.rc_model.specs.Run.Meaning.{checked, called_means, Runner, Caller, cmd_means, arg_means, args_mean, parts_mean, more_parts_mean, items_mean, pairs_mean, redirs_mean, links_mean, branches_mean, meaning}
 use Rattle.rc_model.specs.Code.Layout.{run_code, Check, Part, Nothing, Do, ◌⨾◌, KeptTree, KeptPieces, cmd_code, arg_code, args_code, parts_code, more_parts_code, items_code, pairs_code, redirs_code, links_code, branches_code, unlocal, code, Nil, Join, Glob, Value, Select, Drop, Invert, Local, Unlocal, Unredir, Background}
 use Rattle.rc_model.specs.Code.Layout as op
 use Rattle.rc_model.specs.Code.Machine.{Config, Scope, InLocal, InRedirection, Step, goes, end_locals, end_redirs}
@@ -71,7 +71,7 @@ end_k_redirs c k scopes slots p s = end_redirs k scopes slots (λ scopes slots. 
 
 -- a simple command, and its check
 checked_leg : (n m : ℕ) (le : n ≤ suc m) (call : Caller) (calls_run : CallsRun m call) (g : Bool) (c : Config) (w : List Word)
-    → Does n c (run_code g) (w ∷ c.words) (λ a. c.words) (checked g (λ s. under (run_words c.slots (word_texts w) s) (called call c.slots) leaves))
+    → Does n c (run_code g) (w ∷ c.words) (λ a. c.words) (checked g (λ s. under (run_words c.slots (word_texts w) s) (called_means call c.slots) leaves))
 checked_leg n m le call calls_run true c w = run_leg n m le call calls_run c c.words w
 checked_leg n m le call calls_run false c w = leg_then (run_leg n m le call calls_run c c.words w) (λ a. leg_do c c.words Check (λ p s. acts_runs c p c.words c.words check s))
 

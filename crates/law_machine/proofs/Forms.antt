@@ -10,10 +10,10 @@ use Rattle.rc_model.specs.declared.syntax.Logic.{Logic}
 use Rattle.rc_model.specs.declared.syntax.Logic.TheVariants.{And, Or}
 use Rattle.rc_model.specs.Run.Plans.{Plan, done_with, ask, cut}
 use Rattle.rc_model.specs.Run.State.{State, set_value, push_local, pop_local, with_status, with_flag, is_true}
-use Rattle.rc_model.specs.Run.Shell.{Result, Next, Exit, under, leaves, change, skip}
+use Rattle.rc_model.specs.Run.Shell.{ShellResult, Next, Exit, under, leaves, change, skip}
 use Rattle.rc_model.specs.Run.Acts.{closing, start_stages, end_stages, from_pipe, StartedStages, Running, Refused}
 use Rattle.rc_model.specs.Run.Builtins.{Called, Finished, Body, BodyWith, run_words}
-use Rattle.rc_model.specs.Run.Meaning.{Runner, Caller, called, local_end, file_end, piped, linked, if_means, if_not_means, condition, turns, each_more, each, if_so}
+use Rattle.rc_model.specs.Run.Meaning.{Runner, Caller, called_means, local_end, file_end, piped, linked, if_means, if_not_means, condition, turns, each_more, each, if_so}
 use Rattle.rc_model.specs.Code.Layout.{Op, KeptStages, Code, Part, Nothing, Do, Past, PastKeep, Loop, Either, ◌⨾◌, ops_of, kept_of, code, cmd_code, Run, SetNull, WasTrue, IfTrue, IfFalse, Jump, EndPipe, Return, Case, condition_code, skip_by}
 use Rattle.rc_model.specs.Code.Layout as op
 use Rattle.rc_model.specs.Code.Machine.{act, last_stage, Scope, InLocal, InRedirection, InPipeline, InLoop, Config, Step, goes, unwind, enter, frame_of}
@@ -28,7 +28,7 @@ Acts n c part m = Does n c part c.words (λ a. c.words) m
 -- ** scopes
 
 -- other scopes that end in the same way
-pub same_scopes : {A : Type 0} {n : ℕ} {f : Point} {k : A → State → Point} {inner outer : List Scope} (p : Plan (Result A))
+pub same_scopes : {A : Type 0} {n : ℕ} {f : Point} {k : A → State → Point} {inner outer : List Scope} (p : Plan (ShellResult A))
     → ((s : State) (owed : List ℕ) → unwind inner s owed ≡ unwind outer s owed) → Runs n f k inner p → Runs n f k outer p
 same_scopes (done_with (Next a s)) e r = record { by = r.by }
 same_scopes {f = f} (done_with (Exit s owed)) e r = record { by = subst (λ x. Comes f (mid x)) (e s owed) r.by }
@@ -71,7 +71,7 @@ leg_copied {to = to} {m = m} c within op b e l =
           (leg_copy c.slots l).by (past (Do op) p k) (kept_past (Do op) k) (stands_second c.code p k (Do op) b h) s));
     }
 
-runs_close : {A : Type 0} {n : ℕ} {k : A → State → Point} {scopes : List Scope} (h : Option ℕ) (p : Plan Step) (q : Plan (Result A))
+runs_close : {A : Type 0} {n : ℕ} {k : A → State → Point} {scopes : List Scope} (h : Option ℕ) (p : Plan Step) (q : Plan (ShellResult A))
     → Runs n (mid p) k scopes q → Runs n (mid (closing h p)) k scopes (closing h q)
 runs_close None p q r = r
 runs_close (Some h) p q r = runs_ask (close h) (λ b. p) (λ b. q) (λ b. r)
@@ -96,7 +96,7 @@ CallsRun n call = (d : Node cmd) (c : Config) (s : State)
 
 module _ (n m : ℕ) (le : n ≤ suc m) (call : Caller) (calls_run : CallsRun m call) where
   enter_runs : (c : Config) (words : Words) (x : Called) (s : State)
-      → Runs m (mid (enter c words x s)) (λ a s1. at (spot c (c.place + 1) words s1)) c.scopes (called call c.slots x s)
+      → Runs m (mid (enter c words x s)) (λ a s1. at (spot c (c.place + 1) words s1)) c.scopes (called_means call c.slots x s)
   enter_runs c words Finished s = runs_at tt s
   enter_runs c words (Body d) s =
       let inner = record c { frames = frame_of c false ∷ c.frames; words = words } in
@@ -110,14 +110,14 @@ module _ (n m : ℕ) (le : n ≤ suc m) (call : Caller) (calls_run : CallsRun m 
 
   -- a simple command, whose words are on top
   pub run_leg : (c : Config) (words : Words) (w : List Word)
-      → Does n c (Do Run) (w ∷ words) (λ a. words) (λ s. under (run_words c.slots (word_texts w) s) (called call c.slots) leaves)
+      → Does n c (Do Run) (w ∷ words) (λ a. words) (λ s. under (run_words c.slots (word_texts w) s) (called_means call c.slots) leaves)
   run_leg c words w =
       record {
         by = λ p k h s.
             let act = run_words c.slots (word_texts w) s in
             let here = spot c p (w ∷ words) s in
-            fewer n (suc m) (under act (called call c.slots) leaves) le (
-            after_leads _ (does here Run h.0.0) (settle_then act (λ x s1. enter here words x s1) (called call c.slots) (λ x s1. enter_runs here words x s1)));
+            fewer n (suc m) (under act (called_means call c.slots) leaves) le (
+            after_leads _ (does here Run h.0.0) (settle_then act (λ x s1. enter here words x s1) (called_means call c.slots) (λ x s1. enter_runs here words x s1)));
       }
 
 -- ** choices

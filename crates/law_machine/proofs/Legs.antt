@@ -5,7 +5,7 @@ use Rattle.rc_model.specs.Syntax.Words.{Word}
 use Rattle.rc_model.specs.Syntax.Tree.{Node, Many, cmd, stage, piece}
 use Rattle.rc_model.specs.Run.Plans.{Plan}
 use Rattle.rc_model.specs.Run.State.{State}
-use Rattle.rc_model.specs.Run.Shell.{Result, Shell, under, leaves, skip, pure}
+use Rattle.rc_model.specs.Run.Shell.{ShellResult, Shell, under, leaves, skip, pure}
 use Rattle.rc_model.specs.Code.Layout.{Op, Kept, KeptTree, KeptStages, KeptPieces, Code, Part, Nothing, Do, Keep, Past, ◌⨾◌}
 use Rattle.rc_model.specs.Code.Machine.{Scope, Config, Step, goes, act, puts, acts, on_tree, on_stages, on_pieces}
 use Rattle.law_machine.proofs.Place.{Stands, past, kept_past, stands_first, stands_second, past_then}
@@ -34,7 +34,7 @@ abbrev pub Does : {A : Type 0} → ℕ → Config → Part → Words → (A → 
 Does n c part words words' m = Leg n c.code part (before c words) (afterwards c words') c.scopes m
 
 -- the place at the end, under another name
-pub to_place : {A : Type 0} {n : ℕ} {f : Point} (to : ℕ → A → State → Point) {scopes : List Scope} (p q : ℕ) (m : Plan (Result A)) → p ≡ q
+pub to_place : {A : Type 0} {n : ℕ} {f : Point} (to : ℕ → A → State → Point) {scopes : List Scope} (p q : ℕ) (m : Plan (ShellResult A)) → p ≡ q
     → Runs n f (to p) scopes m → Runs n f (to q) scopes m
 to_place {n = n} {f = f} to {scopes = scopes} p q m e r = subst (λ x. Runs n f (to x) scopes m) e r
 
@@ -128,14 +128,14 @@ pub acts_runs : {n : ℕ} (c : Config) (p : ℕ) (words words' : Words) (m : She
 acts_runs c p words words' m s = settle_runs (m s) _ (λ a s1. runs_at a s1)
 
 -- what is kept
-pub tree_runs : {A : Type 0} {n : ℕ} (c : Config) {k : A → State → Point} {scopes : List Scope} {p : Plan (Result A)} (o : Option Kept) (d : Node cmd) (go : Node cmd → Plan Step)
+pub tree_runs : {A : Type 0} {n : ℕ} (c : Config) {k : A → State → Point} {scopes : List Scope} {p : Plan (ShellResult A)} (o : Option Kept) (d : Node cmd) (go : Node cmd → Plan Step)
     → o ≡ Some (KeptTree d) → Runs n (mid (go d)) k scopes p → Runs n (mid (on_tree c o go)) k scopes p
 tree_runs {n = n} c {k = k} {scopes = scopes} {p = p} o d go e r = subst (λ x. Runs n (mid (on_tree c x go)) k scopes p) (sym e) r
 
-pub stages_runs : {A : Type 0} {n : ℕ} (c : Config) {k : A → State → Point} {scopes : List Scope} {p : Plan (Result A)} (o : Option Kept) (d : Many stage) (go : Many stage → Plan Step)
+pub stages_runs : {A : Type 0} {n : ℕ} (c : Config) {k : A → State → Point} {scopes : List Scope} {p : Plan (ShellResult A)} (o : Option Kept) (d : Many stage) (go : Many stage → Plan Step)
     → o ≡ Some (KeptStages d) → Runs n (mid (go d)) k scopes p → Runs n (mid (on_stages c o go)) k scopes p
 stages_runs {n = n} c {k = k} {scopes = scopes} {p = p} o d go e r = subst (λ x. Runs n (mid (on_stages c x go)) k scopes p) (sym e) r
 
-pub pieces_runs : {A : Type 0} {n : ℕ} (c : Config) {k : A → State → Point} {scopes : List Scope} {p : Plan (Result A)} (o : Option Kept) (d : Many piece) (go : Many piece → Plan Step)
+pub pieces_runs : {A : Type 0} {n : ℕ} (c : Config) {k : A → State → Point} {scopes : List Scope} {p : Plan (ShellResult A)} (o : Option Kept) (d : Many piece) (go : Many piece → Plan Step)
     → o ≡ Some (KeptPieces d) → Runs n (mid (go d)) k scopes p → Runs n (mid (on_pieces c o go)) k scopes p
 pieces_runs {n = n} c {k = k} {scopes = scopes} {p = p} o d go e r = subst (λ x. Runs n (mid (on_pieces c x go)) k scopes p) (sym e) r

@@ -4,7 +4,7 @@ use Rattle.std.specs.Prelude.{slice_get}
 use Rattle.rc_model.specs.Run.Calls.{Answer, Call}
 use Rattle.rc_model.specs.Run.Plans.{Plan, done_with, ask, cut, and_then}
 use Rattle.rc_model.specs.Run.State.{State}
-use Rattle.rc_model.specs.Run.Shell.{Result, Next, Exit, Shell, under, leaves}
+use Rattle.rc_model.specs.Run.Shell.{ShellResult, Next, Exit, Shell, under, leaves}
 use Rattle.rc_model.specs.Code.Layout.{Op}
 use Rattle.rc_model.specs.Code.Machine.{Scope, Config, Step, unwind, act, after, exec}
 
@@ -32,14 +32,14 @@ pub record Leads (f g : Point) : Type 0 where
 pub record Comes (f g : Point) : Type 0 where
   pub by : (k : ℕ) → (j : ℕ) × (k ≤ j) × (f j ≡ g k)
 
-abbrev RunsBy : {A : Type 0} → ℕ → Point → (A → State → Point) → List Scope → Plan (Result A) → Type 0
+abbrev RunsBy : {A : Type 0} → ℕ → Point → (A → State → Point) → List Scope → Plan (ShellResult A) → Type 0
 RunsBy n f k scopes (done_with (Next a s)) = Comes f (k a s)
 RunsBy n f k scopes (done_with (Exit s owed)) = Comes f (mid (unwind scopes s owed))
 RunsBy n f k scopes (ask c go) = (g : Answer → Point) × Comes f (asking c g) × ((a : Answer) → RunsBy n (g a) k scopes (go a))
 RunsBy n f k scopes cut = (j : ℕ) × (n ≤ j) × (f j ≡ cut)
 
 -- from f the machine does what the plan says, and comes to k where there is a next state
-pub record Runs {A : Type 0} (n : ℕ) (f : Point) (k : A → State → Point) (scopes : List Scope) (p : Plan (Result A)) : Type 0 where
+pub record Runs {A : Type 0} (n : ℕ) (f : Point) (k : A → State → Point) (scopes : List Scope) (p : Plan (ShellResult A)) : Type 0 where
   pub by : RunsBy n f k scopes p
 
 pub comes_same : (f : Point) → Comes f f
@@ -55,7 +55,7 @@ pub does : (c : Config) (op : Op) → slice_get c.code.ops c.place ≡ Some op �
 does c op h = record { by = λ k. (suc k, omega arith, ap (λ o. and_then (act o c) (after (exec k))) h) }
 
 -- from before
-pub after_comes : {A : Type 0} {n : ℕ} {f g : Point} {k : A → State → Point} {scopes : List Scope} (p : Plan (Result A))
+pub after_comes : {A : Type 0} {n : ℕ} {f g : Point} {k : A → State → Point} {scopes : List Scope} (p : Plan (ShellResult A))
     → Comes f g → Runs n g k scopes p → Runs n f k scopes p
 after_comes (done_with (Next a s)) l r = record { by = comes_comes l r.by }
 after_comes (done_with (Exit s owed)) l r = record { by = comes_comes l r.by }
@@ -72,7 +72,7 @@ leads_later f = record { by = λ k. (suc k, omega arith, refl) }
 comes_later : {f g : Point} (c : Call) (h : Answer → Point) → Leads f g → Comes g (asking c h) → Comes f (asking c (λ a. later (h a)))
 comes_later c h l m = record { by = λ k. let b = m.by (pred k) in let a = l.by b.0 in (a.0, omega (arith, a.1, b.1), a.2 ∙ b.2) }
 
-pub after_leads : {A : Type 0} {n : ℕ} {k : A → State → Point} {scopes : List Scope} (p : Plan (Result A)) {f g : Point}
+pub after_leads : {A : Type 0} {n : ℕ} {k : A → State → Point} {scopes : List Scope} (p : Plan (ShellResult A)) {f g : Point}
     → Leads f g → Runs n g k scopes p → Runs (suc n) f k scopes p
 after_leads (done_with (Next a s)) l r = record { by = comes_comes (leads_comes l) r.by }
 after_leads (done_with (Exit s owed)) l r = record { by = comes_comes (leads_comes l) r.by }
@@ -80,7 +80,7 @@ after_leads (ask c go) l r =
     record { by = (λ a. later (r.by.0 a), comes_later c r.by.0 l r.by.1, λ a. (after_leads (go a) (leads_later (r.by.0 a)) (record { by = r.by.2 a })).by) }
 after_leads cut l r = record { by = let a = l.by r.by.0 in (a.0, omega (arith, a.1, r.by.1), a.2 ∙ r.by.2) }
 
-pub then_runs : {A : Type 0} {n : ℕ} {f g : Point} {k : A → State → Point} {scopes : List Scope} (p : Plan (Result A))
+pub then_runs : {A : Type 0} {n : ℕ} {f g : Point} {k : A → State → Point} {scopes : List Scope} (p : Plan (ShellResult A))
     → Leads f g → Runs n g k scopes p → Runs n f k scopes p
 then_runs p l r = after_comes p (leads_comes l) r
 
@@ -92,13 +92,13 @@ pub runs_exit : {A : Type 0} {n : ℕ} {k : A → State → Point} {scopes : Lis
     → Runs {A = A} n (mid (unwind scopes s owed)) k scopes (done_with (Exit s owed))
 runs_exit {scopes = scopes} s owed = record { by = comes_same (mid (unwind scopes s owed)) }
 
-pub runs_ask : {A : Type 0} {n : ℕ} {k : A → State → Point} {scopes : List Scope} (c : Call) (more : Answer → Plan Step) (go : Answer → Plan (Result A))
+pub runs_ask : {A : Type 0} {n : ℕ} {k : A → State → Point} {scopes : List Scope} (c : Call) (more : Answer → Plan Step) (go : Answer → Plan (ShellResult A))
     → ((a : Answer) → Runs n (mid (more a)) k scopes (go a)) → Runs n (mid (ask c more)) k scopes (ask c go)
 runs_ask c more go r = record { by = (λ a. mid (more a), comes_same _, λ a. (r a).by) }
 
 -- one plan within another, whose scopes may be fewer
 pub runs_under : {A B : Type 0} {n : ℕ} {f : Point} {k : A → State → Point} {k' : B → State → Point} {inner : List Scope} (outer : List Scope)
-    (p : Plan (Result A)) (go : A → Shell B) (leave : State → List ℕ → Plan (Result B)) → Runs n f k inner p
+    (p : Plan (ShellResult A)) (go : A → Shell B) (leave : State → List ℕ → Plan (ShellResult B)) → Runs n f k inner p
     → ((a : A) (s : State) → Runs n (k a s) k' outer (go a s))
     → ((s : State) (owed : List ℕ) → Runs n (mid (unwind inner s owed)) k' outer (leave s owed))
     → Runs n f k' outer (under p go leave)
@@ -109,12 +109,12 @@ runs_under outer (ask c more) go leave r rg rl =
 runs_under outer cut go leave r rg rl = record { by = r.by }
 
 pub runs_bind : {A B : Type 0} {n : ℕ} {f : Point} {k : A → State → Point} {k' : B → State → Point} {scopes : List Scope}
-    (p : Plan (Result A)) (go : A → Shell B) → Runs n f k scopes p
+    (p : Plan (ShellResult A)) (go : A → Shell B) → Runs n f k scopes p
     → ((a : A) (s : State) → Runs n (k a s) k' scopes (go a s)) → Runs n f k' scopes (under p go leaves)
 runs_bind {scopes = scopes} p go r rg = runs_under scopes p go leaves r rg (λ s owed. runs_exit s owed)
 
 -- an act within an instruction
-pub settle_runs : {A : Type 0} {n : ℕ} {k : A → State → Point} {scopes : List Scope} (p : Plan (Result A)) (go : A → State → Plan Step)
+pub settle_runs : {A : Type 0} {n : ℕ} {k : A → State → Point} {scopes : List Scope} (p : Plan (ShellResult A)) (go : A → State → Plan Step)
     → ((a : A) (s : State) → Runs n (mid (go a s)) k scopes (done_with (Next a s))) → Runs n (mid (under p go (unwind scopes))) k scopes p
 settle_runs (done_with (Next a s)) go r = r a s
 settle_runs (done_with (Exit s owed)) go r = runs_exit s owed
@@ -123,7 +123,7 @@ settle_runs {n = n} {scopes = scopes} (ask c more) go r =
 settle_runs {n = n} cut go r = record { by = (n, omega arith, refl) }
 
 -- an act within an instruction, and what follows both
-pub settle_then : {A B : Type 0} {n : ℕ} {k : B → State → Point} {scopes : List Scope} (p : Plan (Result A)) (go : A → State → Plan Step) (f : A → Shell B)
+pub settle_then : {A B : Type 0} {n : ℕ} {k : B → State → Point} {scopes : List Scope} (p : Plan (ShellResult A)) (go : A → State → Plan Step) (f : A → Shell B)
     → ((a : A) (s : State) → Runs n (mid (go a s)) k scopes (f a s)) → Runs n (mid (under p go (unwind scopes))) k scopes (under p f leaves)
 settle_then (done_with (Next a s)) go f r = r a s
 settle_then (done_with (Exit s owed)) go f r = runs_exit s owed
@@ -132,14 +132,14 @@ settle_then {n = n} {scopes = scopes} (ask c more) go f r =
 settle_then {n = n} cut go f r = record { by = (n, omega arith, refl) }
 
 -- fewer turns
-pub fewer : {A : Type 0} (m n : ℕ) {f : Point} {k : A → State → Point} {scopes : List Scope} (p : Plan (Result A)) → m ≤ n → Runs n f k scopes p → Runs m f k scopes p
+pub fewer : {A : Type 0} (m n : ℕ) {f : Point} {k : A → State → Point} {scopes : List Scope} (p : Plan (ShellResult A)) → m ≤ n → Runs n f k scopes p → Runs m f k scopes p
 fewer m n (done_with (Next a s)) le r = record { by = r.by }
 fewer m n (done_with (Exit s owed)) le r = record { by = r.by }
 fewer m n (ask c go) le r = record { by = (r.by.0, r.by.1, λ a. (fewer m n (go a) le (record { by = r.by.2 a })).by) }
 fewer m n cut le r = record { by = (r.by.0, omega (arith, r.by.1), r.by.2) }
 
 -- and further, where there is a next state
-pub further : {A : Type 0} {n : ℕ} {k k' : A → State → Point} {scopes : List Scope} (p : Plan (Result A)) {f : Point} → Runs n f k scopes p
+pub further : {A : Type 0} {n : ℕ} {k k' : A → State → Point} {scopes : List Scope} (p : Plan (ShellResult A)) {f : Point} → Runs n f k scopes p
     → ((a : A) (s : State) → Comes (k a s) (k' a s)) → Runs n f k' scopes p
 further (done_with (Next a s)) r l = record { by = comes_comes r.by (l a s) }
 further (done_with (Exit s owed)) r l = record { by = r.by }

@@ -10,11 +10,11 @@ use Rattle.rc_model.specs.declared.syntax.Logic.{Logic}
 use Rattle.rc_model.specs.declared.syntax.Logic.TheVariants.{And, Or}
 use Rattle.rc_model.specs.Run.Plans.{Plan, done_with, ask, cut}
 use Rattle.rc_model.specs.Run.State.{State, set_value, push_local, with_flag, is_true}
-use Rattle.rc_model.specs.Run.Shell.{Result, Next, Exit, Shell, under, leaves, skip, change, stops}
+use Rattle.rc_model.specs.Run.Shell.{ShellResult, Next, Exit, Shell, under, leaves, skip, change, stops}
 use Rattle.rc_model.specs.Run.FileNames.{expanded}
 use Rattle.rc_model.specs.Run.Acts.{check, variable, value_words, concat_words, open_one, open_here, subshell, background, StartedStages, Running, Refused, start_stages, end_stages, from_pipe, back_words}
 use Rattle.rc_model.specs.Run.Builtins.{Called, Finished, Body, BodyWith, run_words}
-use Rattle.rc_model.specs.Run.Meaning.{checked, Runner, Caller, called, local_end, file_end, pipe_end, piped, linked, if_means, if_not_means, condition, turns, each_more, each, bound, if_so, cmd_means, arg_means, args_mean, parts_mean, more_parts_mean, items_mean, pairs_mean, redirs_mean, links_mean, branches_mean, meaning}
+use Rattle.rc_model.specs.Run.Meaning.{checked, Runner, Caller, called_means, local_end, file_end, pipe_end, piped, linked, if_means, if_not_means, condition, turns, each_more, each, bound, if_so, cmd_means, arg_means, args_mean, parts_mean, more_parts_mean, items_mean, pairs_mean, redirs_mean, links_mean, branches_mean, meaning}
 use Rattle.rc_model.specs.Run.Script.{waits, whole, script, Within}
 use Rattle.law_machine.proofs.Less.{Less, less_plays}
 
@@ -27,12 +27,12 @@ less_same cut = tt
 abbrev pub More : {A : Type 0} → Shell A → Shell A → Type 0
 More f g = (s : State) → Less (f s) (g s)
 
-less_under : {A X : Type 0} (p q : Plan (Result A)) (f g : A → State → Plan X) (leave : State → List ℕ → Plan X) → Less p q
+less_under : {A X : Type 0} (p q : Plan (ShellResult A)) (f g : A → State → Plan X) (leave : State → List ℕ → Plan X) → Less p q
     → ((a : A) (s : State) → Less (f a s) (g a s)) → Less (under p f leave) (under q g leave)
 less_under cut q f g leave h hf = tt
 less_under {A = A} (done_with x) (done_with y) f g leave h hf = subst (λ z. Less (under (done_with x) f leave) (under (done_with z) g leave)) h (ended x)
   where
-    ended : (x : Result A) → Less (under (done_with x) f leave) (under (done_with x) g leave)
+    ended : (x : ShellResult A) → Less (under (done_with x) f leave) (under (done_with x) g leave)
     ended (Next a s) = hf a s
     ended (Exit s owed) = less_same (leave s owed)
 less_under (done_with x) (ask d go') f g leave h hf = absurd h
@@ -69,7 +69,7 @@ more_piped slots f f' mf (Running h cs) s = more_pipe h cs (f (from_pipe h slots
 more_piped slots f f' mf Refused s = refl
 
 -- by a bit
-more_choice : {A : Type 0} (b : Bool) (p p' q q' : Plan (Result A)) → Less p p' → Less q q' → Less (if b then p else q) (if b then p' else q')
+more_choice : {A : Type 0} (b : Bool) (p p' q q' : Plan (ShellResult A)) → Less p p' → Less q q' → Less (if b then p else q) (if b then p' else q')
 more_choice true p p' q q' lp lq = lp
 more_choice false p p' q q' lp lq = lq
 
@@ -117,7 +117,7 @@ more_checked false f f' mf s = more_before f f' (λ a. check) mf s
 -- ** all forms, with more turns
 
 module _ (m n : ℕ) (le : m ≤ n) (call call' : Caller) (more_call : (slots : Slots) (d : Node cmd) → More (call slots d) (call' slots d)) where
-  more_called : (slots : Slots) (x : Called) → More (called call slots x) (called call' slots x)
+  more_called : (slots : Slots) (x : Called) → More (called_means call slots x) (called_means call' slots x)
   more_called slots Finished s = refl
   more_called slots (Body d) s = more_call slots d s
   more_called slots (BodyWith args d) s = more_local (call slots d) (call' slots d) (more_call slots d) (push_local s (codes "*") args)

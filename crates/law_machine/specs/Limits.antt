@@ -1,4 +1,4 @@
--- Where a limit isn't met.
+-- When a limit isn't reached.
 use Rattle.std.specs.Prelude.{◌≡◌, ℕ, ◌≤◌, if◌then◌else◌, false, List, [], ◌∷◌}
 use Rattle.rc_model.specs.Run.Calls.{Answer, Event, fitting, is_halt}
 use Rattle.rc_model.specs.Run.Plans.{Played, Ends, Waits, Cut}
@@ -20,7 +20,7 @@ IsRecorded [] (e ∷ trace) = ⊥
 IsRecorded (a ∷ given) (e ∷ trace) =
     (is_halt a ≡ false) × (e.answer ≡ fitting e.call a) × IsRecorded given trace
 
--- Where the meaning of a script ends or waits over these answers, no run on a tape of them stops at a limit from some
+-- If the meaning of a script ends or waits over these answers, no run on a tape of them stops at a limit from some
 -- number of instructions on.
 abbrev pub LimitsEnd : Type 0
 LimitsEnd = (c : Node cmd) (s : State) (given : List Answer) (n : ℕ) → IsOver (script n c s given) →
@@ -34,17 +34,17 @@ abbrev pub before_halt : List Event → List Event
 before_halt [] = []
 before_halt (e ∷ trace) = if is_halt e.answer then [] else e ∷ before_halt trace
 
--- a tape of these answers records this trace, as far as its first halt
+-- a tape of these answers records this trace, up to its first halt
 abbrev pub IsOnTape : List Answer → List Event → Type 0
 IsOnTape given trace = IsRecorded given (before_halt trace)
 
--- so many instructions do all that a script means over these answers, where its meaning ends or waits
+-- this many instructions do all that a script means over these answers, if its meaning ends or waits
 pub record IsEnough (count : ℕ) (c : Node cmd) (s : State) (given : List Answer) : Type 0 where
   pub turns : ℕ
   pub over : IsOver (script turns c s given)
   pub done : Within (script turns c s given) (run count c s given)
 
--- Where the meaning of a script ends or waits over these answers, some number of instructions is enough.
+-- If the meaning of a script ends or waits over these answers, some number of instructions is enough.
 abbrev pub SomeAreEnough : Type 0
 SomeAreEnough = (c : Node cmd) (s : State) (given : List Answer) (n : ℕ) → IsOver (script n c s given) →
     (count : ℕ) × IsEnough count c s given

@@ -1,4 +1,4 @@
-//! The laws of the machine: the code of a script does what the script means.
+//! The laws of the machine: the code of a script simulates its meaning, and the other way round.
 #![tactic(auto)]
 
 ghost use Rattle.rc_model.specs.Run.Calls.{Answer};
@@ -13,18 +13,18 @@ pub fn machine_agrees()
     ensures { (c : Node cmd) (s : State) (given : List Answer) → Agrees c s given }
 {}
 
-/// Where the meaning of a script ends or waits over some answers, a run on a tape of them doesn't stop at a limit
-/// that is high enough.
+/// If the meaning of a script ends or waits over some answers, a run on a tape of them doesn't stop at a limit that is
+/// high enough.
 pub fn limits_end()
     ensures { LimitsEnd }
 {}
 
-/// Where the meaning ends or waits, some number of instructions is enough.
+/// If the meaning ends or waits, some number of instructions is enough.
 pub fn some_are_enough()
     ensures { SomeAreEnough }
 {}
 
-/// A limit that is enough for the answers of a tape is not met there.
+/// A limit that is enough for the answers of a tape is not reached there.
 pub fn enough_is_no_limit()
     ensures { EnoughIsNoLimit }
 {}

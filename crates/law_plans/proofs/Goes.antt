@@ -3,7 +3,7 @@ use Rattle.std.proofs.Common.{List, [], ◌∷◌, ◌++◌, ℕ, ap, subst, sym
 use Rattle.rc_model.specs.Run.Calls.{Event}
 use Rattle.rc_model.specs.Run.Plans.{Plan, done_with, ask, cut, and_then, Goes}
 use Rattle.rc_model.specs.Run.State.{State}
-use Rattle.rc_model.specs.Run.Shell.{Result, under}
+use Rattle.rc_model.specs.Run.Shell.{ShellResult, under}
 
 -- one run after another
 pub goes_append : {X : Type 0} (p : Plan X) (before : List Event) (q : Plan X) (next : List Event) (r : Plan X)
@@ -22,7 +22,7 @@ goes_then (done_with x) (e ∷ es) q next g = absurd g
 goes_then cut (e ∷ es) q next g = absurd g
 
 -- a run of a piece of the shell is one of the piece with what follows it
-pub goes_under : {A X : Type 0} (p : Plan (Result A)) (trace : List Event) (q : Plan (Result A)) (go : A → State → Plan X) (leave : State → List ℕ → Plan X)
+pub goes_under : {A X : Type 0} (p : Plan (ShellResult A)) (trace : List Event) (q : Plan (ShellResult A)) (go : A → State → Plan X) (leave : State → List ℕ → Plan X)
     → Goes p trace q → Goes (under p go leave) trace (under q go leave)
 goes_under p [] q go leave g = ap (λ p. under p go leave) g
 goes_under (ask c more) (e ∷ es) q go leave g = (g.0, g.1, goes_under (more e.answer) es q go leave g.2)

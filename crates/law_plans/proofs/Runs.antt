@@ -5,7 +5,7 @@ use Rattle.rc_model.specs.Run.Calls.{Call, Answer, Event, event, extend, recorde
 use Rattle.rc_model.specs.declared.call.Fault.TheVariants.{Halt}
 use Rattle.rc_model.specs.Run.Plans.{Plan, done_with, ask, and_then, IsAnswered, Ran, Halted}
 use Rattle.rc_model.specs.Run.State.{State}
-use Rattle.rc_model.specs.Run.Shell.{Result, Next, Exit, under}
+use Rattle.rc_model.specs.Run.Shell.{ShellResult, Next, Exit, under}
 use Rattle.law_plans.proofs.Goes.{goes_append, goes_then, goes_under}
 use Rattle.law_plans.proofs.Recordings.{extend_nil, recorded_append, recorded_further}
 
@@ -70,11 +70,11 @@ ran_bind a b c p x next q f g = ran_join a b c (and_then p next) (next x) q (ran
 
 -- ** a piece of the shell with what follows it
 
-pub ran_under : {A X : Type 0} (a b : Option (List Event)) (p q : Plan (Result A)) (go : A → State → Plan X) (leave : State → List ℕ → Plan X) →
+pub ran_under : {A X : Type 0} (a b : Option (List Event)) (p q : Plan (ShellResult A)) (go : A → State → Plan X) (leave : State → List ℕ → Plan X) →
     Ran a b p q → Ran a b (under p go leave) (under q go leave)
 ran_under a b p q go leave f = record { trace = f.trace; recorded = f.recorded; goes = goes_under p f.trace q go leave f.goes }
 
-pub halted_under : {A X : Type 0} (a b : Option (List Event)) (p : Plan (Result A)) (go : A → State → Plan X) (leave : State → List ℕ → Plan X) →
+pub halted_under : {A X : Type 0} (a b : Option (List Event)) (p : Plan (ShellResult A)) (go : A → State → Plan X) (leave : State → List ℕ → Plan X) →
     Halted a b p → Halted a b (under p go leave)
 halted_under a b p go leave f =
     record {
@@ -86,13 +86,13 @@ halted_under a b p go leave f =
     }
 
 -- the piece came to a next state, and what follows went on
-pub ran_next : {A X : Type 0} (a b c : Option (List Event)) (p : Plan (Result A)) (x : A) (s : State)
+pub ran_next : {A X : Type 0} (a b c : Option (List Event)) (p : Plan (ShellResult A)) (x : A) (s : State)
     (go : A → State → Plan X) (leave : State → List ℕ → Plan X) (q : Plan X) →
     Ran a b p (done_with (Next x s)) → Ran b c (go x s) q → Ran a c (under p go leave) q
 ran_next a b c p x s go leave q f g = ran_join a b c (under p go leave) (go x s) q (ran_under a b p (done_with (Next x s)) go leave f) g
 
 -- the piece ended the shell, and what follows its end went on
-pub ran_exit : {A X : Type 0} (a b c : Option (List Event)) (p : Plan (Result A)) (s : State) (owed : List ℕ)
+pub ran_exit : {A X : Type 0} (a b c : Option (List Event)) (p : Plan (ShellResult A)) (s : State) (owed : List ℕ)
     (go : A → State → Plan X) (leave : State → List ℕ → Plan X) (q : Plan X) →
     Ran a b p (done_with (Exit s owed)) → Ran b c (leave s owed) q → Ran a c (under p go leave) q
 ran_exit a b c p s owed go leave q f g = ran_join a b c (under p go leave) (leave s owed) q (ran_under a b p (done_with (Exit s owed)) go leave f) g

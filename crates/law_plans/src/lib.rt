@@ -28,8 +28,8 @@ pub fn a_run_to_a_call_plays<X>()
         → play p (answers trace) ≡ Waits (calls trace ++ c ∷ []) }
 {}
 
-/// Where the last call of a run was answered by a halt, the plan makes the same calls over its answers and waits on
-/// that last one.
+/// If the last call of a run was answered by a halt, the plan makes the same calls over its answers and waits on that
+/// last one.
 #[tactic(auto, using(crate::proofs::Plays::halts_over))]
 pub fn a_run_to_a_halt_plays<X>()
     ensures { (p : Plan X) (before : List Event) (c : Call) (go : Answer → Plan X) → Goes p before (ask c go)

@@ -1,7 +1,7 @@
 -- Characters and their lexemes, where no caret is inserted and no here document begins.
 use Rattle.std.proofs.Common.{◌≡◌, refl, ap, sym, subst, ℕ, false, List, [], ◌∷◌, ◌++◌, map, Ok}
 use Rattle.rc_model.specs.Syntax.Tokens.{Lexeme, Token, Word}
-use Rattle.rc_model.specs.Syntax.Tokens.{Spells, Cuts, wants_caret, awaits_mark, after_token, pending_after, tokens_of, token, after_char, after_chars}
+use Rattle.rc_model.specs.Syntax.Tokens.{IsLexeme, Cuts, wants_caret, awaits_mark, after_token, pending_after, tokens_of, token, after_char, after_chars}
 use Rattle.rc_model.specs.Syntax.Tokens as k
 use Rattle.rc_model.specs.declared.syntax.Place.{Place}
 use Rattle.rc_model.specs.declared.syntax.Previous.{Previous}
@@ -10,7 +10,7 @@ use Rattle.rc_model.specs.declared.syntax.Previous.TheVariants as previous
 pub data Gives : Previous → List ℕ → List Lexeme → Type 0 where
   nothing : {prev : Previous} → awaits_mark prev ≡ false → Gives prev [] []
   blank : {prev : Previous} {cs : List ℕ} {ls : List Lexeme} → awaits_mark prev ≡ false → Gives previous.Apart cs ls → Gives prev (32 ∷ cs) ls
-  lexeme : {prev : Previous} {cs rest : List ℕ} {l : Lexeme} {ls : List Lexeme} → awaits_mark prev ≡ false → wants_caret prev l ≡ false → Spells prev cs rest l →
+  lexeme : {prev : Previous} {cs rest : List ℕ} {l : Lexeme} {ls : List Lexeme} → awaits_mark prev ≡ false → wants_caret prev l ≡ false → IsLexeme prev cs rest l →
       Gives (after_token prev l) rest ls → Gives prev (cs ++ rest) (l ∷ ls)
 
 -- a cut of the characters into tokens with these lexemes

@@ -8,7 +8,7 @@ use Rattle.std.specs.List.{list_all}
 use Rattle.std.specs.Str.{chars}
 use lib.Utf8.{encode, encodes, scalars, low_scalar}
 use Rattle.rc_model.specs.Syntax.Text.{begins_with, without_zero}
-use Rattle.rc_model.specs.Syntax.Tokens.{Lexeme, Run, name_goes_on, is_name_char, goes_on, names}
+use Rattle.rc_model.specs.Syntax.Tokens.{Lexeme, IsLongestRun, name_goes_on, is_name_char, goes_on, names}
 use Rattle.rc_model.specs.Syntax.Tokens as k
 use Rattle.law_syntax.proofs.Texts.{name_char_low, name_encodes}
 use Rattle.law_print.proofs.Gives.{Gives, lexeme}
@@ -69,7 +69,7 @@ name_scalars (c ∷ cs) e =
     let small : c < 128 = name_char_low c p.0 in
     rw (low_scalar c (omega arith)) (name_scalars cs p.1)
 
-name_run : (cs rest : List ℕ) → list_all is_name_char cs ≡ true → name_goes_on rest ≡ false → Run name_goes_on cs rest
+name_run : (cs rest : List ℕ) → list_all is_name_char cs ≡ true → name_goes_on rest ≡ false → IsLongestRun name_goes_on cs rest
 name_run [] rest e s = k.stop rest s
 name_run (c ∷ cs) rest e s = let p = and_parts (is_name_char c) (list_all is_name_char cs) e in k.next c cs rest p.0 (name_run cs rest p.1 s)
 
@@ -103,11 +103,11 @@ quoted_name text u z = record {
 }
 
 -- a `$` where a name stands after it
-dollar : (rest : List ℕ) → names rest ≡ true → goes_on (36 ∷ []) rest ≡ false → k.Spells previous.Apart (36 ∷ []) rest k.Dollar
-dollar rest n e = subst (λ l. k.Spells previous.Apart (36 ∷ []) rest l) (rw n refl) (k.operated previous.Apart (36 ∷ []) rest k.Dollar refl refl (λ e. cc) e)
+dollar : (rest : List ℕ) → names rest ≡ true → goes_on (36 ∷ []) rest ≡ false → k.IsLexeme previous.Apart (36 ∷ []) rest k.Dollar
+dollar rest n e = subst (λ l. k.IsLexeme previous.Apart (36 ∷ []) rest l) (rw n refl) (k.operated previous.Apart (36 ∷ []) rest k.Dollar refl refl (λ e. cc) e)
 
-second_dollar : (rest : List ℕ) → names rest ≡ true → goes_on (36 ∷ []) rest ≡ false → k.Spells previous.Dollar (36 ∷ []) rest k.Dollar
-second_dollar rest n e = subst (λ l. k.Spells previous.Dollar (36 ∷ []) rest l) (rw n refl) (k.operated previous.Dollar (36 ∷ []) rest k.Dollar refl refl (λ e. cc) e)
+second_dollar : (rest : List ℕ) → names rest ≡ true → goes_on (36 ∷ []) rest ≡ false → k.IsLexeme previous.Dollar (36 ∷ []) rest k.Dollar
+second_dollar rest n e = subst (λ l. k.IsLexeme previous.Dollar (36 ∷ []) rest l) (rw n refl) (k.operated previous.Dollar (36 ∷ []) rest k.Dollar refl refl (λ e. cc) e)
 
 count_alone : (rest : List ℕ) → goes_on (36 ∷ 35 ∷ []) rest ≡ false
 count_alone [] = refl
@@ -117,13 +117,13 @@ flat_alone : (rest : List ℕ) → goes_on (36 ∷ 34 ∷ []) rest ≡ false
 flat_alone [] = refl
 flat_alone (c ∷ cs) = refl
 
-dollar_count : (rest : List ℕ) → names rest ≡ true → k.Spells previous.Apart (36 ∷ 35 ∷ []) rest k.DollarCount
+dollar_count : (rest : List ℕ) → names rest ≡ true → k.IsLexeme previous.Apart (36 ∷ 35 ∷ []) rest k.DollarCount
 dollar_count rest n =
-    subst (λ l. k.Spells previous.Apart (36 ∷ 35 ∷ []) rest l) (rw n refl) (k.operated previous.Apart (36 ∷ 35 ∷ []) rest k.DollarCount refl refl (λ e. cc) (count_alone rest))
+    subst (λ l. k.IsLexeme previous.Apart (36 ∷ 35 ∷ []) rest l) (rw n refl) (k.operated previous.Apart (36 ∷ 35 ∷ []) rest k.DollarCount refl refl (λ e. cc) (count_alone rest))
 
-dollar_flat : (rest : List ℕ) → names rest ≡ true → k.Spells previous.Apart (36 ∷ 34 ∷ []) rest k.DollarFlat
+dollar_flat : (rest : List ℕ) → names rest ≡ true → k.IsLexeme previous.Apart (36 ∷ 34 ∷ []) rest k.DollarFlat
 dollar_flat rest n =
-    subst (λ l. k.Spells previous.Apart (36 ∷ 34 ∷ []) rest l) (rw n refl) (k.operated previous.Apart (36 ∷ 34 ∷ []) rest k.DollarFlat refl refl (λ e. cc) (flat_alone rest))
+    subst (λ l. k.IsLexeme previous.Apart (36 ∷ 34 ∷ []) rest l) (rw n refl) (k.operated previous.Apart (36 ∷ 34 ∷ []) rest k.DollarFlat refl refl (λ e. cc) (flat_alone rest))
 
 pub named_name : {text : List ℕ} {ls : List Lexeme} → NamePiece text ls → NamePiece (codes "$" ++ text) (k.Dollar ∷ ls)
 unfolding encode

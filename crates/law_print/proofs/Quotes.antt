@@ -62,9 +62,9 @@ quoted_clean text z = clean-append (doubled_quotes (chars text)) (39 ∷ []) (cl
 
 -- they say the text, wherever they stand
 pub quoted_spells : (prev : Previous) (text rest : List ℕ) → IsUtf8 text → begins_with (39 ∷ []) rest
-    ≡ false → k.Spells prev (quoted_chars text) rest (k.Quoted text)
+    ≡ false → k.IsLexeme prev (quoted_chars text) rest (k.Quoted text)
 quoted_spells prev text rest u e =
-    subst (λ w. k.Spells prev (quoted_chars text) rest (k.Quoted w)) (ap unquoted_text (quoted_spelled text u) ∙ unquoted text)
+    subst (λ w. k.IsLexeme prev (quoted_chars text) rest (k.Quoted w)) (ap unquoted_text (quoted_spelled text u) ∙ unquoted text)
     (k.quoted prev (doubled_quotes (chars text)) rest (in_quotes (chars text)) e)
 
 pub quoted_piece : (text : List ℕ) → IsUtf8 text → without_zero (chars text) ≡ true → Piece IsApart IsCalm Ends (quoted_text text) (k.Quoted text ∷ [])

@@ -2,7 +2,7 @@
 use Rattle.std.proofs.Common.{◌≡◌, ◌≢◌, refl, sym, subst, ℕ, Bool, true, false, ◌&&◌, List, [], ◌∷◌, ◌++◌, Some}
 use Rattle.std.proofs.lemmas.Bool.{and_parts}
 use lib.Utf8.{encodes}
-use Rattle.rc_model.specs.Syntax.Tokens.{Lexeme, Run, word_goes_on, class_of, goes_on, operator, meant, after_token}
+use Rattle.rc_model.specs.Syntax.Tokens.{Lexeme, IsLongestRun, word_goes_on, class_of, goes_on, operator, meant, after_token}
 use Rattle.rc_model.specs.Syntax.Tokens as k
 use Rattle.law_print.proofs.Gives.{Gives, blank, lexeme}
 use Rattle.law_print.proofs.Pieces.{IsApart, apart, IsCalm, calm_apart, calm_word, calm_quoted, calm_name}
@@ -24,7 +24,7 @@ blank_step calm_name g = blank refl g
 pub operator_step : (cs rest : List ℕ) (l : Lexeme) {ls : List Lexeme} → operator cs ≡ Some l → l ≢ k.BareHere → goes_on cs rest ≡ false → meant previous.Apart rest l ≡ l →
     after_token previous.Apart l ≡ previous.Apart → Gives previous.Apart rest ls → Gives previous.Apart (cs ++ rest) (l ∷ ls)
 operator_step cs rest l {ls} found no_mark stops same next g =
-    lexeme {cs = cs} {rest = rest} refl refl (subst (λ m. k.Spells previous.Apart cs rest m) same (k.operated previous.Apart cs rest l refl found no_mark stops))
+    lexeme {cs = cs} {rest = rest} refl refl (subst (λ m. k.IsLexeme previous.Apart cs rest m) same (k.operated previous.Apart cs rest l refl found no_mark stops))
     (subst (λ b. Gives b rest ls) (sym next) g)
 
 -- words of ordinary characters
@@ -49,7 +49,7 @@ ordinary_in_word class.Hash rest e = cc
 ordinary_in_word class.Quote rest e = cc
 ordinary_in_word class.Backslash rest e = cc
 
-plain_run : (cs rest : List ℕ) → are_ordinary cs ≡ true → word_goes_on rest ≡ false → Run word_goes_on cs rest
+plain_run : (cs rest : List ℕ) → are_ordinary cs ≡ true → word_goes_on rest ≡ false → IsLongestRun word_goes_on cs rest
 plain_run [] rest e s = k.stop rest s
 plain_run (c ∷ cs) rest e s =
     let p = and_parts (is_ordinary (class_of c)) (are_ordinary cs) e in

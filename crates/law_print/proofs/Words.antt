@@ -4,7 +4,7 @@ use Rattle.std.proofs.lemmas.Str.{encodes-chars, scalars-chars}
 use Rattle.std.specs.Str.{chars}
 use lib.Utf8.{encode, encodes}
 use Rattle.rc_model.specs.Syntax.Text.{without_zero}
-use Rattle.rc_model.specs.Syntax.Tokens.{Lexeme, Run, word_goes_on, is_in_word, at_newline}
+use Rattle.rc_model.specs.Syntax.Tokens.{Lexeme, IsLongestRun, word_goes_on, is_in_word, at_newline}
 use Rattle.rc_model.specs.Syntax.Tokens.{class_of}
 use Rattle.rc_model.specs.Syntax.Tokens as k
 use Rattle.law_print.proofs.Gives.{Gives, lexeme}
@@ -43,18 +43,18 @@ in_word_on class.LineEnd run rest e h = h
 in_word_on class.Hash run rest e h = h
 in_word_on class.Quote run rest e h = h
 
-run_on : (cs rest : List ℕ) → Ends rest → Run word_goes_on cs [] → Run word_goes_on cs rest
+run_on : (cs rest : List ℕ) → Ends rest → IsLongestRun word_goes_on cs [] → IsLongestRun word_goes_on cs rest
 run_on [] rest e r = k.stop rest (word_ends e)
 run_on (c ∷ cs) rest e (k.next _ _ _ h r) = k.next c cs rest (in_word_on (class_of c) cs rest e h) (run_on cs rest e r)
 
 -- an unquoted word
-word_gives : (cs : List ℕ) → cs ≢ [] → Run word_goes_on cs [] → (rest : List ℕ) (more : List Lexeme) → Ends rest → Gives previous.Word rest more →
+word_gives : (cs : List ℕ) → cs ≢ [] → IsLongestRun word_goes_on cs [] → (rest : List ℕ) (more : List Lexeme) → Ends rest → Gives previous.Word rest more →
     Gives previous.Apart (cs ++ rest) (k.Word (encodes cs) ∷ more)
 word_gives [] ne r rest more e g = absurd (ne refl)
 word_gives (c ∷ cs) ne r rest more e g = lexeme {cs = c ∷ cs} {rest = rest} refl refl (k.word previous.Apart c cs rest refl (run_on (c ∷ cs) rest e r)) g
 
 pub word_piece : (text : List ℕ) → IsUtf8 text → without_zero (chars text)
-    ≡ true → text ≢ [] → Run word_goes_on (chars text) [] → Piece IsApart IsCalm Ends text (k.Word text ∷ [])
+    ≡ true → text ≢ [] → IsLongestRun word_goes_on (chars text) [] → Piece IsApart IsCalm Ends text (k.Word text ∷ [])
 word_piece text u z ne r = record {
   chars = chars text;
   spelled = encodes-chars text u;

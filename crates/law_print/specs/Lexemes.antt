@@ -1,4 +1,4 @@
--- The lexemes of a printed tree, and the trees whose texts can be written so.
+-- The lexemes of a printed tree, and the trees whose texts can be written.
 use Rattle.std.specs.Prelude.{◌≡◌, ℕ, Bool, true, false, if◌then◌else◌, List, [], ◌∷◌, ◌++◌, codes}
 use Rattle.rc_model.specs.Syntax.Tokens.{Lexeme, Word, Quoted, Semicolon, Ampersand, AndAnd, OrOr, Bar, Caret, Equals}
 use Rattle.rc_model.specs.Syntax.Tokens.{LeftParen, RightParen, LeftBrace, RightBrace, Backquote, Redirection, CopyTo}
@@ -16,15 +16,15 @@ use Rattle.rc_model.specs.Syntax.Tree.{is_empty}
 abbrev pub LexemeLine : Type 0
 LexemeLine = List Lexeme × Bool
 
--- a line with an `&` after it, where it runs in the background
+-- a line with an `&` after it, if it runs in the background
 abbrev pub ended : LexemeLine → List Lexeme
 ended line = if line.1 then line.0 ++ Ampersand ∷ [] else line.0
 
--- the `&` of a background line parts it from the next one
+-- the separator after a line, unless the `&` of a background line is one
 abbrev pub parting : LexemeLine → List Lexeme
 parting line = if line.1 then [] else Semicolon ∷ []
 
--- the lines of a list, with what parts them
+-- the lines of a list, with their separators
 abbrev pub listed : List LexemeLine → List Lexeme
 listed [] = []
 listed (line ∷ []) = ended line
@@ -53,7 +53,7 @@ word text quoted = if quoted then Quoted text else Word text
 abbrev pub name_word : List ℕ → (quoted : Bool) → Lexeme
 name_word text quoted = if quoted then Quoted text else Name text
 
--- The lexemes of each form, as its text has them. `begins` says of a command that an item of a branch begins with it.
+-- The lexemes of each form, as its text has them. `begins` means that an item of a branch begins with the command.
 unfoldable mutual
   -- a command
   pub cmd_lexemes : Node t.cmd → (begins : Bool) → List Lexeme
@@ -114,7 +114,7 @@ unfoldable mutual
   args_lexemes none = []
   args_lexemes (more word words) = arg_lexemes word ++ args_lexemes words
 
-  -- parts have carets between them
+  -- parts, with carets between them
   pub first_part : Many t.arg → List Lexeme
   first_part none = []
   first_part (more part parts) = arg_lexemes part ++ further_parts parts
@@ -146,7 +146,7 @@ unfoldable mutual
   links_lexemes none = []
   links_lexemes (more (t.Link logic body) links) = (sign logic ∷ cmd_lexemes body false) ++ links_lexemes links
 
-  -- each item is a line; the first one begins as said, and the others as said after it
+  -- each item is a line; `begins` is for the first item, `others` for those after it
   pub item_lines : Many t.item → (begins others : Bool) → List LexemeLine
   item_lines none begins others = []
   item_lines (more (t.Item body background) items) begins others =
@@ -159,7 +159,7 @@ unfoldable mutual
       (Word (codes "case") ∷ args_lexemes patterns, false)
       ∷ (body_lines body (branch_items body) (cmd_lexemes body true) ++ branch_lines branches)
 
-  -- the lines of a branch's body, where that is a list
+  -- the lines of a branch's body, if that is a list
   pub branch_items : Node t.cmd → List LexemeLine
   branch_items (t.Seq items) = item_lines items true true
   branch_items _ = []

@@ -1,4 +1,4 @@
--- What is known of printed texts.
+-- The laws of printed texts.
 use Rattle.std.specs.Prelude.{◌≡◌, ℕ, false, List, Ok, map, IsUtf8}
 use Rattle.rc_model.specs.Syntax.Tree.{Node, cmd}
 use Rattle.rc_model.specs.Syntax.Tokens.{Token, Lexes}

@@ -1,4 +1,4 @@
-//! The laws of printed trees: each can be written, and is read again. Each function does nothing: its contract is the
+//! The laws of printed trees: each can be written, and reads back. The functions do nothing: the contract of each is a
 //! law.
 #![tactic(auto)]
 

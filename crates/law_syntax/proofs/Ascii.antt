@@ -1,5 +1,5 @@
 -- The machines take the same step at an ASCII character, or come to the same where an operator ends at once.
-use Rattle.std.proofs.Common.{◌≡◌, ℕ, suc, ◌+◌, ◌<◌, Bool, true, false, cond, ◌==◌, ◌||◌, List, [], ◌∷◌, ◌++◌, refl, sym, ap, subst, ◌∙◌, arith}
+use Rattle.std.proofs.Common.{◌≡◌, ℕ, suc, ◌+◌, ◌<◌, Bool, true, false, cond, ◌==◌, ◌||◌, List, [], ◌∷◌, ◌++◌, refl, sym, ap, subst, ◌∙◌}
 use Rattle.std.specs.Prelude.{Option, Some, None, Ok, Err}
 use Rattle.std.proofs.lemmas.Bool.{eqb-true}
 use Rattle.std.proofs.lemmas.Str.{encode_ascii, len_utf8_ascii}
@@ -8,8 +8,8 @@ use Rattle.std.specs.Str.{encode_utf8_all, bytes_eq}
 use Rattle.rc_model.specs.Syntax.Tokens as t
 use Rattle.rc_model.specs.Syntax.Tokens.{Lexeme, Token, PendingHereDoc, Outcome}
 use Rattle.rc_model.specs.Mirrors.Reading as r
-use Rattle.rc_model.specs.Mirrors.Reading.{State, Step, goes, emit, bare_here, without_here, begin_line, bare, follow}
-use Rattle.law_syntax.proofs.Steps.{join_nil, follow_emit, line_end_is}
+use Rattle.rc_model.specs.Mirrors.Reading.{State, AfterCharacter, goes, emit, bare_here, without_here, begin_line, bare, follow}
+use Rattle.law_syntax.proofs.Steps.{join_nil, follow_emit}
 use Rattle.law_syntax.proofs.Operators.{operated_run, LexemeEnds, operator_ends, plain_ends, same_due}
 use Rattle.law_syntax.specs.ByteReading as b
 use Rattle.law_syntax.specs.ByteReading.{after_byte}
@@ -24,20 +24,20 @@ abbrev pub Reads : List ℕ → Type 0
 Reads cs = (s : State) (due : List PendingHereDoc) (p : Place) → b.run s due p (encode_utf8_all cs) ≡ r.run s due p cs
 
 -- what comes of a step of each machine, with these characters after it
-abbrev pub by_bytes : Place → List ℕ → Step → Outcome
+abbrev pub by_bytes : Place → List ℕ → AfterCharacter → Outcome
 by_bytes p cs x = follow x (λ s' due'. b.run s' due' p (encode_utf8_all cs))
 
-abbrev pub by_chars : Place → List ℕ → Step → Outcome
+abbrev pub by_chars : Place → List ℕ → AfterCharacter → Outcome
 by_chars p cs x = follow x (λ s' due'. r.run s' due' p cs)
 
-pub same_step : (p p' : Place) (cs : List ℕ) (x y : Step) → Reads cs → p ≡ p' → x ≡ y → by_bytes p cs x ≡ by_chars p' cs y
+pub same_step : (p p' : Place) (cs : List ℕ) (x y : AfterCharacter) → Reads cs → p ≡ p' → x ≡ y → by_bytes p cs x ≡ by_chars p' cs y
 same_step p p' cs x y h e f = ap (λ z. by_bytes z cs x) e ∙ by x ∙ ap (by_chars p' cs) f
   where
-    by : (z : Step) → by_bytes p' cs z ≡ by_chars p' cs z
+    by : (z : AfterCharacter) → by_bytes p' cs z ≡ by_chars p' cs z
     by (Ok z) = ap (t.join z.0 z.1) (h z.2 z.3 p')
     by (Err z) = refl
 
-pub same_emit : (p p' : Place) (cs : List ℕ) (ts : List Token) (x y : Step) → by_bytes p cs x ≡ by_chars p' cs y → by_bytes p cs (emit ts x) ≡ by_chars p' cs (emit ts y)
+pub same_emit : (p p' : Place) (cs : List ℕ) (ts : List Token) (x y : AfterCharacter) → by_bytes p cs x ≡ by_chars p' cs y → by_bytes p cs (emit ts x) ≡ by_chars p' cs (emit ts y)
 same_emit p p' cs ts x y e =
     follow_emit ts x (λ s' due'. b.run s' due' p (encode_utf8_all cs)) ∙ ap (t.join ts []) e ∙ sym (follow_emit ts y (λ s' due'. r.run s' due' p' cs))
 
@@ -125,10 +125,10 @@ ascii c h = record {
 }
 
 -- the two machines come to the same at a character
-abbrev pub SameAt : List ℕ → Place → ℕ → Step → Step → Type 0
+abbrev pub SameAt : List ℕ → Place → ℕ → AfterCharacter → AfterCharacter → Type 0
 SameAt cs p c x y = by_bytes (after_byte p c) cs x ≡ by_chars (t.after_char p c) cs y
 
-same_at : (cs : List ℕ) (p : Place) (c : ℕ) (x y : Step) → Reads cs → IsAscii c → x ≡ y → SameAt cs p c x y
+same_at : (cs : List ℕ) (p : Place) (c : ℕ) (x y : AfterCharacter) → Reads cs → IsAscii c → x ≡ y → SameAt cs p c x y
 same_at cs p c x y h a e = same_step (after_byte p c) (t.after_char p c) cs x y h (a.place p) e
 
 -- both go on alike

@@ -33,7 +33,7 @@ line_by : (d : PendingHereDoc) (body line : List ℕ) (due : List PendingHereDoc
 line_by d body line due p c cs class.LineEnd h = absurd (h refl)
 line_by d body line due p c cs k h = join_nil (run (Body d body (line ++ encode_utf8 c)) due (t.after_char p c) cs)
 
-line_runs : {cs rest : List ℕ} → t.Run t.line_goes_on cs rest → (d : PendingHereDoc) (body line : List ℕ) (due : List PendingHereDoc) (p : Place) →
+line_runs : {cs rest : List ℕ} → t.IsLongestRun t.line_goes_on cs rest → (d : PendingHereDoc) (body line : List ℕ) (due : List PendingHereDoc) (p : Place) →
     run (Body d body line) due p (cs ++ rest) ≡ run (Body d body (line ++ encode_utf8_all cs)) due (t.after_chars p cs) rest
 line_runs (t.stop rest h) d body line due p = ap (λ z. run (Body d body z) due p rest) (sym (append-nil line))
 line_runs (t.next c cs rest h r) d body line due p =

@@ -32,10 +32,10 @@ abbrev Reads : Previous → List PendingHereDoc → Place → List ℕ → List 
 Reads prev due p cs rest l = run (Between prev) due p (cs ++ rest)
     ≡ t.join (t.tokens_of prev l p (t.after_chars p cs)) [] (run (Between (t.after_token prev l)) (t.pending_after prev l due) (t.after_chars p cs) rest)
 
-goes_on_first : (c : ℕ) (cs rest : List ℕ) {more : List ℕ → Bool} → t.Run more (c ∷ cs) rest → more (c ∷ cs ++ rest) ≡ true
+goes_on_first : (c : ℕ) (cs rest : List ℕ) {more : List ℕ → Bool} → t.IsLongestRun more (c ∷ cs) rest → more (c ∷ cs ++ rest) ≡ true
 goes_on_first c cs rest (t.next _ _ _ h r) = h
 
-run_tail : (c : ℕ) (cs rest : List ℕ) {more : List ℕ → Bool} → t.Run more (c ∷ cs) rest → t.Run more cs rest
+run_tail : (c : ℕ) (cs rest : List ℕ) {more : List ℕ → Bool} → t.IsLongestRun more (c ∷ cs) rest → t.IsLongestRun more cs rest
 run_tail c cs rest (t.next _ _ _ h r) = r
 
 -- no character of a name begins anything but a word
@@ -86,7 +86,7 @@ name_begun due p c rest h =
     ∙ ap (λ b. follow (goes [] (cond b (Name p (encode_utf8 c)) (Word previous.Dollar p (encode_utf8 c))) due) (λ s' due'. run s' due' (t.after_char p c) rest)) h
     ∙ join_nil (run (Name p (encode_utf8 c)) due (t.after_char p c) rest)
 
-comment_runs : {cs rest : List ℕ} → t.Run t.line_goes_on cs rest → (due : List PendingHereDoc) (p : Place) →
+comment_runs : {cs rest : List ℕ} → t.IsLongestRun t.line_goes_on cs rest → (due : List PendingHereDoc) (p : Place) →
     run Comment due p (cs ++ rest) ≡ run (Between previous.Apart) due (t.after_chars p cs) rest
 comment_runs (t.stop rest h) due p = at_end rest h
   where
@@ -136,7 +136,7 @@ operated_lexeme prev t.DollarFlat q due p rest a h = flat_ends prev q due p rest
 operated_lexeme prev t.BareHere q due p rest a h = absurd (h refl)
 operated_lexeme prev l q due p rest a h = plain_ends prev q l due p rest a refl
 
-spelled : {prev : Previous} {cs rest : List ℕ} {l : Lexeme} → t.Spells prev cs rest l → (due : List PendingHereDoc) (p : Place) → Reads prev due p cs rest l
+spelled : {prev : Previous} {cs rest : List ℕ} {l : Lexeme} → t.IsLexeme prev cs rest l → (due : List PendingHereDoc) (p : Place) → Reads prev due p cs rest l
 spelled (t.word prev c cs rest n r) due p =
     word_begun_by prev due p c (cs ++ rest) (t.class_of c) refl n (goes_on_first c cs rest r)
     ∙ word_runs (run_tail c cs rest r) prev p (encode_utf8 c) due (t.after_char p c)

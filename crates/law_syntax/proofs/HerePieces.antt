@@ -9,8 +9,8 @@ use Rattle.std.proofs.lemmas.Str.{length-le-encodes}
 use Rattle.rc_model.specs.Syntax.Tokens.{is_name_char}
 use Rattle.rc_model.specs.Syntax.Tree.{Node, Many, none, more, snoc}
 use Rattle.rc_model.specs.Syntax.Tree as t
-use Rattle.rc_model.specs.Syntax.HereDocs.{Begun, Plain, Dollar, Naming, with_text, begun_by, begun_after, ended_by, with_last, pieces_from, pieces_of}
-use Rattle.rc_model.specs.Syntax.HerePieces.{goes_on_name, begins_dollar, ends_text, past_caret, StandFor, ended, itself, doubled, alone, HavePieces, end, a_text, a_name, HasPieces, HerePiecesByRule}
+use Rattle.rc_model.specs.Syntax.HereDocs.{Plain, Dollar, Naming, with_text, piece_begun_by, pieces_from}
+use Rattle.rc_model.specs.Syntax.HerePieces.{goes_on_name, begins_dollar, ends_text, past_caret, StandFor, ended, itself, doubled, alone, HavePieces, end, a_text, a_name, HerePiecesByRule}
 
 -- pieces after others
 abbrev joined : Many t.piece → Many t.piece → Many t.piece
@@ -59,18 +59,18 @@ naming : (name : List ℕ) → list_all is_name_char name ≡ true → (bs : Lis
 naming [] h bs before rest = ap (λ z. pieces_from (Naming z) before rest) (sym (append-nil bs))
 naming (c ∷ name) h bs before rest =
     let k = and_parts (is_name_char c) (list_all is_name_char name) h in
-    ap (λ b. pieces_from (if b then Naming (bs ++ encode_utf8 c) else (if c == 94 then Plain [] else begun_by c)) (if b then before else snoc before (t.Name bs)) (name ++ rest)) k.0
+    ap (λ b. pieces_from (if b then Naming (bs ++ encode_utf8 c) else (if c == 94 then Plain [] else piece_begun_by c)) (if b then before else snoc before (t.Name bs)) (name ++ rest)) k.0
     ∙ naming name k.1 (bs ++ encode_utf8 c) before rest
     ∙ ap (λ z. pieces_from (Naming z) before rest) (append_assoc bs (encode_utf8 c) (encode_utf8_all name))
 
-after_caret : (before : Many t.piece) (c : ℕ) (cs : List ℕ) (b : Bool) → pieces_from (if b then Plain [] else begun_by c) before cs ≡ pieces_from (Plain []) before (if b then cs else c ∷ cs)
+after_caret : (before : Many t.piece) (c : ℕ) (cs : List ℕ) (b : Bool) → pieces_from (if b then Plain [] else piece_begun_by c) before cs ≡ pieces_from (Plain []) before (if b then cs else c ∷ cs)
 after_caret before c cs true = refl
 after_caret before c cs false = refl
 
 name_ends : (bs : List ℕ) (before : Many t.piece) (rest : List ℕ) → goes_on_name rest ≡ false → pieces_from (Naming bs) before rest ≡ pieces_from (Plain []) (snoc before (t.Name bs)) (past_caret rest)
 name_ends bs before [] h = refl
 name_ends bs before (c ∷ cs) h =
-    ap (λ b. pieces_from (if b then Naming (bs ++ encode_utf8 c) else (if c == 94 then Plain [] else begun_by c)) (if b then before else snoc before (t.Name bs)) cs) h
+    ap (λ b. pieces_from (if b then Naming (bs ++ encode_utf8 c) else (if c == 94 then Plain [] else piece_begun_by c)) (if b then before else snoc before (t.Name bs)) cs) h
     ∙ after_caret (snoc before (t.Name bs)) c cs (c == 94)
 
 -- the end of a text

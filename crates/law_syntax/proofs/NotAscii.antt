@@ -1,7 +1,7 @@
 -- The machines come to the same at a character that is not ASCII: its first byte goes to a state that its other bytes only
 -- lengthen.
-use Rattle.std.proofs.Common.{◌≡◌, ℕ, suc, ◌+◌, ◌≤◌, Bool, true, false, cond, ◌==◌, ◌||◌, List, [], ◌∷◌, ◌++◌, length, refl, sym, ap, subst, ◌∙◌, arith, append_assoc}
-use Rattle.std.specs.Prelude.{Option, Some, None, Ok, Err}
+use Rattle.std.proofs.Common.{◌≡◌, ℕ, suc, ◌+◌, ◌≤◌, false, cond, ◌==◌, ◌||◌, List, [], ◌∷◌, ◌++◌, length, refl, sym, ap, ◌∙◌, arith, append_assoc}
+use Rattle.std.specs.Prelude.{Option, Some, None}
 use Rattle.std.proofs.lemmas.List.{append-nil}
 use Rattle.std.proofs.lemmas.Str.{length-encode}
 use Rattle.std.specs.Char.{encode_utf8, len_utf8}
@@ -9,15 +9,14 @@ use Rattle.std.specs.Str.{encode_utf8_all}
 use Rattle.rc_model.specs.Syntax.Tokens as t
 use Rattle.rc_model.specs.Syntax.Tokens.{Lexeme, Token, PendingHereDoc, Outcome}
 use Rattle.rc_model.specs.Mirrors.Reading as r
-use Rattle.rc_model.specs.Mirrors.Reading.{State, Step, goes, emit, bare, follow}
+use Rattle.rc_model.specs.Mirrors.Reading.{State, AfterCharacter, goes, emit, bare, follow}
 use Rattle.law_syntax.proofs.Steps.{join_nil, follow_emit}
 use Rattle.law_syntax.specs.ByteReading as b
 use Rattle.law_syntax.specs.ByteReading.{after_byte, after_bytes}
 use Rattle.law_syntax.proofs.Ascii.{Reads}
-use Rattle.law_syntax.proofs.High.{HighChar, Highs, nothing, one, high_class, high_no_name, high_begins_no_name, high_begins_none, not_equal, after_high, same_place}
+use Rattle.law_syntax.proofs.High.{Highs, one, high_class, high_no_name, high_begins_no_name, high_begins_none, not_equal, after_high, same_place}
 use Rattle.rc_model.specs.declared.syntax.Place.{Place}
 use Rattle.rc_model.specs.declared.syntax.Previous.{Previous}
-use Rattle.rc_model.specs.declared.syntax.Class.{Class}
 use Rattle.rc_model.specs.declared.syntax.Previous.TheVariants as previous
 use Rattle.rc_model.specs.declared.syntax.Class.TheVariants as class
 
@@ -50,7 +49,7 @@ lengthened w g xs (c ∷ bs) rest due p (one c' bs' h hs) =
     ∙ ap (λ z. b.run (w z) due (after_bytes (after_byte p c) bs) rest) (append_assoc xs (c ∷ []) bs)
 
 -- a character whose first byte and others are these
-abbrev pub SameHigh : (cs : List ℕ) (p : Place) (c first : ℕ) (more : List ℕ) → Step → Step → Type 0
+abbrev pub SameHigh : (cs : List ℕ) (p : Place) (c first : ℕ) (more : List ℕ) → AfterCharacter → AfterCharacter → Type 0
 SameHigh cs p c first more x y =
     follow x (λ s' due'. b.run s' due' (after_byte p first) (more ++ encode_utf8_all cs)) ≡ follow y (λ s' due'. r.run s' due' (t.after_char p c) cs)
 
@@ -79,13 +78,13 @@ high_goes cs p c first more h w g due =
     ∙ h.reads (w (encode_utf8 c)) due (after_bytes (after_byte p first) more)
     ∙ ap (λ z. r.run (w (encode_utf8 c)) due z cs) (place_after cs p c first more h))
 
-high_emit : (cs : List ℕ) (p : Place) (c first : ℕ) (more : List ℕ) (ts : List Token) (x y : Step) → SameHigh cs p c first more x y → SameHigh cs p c first more (emit ts x) (emit ts y)
+high_emit : (cs : List ℕ) (p : Place) (c first : ℕ) (more : List ℕ) (ts : List Token) (x y : AfterCharacter) → SameHigh cs p c first more x y → SameHigh cs p c first more (emit ts x) (emit ts y)
 high_emit cs p c first more ts x y e =
     follow_emit ts x (λ s' due'. b.run s' due' (after_byte p first) (more ++ encode_utf8_all cs)) ∙ ap (t.join ts []) e
     ∙ sym (follow_emit ts y (λ s' due'. r.run s' due' (t.after_char p c) cs))
 
 -- by equal steps
-high_along : (cs : List ℕ) (p : Place) (c first : ℕ) (more : List ℕ) (x x' y y' : Step) → x' ≡ x → y' ≡ y → SameHigh cs p c first more x y → SameHigh cs p c first more x' y'
+high_along : (cs : List ℕ) (p : Place) (c first : ℕ) (more : List ℕ) (x x' y y' : AfterCharacter) → x' ≡ x → y' ≡ y → SameHigh cs p c first more x y → SameHigh cs p c first more x' y'
 high_along cs p c first more x x' y y' e f s =
     ap (λ z. follow z (λ s' due'. b.run s' due' (after_byte p first) (more ++ encode_utf8_all cs))) e ∙ s
     ∙ sym (ap (λ z. follow z (λ s' due'. r.run s' due' (t.after_char p c) cs)) f)

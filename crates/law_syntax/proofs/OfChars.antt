@@ -4,16 +4,14 @@ use Rattle.std.proofs.lemmas.Bool.{ltb-true, ltb-false}
 use Rattle.std.specs.Char.{encode_utf8}
 use Rattle.std.specs.Str.{encode_utf8_all}
 use Rattle.rc_model.specs.Syntax.Tokens as t
-use Rattle.rc_model.specs.Syntax.Tokens.{PendingHereDoc}
 use Rattle.rc_model.specs.Mirrors.Reading as r
-use Rattle.rc_model.specs.Mirrors.Reading.{State, follow}
+use Rattle.rc_model.specs.Mirrors.Reading.{follow}
 use Rattle.law_syntax.specs.ByteReading as b
 use Rattle.law_syntax.specs.ByteReading.{after_byte}
 use Rattle.law_syntax.specs.ByteLaws.{BytesLaw}
 use Rattle.law_syntax.proofs.High.{HighChar, encode_high, high_class}
 use Rattle.law_syntax.proofs.Ascii.{Reads, ascii, step_same}
 use Rattle.law_syntax.proofs.NotAscii.{high_step}
-use Rattle.rc_model.specs.declared.syntax.Place.{Place}
 use Rattle.rc_model.specs.declared.syntax.Class.TheVariants as class
 
 high_char : (c : ℕ) (cs : List ℕ) → Reads cs → 128 ≤ c → HighChar (encode_utf8 c) → Reads (c ∷ cs)

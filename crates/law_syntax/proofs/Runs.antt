@@ -123,7 +123,7 @@ word_begun_by prev due p c rest class.Hash e n h = absurd cc
 word_begun_by prev due p c rest class.Quote e n h = absurd cc
 
 -- a word is read
-pub word_runs : {cs rest : List ℕ} → t.Run t.word_goes_on cs rest → (prev : Previous) (q : Place) (text : List ℕ) (due : List PendingHereDoc) (p : Place) →
+pub word_runs : {cs rest : List ℕ} → t.IsLongestRun t.word_goes_on cs rest → (prev : Previous) (q : Place) (text : List ℕ) (due : List PendingHereDoc) (p : Place) →
     run (Word prev q text) due p (cs ++ rest) ≡ run (Word prev q (text ++ encode_utf8_all cs)) due (t.after_chars p cs) rest
 word_runs (t.stop rest h) prev q text due p = ap (λ z. run (Word prev q z) due p rest) (sym (append-nil text))
 word_runs (t.next c cs rest h r) prev q text due p =
@@ -131,7 +131,7 @@ word_runs (t.next c cs rest h r) prev q text due p =
     ∙ word_runs r prev q (text ++ encode_utf8 c) due (t.after_char p c)
     ∙ ap (λ z. run (Word prev q z) due (t.after_chars (t.after_char p c) cs) rest) (append_assoc text (encode_utf8 c) (encode_utf8_all cs))
 
-pub run_stops : {more : List ℕ → Bool} {cs rest : List ℕ} → t.Run more cs rest → more rest ≡ false
+pub run_stops : {more : List ℕ → Bool} {cs rest : List ℕ} → t.IsLongestRun more cs rest → more rest ≡ false
 run_stops (t.stop rest h) = h
 run_stops (t.next c cs rest h r) = run_stops r
 
@@ -143,7 +143,7 @@ name_ends q text due p (c ∷ cs) h =
     ap (λ b. follow (cond b (goes [] (Name q (text ++ encode_utf8 c)) due) (ends previous.Dollar (t.Name text) q due p c (t.class_of c))) (λ s' due'. run s' due' (t.after_char p c) cs)) h
     ∙ ends_at previous.Dollar (t.Name text) q due p c cs (t.class_of c)
 
-pub name_runs : {cs rest : List ℕ} → t.Run t.name_goes_on cs rest → (q : Place) (text : List ℕ) (due : List PendingHereDoc) (p : Place) →
+pub name_runs : {cs rest : List ℕ} → t.IsLongestRun t.name_goes_on cs rest → (q : Place) (text : List ℕ) (due : List PendingHereDoc) (p : Place) →
     run (Name q text) due p (cs ++ rest) ≡ run (Name q (text ++ encode_utf8_all cs)) due (t.after_chars p cs) rest
 name_runs (t.stop rest h) q text due p = ap (λ z. run (Name q z) due p rest) (sym (append-nil text))
 name_runs (t.next c cs rest h r) q text due p =

@@ -9,7 +9,7 @@ use Rattle.std.proofs.lemmas.Str.{chars-encodes, scalars-chars}
 use lib.Utf8.{scalar, scalars, encodes}
 use Rattle.rc_model.specs.Syntax.Accepted.{lexemes}
 use Rattle.rc_model.specs.Syntax.Text.{without_zero}
-use Rattle.rc_model.specs.Syntax.Tokens.{Lexeme, Token, Spells, Cuts, Lexes, Outcome, Run, InQuotes, Bodies, word_goes_on}
+use Rattle.rc_model.specs.Syntax.Tokens.{Lexeme, Token, IsLexeme, Cuts, Lexes, Outcome, IsLongestRun, InQuotes, Bodies, word_goes_on}
 use Rattle.rc_model.specs.Syntax.Tokens.{name_goes_on, is_in_word, class_of, is_name_char}
 use Rattle.rc_model.specs.Syntax.Tokens.{doubled_quotes, unquoted_text, meant, names, wants_caret, tokens_of, token, join, filled}
 use Rattle.rc_model.specs.Syntax.Tokens.{with_body, result_of, operators}
@@ -34,11 +34,11 @@ in_word_off class.LineEnd run rest h = h
 in_word_off class.Hash run rest h = h
 in_word_off class.Quote run rest h = h
 
-run_off : (cs rest : List ℕ) → Run word_goes_on cs rest → Run word_goes_on cs []
+run_off : (cs rest : List ℕ) → IsLongestRun word_goes_on cs rest → IsLongestRun word_goes_on cs []
 run_off [] rest r = k.stop [] refl
 run_off (c ∷ cs) rest (k.next _ _ _ h r) = k.next c cs [] (in_word_off (class_of c) cs rest h) (run_off cs rest r)
 
-names_run : (cs rest : List ℕ) → Run name_goes_on cs rest → list_all is_name_char cs ≡ true
+names_run : (cs rest : List ℕ) → IsLongestRun name_goes_on cs rest → list_all is_name_char cs ≡ true
 names_run [] rest r = refl
 names_run (c ∷ cs) rest (k.next _ _ _ h r) = rw h (names_run cs rest r)
 
@@ -94,9 +94,9 @@ meant_spelled prev rest l w = w
 operators_spelled : AreSpelledOperators operators
 operators_spelled = search rules depth 40
 
-lexeme_spelled : (prev : Previous) (cs rest : List ℕ) (l : Lexeme) → Spells prev cs rest l → scalars cs ≡ true → without_zero cs ≡ true → IsSpelled l
+lexeme_spelled : (prev : Previous) (cs rest : List ℕ) (l : Lexeme) → IsLexeme prev cs rest l → scalars cs ≡ true → without_zero cs ≡ true → IsSpelled l
 lexeme_spelled _ _ _ _ (k.word prev c cs rest b r) s z =
-    let w : Run word_goes_on (chars (encodes (c ∷ cs))) [] = subst (λ x. Run word_goes_on x []) (sym (chars-encodes (c ∷ cs) s)) (run_off (c ∷ cs) rest r) in
+    let w : IsLongestRun word_goes_on (chars (encodes (c ∷ cs))) [] = subst (λ x. IsLongestRun word_goes_on x []) (sym (chars-encodes (c ∷ cs) s)) (run_off (c ∷ cs) rest r) in
     (text_of (c ∷ cs) s z, (some_text c cs s, w))
 lexeme_spelled _ _ _ _ (k.name c cs rest r) s z =
     let e = names_run (c ∷ cs) rest r in

@@ -25,15 +25,15 @@ pub record Split (P : List ℕ → List ℕ → Type 0) (text : List ℕ) : Type
   pub has : P front rest
 
 -- the longest run
-run_of : (more : List ℕ → Bool) → more [] ≡ false → (text : List ℕ) → Split (t.Run more) text
+run_of : (more : List ℕ → Bool) → more [] ≡ false → (text : List ℕ) → Split (t.IsLongestRun more) text
 run_of more h [] = record { front = []; rest = []; is = refl; has = t.stop [] h }
 run_of more h (c ∷ cs) = by (more (c ∷ cs)) refl (run_of more h cs)
   where
-    by : (b : Bool) → more (c ∷ cs) ≡ b → Split (t.Run more) cs → Split (t.Run more) (c ∷ cs)
+    by : (b : Bool) → more (c ∷ cs) ≡ b → Split (t.IsLongestRun more) cs → Split (t.IsLongestRun more) (c ∷ cs)
     by false e s = record { front = []; rest = c ∷ cs; is = refl; has = t.stop (c ∷ cs) e }
     by true e s = record { front = c ∷ s.front; rest = s.rest; is = ap (λ z. c ∷ z) s.is; has = t.next c s.front s.rest (ap more (ap (λ z. c ∷ z) (sym s.is)) ∙ e) s.has }
 
-run_from : (more : List ℕ → Bool) → more [] ≡ false → (c : ℕ) (cs : List ℕ) → more (c ∷ cs) ≡ true → Split (λ front rest. t.Run more (c ∷ front) rest) cs
+run_from : (more : List ℕ → Bool) → more [] ≡ false → (c : ℕ) (cs : List ℕ) → more (c ∷ cs) ≡ true → Split (λ front rest. t.IsLongestRun more (c ∷ front) rest) cs
 run_from more h c cs e = let s = run_of more h cs in record { front = s.front; rest = s.rest; is = s.is; has = t.next c s.front s.rest (ap more (ap (λ z. c ∷ z) (sym s.is)) ∙ e) s.has }
 
 -- a quoted word, or one that is open
@@ -117,24 +117,24 @@ by_mark mark line {P = P} f g = by (bytes_eq line mark) refl
     by true e = f ((bytes_eq-Decides line mark).0 e)
     by false e = g (λ h. let e' : true ≡ false = sym ((bytes_eq-Decides line mark).1 h) ∙ e in absurd cc)
 
-last_line : (mark line : List ℕ) → t.Run t.line_goes_on line [] → BodyOrNone mark line
+last_line : (mark line : List ℕ) → t.IsLongestRun t.line_goes_on line [] → BodyOrNone mark line
 last_line mark [] r = inr t.nothing
 last_line mark (c ∷ cs) r =
     by_mark mark (encode_utf8_all (c ∷ cs))
     (λ e. inl (record { body = []; end = c ∷ cs; rest = []; is = sym (append-nil (c ∷ cs)); has = t.marked_last (c ∷ cs) r (λ z. absurd cc) e }))
     (λ h. inr (t.other_last (c ∷ cs) r (λ z. absurd cc) h))
 
-other_line : (mark line rest : List ℕ) → t.Run t.line_goes_on line (10 ∷ rest) → encode_utf8_all line ≢ mark → BodyOrNone mark rest → BodyOrNone mark (line ++ 10 ∷ rest)
+other_line : (mark line rest : List ℕ) → t.IsLongestRun t.line_goes_on line (10 ∷ rest) → encode_utf8_all line ≢ mark → BodyOrNone mark rest → BodyOrNone mark (line ++ 10 ∷ rest)
 other_line mark line rest r h (inl b) = inl (record {
   body = line ++ 10 ∷ b.body;
   end = b.end;
   rest = b.rest;
   is = ap (λ z. line ++ 10 ∷ z) b.is ∙ sym (ap (λ z. z ++ b.rest) (append_assoc line (10 ∷ b.body) b.end) ∙ append_assoc line (10 ∷ b.body ++ b.end) b.rest);
-  has = t.other line b.body b.end b.rest (subst (λ z. t.Run t.line_goes_on line (10 ∷ z)) b.is r) h b.has;
+  has = t.other line b.body b.end b.rest (subst (λ z. t.IsLongestRun t.line_goes_on line (10 ∷ z)) b.is r) h b.has;
 })
 other_line mark line rest r h (inr n) = inr (t.other line rest r h n)
 
-one_line : (mark line rest : List ℕ) → t.Run t.line_goes_on line (10 ∷ rest) → BodyOrNone mark rest → BodyOrNone mark (line ++ 10 ∷ rest)
+one_line : (mark line rest : List ℕ) → t.IsLongestRun t.line_goes_on line (10 ∷ rest) → BodyOrNone mark rest → BodyOrNone mark (line ++ 10 ∷ rest)
 one_line mark line rest r o =
     by_mark mark (encode_utf8_all line)
     (λ e. inl (record { body = []; end = line ++ 10 ∷ []; rest = rest; is = sym (append_assoc line (10 ∷ []) rest); has = t.marked line rest r e }))
@@ -143,14 +143,14 @@ one_line mark line rest r o =
 stops_at : (c : ℕ) (cs : List ℕ) → t.line_goes_on (c ∷ cs) ≡ false → c ≡ 10
 stops_at c cs h = eqb-true c 10 (not-false (c == 10) h)
 
-body_split : (mark text : List ℕ) → ((rest : List ℕ) → length rest < length text → BodyOrNone mark rest) → (line rest : List ℕ) → text ≡ line ++ rest → t.Run t.line_goes_on line rest →
+body_split : (mark text : List ℕ) → ((rest : List ℕ) → length rest < length text → BodyOrNone mark rest) → (line rest : List ℕ) → text ≡ line ++ rest → t.IsLongestRun t.line_goes_on line rest →
     BodyOrNone mark text
 body_split mark text ih line [] e r = subst (BodyOrNone mark) (sym (e ∙ append-nil line)) (last_line mark line r)
 body_split mark text ih line (c ∷ rest) e r =
     let c10 = stops_at c rest (run_stops r) in
     let e' : text ≡ line ++ 10 ∷ rest = e ∙ ap (λ z. line ++ z ∷ rest) c10 in
     subst (BodyOrNone mark) (sym e')
-    (one_line mark line rest (subst (λ z. t.Run t.line_goes_on line (z ∷ rest)) c10 r) (ih rest (omega (arith, ap length e', length-append line (10 ∷ rest)))))
+    (one_line mark line rest (subst (λ z. t.IsLongestRun t.line_goes_on line (z ∷ rest)) c10 r) (ih rest (omega (arith, ap length e', length-append line (10 ∷ rest)))))
 
 body_or_none : (n : ℕ) (mark text : List ℕ) → length text ≤ n → BodyOrNone mark text
 body_or_none n mark [] h = inr t.nothing
@@ -201,7 +201,7 @@ shorter_rest : (n : ℕ) (cs front rest : List ℕ) → cs ≡ front ++ rest →
 shorter_rest n cs front rest e h = omega (arith, ap length e, length-append front rest)
 
 lexeme_at : (n : ℕ) → Shorter n → (prev : Previous) (due : List PendingHereDoc) (p : Place) (c : ℕ) (cs front rest : List ℕ) (l : Lexeme) → cs ≡ front ++ rest → length cs ≤ n →
-    t.Spells prev (c ∷ front) rest l → CutAt prev due p (c ∷ cs)
+    t.IsLexeme prev (c ∷ front) rest l → CutAt prev due p (c ∷ cs)
 lexeme_at n ih prev due p c cs front rest l e h s =
     let x = ih rest (shorter_rest n cs front rest e h) (t.after_token prev l) (t.pending_after prev l due) (t.after_chars p (c ∷ front)) in
     subst (λ z. CutAt prev due p (c ∷ z)) (sym e) (record { outcome = t.join (t.tokens_of prev l p (t.after_chars p (c ∷ front))) [] x.outcome; cut = t.lexeme prev due p (c ∷ front) rest l x.outcome s x.cut })

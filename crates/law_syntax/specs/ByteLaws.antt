@@ -13,7 +13,8 @@ abbrev pub BytesLaw : Type 0
 BytesLaw = (s : State) (due : List PendingHereDoc) (p : Place) (cs : List ℕ) →
     bytes.run s due p (encode_utf8_all cs) ≡ r.run s due p cs
 
--- A text is read in pieces: what a first piece ends, and what comes from the state after it, whatever the rest.
+-- A text can be read in pieces: the tokens that a first piece ends, and then the reading from the state after it,
+-- whatever the rest.
 abbrev pub PiecesLaw : Type 0
 PiecesLaw = (s : State) (due : List PendingHereDoc) (p : Place) (piece rest : List ℕ) →
     bytes.run s due p (piece ++ rest)

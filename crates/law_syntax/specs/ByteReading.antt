@@ -1,4 +1,4 @@
--- Reading a text byte by byte: the machine over characters, where a character may be cut. Each byte that is no ASCII
+-- Reading a text byte by byte: the machine over characters, in which a character may be cut. Each byte that isn't ASCII
 -- belongs to a word, as its character does.
 use Rattle.std.specs.Prelude.{ℕ, suc, ◌+◌, Bool, if◌then◌else◌, ◌==◌, ◌||◌, List, [], ◌∷◌, ◌++◌}
 use Rattle.std.specs.Prelude.{Option, Some, None, Result, Ok, Err}
@@ -6,7 +6,7 @@ use Rattle.std.specs.Str.{bytes_eq}
 use Rattle.rc_model.specs.Syntax.Tokens as t
 use Rattle.rc_model.specs.Syntax.Tokens.{Lexeme, Token, PendingHereDoc, Outcome}
 use Rattle.rc_model.specs.Mirrors.Reading as r
-use Rattle.rc_model.specs.Mirrors.Reading.{State, Step, goes, emit, bare_here, without_here, begin_line, bare}
+use Rattle.rc_model.specs.Mirrors.Reading.{State, AfterCharacter, goes, emit, bare_here, without_here, begin_line, bare}
 use Rattle.rc_model.specs.Mirrors.Reading.{finish, follow}
 use Rattle.rc_model.specs.declared.fault.FaultKind.TheVariants.{BadDescriptor}
 use Rattle.rc_model.specs.declared.syntax.Place.{Place}
@@ -19,16 +19,16 @@ use Rattle.rc_model.specs.declared.syntax.Class.TheVariants as class
 abbrev pub after_byte : Place → ℕ → Place
 after_byte p b = record { byte = p.byte + 1; line = if b == 10 then suc p.line else p.line }
 
--- the place after several
+-- the place after several bytes
 abbrev pub after_bytes : Place → List ℕ → Place
 after_bytes p [] = p
 after_bytes p (b ∷ bs) = after_bytes (after_byte p b) bs
 
--- an operator of one byte that no operator goes on from: `;` `^` `=` `(` `)` `{` `}` and the backquote
+-- an operator of one byte that begins no other operator: `;` `^` `=` `(` `)` `{` `}` and the backquote
 abbrev pub is_alone : ℕ → Bool
 is_alone b = (b == 59) || (b == 94) || (b == 61) || (b == 40) || (b == 41) || (b == 123) || (b == 125) || (b == 96)
 
--- which one
+-- its lexeme
 abbrev pub alone : ℕ → Lexeme
 alone b =
     if b == 59 then t.Semicolon else (if b == 94 then t.Caret else (if b == 61 then t.Equals
@@ -36,17 +36,17 @@ alone b =
     else (if b == 125 then t.RightBrace else t.Backquote))))))
 
 -- a lexeme of one byte has ended
-abbrev pub at_once : Previous → Lexeme → List PendingHereDoc → Place → ℕ → Step
+abbrev pub at_once : Previous → Lexeme → List PendingHereDoc → Place → ℕ → AfterCharacter
 at_once prev l due p b = goes (t.tokens_of prev l p (after_byte p b)) (r.Between (t.after_token prev l)) due
 
--- what an operator's first byte begins: an operator that nothing goes on from ends at once
-abbrev pub begin_operator : Previous → List PendingHereDoc → Place → ℕ → Step
+-- what the first byte of an operator begins: one that no other operator continues ends at once
+abbrev pub begin_operator : Previous → List PendingHereDoc → Place → ℕ → AfterCharacter
 begin_operator prev due p b =
     if is_alone b then at_once prev (t.meant prev [] (alone b)) due p b
     else goes [] (r.Operator prev [] p (b ∷ [])) due
 
--- what a byte begins
-abbrev pub begin : Previous → List PendingHereDoc → Place → ℕ → Class → Step
+-- what a byte begins, in each class
+abbrev pub begin : Previous → List PendingHereDoc → Place → ℕ → Class → AfterCharacter
 begin prev due p b class.Operates = emit (bare_here prev) (begin_operator (without_here prev) due p b)
 begin prev due p b class.Blank = goes [] (r.Between (t.after_blank prev)) due
 begin prev due p b class.LineEnd = begin_line (bare_here prev ++ t.token t.Newline p (after_byte p b) ∷ []) [] due
@@ -57,25 +57,26 @@ begin prev due p b class.Ordinary =
     goes [] (if t.begins_name prev b then r.Name p (b ∷ []) else r.Word prev p (b ∷ [])) due
 
 -- the byte ends a lexeme
-abbrev pub ends : Previous → Lexeme → Place → List PendingHereDoc → Place → ℕ → Class → Step
+abbrev pub ends : Previous → Lexeme → Place → List PendingHereDoc → Place → ℕ → Class → AfterCharacter
 ends prev l q due p b k =
     emit (t.tokens_of prev l q p) (begin (t.after_token prev l) (t.pending_after prev l due) p b k)
 
 -- one byte of a word, or the first after it
-abbrev pub in_word : Previous → Place → List ℕ → List PendingHereDoc → Place → ℕ → Class → Step
+abbrev pub in_word : Previous → Place → List ℕ → List PendingHereDoc → Place → ℕ → Class → AfterCharacter
 in_word prev q text due p b class.Ordinary = goes [] (r.Word prev q (text ++ b ∷ [])) due
 in_word prev q text due p b class.Backslash = goes [] (r.WordBackslash prev q text p) due
 in_word prev q text due p b k = ends prev (t.Word text) q due p b k
 
 -- after `$`s: a name begins, a further `$`, or they are bare
-abbrev pub after_dollars : List Token → List PendingHereDoc → Place → ℕ → Class → Step
+abbrev pub after_dollars : List Token → List PendingHereDoc → Place → ℕ → Class → AfterCharacter
 after_dollars dollars due p b k =
     if t.is_name_char b || (b == 39) then emit dollars (begin previous.Dollar due p b k)
     else (if b == 36 then goes [] (r.Operator previous.Dollar dollars p (b ∷ [])) due
     else emit (bare dollars) (begin previous.Apart due p b k))
 
 -- the byte ends an operator
-abbrev pub end_operator : Previous → List Token → Place → Option Lexeme → List PendingHereDoc → Place → ℕ → Class → Step
+abbrev pub end_operator : Previous → List Token → Place → Option Lexeme → List PendingHereDoc → Place → ℕ → Class →
+    AfterCharacter
 end_operator prev dollars q None due p b k = Err (t.fault BadDescriptor q.line)
 end_operator prev dollars q (Some t.BareHere) due p b k = begin (previous.Here q p) due p b k
 end_operator prev dollars q (Some t.Dollar) due p b k =
@@ -87,7 +88,7 @@ end_operator prev dollars q (Some t.DollarFlat) due p b k =
 end_operator prev dollars q (Some l) due p b k = ends prev (t.meant prev [] l) q due p b k
 
 -- one byte
-abbrev pub step : State → List PendingHereDoc → Place → ℕ → Class → Step
+abbrev pub step : State → List PendingHereDoc → Place → ℕ → Class → AfterCharacter
 step (r.Between prev) due p b k = begin prev due p b k
 step r.Comment due p b class.LineEnd = begin previous.Apart due p b class.LineEnd
 step r.Comment due p b k = goes [] r.Comment due
@@ -117,17 +118,17 @@ abbrev pub run : State → List PendingHereDoc → Place → List ℕ → Outcom
 run s due p [] = finish s due p
 run s due p (b ∷ bs) = follow (step s due p b (t.class_of b)) (λ s' due'. run s' due' (after_byte p b) bs)
 
--- what comes first, with what comes then
-abbrev pub put : List Token → List (List ℕ) → Step → Step
+-- a step with these tokens and bodies before its own
+abbrev pub put : List Token → List (List ℕ) → AfterCharacter → AfterCharacter
 put ts bodies (Ok x) = Ok (ts ++ x.0, bodies ++ x.1, x.2, x.3)
 put ts bodies (Err f) = Err f
 
--- a step, and then others
-abbrev pub chain : Step → (State → List PendingHereDoc → Step) → Step
+-- one step, and then others
+abbrev pub chain : AfterCharacter → (State → List PendingHereDoc → AfterCharacter) → AfterCharacter
 chain (Ok x) then' = put x.0 x.1 (then' x.2 x.3)
 chain (Err f) then' = Err f
 
--- the steps at a part of a text
-abbrev pub through : State → List PendingHereDoc → Place → List ℕ → Step
+-- the steps over a part of a text
+abbrev pub through : State → List PendingHereDoc → Place → List ℕ → AfterCharacter
 through s due p [] = goes [] s due
 through s due p (b ∷ bs) = chain (step s due p b (t.class_of b)) (λ s' due'. through s' due' (after_byte p b) bs)

@@ -3,7 +3,7 @@
 ghost use Rattle.rc_model.specs.Mirrors.ParsingLaws.{AcceptedAreWellFormed, IsDecided, IsNeverBoth};
 ghost use Rattle.rc_model.specs.Mirrors.TreeOfText.{FindsTheTree};
 
-/// The tree of a text, as a function, is found exactly where the text is an accepted script with that tree.
+/// The tree of a text, as a function, is found exactly if the text is an accepted script with that tree.
 pub fn tree_of_text()
     ensures { FindsTheTree }
 {}

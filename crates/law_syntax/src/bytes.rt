@@ -7,7 +7,7 @@ pub fn characters_by_bytes()
     ensures { BytesLaw }
 {}
 
-/// A text may be read in pieces.
+/// A text can be read in pieces.
 pub fn in_pieces()
     ensures { PiecesLaw }
 {}

@@ -1,5 +1,4 @@
-//! The laws of syntax: texts and their tokens, the descent and the trees of the grammar, and which scripts are
-//! accepted.
+//! The laws of syntax: texts and their tokens, the descent and the trees of the grammar, and accepted scripts.
 #![tactic(auto)]
 
 mod acceptance;
@@ -15,7 +14,7 @@ pub use bytes::{characters_by_bytes, in_pieces};
 pub use tokens::{here_pieces, reading, spelling};
 pub use uniqueness::one_tree;
 
-/// What the descent finds is the tree of an accepted script.
+/// The descent finds only trees of accepted scripts.
 pub fn finds_only_trees()
     ensures { FindsOnlyTrees }
 {}
@@ -30,17 +29,17 @@ pub fn has_one_tree()
     ensures { HasOneTree }
 {}
 
-/// Where a token is unexpected, or an `if not` misplaced, there is no tree of any size.
+/// If a token is unexpected, or an `if not` misplaced, there is no tree of any size.
 pub fn has_no_tree()
     ensures { HasNoTree }
 {}
 
-/// Too many stages are found only where a pipeline has them.
+/// Too many stages are found only if a pipeline has them.
 pub fn has_too_many_stages()
     ensures { HasTooManyStages }
 {}
 
-/// Too many levels are found only where the tree has them.
+/// Too many levels are found only if the tree has them.
 pub fn is_too_deep()
     ensures { IsTooDeep }
 {}

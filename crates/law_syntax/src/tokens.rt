@@ -4,7 +4,7 @@ ghost use Rattle.rc_model.specs.Mirrors.Reading.{ReadingLaw};
 ghost use Rattle.rc_model.specs.Mirrors.Spelling.{SpellingLaw};
 ghost use Rattle.rc_model.specs.Syntax.HerePieces.{HerePiecesByRule};
 
-/// Each text is cut into one list of tokens or has one first fault, and the machine over characters finds it.
+/// Each text has one list of tokens or one first fault, and the machine over characters finds it.
 pub fn reading()
     ensures { ReadingLaw }
 {}
@@ -14,7 +14,7 @@ pub fn spelling()
     ensures { SpellingLaw }
 {}
 
-/// The pieces that are computed of the body of a here document are those that it has by the rule.
+/// The pieces that are computed for the body of a here document are those of the rule.
 pub fn here_pieces()
     ensures { HerePiecesByRule }
 {}

@@ -1,4 +1,4 @@
-//! The law that a list of lexemes has one tree at most. The function does nothing: its contract is the law.
+//! The law that a list of lexemes has at most one tree. The function does nothing: its contract is the law.
 
 ghost use Rattle.law_syntax.specs.Trees.{HasOneTreeAtMost};
 

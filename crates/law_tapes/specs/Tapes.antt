@@ -1,4 +1,4 @@
--- What tapes record, by the answers that they have left.
+-- The records of tapes, by the answers that they have left.
 use Rattle.std.specs.Prelude.{◌≡◌, List, [], ◌∷◌, ◌++◌, map}
 use Rattle.rc_model.specs.Run.Calls.{Call, Answer, Event, recorded_by}
 use Rattle.law_machine.specs.Limits.{IsOnTape}
@@ -12,16 +12,16 @@ answers_after [] given = given
 answers_after (c ∷ made) [] = []
 answers_after (c ∷ made) (a ∷ given) = answers_after made given
 
--- the answers that a tape has not played yet
+-- the answers that a tape has not replayed yet
 abbrev pub left_of : Tape → List Answer
 left_of tape = answers_after (map call_of tape.calls.items) (tape_answers tape)
 
--- What a tape records between two moments is, as far as its first halt, recorded by the answers that it had left.
+-- What a tape records between two moments is, up to its first halt, recorded by the answers that it had left.
 abbrev pub TapesRecord : Type 0
 TapesRecord = (before after : Tape) (trace : List Event) → tape_answers after ≡ tape_answers before →
     tape_events after ≡ tape_events before ++ trace → IsOnTape (left_of before) trace
 
--- The same of one call.
+-- The same for one call.
 abbrev pub CallsAreOnTape : Type 0
 CallsAreOnTape = (before after : Tape) (call : Call) (answer : Answer) → Plays before after call answer →
     IsOnTape (left_of before) (recorded_by call answer)

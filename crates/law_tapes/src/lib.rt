@@ -1,14 +1,14 @@
-//! The laws of tapes: a tape records what its answers say.
+//! The laws of tapes: a tape records what its answers determine.
 #![tactic(auto)]
 
 ghost use Rattle.law_tapes.specs.Tapes.{CallsAreOnTape, NewTapesHaveAll, TapesRecord};
 
-/// What a tape records, as far as its first halt, it records by the answers that it had left.
+/// What a tape records, up to its first halt, it records by the answers that it had left.
 pub fn tapes_record()
     ensures { TapesRecord }
 {}
 
-/// The same of one call.
+/// The same for one call.
 pub fn calls_are_on_tape()
     ensures { CallsAreOnTape }
 {}

@@ -12,13 +12,13 @@ use Rattle.rc_model.specs.declared.call.Slots.{Slots}
 use Rattle.rc_model.specs.declared.call.Mode.TheVariants.{Read}
 use Rattle.rc_model.specs.Syntax.Tree.{Node, cmd}
 use Rattle.rc_model.specs.Run.State.{State, value_of, set_value, function_of, without_child, drop_child}
-use Rattle.rc_model.specs.Run.Shell.{Shell, Result, Next, Exit, ◌>>◌, pure, call, say, exits}
+use Rattle.rc_model.specs.Run.Shell.{Shell, ShellResult, Next, Exit, ◌>>◌, pure, call, say, exits}
 use Rattle.rc_model.specs.Handed.Image.{is_fit, program_launch}
-use Rattle.rc_model.specs.Run.Acts.{set_status, report, refuse, is_path, candidates, is_program, first_program, find_program, Started, Child, NoChild, started, wait_started, run_found, run_program, read_all, longest_file}
+use Rattle.rc_model.specs.Run.Acts.{set_status, report, refuse, is_path, candidates, is_program, first_program, find_program, Started, Child, NoChild, start_if_fit, wait_started, run_found, run_program, read_all, longest_file}
 use Rattle.rc_model.specs.declared.builtin.Builtin.{Builtin}
 use Rattle.rc_model.specs.declared.builtin.Builtin.TheVariants.{Dot, BuiltinWord, Cd, Eval, Exec, Exit as ExitWord, Shift, Wait, Whatis}
 use Rattle.rc_model.specs.Run.Builtins.{builtin_named, Called, Finished, Body, BodyWith, finished, usage, as_body, as_body_with, opened_or, open_first, whole_file, run_file, dot, first_dir, dirs_of, first_member, cd, exit_status, shifted, shift, wait_child, wait_all, wait_one, wait_numbered, wait_for, value_line, function_line, program_line, other_line, command_line, known_of, known_each, met, write_lines, whatis, exec, run_builtin, run_command, without_functions, run_named, run_words}
-use Rattle.rc_model.specs.Family.Accounts.{a_file, Account, one, counts, called, past, after}
+use Rattle.rc_model.specs.Family.Accounts.{a_file, Account, one, counts, with_call, past, after}
 use Rattle.law_traces.proofs.Keep.{Keeps, keeps_mono, one_self, Held, held, alone, Kid, kid_of, Rest}
 use Rattle.law_traces.proofs.Steps.{one_other, may_call, may_close, rest_close, rest_wait, may_wait_alone}
 use Rattle.law_traces.proofs.Does.{Ends, keeps_bind, Covers, Clean, clean_bind, clean_pure, clean_skip, clean_exits, clean_probe, clean_report, clean_fails, clean_status, clean_change, neat_state, Opened, opened_so}
@@ -44,7 +44,7 @@ clean_found : {slots : Slots} (name : List ℕ) (args : List (List ℕ)) (o : Op
 clean_found name args None = clean_refuse name (codes "not found")
 clean_found {slots = slots} name args (Some path) = record {
   by = λ F O a s c n.
-      keeps_bind F O {Q = BegunSo F O} (λ x. Rest F O) a (started (program_launch slots path args s) s) (wait_started slots name) (keeps_start F F O O (program_launch slots path args s) (is_fit (program_launch slots path args s)) (λ e. tt) a s c n)
+      keeps_bind F O {Q = BegunSo F O} (λ x. Rest F O) a (start_if_fit (program_launch slots path args s) s) (wait_started slots name) (keeps_start F F O O (program_launch slots path args s) (is_fit (program_launch slots path args s)) (λ e. tt) a s c n)
       (λ b a2 s2 q. keeps_wait_started F O slots name b a2 s2 c q);
 }
 
@@ -87,7 +87,7 @@ keeps_run_file F O slots args None a s c n = neat_state _ refl n
 keeps_run_file F O slots args (Some h) a s c n =
     keeps_bind F O {Q = λ t. Rest (held h a_file 0 ∷ F) O} (λ x. Rest F O) a (read_all longest_file h s) (λ out. say (close h) >> whole_file args out.text out.why)
     (keeps_reading (held h a_file 0 ∷ F) F O O h (suc longest_file) longest_file [] a s (omega (arith, one_self h)) n)
-    (λ t b u q. (may_close q, λ x f. (clean_whole_file args t.text t.why).by F O (past (called (close h) b)) u c (rest_close q)))
+    (λ t b u q. (may_close q, λ x f. (clean_whole_file args t.text t.why).by F O (past (with_call (close h) b)) u c (rest_close q)))
 
 clean_dot : {slots : Slots} (args : List (List ℕ)) → Clean slots (dot args)
 clean_dot [] = clean_usage
@@ -146,7 +146,7 @@ is_in : (k : ℕ) (l : List ℕ) → list_any (λ m. m == k) l ≡ true → 1 �
 is_in k [] e = absurd cc
 is_in k (x ∷ xs) e = elim (eqb_tells x k) [ inl t ↦ subst (λ j. 1 ≤ one x j + counts xs j) t.1 (omega (arith, one_self x)) | inr t ↦ let m : list_any (λ m. m == k) xs ≡ true = rw t.0 at e in omega (arith, is_in k xs m) ]
 
-forget : (F : List Held) (O : List Kid) (l : List ℕ) (a : Account) (r : Result (Unit {0})) → Ends F O (λ x b t. Rest F O b t × (t.background ≡ l)) a r → Ends F O (λ x. Rest F O) a r
+forget : (F : List Held) (O : List Kid) (l : List ℕ) (a : Account) (r : ShellResult (Unit {0})) → Ends F O (λ x b t. Rest F O b t × (t.background ≡ l)) a r → Ends F O (λ x. Rest F O) a r
 forget F O l a (Next x s) q = q.0
 forget F O l a (Exit s owed) q = q
 

@@ -11,14 +11,14 @@ use Rattle.rc_model.specs.Syntax.Tree.{Node, Many, cmd, stage}
 use Rattle.rc_model.specs.Run.State.{State, set_value, put_values, values_of, covered, add_child}
 use Rattle.rc_model.specs.Run.Shell.{Shell, under, leaves, pure, say}
 use Rattle.rc_model.specs.Handed.Image.{is_fit, shell_launch}
-use Rattle.rc_model.specs.Run.Acts.{Started, Child, NoChild, child_of, begun, start_shell, wait_subshell, subshell, kept_child, background_with, background, StartedStages, Running, Refused, start_stages, Got, read_on, reading, read_all, longest_output, back_child, back_pipe, backquote, back_words, got_all}
+use Rattle.rc_model.specs.Run.Acts.{Started, Child, NoChild, as_started, ask_start, start_shell, wait_subshell, subshell, kept_child, background_with, background, StartedStages, Running, Refused, start_stages, Got, read_on, reading, read_all, longest_output, back_child, back_pipe, backquote, back_words, got_all}
 use Rattle.rc_model.specs.Run.Meaning.{Runner, file_end, pipe_end, piped}
 use Rattle.rc_model.specs.Handed.Handed.{HandsOver}
-use Rattle.rc_model.specs.Family.Accounts.{a_file, read_end, write_end, Account, called, add_pair, past, after, NewPair}
+use Rattle.rc_model.specs.Family.Accounts.{a_file, read_end, write_end, Account, with_call, add_pair, past, after, NewPair}
 use Rattle.law_traces.proofs.Keep.{Keeps, keeps_under, one_self, Held, held, alone, of_line, Kid, kid_of, held_counts, child_counts, counts-append, AllOlder, older_place, NotSlot, Rest}
 use Rattle.law_traces.proofs.Steps.{one_other, rest_on, may_call, may_close, rest_close, neat_pair, may_close_due, neat_passed, rest_passed, rest_wait, may_wait_alone, may_wait_line}
 use Rattle.law_traces.proofs.Does.{strangers, Ends, keeps_bind, Covers, covers_more, covers_all, holds_slots, Clean, clean_bind, clean_pure, neat_state, Opened, opened_so, Taken, taken, rekid, child_counts-append, known_append, known_back, strangers_known, strangers-append}
-use Rattle.law_traces.proofs.Stages.{numbers, hands, kids, GoingOn, Going, StartedSo, keeps_stages, keeps_end, spent_turn, rest_spent, BegunFor, keeps_start_made, not_input, in_line_of, used_turn}
+use Rattle.law_traces.proofs.Stages.{numbers, hands, kids, GoingOn, Going, StartedSo, keeps_start_stages, keeps_end, spent_turn, rest_spent, BegunFor, keeps_start_made, not_input, in_line_of, used_turn}
 
 -- the last stage: children that are still owed join those of the pipeline
 owe_more : {F : List Held} {a : Account} {s : State} (O : List Kid) (ks : List (ℕ × ℕ × ℕ)) (owed cs : List ℕ) → cs ≡ numbers ks → Rest F (strangers owed ++ (kids ks ++ O)) a s → Rest F (strangers (owed ++ cs) ++ O) a s
@@ -36,10 +36,10 @@ owe_more {a = a} O ks owed cs e n = rekid (strangers (owed ++ cs) ++ O) same (kn
 keeps_piped_in : (F : List Held) (O : List Kid) (h : ℕ) (cs : List ℕ) (slots : Slots) (m : Runner) (a : Account) (s : State) → Clean (with_slot slots 0 (to_file h)) m → Covers F slots → GoingOn ⊥ F O h cs a s
     → Keeps a (pipe_end (Some h) cs m s) (Ends F O (λ x. Rest F O))
 keeps_piped_in F O h cs slots m a s k cov g =
-    let end : Held = held h (read_end g.pipe) g.line in
+    let end : Held = held h (read_end g.pipe) g.pipeline in
     keeps_under a (m s) _ _ (Ends (end ∷ F) (kids g.pairs ++ O) (λ x. Rest (end ∷ F) (kids g.pairs ++ O))) (Ends F O (λ x. Rest F O))
     (k.by (end ∷ F) (kids g.pairs ++ O) a s (record { input = omega (arith, one_self h); output = covers_more F end slots.output cov.output; errors = covers_more F end slots.errors cov.errors }) g.rest)
-    (λ b x t n. keeps_end ⊥ F O (Some h) cs b t (record { pipe = g.pipe; line = g.line; base = g.base; pairs = g.pairs; is = g.is; older = g.older; from = g.from; at = g.at; one = g.one; rest = n }))
+    (λ b x t n. keeps_end ⊥ F O (Some h) cs b t (record { pipe = g.pipe; pipeline = g.pipeline; base = g.base; pairs = g.pairs; is = g.is; older = g.older; from = g.from; at = g.at; one = g.one; rest = n }))
     (λ b t owed n. (may_close n, λ x f. owe_more O g.pairs owed cs g.is (rest_close n)))
 
 keeps_piped_none : (F : List Held) (O : List Kid) (cs : List ℕ) (slots : Slots) (m : Runner) (a : Account) (s : State) → Clean slots m → Covers F slots → Going ⊥ F O None cs a s
@@ -58,7 +58,7 @@ keeps_piped F O slots last k Refused a s c g = g
 pub clean_pipeline : {slots : Slots} (stages : Many stage) (last : Slots → Runner) → ((slots : Slots) → Clean slots (last slots)) → Clean slots (λ s. under (start_stages slots stages s) (piped slots last) leaves)
 clean_pipeline {slots = slots} stages last k = record {
   by = λ F O a s c n.
-      keeps_bind F O {Q = StartedSo ⊥ F O} (λ x. Rest F O) a (start_stages slots stages s) (piped slots last) (keeps_stages ⊥ F O stages slots (λ u. absurd u) c None [] a s (refl, n)) (λ st b t q. keeps_piped F O slots last k st b t c q);
+      keeps_bind F O {Q = StartedSo ⊥ F O} (λ x. Rest F O) a (start_stages slots stages s) (piped slots last) (keeps_start_stages ⊥ F O stages slots (λ u. absurd u) c a s n) (λ st b t q. keeps_piped F O slots last k st b t c q);
 }
 
 -- a file that is closed where the command ends
@@ -94,21 +94,21 @@ keeps_back_child : (F : List Held) (O : List Kid) (p r w : ℕ) (i : Slot) (b : 
 keeps_back_child F O p r w i (Child k) a s old ni n = (
   may_close_due (used_turn p w i) n,
   λ x f.
-      keeps_bind F O {Q = λ t. Rest (held r (read_end p) p ∷ F) (kid_of k (of_line p p) ∷ O)} (λ t. Rest F O) (past (called (close w) a)) (read_all longest_output r s) _
-      (keeps_reading (held r (read_end p) p ∷ F) F (kid_of k (of_line p p) ∷ O) O r (suc longest_output) longest_output [] (past (called (close w) a)) s (omega (arith, one_self r)) (rest_passed ni (neat_passed n)))
+      keeps_bind F O {Q = λ t. Rest (held r (read_end p) p ∷ F) (kid_of k (of_line p p) ∷ O)} (λ t. Rest F O) (past (with_call (close w) a)) (read_all longest_output r s) _
+      (keeps_reading (held r (read_end p) p ∷ F) F (kid_of k (of_line p p) ∷ O) O r (suc longest_output) longest_output [] (past (with_call (close w) a)) s (omega (arith, one_self r)) (rest_passed ni (neat_passed n)))
       (λ t b u q. (may_close q, λ x f. let m = rest_close q in (may_wait_line old m, λ y g. neat_state _ refl (rest_wait m)))),
 )
 keeps_back_child F O p r w i (NoChild why) a s old ni n = (may_close_due (spent_turn p w i) n, λ x f. let m = rest_spent ni n in (may_close m, λ y g. neat_state _ refl (rest_close m)))
 
 keeps_back_pipe : (F : List Held) (O : List Kid) (slots : Slots) (c : Node cmd) (a : Account) (s : State) (o : Option (ℕ × ℕ)) → Covers F slots → NewPair o a → Rest F O a s
-    → Keeps (past (add_pair o (called make_pipe a))) (back_pipe slots c o s) (Ends F O (λ t. Rest F O))
+    → Keeps (past (add_pair o (with_call make_pipe a))) (back_pipe slots c o s) (Ends F O (λ t. Rest F O))
 keeps_back_pipe F O slots c a s None cov f n = neat_state _ refl (rest_on make_pipe n)
 keeps_back_pipe F O slots c a s (Some (r, w)) cov f n =
     let p = a.place in
     let m = neat_pair r w f.0 f.1 f.2 n in
     let top : Slots = with_slot slots 1 (to_file w) in
     let cov2 = covers_all (held w (write_end p) p) (covers_all (held r (read_end p) p) cov) in
-    keeps_bind F O {Q = BegunFor p w p slots.input (held w (write_end p) p ∷ held r (read_end p) p ∷ F) O} (λ t. Rest F O) (past (add_pair (Some (r, w)) (called make_pipe a)))
+    keeps_bind F O {Q = BegunFor p w p slots.input (held w (write_end p) p ∷ held r (read_end p) p ∷ F) O} (λ t. Rest F O) (past (add_pair (Some (r, w)) (with_call make_pipe a)))
     (start_shell top c s) (back_child r w)
     (keeps_start_made F O (shell_launch top c s) (is_fit (shell_launch top c s)) (hands top c s) (record { input = cov2.input; output = omega (arith, one_self w); errors = cov2.errors }) (inl (inr refl)) (in_line_of p p m) m)
     (λ b a2 s2 q. keeps_back_child F O p r w slots.input b a2 s2 (older_place a F n.all_held) (not_input r slots.input cov.input f.0 n) q)
@@ -124,11 +124,11 @@ abbrev pub BegunSo : List Held → List Kid → Started → Account → State �
 BegunSo F O (Child k) a s = Rest F (kid_of k alone ∷ O) a s
 BegunSo F O (NoChild why) a s = Rest F O a s
 
-begun_so : (F : List Held) (O : List Kid) (o : Option ℕ) (b : Account) (t : State) → Taken F O o b t → BegunSo F O (child_of o) b t
+begun_so : (F : List Held) (O : List Kid) (o : Option ℕ) (b : Account) (t : State) → Taken F O o b t → BegunSo F O (as_started o) b t
 begun_so F O (Some k) b t q = q
 begun_so F O None b t q = q
 
-pub keeps_start : (F G : List Held) (O P : List Kid) (l : Launch) (c : Bool) → (c ≡ true → HandsOver (start l)) → (a : Account) (s : State) → Covers F l.slots → Rest F O a s → Keeps a ((if c then begun l else pure (NoChild (codes "too large"))) s) (Ends G P (BegunSo F O))
+pub keeps_start : (F G : List Held) (O P : List Kid) (l : Launch) (c : Bool) → (c ≡ true → HandsOver (start l)) → (a : Account) (s : State) → Covers F l.slots → Rest F O a s → Keeps a ((if c then ask_start l else pure (NoChild (codes "too large"))) s) (Ends G P (BegunSo F O))
 keeps_start F G O P l false h a s cov n = n
 keeps_start F G O P l true h a s cov n = (may_call (start l) n (holds_slots l.slots cov n) tt (h refl), λ x f. begun_so F O (as_child x) _ s (taken l (as_child x) f n))
 
@@ -167,8 +167,8 @@ keeps_kept_child F O (Child k) a s n =
 keeps_kept_child F O (NoChild why) a s n = neat_state _ refl n
 
 keeps_background_child : (F : List Held) (O : List Kid) (h : ℕ) (b : Started) (a : Account) (s : State) → BegunSo (held h a_file 0 ∷ F) O b a s → Keeps a (under (say (close h) s) (λ x. kept_child b) leaves) (Ends F O (λ x. Rest F O))
-keeps_background_child F O h (Child k) a s n = (may_close n, λ x f. keeps_kept_child F O (Child k) (past (called (close h) a)) s (rest_close n))
-keeps_background_child F O h (NoChild why) a s n = (may_close n, λ x f. keeps_kept_child F O (NoChild why) (past (called (close h) a)) s (rest_close n))
+keeps_background_child F O h (Child k) a s n = (may_close n, λ x f. keeps_kept_child F O (Child k) (past (with_call (close h) a)) s (rest_close n))
+keeps_background_child F O h (NoChild why) a s n = (may_close n, λ x f. keeps_kept_child F O (NoChild why) (past (with_call (close h) a)) s (rest_close n))
 
 keeps_background_with : (F : List Held) (O : List Kid) (slots : Slots) (c : Node cmd) (o : Option ℕ) (a : Account) (s : State) → Covers F slots → Opened F O o a s → Keeps a (background_with slots c o s) (Ends F O (λ x. Rest F O))
 keeps_background_with F O slots c None a s cov n = neat_state _ refl n

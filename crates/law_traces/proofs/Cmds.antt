@@ -18,9 +18,9 @@ use Rattle.rc_model.specs.Run.Shell.{Shell, under, leaves, skip, exits, change, 
 use Rattle.rc_model.specs.Run.FileNames.{expanded}
 use Rattle.rc_model.specs.Run.Acts.{check, fails, value_words, concat_words, match_status, opened, open_one, here_text, open_here, variable, background}
 use Rattle.rc_model.specs.Run.Builtins.{Called, Finished, Body, BodyWith, run_words}
-use Rattle.rc_model.specs.Run.Meaning.{checked, Runner, Caller, local_end, file_end, called, if_true, linked, if_means, if_not_means, condition, turns, each_more, each, bound, if_so, cmd_means, arg_means, args_mean, parts_mean, more_parts_mean, items_mean, pairs_mean, redirs_mean, links_mean, branches_mean, meaning}
+use Rattle.rc_model.specs.Run.Meaning.{checked, Runner, Caller, local_end, file_end, called_means, if_true, linked, if_means, if_not_means, condition, turns, each_more, each, bound, if_so, cmd_means, arg_means, args_mean, parts_mean, more_parts_mean, items_mean, pairs_mean, redirs_mean, links_mean, branches_mean, meaning}
 use Rattle.rc_model.specs.Run.Script.{waits, whole}
-use Rattle.rc_model.specs.Family.Accounts.{a_file, Account, called as call_made, past, after, at_start, Settled}
+use Rattle.rc_model.specs.Family.Accounts.{a_file, Account, with_call as call_made, past, after, at_start, Settled}
 use Rattle.law_traces.proofs.Keep.{Keeps, keeps_under, one_self, Held, held, Kid, child_counts, Rest}
 use Rattle.law_traces.proofs.Steps.{rest_on, may_call, rest_wait, may_wait_last}
 use Rattle.law_traces.proofs.Does.{strangers, Ends, keeps_bind, CoversSlot, Covers, covers_all, holds_slot, Clean, clean_bind, clean_pure, clean_skip, clean_exits, clean_stops, clean_status, clean_change, neat_state, Opened, opened_so, rekid, child_counts-append, strangers_known}
@@ -143,7 +143,7 @@ clean_checked true m k = k
 clean_checked false m k = clean_then m check k clean_check
 
 module _ (call : Caller) (kc : (slots : Slots) (c : Node cmd) → Clean slots (call slots c)) (n : ℕ) where
-  clean_called : {slots : Slots} (c : Called) → Clean slots (called call slots c)
+  clean_called : {slots : Slots} (c : Called) → Clean slots (called_means call slots c)
   clean_called Finished = clean_skip
   clean_called {slots = slots} (Body c) = kc slots c
   clean_called {slots = slots} (BodyWith args c) = clean_then (change (λ s. push_local s (codes "*") args)) _ (clean_push (codes "*") args) (clean_local (call slots c) (kc slots c))
@@ -152,7 +152,7 @@ module _ (call : Caller) (kc : (slots : Slots) (c : Node cmd) → Clean slots (c
     clean_cmd : (c : Node cmd) (g : Bool) (slots : Slots) → Clean slots (cmd_means c g call n slots)
     clean_cmd Empty g slots = clean_skip
     clean_cmd (Seq items) g slots = clean_items items g slots
-    clean_cmd (Simple words) g slots = clean_bind (args_mean words call n slots []) _ (clean_args words slots []) (λ v. clean_bind (expanded v) _ (clean_expanded v) (λ w. clean_checked g _ (clean_bind (run_words slots (word_texts w)) (called call slots) (clean_words (word_texts w)) clean_called)))
+    clean_cmd (Simple words) g slots = clean_bind (args_mean words call n slots []) _ (clean_args words slots []) (λ v. clean_bind (expanded v) _ (clean_expanded v) (λ w. clean_checked g _ (clean_bind (run_words slots (word_texts w)) (called_means call slots) (clean_words (word_texts w)) clean_called)))
     clean_cmd (Assign pairs body) g slots = clean_pairs pairs (is_empty body) (cmd_means body g call n slots) slots (clean_cmd body g slots)
     clean_cmd (Redirect redirs body) g slots = clean_redirs redirs (cmd_means body g call n) (clean_cmd body g) slots
     clean_cmd (Pipeline stages last) g slots = clean_pipeline stages (cmd_means last g call n) (clean_cmd last g)

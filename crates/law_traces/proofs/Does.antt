@@ -7,9 +7,9 @@ use Rattle.rc_model.specs.declared.call.Slot.TheVariants.{Own, To}
 use Rattle.rc_model.specs.declared.call.Slots.{Slots}
 use Rattle.rc_model.specs.Run.Plans.{Plan}
 use Rattle.rc_model.specs.Run.State.{State, with_status}
-use Rattle.rc_model.specs.Run.Shell.{Result, Next, Exit, Shell, under, leaves, pure, skip, call, say, get, change, exits, stops}
-use Rattle.rc_model.specs.Run.Acts.{set_status, report, fault, fails}
-use Rattle.rc_model.specs.Family.Accounts.{a_file, Due, Account, counts, next_due, called, add_file, add_child, past, NewFile, NewChild, HoldsSlot, HoldsSlots}
+use Rattle.rc_model.specs.Run.Shell.{ShellResult, Next, Exit, Shell, under, leaves, pure, skip, call, say, get, change, exits, stops}
+use Rattle.rc_model.specs.Run.Acts.{set_status, report, runtime_error, fails}
+use Rattle.rc_model.specs.Family.Accounts.{a_file, Due, Account, counts, next_due, with_call, add_file, add_child, past, NewFile, NewChild, HoldsSlot, HoldsSlots}
 use Rattle.law_traces.proofs.Keep.{Keeps, keeps_under, Held, held, unknown, alone, Kid, kid_of, held_counts, child_counts, AllKnown, Neat, Rest}
 use Rattle.law_traces.proofs.Steps.{rest_on, may_call, rest_file, rest_child}
 
@@ -19,11 +19,11 @@ strangers [] = []
 strangers (c ∷ cs) = kid_of c unknown ∷ strangers cs
 
 -- how a piece ends: in a next state so, or with the shell, where nothing is held but what was before
-abbrev pub Ends : {A : Type 0} → List Held → List Kid → (A → Account → State → Type 0) → Account → Result A → Type 0
+abbrev pub Ends : {A : Type 0} → List Held → List Kid → (A → Account → State → Type 0) → Account → ShellResult A → Type 0
 Ends F O Q a (Next x s) = Q x a s
 Ends F O Q a (Exit s owed) = Rest F (strangers owed ++ O) a s
 
-pub keeps_bind : {A B : Type 0} (F : List Held) (O : List Kid) {Q : A → Account → State → Type 0} (R : B → Account → State → Type 0) (a : Account) (p : Plan (Result A)) (f : A → Shell B)
+pub keeps_bind : {A B : Type 0} (F : List Held) (O : List Kid) {Q : A → Account → State → Type 0} (R : B → Account → State → Type 0) (a : Account) (p : Plan (ShellResult A)) (f : A → Shell B)
     → Keeps a p (Ends F O Q) → ((x : A) (b : Account) (s : State) → Q x b s → Keeps b (f x s) (Ends F O R)) → Keeps a (under p f leaves) (Ends F O R)
 keeps_bind F O {Q} R a p f k h = keeps_under a p f leaves (Ends F O Q) (Ends F O R) k (λ b x s q. h x b s q) (λ b s owed q. q)
 
@@ -101,7 +101,7 @@ pub clean_report : {slots : Slots} (text : List ℕ) → Clean slots (report slo
 clean_report text = clean_write _
 
 pub clean_fails : {A : Type 0} {slots : Slots} (text : List ℕ) → Clean {A = A} slots (fails slots text)
-clean_fails {slots = slots} text = clean_bind (fault slots text) (λ x. exits) (clean_bind (report slots text) (λ x. set_status (codes "error")) (clean_report text) (λ x. clean_status (codes "error"))) (λ x. clean_exits)
+clean_fails {slots = slots} text = clean_bind (runtime_error slots text) (λ x. exits) (clean_bind (report slots text) (λ x. set_status (codes "error")) (clean_report text) (λ x. clean_status (codes "error"))) (λ x. clean_exits)
 
 -- a file that was opened_so, or not
 abbrev pub Opened : List Held → List Kid → Option ℕ → Account → State → Type 0
@@ -117,7 +117,7 @@ abbrev pub Taken : List Held → List Kid → Option ℕ → Account → State �
 Taken F O (Some k) a s = Rest F (kid_of k alone ∷ O) a s
 Taken F O None a s = Rest F O a s
 
-pub taken : {F : List Held} {O : List Kid} {a : Account} {s : State} (l : Launch) (o : Option ℕ) → NewChild o a → Rest F O a s → Taken F O o (past (add_child o (called (start l) a))) s
+pub taken : {F : List Held} {O : List Kid} {a : Account} {s : State} (l : Launch) (o : Option ℕ) → NewChild o a → Rest F O a s → Taken F O o (past (add_child o (with_call (start l) a))) s
 taken l (Some k) f n = rest_child l k f n
 taken l None f n = rest_on (start l) n
 

@@ -6,7 +6,7 @@ use Rattle.rc_model.specs.declared.call.Fault.TheVariants.{Other}
 use Rattle.rc_model.specs.declared.call.Mode.TheVariants.{Read}
 use Rattle.rc_model.specs.declared.call.Slot.TheVariants.{Own}
 use Rattle.rc_model.specs.declared.call.Slots.{Slots}
-use Rattle.rc_model.specs.Family.Family.{Step, family, first, writes_to}
+use Rattle.rc_model.specs.Family.Family.{FamilyEvent, family, first, writes_to}
 use Rattle.rc_model.specs.Syntax.Tree.{Node, cmd}
 use Rattle.rc_model.specs.Run.State.{State, new_state, add_child}
 use Rattle.rc_model.specs.Family.Accounts.{Account, one, put, account, at_start, NoneHeld, Allowed, NothingLeft}
@@ -22,12 +22,12 @@ abbrev of : List Event → Account
 of es = account (at_start new_state) es
 
 -- `a | b | c`: the second pipe (at place 3) comes to the pipeline of the first (at place 0)
-flat : (of (two ++ (event (close 3) done ∷ []))).line 3 ≡ 0
+flat : (of (two ++ (event (close 3) done ∷ []))).pipeline 3 ≡ 0
 unfolding one put
 flat = refl
 
 -- `a | {b | exit}`: it does not
-nested : (of (two ++ (event (close 5) done ∷ []))).line 3 ≡ 3
+nested : (of (two ++ (event (close 5) done ∷ []))).pipeline 3 ≡ 3
 unfolding one put
 nested = refl
 
@@ -79,7 +79,7 @@ not_started k = omega (arith, k.owed 1)
 
 -- `a | b` of a family: the child's descriptor 1 stands for the write end of the pipe that process 0 made at place 0
 module _ (reads : Launch → Node cmd × State) (c : Node cmd) where
-  abbrev pipeline_steps : List Step
+  abbrev pipeline_steps : List FamilyEvent
   pipeline_steps = record { at = 0; call = make_pipe; answer = pair 3 4 } ∷ record { at = 0; call = start (shell (record { input = Own 0; output = to_file 4; errors = Own 2 })); answer = child 1 } ∷ record { at = 0; call = close 4; answer = done } ∷ []
 
   two_processes : (family reads (first reads c new_state) pipeline_steps).count ≡ 2

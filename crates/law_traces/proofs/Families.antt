@@ -10,17 +10,17 @@ use Rattle.rc_model.specs.Syntax.Tree.{Node, cmd, none, more, Empty, Brace, Pipe
 use Rattle.rc_model.specs.Handed.Image.{node_image, many_image}
 use Rattle.rc_model.specs.Handed.TreeReading.{cmd_at, arg_at}
 use Rattle.rc_model.specs.Family.Accounts.{one, put}
-use Rattle.rc_model.specs.Family.Family.{Family, Step, IsPending, HasEnded, family, first, reads_from, writes_to, end_of, holding, read_launch}
+use Rattle.rc_model.specs.Family.Family.{Family, FamilyEvent, IsPending, HasEnded, family, first, reads_from, writes_to, end_of, holding, read_launch}
 use Rattle.law_traces.proofs.Rows.{looking, word, alone, stage, program}
 
 -- ** a family
 
 -- a process, its call and the answer
-abbrev step : ℕ → Call → Answer → Step
+abbrev step : ℕ → Call → Answer → FamilyEvent
 step k call answer = record { at = k; call = call; answer = answer }
 
 -- the family of a script after these steps
-abbrev after : Node cmd → List Step → Family
+abbrev after : Node cmd → List FamilyEvent → Family
 after c es = family read_launch (first read_launch c looking) es
 
 -- ** one shell
@@ -40,7 +40,7 @@ abbrev two_stages : Node cmd
 two_stages = alone (Pipeline (more (Stage (word (codes "a")) 1) none) (word (codes "b")))
 
 -- the first stage is started
-abbrev begun : List Step
+abbrev begun : List FamilyEvent
 begun =
     step 0 make_pipe (pair 3 4)
     ∷ step 0 (stage (codes "rc1;c1,w1:a") (record plain { output = to_file 4 })) (child 1)
@@ -60,11 +60,11 @@ unfolding put chars encode is_utf8 digits node_image many_image cmd_at arg_at
 the_second_looks = (0, refl)
 
 -- both find it, the first before the second
-abbrev one_order : List Step
+abbrev one_order : List FamilyEvent
 one_order = begun ++ step 0 (probe (codes "/bin/b")) (found Program) ∷ step 1 (probe (codes "/bin/a")) (found Program) ∷ []
 
 -- or after it
-abbrev other_order : List Step
+abbrev other_order : List FamilyEvent
 other_order = begun ++ step 1 (probe (codes "/bin/a")) (found Program) ∷ step 0 (probe (codes "/bin/b")) (found Program) ∷ []
 
 -- each starts its own in either order, the first with the read end of the pipe
@@ -91,7 +91,7 @@ abbrev nested : Node cmd
 nested = alone (Pipeline (more (Stage (word (codes "a")) 1) none) (Subshell (Brace inner)))
 
 -- the subshell makes a pipe of its own
-abbrev nested_steps : List Step
+abbrev nested_steps : List FamilyEvent
 nested_steps =
     begun
     ++ step 0 (stage (codes "rc1;bs1,;p1,1c1,w1:bc1,w1:c") (record plain { input = to_file 3 })) (child 2)
@@ -132,7 +132,7 @@ two_pipes = (refl, refl)
 abbrev backquote : Node cmd
 backquote = alone (Assign (more (Pair (Lit (codes "x") false) (Back (alone (word (codes "b"))))) none) Empty)
 
-abbrev reading_steps : List Step
+abbrev reading_steps : List FamilyEvent
 reading_steps =
     step 0 make_pipe (pair 3 4)
     ∷ step 0 (stage (codes "rc1;s1,;c1,w1:b") (record plain { output = to_file 4 })) (child 1)

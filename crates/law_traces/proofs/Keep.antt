@@ -6,8 +6,8 @@ use Rattle.rc_model.specs.declared.call.Slot.{Slot}
 use Rattle.rc_model.specs.declared.call.Slot.TheVariants.{Own, To}
 use Rattle.rc_model.specs.Run.Plans.{Plan, done_with, ask, cut}
 use Rattle.rc_model.specs.Run.State.{State}
-use Rattle.rc_model.specs.Run.Shell.{Result, Next, Exit, under}
-use Rattle.rc_model.specs.Family.Accounts.{Thing, a_file, read_end, write_end, Due, free, made, used, passed, Account, one, put, counts, next_due, line_after, fed, after, Fresh, InTurn, Allowed}
+use Rattle.rc_model.specs.Run.Shell.{ShellResult, Next, Exit, under}
+use Rattle.rc_model.specs.Family.Accounts.{Thing, a_file, read_end, write_end, Due, free, made, used, passed, Account, one, put, counts, next_due, pipeline_after, fed, after, Fresh, InTurn, Allowed}
 
 -- Each call is allowed, whatever fresh answers come, and at the end this holds.
 abbrev pub Keeps : {X : Type 0} → Account → Plan X → (Account → X → Type 0) → Type 0
@@ -20,7 +20,7 @@ keeps_mono a (done_with x) P Q h k = h a x k
 keeps_mono a (ask c go) P Q h k = (k.0, λ x f. keeps_mono (after a c x) (go x) P Q h (k.1 x f))
 keeps_mono a cut P Q h k = tt
 
-pub keeps_under : {A X : Type 0} (a : Account) (p : Plan (Result A)) (go : A → State → Plan X) (leave : State → List ℕ → Plan X) (P : Account → Result A → Type 0) (Q : Account → X → Type 0)
+pub keeps_under : {A X : Type 0} (a : Account) (p : Plan (ShellResult A)) (go : A → State → Plan X) (leave : State → List ℕ → Plan X) (P : Account → ShellResult A → Type 0) (Q : Account → X → Type 0)
     → Keeps a p P → ((b : Account) (x : A) (s : State) → P b (Next x s) → Keeps b (go x s) Q) → ((b : Account) (s : State) (owed : List ℕ) → P b (Exit s owed) → Keeps b (leave s owed) Q)
     → Keeps a (under p go leave) Q
 keeps_under a (done_with (Next x s)) go leave P Q k hn he = hn a x s k
@@ -49,20 +49,20 @@ counts-append (x ∷ xs) ys k = omega (arith, counts-append xs ys k)
 pub record Held : Type 0 where
   pub number : ℕ
   pub thing : Thing
-  pub line : ℕ
+  pub pipeline : ℕ
 
 -- What is known of a child: nothing, or that it was started for no pipe, or for this one, of this pipeline.
 pub data Known : Type 0 where
   unknown : Known
   alone : Known
-  of_line : (pipe line : ℕ) → Known
+  of_line : (pipe pipeline : ℕ) → Known
 
 pub record Kid : Type 0 where
   pub number : ℕ
   pub known : Known
 
 abbrev pub held : ℕ → Thing → ℕ → Held
-held n t l = record { number = n; thing = t; line = l }
+held n t l = record { number = n; thing = t; pipeline = l }
 
 abbrev pub kid_of : ℕ → Known → Kid
 kid_of n k = record { number = n; known = k }
@@ -76,7 +76,7 @@ child_counts [] k = 0
 child_counts (e ∷ es) k = one e.number k + child_counts es k
 
 pub record InLine (a : Account) (p l : ℕ) : Type 0 where
-  pub is : a.line p ≡ l
+  pub is : a.pipeline p ≡ l
   pub past : p < a.place
   pub old : l < a.place
 
@@ -87,7 +87,7 @@ ThingIn a (write_end p) l = InLine a p l
 
 pub record IsHeld (a : Account) (e : Held) : Type 0 where
   pub is : a.things e.number ≡ e.thing
-  pub in_line : ThingIn a e.thing e.line
+  pub in_line : ThingIn a e.thing e.pipeline
 
 abbrev pub AllHeld : Account → List Held → Type 0
 AllHeld a [] = Unit {0}
@@ -129,11 +129,11 @@ LineBelow g (write_end q) l = l < g
 
 abbrev pub AllOlder : ℕ → List Held → Type 0
 AllOlder g [] = Unit {0}
-AllOlder g (e ∷ es) = LineBelow g e.thing e.line × AllOlder g es
+AllOlder g (e ∷ es) = LineBelow g e.thing e.pipeline × AllOlder g es
 
 pub below_place : (a : Account) (es : List Held) → AllHeld a es → AllBelow a.place es
 below_place a [] h = tt
-below_place a (e ∷ es) h = (one_below e.thing e.line h.0.in_line, below_place a es h.1)
+below_place a (e ∷ es) h = (one_below e.thing e.pipeline h.0.in_line, below_place a es h.1)
   where
     one_below : (t : Thing) (l : ℕ) → ThingIn a t l → ThingBelow a.place t
     one_below a_file l i = tt
@@ -142,7 +142,7 @@ below_place a (e ∷ es) h = (one_below e.thing e.line h.0.in_line, below_place 
 
 pub older_place : (a : Account) (es : List Held) → AllHeld a es → AllOlder a.place es
 older_place a [] h = tt
-older_place a (e ∷ es) h = (one_older e.thing e.line h.0.in_line, older_place a es h.1)
+older_place a (e ∷ es) h = (one_older e.thing e.pipeline h.0.in_line, older_place a es h.1)
   where
     one_older : (t : Thing) (l : ℕ) → ThingIn a t l → LineBelow a.place t l
     one_older a_file l i = tt
@@ -159,13 +159,13 @@ kids_below_place a (e ∷ es) h = (one_below e.known h.0, kids_below_place a es 
     one_below (of_line q l) i = i.1.past
 
 -- What is held stays so in a later account that agrees on it.
-pub later_line : (a b : Account) (p l q : ℕ) → q < p → ((r : ℕ) → r < p → b.line r ≡ a.line r) → a.place ≤ b.place → InLine a q l → InLine b q l
+pub later_line : (a b : Account) (p l q : ℕ) → q < p → ((r : ℕ) → r < p → b.pipeline r ≡ a.pipeline r) → a.place ≤ b.place → InLine a q l → InLine b q l
 later_line a b p l q lt same le i = record { is = same q lt ∙ i.is; past = omega (arith, i.past); old = omega (arith, i.old) }
 
-pub later_held : (a b : Account) (p : ℕ) (es : List Held) → ((k : ℕ) → 1 ≤ held_counts es k → b.things k ≡ a.things k) → ((r : ℕ) → r < p → b.line r ≡ a.line r) → a.place ≤ b.place → AllBelow p es → AllHeld a es → AllHeld b es
+pub later_held : (a b : Account) (p : ℕ) (es : List Held) → ((k : ℕ) → 1 ≤ held_counts es k → b.things k ≡ a.things k) → ((r : ℕ) → r < p → b.pipeline r ≡ a.pipeline r) → a.place ≤ b.place → AllBelow p es → AllHeld a es → AllHeld b es
 later_held a b p [] st sl le w h = tt
 later_held a b p (e ∷ es) st sl le w h = (
-  record { is = st e.number (omega (arith, one_self e.number)) ∙ h.0.is; in_line = later e.thing e.line w.0 h.0.in_line },
+  record { is = st e.number (omega (arith, one_self e.number)) ∙ h.0.is; in_line = later e.thing e.pipeline w.0 h.0.in_line },
   later_held a b p es (λ k c. st k (omega arith)) sl le w.1 h.1,
 )
   where
@@ -174,7 +174,7 @@ later_held a b p (e ∷ es) st sl le w h = (
     later (read_end q) l lt i = later_line a b p l q lt sl le i
     later (write_end q) l lt i = later_line a b p l q lt sl le i
 
-pub later_known : (a b : Account) (p : ℕ) (es : List Kid) → ((k : ℕ) → 1 ≤ child_counts es k → b.feeds k ≡ a.feeds k) → ((r : ℕ) → r < p → b.line r ≡ a.line r) → a.place ≤ b.place → KidsBelow p es → AllKnown a es → AllKnown b es
+pub later_known : (a b : Account) (p : ℕ) (es : List Kid) → ((k : ℕ) → 1 ≤ child_counts es k → b.feeds k ≡ a.feeds k) → ((r : ℕ) → r < p → b.pipeline r ≡ a.pipeline r) → a.place ≤ b.place → KidsBelow p es → AllKnown a es → AllKnown b es
 later_known a b p [] st sl le w h = tt
 later_known a b p (e ∷ es) st sl le w h =
     (later e.known w.0 h.0, later_known a b p es (λ k c. st k (omega arith)) sl le w.1 h.1)
@@ -232,9 +232,9 @@ calm_turn fs (made p w) c h = absurd h
 calm_turn fs (used p w i) c h = absurd h
 calm_turn fs (passed p i) c h = tt
 
-pub calm_line : (e : Held) (fs : List Held) (d : Due) (things : ℕ → Thing) (line : ℕ → ℕ) → Calm (e ∷ fs) d → line_after d e.number things line ≡ line
-calm_line e fs free things line h = refl
-calm_line e fs (made p w) things line h = absurd h
-calm_line e fs (used p w i) things line h = absurd h
-calm_line e fs (passed p (Own n)) things line h = refl
-calm_line e fs (passed p (To k)) things line h = rw (ne_eqb k.0 e.number h)
+pub calm_line : (e : Held) (fs : List Held) (d : Due) (things : ℕ → Thing) (pipeline : ℕ → ℕ) → Calm (e ∷ fs) d → pipeline_after d e.number things pipeline ≡ pipeline
+calm_line e fs free things pipeline h = refl
+calm_line e fs (made p w) things pipeline h = absurd h
+calm_line e fs (used p w i) things pipeline h = absurd h
+calm_line e fs (passed p (Own n)) things pipeline h = refl
+calm_line e fs (passed p (To k)) things pipeline h = rw (ne_eqb k.0 e.number h)

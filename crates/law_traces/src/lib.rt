@@ -23,7 +23,7 @@ pub fn nothing_is_left()
         EndsAsMeant c s trace t → IsFresh s trace → NothingLeft s trace t }
 {}
 
-/// The answers of a script's trace are fresh for the script exactly where they are fresh by the trace alone.
+/// The answers of a script's trace are fresh for the script exactly if they are fresh by the trace alone.
 pub fn fresh_alike()
     ensures { (n : ℕ) (c : Node cmd) (s : State) (trace : List Event) →
         IsPrefix (calls trace) (calls_made (script n c s (answers trace))) →

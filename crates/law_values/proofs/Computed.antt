@@ -6,18 +6,18 @@ use Rattle.std.proofs.lemmas.Bool.{eqb-true, or_right, and_parts}
 use Rattle.std.proofs.lemmas.List.{append-nil}
 use Rattle.rc_model.specs.Syntax.Words.{Word, has_pattern}
 use Rattle.rc_model.specs.Run.Patterns.{Pattern, This, AnyOne, AnyRun, OneOf, Nothing, Outside, Inside, is_marked, holds, class_of, parts_from, stands_for, any_run, parts_match, is_dots, matches}
-use Rattle.rc_model.specs.Run.Matching.{Kind, Star, Question, Open, Plain, kind, is_close, Fits, end, star, Matches}
+use Rattle.rc_model.specs.Run.Matching.{Role, Star, Question, Open, Plain, role, is_close, Fits, end, star, Matches}
 use Rattle.rc_model.specs.Mirrors.Greedy.{class_holds, class_with, class_end, class_after, one_by, after_one}
 use Rattle.law_values.proofs.Steps.{FitsLater, FitsOne, Fits-cons, Fits-nil, after_one-Fits, after_one-shorter}
 
 -- what the parts of a word begin with, by the kind of its first character
-abbrev pub by_kind : Kind → ℕ → Word → List Pattern
+abbrev pub by_kind : Role → ℕ → Word → List Pattern
 by_kind Star x w = AnyRun ∷ parts_from Outside w
 by_kind Question x w = AnyOne ∷ parts_from Outside w
 by_kind Open x w = parts_from (Inside []) w
 by_kind Plain x w = This x ∷ parts_from Outside w
 
-abbrev kind_by : Bool → Bool → Bool → Kind
+abbrev kind_by : Bool → Bool → Bool → Role
 kind_by a b d = cond a Star (cond b Question (cond d Open Plain))
 
 no_such : {A : Type 0} → true ≡ false → A
@@ -41,7 +41,7 @@ not_both c d m h k =
     let x = eqb-true m.0 c (and_parts m.1 (eqb m.0 c) k).1 in
     ap (λ z. m.1 && eqb z d) x ∙ ap (λ z. m.1 && z) h ∙ and_false m.1
 
-pub parts_cons : (m : ℕ × Bool) (w : Word) → parts_from Outside (m ∷ w) ≡ by_kind (kind m) m.0 w
+pub parts_cons : (m : ℕ × Bool) (w : Word) → parts_from Outside (m ∷ w) ≡ by_kind (role m) m.0 w
 parts_cons m w = parts_by (is_marked 42 m) (is_marked 63 m) (is_marked 91 m) m.0 w (not_both 42 91 m refl) (not_both 63 91 m refl)
 
 -- the parts from inside a class on
@@ -114,13 +114,13 @@ eqb-sym : (a b : ℕ) → eqb a b ≡ eqb b a
 eqb-sym a b = eqb_by a b (eqb a b) (eqb b a) refl refl
 
 -- a first part that is no star takes one character
-one_parts : (e : Bool) (k : Kind) (x : ℕ) (w : Word) (c : ℕ) (t : List ℕ) → (k ≡ Star → ⊥) → parts_match e (by_kind k x w) (c ∷ t) ≡ then_match e t (one_by e k x w c)
+one_parts : (e : Bool) (k : Role) (x : ℕ) (w : Word) (c : ℕ) (t : List ℕ) → (k ≡ Star → ⊥) → parts_match e (by_kind k x w) (c ∷ t) ≡ then_match e t (one_by e k x w c)
 one_parts e Star x w c t n = absurd (n refl)
 one_parts e Question x w c t n = guard e t w (stands_for e c)
 one_parts e Open x w c t n = ap (λ z. parts_match e z (c ∷ t)) (parts_inside w []) ∙ inside_one e (class_end w) c t
 one_parts e Plain x w c t n = ap (λ b. b && parts_match e (parts_from Outside w) t) (eqb-sym c x) ∙ guard e t w (eqb x c)
 
-none_parts : (e : Bool) (k : Kind) (x : ℕ) (w : Word) → (k ≡ Star → ⊥) → parts_match e (by_kind k x w) [] ≡ false
+none_parts : (e : Bool) (k : Role) (x : ℕ) (w : Word) → (k ≡ Star → ⊥) → parts_match e (by_kind k x w) [] ≡ false
 none_parts e Star x w n = absurd (n refl)
 none_parts e Question x w n = refl
 none_parts e Open x w n = ap (λ z. parts_match e z []) (parts_inside w []) ∙ inside_none e (class_end w)
@@ -155,7 +155,7 @@ then_true : (e : Bool) (t : List ℕ) (o : Option Word) → then_match e t o ≡
 then_true e t None h = absurd cc
 then_true e t (Some v) h = (v, refl, h)
 
-sound_one : (n : ℕ) (e : Bool) (m : ℕ × Bool) (w : Word) (t : List ℕ) (k : Kind) → kind m ≡ k → (k ≡ Star → ⊥) → length w < n → Sound n e → parts_match e (by_kind k m.0 w) t ≡ true → Fits e (m ∷ w) t
+sound_one : (n : ℕ) (e : Bool) (m : ℕ × Bool) (w : Word) (t : List ℕ) (k : Role) → role m ≡ k → (k ≡ Star → ⊥) → length w < n → Sound n e → parts_match e (by_kind k m.0 w) t ≡ true → Fits e (m ∷ w) t
 sound_one n e m w [] k q s l hyp h = no_such (sym h ∙ none_parts e k m.0 w s)
 sound_one n e m w (c ∷ u) k q s l hyp h =
     let o = then_true e u (one_by e k m.0 w c) (sym (one_parts e k m.0 w c u s) ∙ h) in
@@ -163,7 +163,7 @@ sound_one n e m w (c ∷ u) k q s l hyp h =
     let short = after_one-shorter e (m ∷ w) c o.0 p in
     after_one-Fits e (m ∷ w) c o.0 u p (hyp o.0 u (omega arith) o.2)
 
-sound_by : (n : ℕ) (e : Bool) (m : ℕ × Bool) (w : Word) (t : List ℕ) (k : Kind) → kind m ≡ k → length w < n → Sound n e → parts_match e (by_kind k m.0 w) t ≡ true → Fits e (m ∷ w) t
+sound_by : (n : ℕ) (e : Bool) (m : ℕ × Bool) (w : Word) (t : List ℕ) (k : Role) → role m ≡ k → length w < n → Sound n e → parts_match e (by_kind k m.0 w) t ≡ true → Fits e (m ∷ w) t
 sound_by n e m w t Star q l hyp h = let f = run_front e (parts_match e (parts_from Outside w)) t h in star m w t f.0 f.1 q f.2 f.3 (hyp w f.1 l f.4)
 sound_by n e m w t Question q l hyp h = sound_one n e m w t Question q (λ z. cc) l hyp h
 sound_by n e m w t Open q l hyp h = sound_one n e m w t Open q (λ z. cc) l hyp h
@@ -173,19 +173,19 @@ sound : (n : ℕ) (e : Bool) → Sound n e
 sound zero e v t l h = absurd (omega arith)
 sound (suc n) e [] [] l h = end
 sound (suc n) e [] (c ∷ t) l h = no_such (sym h)
-sound (suc n) e (m ∷ w) t l h = sound_by n e m w t (kind m) refl (omega arith) (sound n e) (ap (λ z. parts_match e z t) (sym (parts_cons m w)) ∙ h)
+sound (suc n) e (m ∷ w) t l h = sound_by n e m w t (role m) refl (omega arith) (sound n e) (ap (λ z. parts_match e z t) (sym (parts_cons m w)) ∙ h)
 
 abbrev Complete : ℕ → Bool → Type 0
 Complete n e = (v : Word) (t : List ℕ) → length v < n → Fits e v t → parts_match e (parts_from Outside v) t ≡ true
 
-complete_by : (n : ℕ) (e : Bool) (m : ℕ × Bool) (w : Word) (t : List ℕ) → length w < n → Complete n e → ((kind m ≡ Star) × FitsLater e w t) ⊎ FitsOne e (m ∷ w) t → parts_match e (by_kind (kind m) m.0 w) t ≡ true
+complete_by : (n : ℕ) (e : Bool) (m : ℕ × Bool) (w : Word) (t : List ℕ) → length w < n → Complete n e → ((role m ≡ Star) × FitsLater e w t) ⊎ FitsOne e (m ∷ w) t → parts_match e (by_kind (role m) m.0 w) t ≡ true
 complete_by n e m w t l hyp (inl x) =
     ap (λ k. parts_match e (by_kind k m.0 w) t) x.0 ∙ ap (any_run e (parts_match e (parts_from Outside w))) x.1.3
     ∙ run_true e (parts_match e (parts_from Outside w)) x.1.0 x.1.1 x.1.2 (hyp w x.1.1 l x.1.4)
 complete_by n e m w t l hyp (inr o) =
     let short = after_one-shorter e (m ∷ w) o.0 o.2 o.4 in
-    ap (parts_match e (by_kind (kind m) m.0 w)) o.3
-    ∙ one_parts e (kind m) m.0 w o.0 o.1 (λ k. let z : None ≡ Some o.2 = ap (λ z. one_by e z m.0 w o.0) (sym k) ∙ o.4 in cc)
+    ap (parts_match e (by_kind (role m) m.0 w)) o.3
+    ∙ one_parts e (role m) m.0 w o.0 o.1 (λ k. let z : None ≡ Some o.2 = ap (λ z. one_by e z m.0 w o.0) (sym k) ∙ o.4 in cc)
     ∙ ap (then_match e o.1) o.4 ∙ hyp o.2 o.1 (omega arith) o.5
 
 complete : (n : ℕ) (e : Bool) → Complete n e

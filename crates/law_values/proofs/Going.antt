@@ -3,7 +3,7 @@ use Rattle.std.proofs.Common.{◌≡◌, ℕ, zero, suc, ◌+◌, ◌*◌, ◌<�
 use Rattle.std.proofs.Math.Nat.{mul-le-mul_left, mul-suc}
 use Rattle.rc_model.specs.Syntax.Words.{Word, has_pattern}
 use Rattle.rc_model.specs.Run.Patterns.{parts_from, parts_match, Outside, stands_for, is_dots, matches}
-use Rattle.rc_model.specs.Run.Matching.{Kind, Star, Question, Open, Plain, kind, Fits}
+use Rattle.rc_model.specs.Run.Matching.{Role, Star, Question, Open, Plain, role, Fits}
 use Rattle.rc_model.specs.Mirrors.Greedy.{after_one, star_by, past_one, one_move, move_by, goes_back, after_move, greedy_from, greedy}
 use Rattle.law_values.proofs.Steps.{FitsLater, FitsOne, Fits-cons, no_one, nothing_fits, after_one-shorter, Claim, claim_start, claim_star, claim_one, claim_back, claim_end, claim_fails, Back, no_way}
 use Rattle.law_values.proofs.Computed.{parts_match-Fits, Fits-parts_match}
@@ -55,26 +55,26 @@ module _ (e : Bool) (W : Word) (T : List ℕ) where
   miss n hyp w t true bw [] no_fit k i = inr (refl, claim_fails e W T w t true bw [] no_fit (none_left bw) k)
   miss n hyp w t true bw (c ∷ bt) no_fit k i = miss_by n hyp w t bw c bt (stands_for e c) refl no_fit k i
 
-  nothing_left : (m : ℕ × Bool) (w : Word) → (kind m ≡ Star → ⊥) → ((kind m ≡ Star) × FitsLater e w []) ⊎ FitsOne e (m ∷ w) [] → ⊥
+  nothing_left : (m : ℕ × Bool) (w : Word) → (role m ≡ Star → ⊥) → ((role m ≡ Star) × FitsLater e w []) ⊎ FitsOne e (m ∷ w) [] → ⊥
   nothing_left m w n (inl x) = n x.0
   nothing_left m w n (inr o) = let q = o.3 in cc
 
-  one_by_one : (n : ℕ) → Decided n → (m : ℕ × Bool) (w : Word) (c : ℕ) (t : List ℕ) (s : Bool) (bw : Word) (bt : List ℕ) (o : Option Word) → (kind m ≡ Star → ⊥) → after_one e (m ∷ w) c ≡ o →
+  one_by_one : (n : ℕ) → Decided n → (m : ℕ × Bool) (w : Word) (c : ℕ) (t : List ℕ) (s : Bool) (bw : Word) (bt : List ℕ) (o : Option Word) → (role m ≡ Star → ⊥) → after_one e (m ∷ w) c ≡ o →
       Claim e W T (m ∷ w) (c ∷ t) s bw bt → InTime (suc n) (length W) (m ∷ w) (c ∷ t) bw bt →
       Decides e W T (after_move (greedy_from n e) e (past_one c t o) (c ∷ t) s bw bt)
   one_by_one n hyp m w c t s bw bt None k q claim i = miss n hyp (m ∷ w) (c ∷ t) s bw bt (no_one e m w c t k q) claim i
   one_by_one n hyp m w c t s bw bt (Some v) k q claim i =
       hyp v t (s && stands_for e c) bw bt (claim_one e W T (m ∷ w) c v t s bw bt q claim) (time_one n (length W) (m ∷ w) v c t bw bt (after_one-shorter e (m ∷ w) c v q) i)
 
-  one : (n : ℕ) → Decided n → (m : ℕ × Bool) (w : Word) (t : List ℕ) (s : Bool) (bw : Word) (bt : List ℕ) → (kind m ≡ Star → ⊥) → Claim e W T (m ∷ w) t s bw bt → InTime (suc n) (length W) (m ∷ w) t bw bt →
+  one : (n : ℕ) → Decided n → (m : ℕ × Bool) (w : Word) (t : List ℕ) (s : Bool) (bw : Word) (bt : List ℕ) → (role m ≡ Star → ⊥) → Claim e W T (m ∷ w) t s bw bt → InTime (suc n) (length W) (m ∷ w) t bw bt →
       Decides e W T (after_move (greedy_from n e) e (one_move e (m ∷ w) t) t s bw bt)
   one n hyp m w [] s bw bt k claim i = miss n hyp (m ∷ w) [] s bw bt (λ f. nothing_left m w k (Fits-cons f)) claim i
   one n hyp m w (c ∷ t) s bw bt k claim i = one_by_one n hyp m w c t s bw bt (after_one e (m ∷ w) c) k refl claim i
 
-  other : (m : ℕ × Bool) (k : Kind) → kind m ≡ k → (k ≡ Star → ⊥) → kind m ≡ Star → ⊥
+  other : (m : ℕ × Bool) (k : Role) → role m ≡ k → (k ≡ Star → ⊥) → role m ≡ Star → ⊥
   other m k q h r = h (sym q ∙ r)
 
-  at_kind : (n : ℕ) → Decided n → (m : ℕ × Bool) (w : Word) (t : List ℕ) (s : Bool) (bw : Word) (bt : List ℕ) (k : Kind) → kind m ≡ k → Claim e W T (m ∷ w) t s bw bt → InTime (suc n) (length W) (m ∷ w) t bw bt →
+  at_kind : (n : ℕ) → Decided n → (m : ℕ × Bool) (w : Word) (t : List ℕ) (s : Bool) (bw : Word) (bt : List ℕ) (k : Role) → role m ≡ k → Claim e W T (m ∷ w) t s bw bt → InTime (suc n) (length W) (m ∷ w) t bw bt →
       Decides e W T (after_move (greedy_from n e) e (move_by e (star_by k w) (m ∷ w) t) t s bw bt)
   at_kind n hyp m w t s bw bt Star q claim i = hyp w t true w t (claim_star e W T m w t s bw bt q claim) (time_star n (length W) m w t bw bt i)
   at_kind n hyp m w t s bw bt Question q claim i = one n hyp m w t s bw bt (other m Question q (λ z. cc)) claim i
@@ -85,7 +85,7 @@ module _ (e : Bool) (W : Word) (T : List ℕ) where
   decided zero w t s bw bt claim i = absurd (omega arith)
   decided (suc n) [] [] s bw bt claim i = inl (refl, claim_end e W T s bw bt claim)
   decided (suc n) [] (c ∷ t) s bw bt claim i = miss n (decided n) [] (c ∷ t) s bw bt (nothing_fits e c t) claim i
-  decided (suc n) (m ∷ w) t s bw bt claim i = at_kind n (decided n) m w t s bw bt (kind m) refl claim i
+  decided (suc n) (m ∷ w) t s bw bt claim i = at_kind n (decided n) m w t s bw bt (role m) refl claim i
 
 enough : (k n : ℕ) → suc k * n + k < suc k * suc n
 enough k n = let q : suc k * suc n ≡ suc k * n + suc k = mul-suc (suc k) n in omega arith

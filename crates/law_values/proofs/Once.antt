@@ -18,7 +18,7 @@ use Rattle.rc_model.specs.Run.Calls.{Call, Answer, list_names, probe, as_names, 
 use Rattle.rc_model.specs.declared.call.Fault.TheVariants.{Other}
 use Rattle.rc_model.specs.Run.Plans.{Plan, done_with, ask, cut, Goes}
 use Rattle.rc_model.specs.Run.State.{State}
-use Rattle.rc_model.specs.Run.Shell.{Result, Next, Exit, Shell, under, leaves, ◌>>=◌, pure}
+use Rattle.rc_model.specs.Run.Shell.{ShellResult, Next, Exit, Shell, under, leaves, ◌>>=◌, pure}
 use Rattle.rc_model.specs.Run.FileNames.{components, is_no_name, directory, fitting_names, each_name, if_there, listed, step, walk, paths_of, or_itself, names_of}
 use Rattle.rc_model.specs.Run.PathNames.{IsIn, Agreeing}
 use Rattle.law_values.proofs.Sorted.{ordered_sorted, from_ordered, from_filter}
@@ -36,7 +36,7 @@ Once (done_with x) = ⊤
 Once (ask c go) = (a : Answer) → AllCalls (λ d. d ≡ c → ⊥) (go a) × Once (go a)
 Once cut = ⊤
 
-all_under : {A X : Type 0} (P : Call → Type 0) (p : Plan (Result A)) (go : A → State → Plan (Result X)) → AllCalls P p → ((a : A) (s : State) → AllCalls P (go a s)) → AllCalls P (under p go leaves)
+all_under : {A X : Type 0} (P : Call → Type 0) (p : Plan (ShellResult A)) (go : A → State → Plan (ShellResult X)) → AllCalls P p → ((a : A) (s : State) → AllCalls P (go a s)) → AllCalls P (under p go leaves)
 all_under P (done_with (Next a s)) go h k = k a s
 all_under P (done_with (Exit s owed)) go h k = tt
 all_under P (ask c f) go h k = (h.0, λ a. all_under P (f a) go (h.1 a) k)
@@ -47,7 +47,7 @@ all_map P Q (done_with x) f h = tt
 all_map P Q (ask c go) f h = (f c h.0, λ a. all_map P Q (go a) f (h.1 a))
 all_map P Q cut f h = tt
 
-once_under : {A X : Type 0} (P Q : Call → Type 0) (p : Plan (Result A)) (go : A → State → Plan (Result X)) → ((c d : Call) → P c → Q d → d ≡ c → ⊥) → AllCalls P p → Once p →
+once_under : {A X : Type 0} (P Q : Call → Type 0) (p : Plan (ShellResult A)) (go : A → State → Plan (ShellResult X)) → ((c d : Call) → P c → Q d → d ≡ c → ⊥) → AllCalls P p → Once p →
     ((a : A) (s : State) → AllCalls Q (go a s)) → ((a : A) (s : State) → Once (go a s)) → Once (under p go leaves)
 once_under P Q (done_with (Next a s)) go apart h o k l = l a s
 once_under P Q (done_with (Exit s owed)) go apart h o k l = tt
@@ -310,5 +310,5 @@ recall_agrees [] d l = tt
 recall_agrees (e ∷ es) d l = (ap (λ b. cond b e.answer (recall es e.call)) (same_itself e.call l.0), agree_more e es es d.0 (recall_agrees es d.1 l.1))
 
 -- for each trace of an expansion there is a world in which each call has one answer, and it is the trace's
-pub one_answer_each : (w : Word) (s : State) (trace : List Event) (q : Plan (Result (List Word))) → Goes (names_of w s) trace q → (answers : Call → Answer) × Agreeing answers trace
+pub one_answer_each : (w : Word) (s : State) (trace : List Event) (q : Plan (ShellResult (List Word))) → Goes (names_of w s) trace q → (answers : Call → Answer) × Agreeing answers trace
 one_answer_each w s trace q g = (recall trace, recall_agrees trace (goes_once (names_of w s) trace q (names_once w s) g) (goes_all Looks (names_of w s) trace q (names_look w s) g))

@@ -5,7 +5,7 @@ use Rattle.std.proofs.lemmas.Bool.{eqb-true, and_parts, not-true}
 use Rattle.std.proofs.lemmas.List.{length-append}
 use Rattle.std.proofs.lemmas.Option.{same_Some, cond_some}
 use Rattle.rc_model.specs.Run.Patterns.{stands_for}
-use Rattle.rc_model.specs.Run.Matching.{Kind, Star, Question, Open, Plain, kind, is_close, Fits, end, itself, question, star, class}
+use Rattle.rc_model.specs.Run.Matching.{Role, Star, Question, Open, Plain, role, is_close, Fits, end, itself, question, star, class}
 use Rattle.rc_model.specs.Mirrors.Greedy.{class_holds, class_with, class_end, class_after, one_by, after_one}
 use Rattle.law_values.proofs.Classes.{IsHeld-test, test-IsHeld}
 
@@ -62,7 +62,7 @@ class_end-IsClass (m ∷ w) p h = class_at m w (is_close m) p refl (class_end-Is
 pub Fits-nil : {e : Bool} {t : List ℕ} → Fits e [] t → t ≡ []
 Fits-nil end = refl
 
-pub Fits-cons : {e : Bool} {m : ℕ × Bool} {w : List (ℕ × Bool)} {t : List ℕ} → Fits e (m ∷ w) t → ((kind m ≡ Star) × FitsLater e w t) ⊎ FitsOne e (m ∷ w) t
+pub Fits-cons : {e : Bool} {m : ℕ × Bool} {w : List (ℕ × Bool)} {t : List ℕ} → Fits e (m ∷ w) t → ((role m ≡ Star) × FitsLater e w t) ⊎ FitsOne e (m ∷ w) t
 Fits-cons {e} (itself m w c t k q f) = inr (c, t, w, refl, ap (λ x. one_by e x m.0 w c) k ∙ ap (λ b. cond b (Some w) None) (eq-eqb m.0 c q), f)
 Fits-cons {e} (question m w c t k q f) = inr (c, t, w, refl, ap (λ x. one_by e x m.0 w c) k ∙ ap (λ b. cond b (Some w) None) q, f)
 Fits-cons {e} (star m w all front text k h q f) = inl (k, (front, text, h, q, f))
@@ -82,14 +82,14 @@ guarded_2 true b x v h = let g = cond_some b x v h in (refl, g.0, g.1)
 guarded_2 false b x v h = cc
 
 class_after-Fits : (e : Bool) (m : ℕ × Bool) (w : List (ℕ × Bool)) (c : ℕ) (v : List (ℕ × Bool)) (t : List ℕ) (o : Option (List (ℕ × Bool) × List (ℕ × Bool))) →
-    kind m ≡ Open → class_end w ≡ o → class_after e o c ≡ Some v → Fits e v t → Fits e (m ∷ w) (c ∷ t)
+    role m ≡ Open → class_end w ≡ o → class_after e o c ≡ Some v → Fits e v t → Fits e (m ∷ w) (c ∷ t)
 class_after-Fits e m w c v t None k q h f = cc
 class_after-Fits e m w c v t (Some p) k q h f =
     let r = class_end-IsClass w p q in
     let holds = guarded_2 (class_holds p.0 c) (stands_for e c) p.1 v h in
     class m w p.0 r.close p.1 c t k r.parts r.inside r.closes (test-IsHeld p.0 c holds.0) holds.1 (subst (λ z. Fits e z t) (sym holds.2) f)
 
-one_by-Fits : (e : Bool) (m : ℕ × Bool) (w : List (ℕ × Bool)) (c : ℕ) (v : List (ℕ × Bool)) (t : List ℕ) (k : Kind) → kind m ≡ k → one_by e k m.0 w c ≡ Some v → Fits e v t → Fits e (m ∷ w) (c ∷ t)
+one_by-Fits : (e : Bool) (m : ℕ × Bool) (w : List (ℕ × Bool)) (c : ℕ) (v : List (ℕ × Bool)) (t : List ℕ) (k : Role) → role m ≡ k → one_by e k m.0 w c ≡ Some v → Fits e v t → Fits e (m ∷ w) (c ∷ t)
 one_by-Fits e m w c v t Star k h f = cc
 one_by-Fits e m w c v t Question k h f = let g = cond_some (stands_for e c) w v h in question m w c t k g.0 (subst (λ z. Fits e z t) (sym g.1) f)
 one_by-Fits e m w c v t Open k h f = class_after-Fits e m w c v t (class_end w) k refl h f
@@ -98,7 +98,7 @@ one_by-Fits e m w c v t Plain k h f = let g = cond_some (eqb m.0 c) w v h in its
 -- one character, and then the rest
 pub after_one-Fits : (e : Bool) (w : List (ℕ × Bool)) (c : ℕ) (v : List (ℕ × Bool)) (t : List ℕ) → after_one e w c ≡ Some v → Fits e v t → Fits e w (c ∷ t)
 after_one-Fits e [] c v t h f = cc
-after_one-Fits e (m ∷ w) c v t h f = one_by-Fits e m w c v t (kind m) refl h f
+after_one-Fits e (m ∷ w) c v t h f = one_by-Fits e m w c v t (role m) refl h f
 
 -- runs of characters that stand for themselves, `?` and classes
 abbrev pub Run : Bool → List (ℕ × Bool) → List ℕ → List (ℕ × Bool) → Type 0
@@ -133,10 +133,10 @@ later_cases e w t (c ∷ front) rest h q f = let b = and_parts (stands_for e c) 
 Later-FitsLater : (e : Bool) (w : List (ℕ × Bool)) (t : List ℕ) → Later e w t → FitsLater e w t
 Later-FitsLater e w t l = subst (λ z. FitsLater e w z) (sym l.2) (later_append e w (l.0 ∷ []) l.1 (all_cons (stands_for e) l.0 [] l.3 refl) l.4)
 
-FitsLater-star : (e : Bool) (m : ℕ × Bool) (w : List (ℕ × Bool)) (t : List ℕ) → kind m ≡ Star → FitsLater e w t → Fits e (m ∷ w) t
+FitsLater-star : (e : Bool) (m : ℕ × Bool) (w : List (ℕ × Bool)) (t : List ℕ) → role m ≡ Star → FitsLater e w t → Fits e (m ∷ w) t
 FitsLater-star e m w t k f = star m w t f.0 f.1 k f.2 f.3 f.4
 
-pub no_star : (e : Bool) (m : ℕ × Bool) (w : List (ℕ × Bool)) (c : ℕ) (v : List (ℕ × Bool)) → kind m ≡ Star → after_one e (m ∷ w) c ≡ Some v → ⊥
+pub no_star : (e : Bool) (m : ℕ × Bool) (w : List (ℕ × Bool)) (c : ℕ) (v : List (ℕ × Bool)) → role m ≡ Star → after_one e (m ∷ w) c ≡ Some v → ⊥
 no_star e m w c v k h = let x : None ≡ Some v = sym (ap (λ z. one_by e z m.0 w c) k) ∙ h in cc
 
 same_class : (e : Bool) (o : Option (List (ℕ × Bool) × List (ℕ × Bool))) (c d : ℕ) (v u : List (ℕ × Bool)) → class_after e o c ≡ Some v → class_after e o d ≡ Some u → (v ≡ u) × (stands_for e d ≡ true)
@@ -147,7 +147,7 @@ same_class e (Some p) c d v u h k =
     (sym a.2 ∙ b.2, b.1)
 
 -- what follows a character or class doesn't depend on the character
-same_rest_by : (e : Bool) (k : Kind) (x : ℕ) (w : List (ℕ × Bool)) (c d : ℕ) (v u : List (ℕ × Bool)) → one_by e k x w c ≡ Some v → one_by e k x w d ≡ Some u → stands_for e c ≡ true → (v ≡ u) × (stands_for e d ≡ true)
+same_rest_by : (e : Bool) (k : Role) (x : ℕ) (w : List (ℕ × Bool)) (c d : ℕ) (v u : List (ℕ × Bool)) → one_by e k x w c ≡ Some v → one_by e k x w d ≡ Some u → stands_for e c ≡ true → (v ≡ u) × (stands_for e d ≡ true)
 same_rest_by e Star x w c d v u h k may = absurd cc
 same_rest_by e Question x w c d v u h k may = let a = cond_some (stands_for e c) w v h in let b = cond_some (stands_for e d) w u k in (sym a.1 ∙ b.1, b.0)
 same_rest_by e Open x w c d v u h k may = same_class e (class_end w) c d v u h k
@@ -158,9 +158,9 @@ same_rest_by e Plain x w c d v u h k may =
 
 same_rest : (e : Bool) (w : List (ℕ × Bool)) (c d : ℕ) (v u : List (ℕ × Bool)) → after_one e w c ≡ Some v → after_one e w d ≡ Some u → stands_for e c ≡ true → (v ≡ u) × (stands_for e d ≡ true)
 same_rest e [] c d v u h k may = absurd cc
-same_rest e (m ∷ w) c d v u h k may = same_rest_by e (kind m) m.0 w c d v u h k may
+same_rest e (m ∷ w) c d v u h k may = same_rest_by e (role m) m.0 w c d v u h k may
 
-or_star : (e : Bool) (m : ℕ × Bool) (w : List (ℕ × Bool)) (c : ℕ) (v : List (ℕ × Bool)) (t : List ℕ) → after_one e (m ∷ w) c ≡ Some v → ((kind m ≡ Star) × FitsLater e w t) ⊎ FitsOne e (m ∷ w) t → FitsOne e (m ∷ w) t
+or_star : (e : Bool) (m : ℕ × Bool) (w : List (ℕ × Bool)) (c : ℕ) (v : List (ℕ × Bool)) (t : List ℕ) → after_one e (m ∷ w) c ≡ Some v → ((role m ≡ Star) × FitsLater e w t) ⊎ FitsOne e (m ∷ w) t → FitsOne e (m ∷ w) t
 or_star e m w c v t h (inl x) = absurd (no_star e m w c v x.0 h)
 or_star e m w c v t h (inr o) = o
 
@@ -226,7 +226,7 @@ pub record Claim (e : Bool) (whole : List (ℕ × Bool)) (all : List ℕ) (word 
 pub claim_start : (e : Bool) (w : List (ℕ × Bool)) (t : List ℕ) (bw : List (ℕ × Bool)) (bt : List ℕ) → Claim e w t w t false bw bt
 claim_start e w t bw bt = record { forth = λ f. inl f; here = λ f. f; later = λ b. no_way b.0; trail = λ h. no_way h }
 
-of_star : (e : Bool) (m : ℕ × Bool) (w : List (ℕ × Bool)) (t : List ℕ) → kind m ≡ Star → ((kind m ≡ Star) × FitsLater e w t) ⊎ FitsOne e (m ∷ w) t → FitsLater e w t
+of_star : (e : Bool) (m : ℕ × Bool) (w : List (ℕ × Bool)) (t : List ℕ) → role m ≡ Star → ((role m ≡ Star) × FitsLater e w t) ⊎ FitsOne e (m ∷ w) t → FitsLater e w t
 of_star e m w t k (inl x) = x.1
 of_star e m w t k (inr o) = absurd (no_star e m w o.0 o.2 k o.4)
 
@@ -261,7 +261,7 @@ past_slash e bw bt w c t no_may p l =
     not_between (stands_for e) p.front g t n.rest c q le h no_may
 
 -- an earlier star need not take more: the later one does
-second_star : (e : Bool) (bw : List (ℕ × Bool)) (bt : List ℕ) (m : ℕ × Bool) (w : List (ℕ × Bool)) (t : List ℕ) → kind m ≡ Star → Passed e bw bt (m ∷ w) t → Later e bw bt → FitsLater e w t
+second_star : (e : Bool) (bw : List (ℕ × Bool)) (bt : List ℕ) (m : ℕ × Bool) (w : List (ℕ × Bool)) (t : List ℕ) → role m ≡ Star → Passed e bw bt (m ∷ w) t → Later e bw bt → FitsLater e w t
 second_star e bw bt m w t k p l =
     let n = shift e bw p.front (m ∷ w) l.4.1 p.run p.may l.4.4 in
     let g : List ℕ = l.0 ∷ (l.4.0 ++ n.front) in
@@ -272,7 +272,7 @@ second_star e bw bt m w t k p l =
     let b = between (stands_for e) p.front g t n.rest q le h in
     subst (λ z. FitsLater e w z) (sym b.1) (later_append e w b.0 n.rest b.2 (of_star e m w n.rest k (Fits-cons n.fits)))
 
-star_ways : (e : Bool) (m : ℕ × Bool) (w : List (ℕ × Bool)) (t : List ℕ) (s : Bool) (bw : List (ℕ × Bool)) (bt : List ℕ) → kind m ≡ Star → (s ≡ true → Passed e bw bt (m ∷ w) t) →
+star_ways : (e : Bool) (m : ℕ × Bool) (w : List (ℕ × Bool)) (t : List ℕ) (s : Bool) (bw : List (ℕ × Bool)) (bt : List ℕ) → role m ≡ Star → (s ≡ true → Passed e bw bt (m ∷ w) t) →
     Fits e (m ∷ w) t ⊎ Back e s bw bt → FitsLater e w t
 star_ways e m w t s bw bt k trail (inl f) = of_star e m w t k (Fits-cons f)
 star_ways e m w t s bw bt k trail (inr b) = second_star e bw bt m w t k (trail b.0) b.1
@@ -297,7 +297,7 @@ back_ways e w t bw c bt no_fit (inr l) =
     let r : l.1.1 ≡ bt = cc in
     as_later e bw bt (subst (λ z. FitsLater e bw z) r l.1.4)
 
-pub claim_star : (e : Bool) (W : List (ℕ × Bool)) (T : List ℕ) (m : ℕ × Bool) (w : List (ℕ × Bool)) (t : List ℕ) (s : Bool) (bw : List (ℕ × Bool)) (bt : List ℕ) → kind m ≡ Star →
+pub claim_star : (e : Bool) (W : List (ℕ × Bool)) (T : List ℕ) (m : ℕ × Bool) (w : List (ℕ × Bool)) (t : List ℕ) (s : Bool) (bw : List (ℕ × Bool)) (bt : List ℕ) → role m ≡ Star →
     Claim e W T (m ∷ w) t s bw bt → Claim e W T w t true w t
 claim_star e W T m w t s bw bt k c = record {
   forth = λ f. as_later e w t (star_ways e m w t s bw bt k c.trail (c.forth f));
@@ -342,7 +342,7 @@ shorter_class e w (Some p) c v q h =
     let l = length_after_class w p (class_end-IsClass w p q) in
     subst (λ z. length z < length w) g.2 l
 
-shorter_by : (e : Bool) (k : Kind) (x : ℕ) (w : List (ℕ × Bool)) (c : ℕ) (v : List (ℕ × Bool)) → one_by e k x w c ≡ Some v → length v < suc (length w)
+shorter_by : (e : Bool) (k : Role) (x : ℕ) (w : List (ℕ × Bool)) (c : ℕ) (v : List (ℕ × Bool)) → one_by e k x w c ≡ Some v → length v < suc (length w)
 shorter_by e Star x w c v h = absurd cc
 shorter_by e Question x w c v h = let q = ap length (cond_some (stands_for e c) w v h).1 in omega arith
 shorter_by e Open x w c v h = let l = shorter_class e w (class_end w) c v refl h in omega arith
@@ -350,16 +350,16 @@ shorter_by e Plain x w c v h = let q = ap length (cond_some (eqb x c) w v h).1 i
 
 pub after_one-shorter : (e : Bool) (w : List (ℕ × Bool)) (c : ℕ) (v : List (ℕ × Bool)) → after_one e w c ≡ Some v → length v < length w
 after_one-shorter e [] c v h = absurd cc
-after_one-shorter e (m ∷ w) c v h = shorter_by e (kind m) m.0 w c v h
+after_one-shorter e (m ∷ w) c v h = shorter_by e (role m) m.0 w c v h
 
-no_one_by : (e : Bool) (m : ℕ × Bool) (w : List (ℕ × Bool)) (c : ℕ) (t : List ℕ) → (kind m ≡ Star → ⊥) → after_one e (m ∷ w) c ≡ None → ((kind m ≡ Star) × FitsLater e w (c ∷ t)) ⊎ FitsOne e (m ∷ w) (c ∷ t) → ⊥
+no_one_by : (e : Bool) (m : ℕ × Bool) (w : List (ℕ × Bool)) (c : ℕ) (t : List ℕ) → (role m ≡ Star → ⊥) → after_one e (m ∷ w) c ≡ None → ((role m ≡ Star) × FitsLater e w (c ∷ t)) ⊎ FitsOne e (m ∷ w) (c ∷ t) → ⊥
 no_one_by e m w c t n h (inl x) = n x.0
 no_one_by e m w c t n h (inr o) =
     let d : c ≡ o.0 = cc in
     let x : None ≡ Some o.2 = sym h ∙ ap (after_one e (m ∷ w)) d ∙ o.4 in
     cc
 
-pub no_one : (e : Bool) (m : ℕ × Bool) (w : List (ℕ × Bool)) (c : ℕ) (t : List ℕ) → (kind m ≡ Star → ⊥) → after_one e (m ∷ w) c ≡ None → Fits e (m ∷ w) (c ∷ t) → ⊥
+pub no_one : (e : Bool) (m : ℕ × Bool) (w : List (ℕ × Bool)) (c : ℕ) (t : List ℕ) → (role m ≡ Star → ⊥) → after_one e (m ∷ w) c ≡ None → Fits e (m ∷ w) (c ∷ t) → ⊥
 no_one e m w c t n h f = no_one_by e m w c t n h (Fits-cons f)
 
 pub nothing_fits : (e : Bool) (c : ℕ) (t : List ℕ) → Fits e [] (c ∷ t) → ⊥

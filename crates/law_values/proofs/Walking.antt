@@ -6,17 +6,17 @@ use Rattle.rc_model.specs.Syntax.Words.{Word, word_text, has_pattern}
 use Rattle.rc_model.specs.Run.Calls.{Call, Answer, list_names, as_names}
 use Rattle.rc_model.specs.Run.Plans.{Plan, done_with, ask, cut}
 use Rattle.rc_model.specs.Run.State.{State}
-use Rattle.rc_model.specs.Run.Shell.{Result, Next, Exit, Shell, under, leaves, ◌>>=◌, pure, call}
+use Rattle.rc_model.specs.Run.Shell.{ShellResult, Next, Exit, Shell, under, leaves, ◌>>=◌, pure, call}
 use Rattle.rc_model.specs.Run.FileNames.{components, fitting_names, directory, each_name, if_there, listed, step, walk, paths_of, or_itself, names_of}
-use Rattle.rc_model.specs.Run.PathNames.{follow, is_there}
+use Rattle.rc_model.specs.Run.PathNames.{answered_by, is_there}
 
 -- a shell's act gives this value, whatever the state, and leaves the state
 pub record Gives {A : Type 0} (answers : Call → Answer) (m : Shell A) (a : A) : Type 0 where
-  pub by : (s : State) → follow answers (m s) ≡ Some (Next a s)
+  pub by : (s : State) → answered_by answers (m s) ≡ Some (Next a s)
 
-follow_under : {A X : Type 0} (answers : Call → Answer) (p : Plan (Result A)) (go : A → State → Plan X) (leave : State → List ℕ → Plan X) (a : A) (s : State) →
-    follow answers p ≡ Some (Next a s) → follow answers (under p go leave) ≡ follow answers (go a s)
-follow_under answers (done_with (Next b t)) go leave a s h = let q : b ≡ a = cc in let r : t ≡ s = cc in ap (λ z. follow answers (go z t)) q ∙ ap (λ z. follow answers (go a z)) r
+follow_under : {A X : Type 0} (answers : Call → Answer) (p : Plan (ShellResult A)) (go : A → State → Plan X) (leave : State → List ℕ → Plan X) (a : A) (s : State) →
+    answered_by answers p ≡ Some (Next a s) → answered_by answers (under p go leave) ≡ answered_by answers (go a s)
+follow_under answers (done_with (Next b t)) go leave a s h = let q : b ≡ a = cc in let r : t ≡ s = cc in ap (λ z. answered_by answers (go z t)) q ∙ ap (λ z. answered_by answers (go a z)) r
 follow_under answers (done_with (Exit t owed)) go leave a s h = absurd cc
 follow_under answers (ask c f) go leave a s h = follow_under answers (f (answers c)) go leave a s h
 follow_under answers cut go leave a s h = absurd cc

@@ -5,22 +5,22 @@ use Rattle.rc_model.specs.Syntax.Words.{Word, has_pattern}
 use Rattle.rc_model.specs.Run.Calls.{Call, Answer, Event}
 use Rattle.rc_model.specs.Run.Plans.{Plan, done_with, ask, cut, Goes}
 use Rattle.rc_model.specs.Run.State.{State}
-use Rattle.rc_model.specs.Run.Shell.{Result, Next, Shell, under, leaves, ◌>>=◌, pure}
+use Rattle.rc_model.specs.Run.Shell.{ShellResult, Next, Shell, under, leaves, ◌>>=◌, pure}
 use Rattle.rc_model.specs.Run.FileNames.{names_of, expanded_word, expanded}
 use Rattle.rc_model.specs.Run.PathNames.{Agreeing, Expands, ExpandsBy, plain, names, AllExpand, none, next}
 use Rattle.law_values.proofs.Once.{one_answer_each}
 use Rattle.law_values.proofs.Traces.{expansion_by_trace}
 
 -- the trace of one plan and then another is cut between them
-record Cut {A X : Type 0} (p : Plan (Result A)) (go : A → State → Plan (Result X)) (trace : List Event) (r : Result X) : Type 0 where
+record Cut {A X : Type 0} (p : Plan (ShellResult A)) (go : A → State → Plan (ShellResult X)) (trace : List Event) (r : ShellResult X) : Type 0 where
   pub before : List Event
   pub after : List Event
-  pub middle : Result A
+  pub middle : ShellResult A
   pub is : trace ≡ before ++ after
   pub first : Goes p before (done_with middle)
   pub rest : Goes (under (done_with middle) go leaves) after (done_with r)
 
-goes_cut : {A X : Type 0} (p : Plan (Result A)) (go : A → State → Plan (Result X)) (trace : List Event) (r : Result X) → Goes (under p go leaves) trace (done_with r) → Cut p go trace r
+goes_cut : {A X : Type 0} (p : Plan (ShellResult A)) (go : A → State → Plan (ShellResult X)) (trace : List Event) (r : ShellResult X) → Goes (under p go leaves) trace (done_with r) → Cut p go trace r
 goes_cut (done_with x) go trace r g = record { before = []; after = trace; middle = x; is = refl; first = refl; rest = g }
 goes_cut (ask c f) go [] r g = absurd cc
 goes_cut cut go [] r g = absurd cc
@@ -34,13 +34,13 @@ only_done x r [] g = (refl, cc)
 only_done x r (e ∷ es) g = absurd g
 
 -- a word becomes the same for all answers that agree with the trace
-expands_so : (w : Word) (s : State) (trace : List Event) (x : Result (List Word)) (vs : List Word) → x ≡ Next vs s → has_pattern w ≡ true → Goes (names_of w s) trace (done_with x) → (answers : Call → Answer) → Agreeing answers trace → Expands answers w vs
+expands_so : (w : Word) (s : State) (trace : List Event) (x : ShellResult (List Word)) (vs : List Word) → x ≡ Next vs s → has_pattern w ≡ true → Goes (names_of w s) trace (done_with x) → (answers : Call → Answer) → Agreeing answers trace → Expands answers w vs
 expands_so w s trace x vs is h g answers a =
     let e = expansion_by_trace w s trace x answers h g a in
     let same : e.0 ≡ vs = cc in
     subst (Expands answers w) same e.2
 
-word_by : (w : Word) (s : State) (trace : List Event) (x : Result (List Word)) (b : Bool) → has_pattern w ≡ b → Goes (cond b (names_of w) (pure (w ∷ [])) s) trace (done_with x) →
+word_by : (w : Word) (s : State) (trace : List Event) (x : ShellResult (List Word)) (b : Bool) → has_pattern w ≡ b → Goes (cond b (names_of w) (pure (w ∷ [])) s) trace (done_with x) →
     (vs : List Word) × (x ≡ Next vs s) × ExpandsBy w trace vs
 word_by w s trace x true h g =
     let t = one_answer_each w s trace (done_with x) g in
@@ -50,7 +50,7 @@ word_by w s trace x false h g =
     let d = only_done (Next (w ∷ []) s) x trace g in
     (w ∷ [], d.1, subst (λ z. ExpandsBy w z (w ∷ [])) (sym d.0) (plain h))
 
-pub expanded-is : (ws : List Word) (s : State) (trace : List Event) (r : Result (List Word)) → Goes (expanded ws s) trace (done_with r) → (vs : List Word) × (r ≡ Next vs s) × AllExpand ws trace vs
+pub expanded-is : (ws : List Word) (s : State) (trace : List Event) (r : ShellResult (List Word)) → Goes (expanded ws s) trace (done_with r) → (vs : List Word) × (r ≡ Next vs s) × AllExpand ws trace vs
 expanded-is [] s trace r g = let d = only_done (Next [] s) r trace g in ([], d.1, subst (λ z. AllExpand [] z []) (sym d.0) none)
 expanded-is (w ∷ ws) s trace r g =
     let others : List Word → List Word → Shell (List Word) = λ first more. pure (first ++ more) in

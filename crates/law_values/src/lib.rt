@@ -1,4 +1,4 @@
-//! The laws of values: lists, patterns and file names. What is computed is what the relations say.
+//! The laws of values: lists, patterns and file names. The functions implement the relations.
 #![tactic(auto)]
 
 mod patterns;
@@ -15,7 +15,7 @@ pub use patterns::{
     expanded_by_rule, greedy_matches, matches_by_rule, names_ask_once, names_by_rule, one_expansion,
 };
 
-/// Splitting gives the members of a text.
+/// Splitting a text returns its members.
 pub fn split_by_rule()
     ensures { (text separators : List ℕ) (texts : List (List ℕ)) →
         (texts ≡ split text separators) ↔ AreMembers text separators texts }
@@ -26,7 +26,7 @@ pub fn one_split()
     ensures { (p : ℕ → Bool) (cs : List ℕ) (ms ns : List (List ℕ)) → Splits p cs ms → Splits p cs ns → ms ≡ ns }
 {}
 
-/// Joining two lists gives what the rule of joining says.
+/// Joining two lists returns the result of the rule of joining.
 pub fn concat_by_rule()
     ensures { (xs ys : List Word) (r : Result (List Word) ListFault) → (r ≡ concatenated xs ys) ↔ Joins xs ys r }
 {}

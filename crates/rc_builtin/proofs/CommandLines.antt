@@ -6,7 +6,7 @@ use Rattle.rc_model.specs.Run.Acts.{find_program}
 use Rattle.rc_model.specs.Run.Builtins.{Known, builtin_named, command_line, function_line, known_of, line, program_line, value_line}
 use Rattle.rc_model.specs.Run.Calls.{Event}
 use Rattle.rc_model.specs.Run.Plans.{Plan, done_with, Ran}
-use Rattle.rc_model.specs.Run.Shell.{Result, Next, under, leaves}
+use Rattle.rc_model.specs.Run.Shell.{ShellResult, Next, under, leaves}
 use Rattle.rc_model.specs.Run.State.{State, value_of, function_of}
 use Rattle.rc_model.specs.Syntax.Tree.{Node, cmd}
 use Rattle.rc_world.specs.Comes.{Left}
@@ -35,14 +35,14 @@ pub ran_shown : (name shown : List ℕ) (s : State) (a : Option (List Event)) (f
 ran_shown name shown s a f b e h k = ran_as a a _ _ _ (ap (λ y. command_line name shown y b s) e) (ran_as a a _ _ _ (ap (λ y. command_line name shown None y s) h) (ran_beside name shown s a k))
 
 -- a program is looked for
-abbrev pub looked_for : List ℕ → State → Plan (Result Known)
+abbrev pub looked_for : List ℕ → State → Plan (ShellResult Known)
 looked_for name s = under (find_program name s) (λ path t. done_with (Next (program_line path) t)) leaves
 
 no_shown : (name shown : List ℕ) (s : State) → length shown ≡ 0 → command_line name shown None None s ≡ looked_for name s
 no_shown name [] s h = refl
 no_shown name (b ∷ bs) s h = absurd (omega (arith, h))
 
-looked : (name shown : List ℕ) (s : State) (p : Plan (Result Known)) (a b : Option (List Event)) (f : Option (Node cmd)) (c : Option Builtin) → f ≡ None → c ≡ None → length shown ≡ 0 →
+looked : (name shown : List ℕ) (s : State) (p : Plan (ShellResult Known)) (a b : Option (List Event)) (f : Option (Node cmd)) (c : Option Builtin) → f ≡ None → c ≡ None → length shown ≡ 0 →
     Ran a b (looked_for name s) p → Ran a b (command_line name shown f c s) p
 looked name shown s p a b f c e h k g =
     ran_as a b _ _ _ (ap (λ y. command_line name shown y c s) e) (ran_as a b _ _ _ (ap (λ y. command_line name shown None y s) h) (ran_as a b _ _ _ (no_shown name shown s k) g))
@@ -61,10 +61,10 @@ module _ (name shown : List ℕ) (s : State) (a b : Option (List Event)) (f : Op
 
 module _ (name shown : List ℕ) (s : State) (is : shown ≡ value_line name (value_of s name)) where
   -- what runs by the name
-  abbrev commands : Plan (Result Known)
+  abbrev commands : Plan (ShellResult Known)
   commands = command_line name shown (function_of s name) (builtin_named name) s
 
-  ran_shown_first : (p : Plan (Result Known)) (a b : Option (List Event)) → Ran a b commands p →
+  ran_shown_first : (p : Plan (ShellResult Known)) (a b : Option (List Event)) → Ran a b commands p →
       Ran a b (known_of name s) (under p (λ k t. done_with (Next (value_line name (value_of s name) ++ k.0, k.1) t)) leaves)
   ran_shown_first p a b f = ran_under a b _ p _ leaves (subst (λ t. Ran a b (command_line name t (function_of s name) (builtin_named name) s) p) is f)
 

@@ -10,6 +10,7 @@ use Rattle.law_syntax.proofs.Found.{finds_the_tree}
 use Rattle.law_plans.proofs.Runs.{ran_none}
 use Rattle.rc_code.specs.Views.{code_of}
 use Rattle.rc_code.specs.declared.code.Code.{Code}
+use Rattle.rc_scope.specs.CompiledTexts.{IsCodeOfText}
 use Rattle.rc_builtin.specs.Outcomes.{RunsWords}
 use Rattle.rc_builtin.specs.Scripts.{Compiles}
 use Rattle.rc_builtin.specs.declared.simple_commands.Outcome.TheVariants as words
@@ -29,7 +30,7 @@ use Rattle.rc_parser.specs.Faults.{Refuses}
 use Rattle.rc_parser.specs.Parsed.{Parses}
 use Rattle.rc_tree.specs.declared.types.Cmd.{Cmd}
 use Rattle.rc_builtin.specs.Files.{after_file, got_of}
-use Rattle.rc_builtin.specs.declared.files.ReadFile.{ReadFile}
+use Rattle.rc_builtin.specs.declared.dot.ReadFile.{ReadFile}
 use Rattle.rc_world.specs.Comes.{Left}
 use Rattle.rc_world.specs.declared.starts.Stop.{Stop}
 use Rattle.rc_world.specs.declared.starts.Stop.TheVariants.{NoMemory}
@@ -65,6 +66,18 @@ module _ (s : State) (text : List ℕ) where
 
   pub refuses : (t : State) (fault : SyntaxFault) → IsRefused text fault → t ≡ with_status s (codes "syntax error") → Compiles text s t None
   refuses t fault refused e = (no_tree text fault refused (tree_of text) refl, e)
+
+-- ** code that is kept
+
+pub kept_of : (s t : State) (text own : List ℕ) (body : Code) → text ≡ own → Compiles text s t (Some body) → IsCodeOfText own body
+kept_of s t text own body same h = subst (λ x. IsCodeOfText x body) same (h.0, h.1, h.2)
+
+pub kept_before : (s : State) (text own : List ℕ) (body : Code) → own ≡ text → IsCodeOfText own body → Compiles text s s (Some body)
+kept_before s text own body same h = subst (λ x. Compiles x s s (Some body)) same (h.0, h.1, h.2, refl)
+
+-- the state is as it was
+pub same_state : (s t : State) (text : List ℕ) (body : Code) → Compiles text s t (Some body) → t ≡ s
+same_state s t text body h = h.3
 
 module _ (recorded : Option (List Event)) (s t : State) (text : List ℕ) where
   -- a body is called

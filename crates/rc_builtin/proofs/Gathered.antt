@@ -4,7 +4,7 @@ use Rattle.std.proofs.lemmas.List.{append-nil}
 use Rattle.rc_model.specs.Run.Builtins.{Known, known_of, known_each, later}
 use Rattle.rc_model.specs.Run.Calls.{Event}
 use Rattle.rc_model.specs.Run.Plans.{Plan, done_with, Ran}
-use Rattle.rc_model.specs.Run.Shell.{Result, Next, under, leaves}
+use Rattle.rc_model.specs.Run.Shell.{ShellResult, Next, under, leaves}
 use Rattle.rc_model.specs.Run.State.{State}
 use Rattle.rc_world.specs.Comes.{Left}
 use Rattle.rc_world.specs.declared.starts.Stop.{Stop}
@@ -13,11 +13,11 @@ use Rattle.rc_world.proofs.Shells.{left_under}
 use Rattle.law_plans.proofs.Runs.{ran_join, ran_none, ran_under}
 
 -- what is known of a name comes before what follows
-abbrev pub led_by : Known → Plan (Result Known) → Plan (Result Known)
+abbrev pub led_by : Known → Plan (ShellResult Known) → Plan (ShellResult Known)
 led_by k p = under p (λ others t. done_with (Next (k.0 ++ others.0, later k.1 others.1) t)) leaves
 
 -- the same for several names, the last one first
-abbrev pub led_by_all : List Known → Plan (Result Known) → Plan (Result Known)
+abbrev pub led_by_all : List Known → Plan (ShellResult Known) → Plan (ShellResult Known)
 led_by_all [] p = p
 led_by_all (k ∷ ks) p = led_by_all ks (led_by k p)
 
@@ -25,11 +25,11 @@ abbrev pub gathered : List Known → Known → Known
 gathered [] k = k
 gathered (f ∷ ks) k = gathered ks (f.0 ++ k.0, later f.1 k.1)
 
-ran_led : (a b : Option (List Event)) (ks : List Known) (p q : Plan (Result Known)) → Ran a b p q → Ran a b (led_by_all ks p) (led_by_all ks q)
+ran_led : (a b : Option (List Event)) (ks : List Known) (p q : Plan (ShellResult Known)) → Ran a b p q → Ran a b (led_by_all ks p) (led_by_all ks q)
 ran_led a b [] p q f = f
 ran_led a b (k ∷ ks) p q f = ran_led a b ks (led_by k p) (led_by k q) (ran_under a b p q (λ others t. done_with (Next (k.0 ++ others.0, later k.1 others.1) t)) leaves f)
 
-left_led : (a b : Option (List Event)) (stop : Stop) (ks : List Known) (p : Plan (Result Known)) → Left a b p stop → Left a b (led_by_all ks p) stop
+left_led : (a b : Option (List Event)) (stop : Stop) (ks : List Known) (p : Plan (ShellResult Known)) → Left a b p stop → Left a b (led_by_all ks p) stop
 left_led a b stop [] p f = f
 left_led a b stop (k ∷ ks) p f = left_led a b stop ks (led_by k p) (left_under a b stop p (λ others t. done_with (Next (k.0 ++ others.0, later k.1 others.1) t)) leaves f)
 

@@ -4,7 +4,7 @@ use Rattle.std.specs.Borrow.{Bor}
 use Rattle.rc_model.specs.Run.Builtins as model
 use Rattle.rc_builtin.specs.declared.known_names.Known.{Known}
 
--- the status that was met
+-- the status of the last name that has one
 abbrev pub status_of : Option (Bor (List ℕ)) → Option (List ℕ)
 status_of status = option_map (λ s. s.now) status
 

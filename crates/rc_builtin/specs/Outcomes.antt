@@ -1,4 +1,4 @@
--- What the words of a simple command come to.
+-- The outcome of the words of a simple command.
 use Rattle.std.specs.Prelude.{◌≡◌, List, [], Option, Result, Ok, Err, map, string_bytes}
 use Rattle.rc_model.specs.Run.Calls.{Event}
 use Rattle.rc_model.specs.Run.Plans.{Plan, done_with, Ran}
@@ -13,10 +13,10 @@ use Rattle.rc_world.specs.declared.starts.Stop.{Stop}
 use Rattle.rc_builtin.specs.declared.simple_commands.Outcome.{Outcome}
 use Rattle.rc_builtin.specs.declared.simple_commands.Outcome.TheVariants as words
 
--- the words of a simple command came to their end in this state, to a body that is to be called, or to the end of the
--- shell
-abbrev pub RunsWords : (before after : Option (List Event)) → Plan (shell.Result Called) → State → Result Outcome Stop →
-    Type 0
+-- the words of a simple command are finished in this state, or lead to a body that is to be called, or to the end of
+-- the shell
+abbrev pub RunsWords : (before after : Option (List Event)) → Plan (shell.ShellResult Called) → State →
+    Result Outcome Stop → Type 0
 RunsWords before after plan s (Ok words.Finished) = Ran before after plan (done_with (shell.Next Finished s))
 RunsWords before after plan s (Ok (words.Body body)) =
     (called : Node cmd) × (code_of body ≡ code called)

@@ -1,4 +1,4 @@
--- What the words of a simple command begin with.
+-- The first of the words of a simple command.
 use Rattle.std.specs.Prelude.{◌≡◌, List, [], ◌∷◌, ℕ, Some}
 use Rattle.rc_model.specs.Run.Builtins.{builtin_named}
 use Rattle.rc_model.specs.declared.builtin.Builtin.TheVariants.{BuiltinWord}

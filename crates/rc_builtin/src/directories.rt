@@ -12,14 +12,14 @@ use rc_scope::State;
 use rc_world::{Stop, World, calls};
 use std::alloc::{AllocError, Global};
 
-/// Whether a directory is not looked for by `$cdpath`.
+/// Whether a directory is not looked up in `$cdpath`.
 fn is_own_dir(dir: &str) -> bool
     ensures { result ≡ is_own_dir dir.now }
 {
     is_path(dir) || dir == "." || dir == ".."
 }
 
-/// Where a directory may be.
+/// The path of a directory under a member of `$cdpath`.
 fn under_dir(alloc: Global, dir: &str, member: &str) -> Result<String, AllocError>
     ensures { IfOk result (λ path. string_bytes path ≡ under_dir dir.now member.now) }
 {
@@ -29,7 +29,7 @@ fn under_dir(alloc: Global, dir: &str, member: &str) -> Result<String, AllocErro
     format!(in alloc; "{member}/{dir}")
 }
 
-/// The paths to be tried, by the members of `$cdpath`.
+/// The paths to try, by the members of `$cdpath`.
 fn dirs_by(alloc: Global, dir: &str, members: &[String]) -> Result<Vec<String>, AllocError>
     ensures { IfOk result (λ dirs. map string_bytes dirs.items ≡ dirs_by dir.now (map string_bytes members.now)) }
 {
@@ -44,14 +44,14 @@ fn dirs_by(alloc: Global, dir: &str, members: &[String]) -> Result<Vec<String>, 
     Ok(dirs)
 }
 
-/// The paths to be tried for this directory.
+/// The paths to try for this directory.
 fn dirs_of(alloc: Global, state: &State, dir: &str) -> Result<Vec<String>, AllocError>
     ensures { IfOk result (λ dirs. map string_bytes dirs.items ≡ dirs_of (state_of state.now) (dir.now ∷ [])) }
 {
     dirs_by(alloc, dir, state.value("cdpath"))
 }
 
-/// The paths to be tried for the home directory: none where there is none.
+/// The paths to try for the home directory: none if there isn't one.
 fn home_dirs(alloc: Global, state: &State) -> Result<Vec<String>, AllocError>
     ensures { IfOk result (λ dirs. map string_bytes dirs.items
         ≡ dirs_of (state_of state.now) (first_member (value_of (state_of state.now) (codes "home")))) }
@@ -62,7 +62,7 @@ fn home_dirs(alloc: Global, state: &State) -> Result<Vec<String>, AllocError>
     }
 }
 
-/// Changes to the first of these directories that there is.
+/// Changes to the first of these directories that exists.
 #[tactic(auto, using(rc_pipes::proofs::ProgramActs::acting))]
 fn first_dir<W: World>(world: &mut W, state: &mut State, dirs: &[String]) -> Result<(), Stop>
     ensures does { Does W.events world.old world.new state_of state.old state.new
@@ -79,8 +79,8 @@ fn first_dir<W: World>(world: &mut W, state: &mut State, dirs: &[String]) -> Res
     Ok(())
 }
 
-/// Changes the directory: to the one that the word names, and without words to the home directory. The status is null,
-/// or `cannot cd` where no directory could be changed to; with several words it is `usage`.
+/// Changes to the directory that the word names, or without words to the home directory. The status is null, or `cannot
+/// cd` if there was none to change to; with several words it is `usage`.
 #[tactic(auto, using(rc_pipes::proofs::ProgramActs::acting))]
 pub fn change_dir<W: World>(
     alloc: Global,

@@ -10,7 +10,7 @@ use rc_scope::State;
 use rc_text::flat;
 use std::alloc::{AllocError, Global};
 
-/// The status with which `exit` ends the shell: the words joined by spaces, and the last one without words.
+/// Sets the status that `exit` ends the shell with: the words joined by spaces; without words it stays.
 pub fn exit_status(alloc: Global, state: &mut State, words: &[String]) -> Result<(), AllocError>
     ensures ok { OnOk result (exit_status (map string_bytes words.now) (state_of state.old)
         ≡ done_with (Next tt (state_of state.new))) }

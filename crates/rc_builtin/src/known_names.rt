@@ -1,4 +1,4 @@
-//! What names stand for.
+//! The meaning of names, for `whatis`.
 
 ghost use Rattle.std.specs.Prelude.{◌≡◌, ◌++◌, None, true, false, IfOk, IfSome, OnErr, if◌then◌else◌};
 ghost use Rattle.std.specs.Prelude.{codes, map, string_bytes};
@@ -22,14 +22,14 @@ use rc_tree::Cmd;
 use rc_world::{Slots, Stop, World, calls};
 use std::alloc::{AllocError, Global};
 
-/// What is known of names: lines, and the last status that was met.
+/// What is known of names: lines, and the status of the last name that has one.
 #[derive(Drop)]
 pub(crate) struct Known {
     lines: String,
     status: Option<&'static str>,
 }
 
-/// The text of a function's body; `None` where it has a here document.
+/// The text of a function's body, or `None` if it has a here document.
 fn body_text(alloc: Global, body: &Cmd) -> Result<Option<String>, AllocError>
     ensures here { IfOk result (λ text. MatchOption text (has_here (cmd_tree body.now) ≡ true)
         (λ t. has_here (cmd_tree body.now) ≡ false)) }
@@ -71,7 +71,7 @@ fn builtin_line(alloc: Global, name: &str) -> Result<Known, AllocError>
     })
 }
 
-/// The line of a program, where it was found.
+/// The line of a program, if it was found.
 fn program_line(alloc: Global, path: Option<String>) -> Result<Known, AllocError>
     ensures { IfOk result (λ k. known k ≡ program_line (path_of path)) }
 {
@@ -89,7 +89,7 @@ fn program_line(alloc: Global, path: Option<String>) -> Result<Known, AllocError
     })
 }
 
-/// What runs by this name: a program is looked for where no variable is shown.
+/// The line of what runs by this name: a program is looked for only if no variable is printed.
 #[tactic(auto, using(rc_pipes::proofs::ProgramActs::acting))]
 fn command_line<W: World>(
     alloc: Global,
@@ -159,7 +159,7 @@ fn known_each<W: World>(
     Ok(Known { lines, status })
 }
 
-/// The status after the lines went out, or did not.
+/// The status after the lines were written, or were not.
 fn status_after(status: Option<&'static str>, written: bool) -> &'static str
     ensures { result.now ≡ (if written then met (status_of status.entry) else codes "cannot write") }
 {
@@ -170,7 +170,7 @@ fn status_after(status: Option<&'static str>, written: bool) -> &'static str
     }
 }
 
-/// Any lines go out in one call.
+/// Writes the lines in one call, if there are any.
 #[tactic(auto, using(rc_pipes::proofs::ProgramActs::acting))]
 fn write_lines<W: World>(
     world: &mut W,
@@ -191,9 +191,9 @@ fn write_lines<W: World>(
     Ok(())
 }
 
-/// Shows what each of the names stands for: a variable, and a function, a built-in command or a program. The status is
-/// `cannot write` where the lines could not be written; else it is that of the last name that is `not found`, or whose
-/// function has a `here document` and is not shown, and null where there is none.
+/// Prints the meaning of each of the names: a variable, and a function, a built-in command or a program. The status is
+/// `cannot write` if the lines could not be written; else it is that of the last name that is `not found`, or whose
+/// function has a `here document` and is not printed, and null if there is none.
 #[tactic(auto, using(rc_pipes::proofs::ProgramActs::acting))]
 pub fn whatis<W: World>(
     alloc: Global,

@@ -1,15 +1,18 @@
-//! Simple commands: what their words run, and the built-in commands.
+//! Simple commands: running their words, and the built-in commands.
 #![tactic(auto)]
 
 mod builtins;
 mod directories;
+mod dot;
+mod eval;
+mod exec;
 mod exits;
-mod files;
 mod known_names;
 mod scripts;
 mod shifts;
 mod shown;
 mod simple_commands;
+mod wait;
 
 pub use directories::change_dir;
 pub use exits::exit_status;

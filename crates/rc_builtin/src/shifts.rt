@@ -11,7 +11,7 @@ use rc_scope::State;
 use rc_text::number_of;
 use std::alloc::AllocError;
 
-/// Takes the first of this count from `$*`; with no count nothing is taken.
+/// Drops this many members of `$*`, or none if there is no count.
 fn shift_by(state: &mut State, count: Option<u32>) -> Result<(), AllocError>
     ensures ok { OnOk result (shifted count (state_of state.old) ≡ done_with (Next Finished (state_of state.new))) }
     ensures err { OnErr result (state_of state.new ≡ state_of state.old) }
@@ -24,8 +24,8 @@ fn shift_by(state: &mut State, count: Option<u32>) -> Result<(), AllocError>
     Ok(())
 }
 
-/// Takes the first members from `$*`: one, or as many as the word says. The status is null. With several words, or one
-/// that is no number, it is `usage`, and nothing is taken.
+/// Drops the first members of `$*`: one, or as many as the word says. The status is null. With several words, or one
+/// that isn't a number, it is `usage`, and nothing is dropped.
 pub fn shift(state: &mut State, words: &[String]) -> Result<(), AllocError>
     ensures ok { OnOk result (shift (map string_bytes words.now) (state_of state.old)
         ≡ done_with (Next Finished (state_of state.new))) }

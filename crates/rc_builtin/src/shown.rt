@@ -1,4 +1,4 @@
-//! How names and values are shown.
+//! How `whatis` prints names and values.
 
 ghost use Rattle.std.specs.Prelude.{◌≡◌, ◌++◌, ◌∷◌, ◌&&◌, ◌==◌, not, length, OnOk, IfOk, map, string_bytes};
 ghost use Rattle.std.specs.List.{list_all};
@@ -24,7 +24,7 @@ fn has_plain_bytes(text: &str) -> bool
     text.bytes().all(|byte| is_plain_byte(byte))
 }
 
-/// Whether the text is a word without quotes.
+/// Whether the text is a word that needs no quotes.
 fn is_bare(text: &str) -> bool
     ensures { result ≡ (not (length text.now == 0)
         && (list_all is_plain_char text.now && is_plain (keyword text.now))) }
@@ -32,7 +32,7 @@ fn is_bare(text: &str) -> bool
     !text.is_empty() && has_plain_bytes(text) && matches!(Keyword::named(text), Keyword::Plain)
 }
 
-/// Writes a member, in quotes where it needs them.
+/// Writes a member, quoted if necessary.
 fn push_shown(out: &mut String, text: &str) -> Result<(), AllocError>
     ensures { OnOk result (string_bytes out.new ≡ string_bytes out.old ++ shown text.now) }
 {
@@ -43,7 +43,7 @@ fn push_shown(out: &mut String, text: &str) -> Result<(), AllocError>
     }
 }
 
-/// Writes members with a space between each two.
+/// Writes members, separated by spaces.
 fn push_members(out: &mut String, first: &str, others: &[String]) -> Result<(), AllocError>
     ensures { OnOk result (string_bytes out.new
         ≡ string_bytes out.old ++ spaced (map shown (first.now ∷ map string_bytes others.now))) }
@@ -71,7 +71,7 @@ fn push_value(out: &mut String, value: &[String]) -> Result<(), AllocError>
     out.push(')')
 }
 
-/// The line of a variable; nothing where there is none of this name, or no member.
+/// The line of a variable, or nothing if there is none of this name, or it has no member.
 pub(crate) fn value_line(alloc: Global, name: &str, value: &[String]) -> Result<String, AllocError>
     ensures { IfOk result (λ line. string_bytes line ≡ value_line name.now (map string_bytes value.now)) }
 {

@@ -1,18 +1,18 @@
-//! What the words of a simple command run.
+//! Running the words of a simple command.
 
-ghost use Rattle.std.specs.Prelude.{◌≡◌, ◌<◌, OnErr, Some, map, string_bytes};
+ghost use Rattle.std.specs.Prelude.{◌≡◌, ◌∷◌, [], IfNone, IfSome, OnErr, map, string_bytes};
 ghost use Rattle.rc_model.specs.Run.Builtins.{run_words};
 ghost use Rattle.rc_builtin.specs.Outcomes.{RunsWords};
 ghost use Rattle.rc_scope.specs.States.{state_of};
 
 use crate::builtins::run_without_functions;
 use rc_code::Code;
-use rc_pipes::fault;
+use rc_pipes::runtime_error;
 use rc_scope::State;
 use rc_world::{Slots, Stop, World};
 use std::alloc::Global;
 
-/// What became of the words of a simple command.
+/// The outcome of the words of a simple command.
 #[derive(Drop)]
 pub enum Outcome {
     /// They ran, and the shell goes on.
@@ -25,7 +25,19 @@ pub enum Outcome {
     Exit,
 }
 
-/// Runs the words of a simple command. An `Err` leaves the state as it was.
+/// Splits off the name that words begin with.
+pub(crate) fn name_and_args(mut words: Vec<String>) -> Option<(String, Vec<String>)>
+    ensures none { IfNone result (words.items ≡ []) }
+    ensures some { IfSome result (λ found. words.items ≡ found.0 ∷ found.1.items) }
+{
+    if words.is_empty() {
+        return None;
+    }
+    let name = words.remove(0);
+    Some((name, words))
+}
+
+/// Runs the words of a simple command. On `Err` the state has not changed.
 #[tactic(auto, using(crate::proofs::Left::words_refused))]
 pub fn run_words<W: World>(
     alloc: Global,
@@ -39,7 +51,7 @@ pub fn run_words<W: World>(
     ensures err { OnErr result (state_of state.new ≡ state_of state.old) }
 {
     let Some(name) = words.first() else {
-        fault(alloc, world, state, slots, "empty argument list")?;
+        runtime_error(alloc, world, state, slots, "empty argument list")?;
         return Ok(Outcome::Exit);
     };
     if let Some(body) = state.code(name)? {

@@ -1,18 +1,28 @@
 -- What the laws of syntax and of prints say of findings and canonical forms.
-use Rattle.std.proofs.Common.{◌≡◌, ℕ, ◌≤◌, true, false, List, length, Option, Some, None, Bool, is_some, not, refl, sym, subst}
+use Rattle.std.proofs.Common.{◌≡◌, ℕ, ◌≤◌, true, false, List, length, Option, Some, None, Ok, Vec, Global, Bool, is_some, not, refl, sym, subst}
 use Rattle.std.proofs.lemmas.Str.{IsUtf8-from_is_utf8}
 use Rattle.std.specs.Prelude.{◌↔◌, IsTrue}
-use Rattle.rc_model.specs.Syntax.Accepted.{IsAccepted, IsRefused, longest_script}
+use Rattle.std.specs.Str.{IsUtf8}
+use Rattle.rc_lexer.specs.Answers.{IsLexed}
+use Rattle.rc_lexer.specs.Views.{tokens_of}
+use Rattle.rc_lexer.specs.declared.Token.{Token}
+use Rattle.rc_model.specs.Mirrors.Spelling.{AreSpelled}
+use Rattle.rc_model.specs.Syntax.Accepted.{IsAccepted, IsRefused, lexemes, longest_script}
 use Rattle.rc_model.specs.Syntax.Printing.{has_here, printed}
 use Rattle.rc_model.specs.Syntax.Tree.{Node, cmd}
 use Rattle.rc_model.specs.declared.fault.SyntaxFault.{SyntaxFault}
 use Rattle.law_syntax.proofs.Decided.{accepted_formed, never_both}
+use Rattle.law_syntax.proofs.Spelled.{spelled_tokens}
 use Rattle.law_print.proofs.Round.{round_trip}
 use Rattle.rc_check.specs.Findings.{HasTheTreeOf, IsChecked, IsScript}
-use Rattle.rc_check.specs.declared.findings.Finding.{Finding}
+use Rattle.rc_check.specs.declared.faults.findings.Finding.{Finding}
 
 differ : false ≡ true → ⊥
 differ e = cc
+
+-- the tokens of a text are spelled as the language has it
+pub lexed_are_spelled : (text : List ℕ) (tokens : Vec Token Global) → IsUtf8 text → IsLexed {Z = Global} text (Ok tokens) → AreSpelled (lexemes (tokens_of text tokens.items))
+lexed_are_spelled text tokens utf8 read = spelled_tokens text (tokens_of text tokens.items) utf8 read.found
 
 -- a refused script is no accepted one
 pub never_accepted : (script : List ℕ) (f : SyntaxFault) → IsRefused script f → ¬ IsScript script

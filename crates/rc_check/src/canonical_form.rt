@@ -17,7 +17,7 @@ pub enum Canonical {
     Text(String),
     /// The script is not accepted.
     Refused,
-    /// A here document is inside.
+    /// There is a here document inside.
     HereInside,
     /// The form is longer than a script may be.
     TooLong,

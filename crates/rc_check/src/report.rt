@@ -1,18 +1,18 @@
-//! What is written for a script.
+//! The report on a script.
 
 ghost use Rattle.std.specs.Prelude.{IsTrue, ◌↔◌, IfOk};
 ghost use Rattle.rc_check.specs.Findings.{IsScript};
 
-use crate::findings::{Finding, first_fault};
-use crate::positions::position_of;
-use crate::warning::Warning;
-use crate::warning_walk::warnings_of;
+use crate::faults::findings::{Finding, first_fault};
+use crate::positions::{Position, Reached, beginning, go_to, position_of};
+use crate::warnings::walk::warnings_of;
+use crate::warnings::warning::WarningKind;
 use std::alloc::{AllocError, Global};
 
-/// How many bytes of a line are shown on each side of a place.
+/// The greatest number of bytes of a line that are shown on each side of a place.
 const MOST_SHOWN: usize = 200;
 
-/// What is written for a script.
+/// The report on a script.
 #[derive(Drop)]
 pub struct Report {
     /// For a fault or a warning `NAME:LINE:COLUMN: WORDS`, the line, a mark below the place, and any advice. Empty if
@@ -21,7 +21,7 @@ pub struct Report {
     pub is_accepted: bool,
 }
 
-/// What is written for a script of this name.
+/// Reports on a script of this name.
 pub fn report_of(alloc: Global, name: &str, script: &[u8]) -> Result<Report, AllocError>
     ensures { IfOk result (λ report. IsTrue report.is_accepted ↔ IsScript script.now) }
 {
@@ -43,11 +43,7 @@ fn text_of(
     let mut text = String::new(alloc);
     match found {
         Some(finding) => show_finding(alloc, &mut text, name, script, finding)?,
-        None => {
-            for warning in &warnings_of(alloc, script)? {
-                show_warning(alloc, &mut text, name, script, *warning)?;
-            }
-        }
+        None => show_warnings(alloc, &mut text, name, script)?,
     }
     Ok(text)
 }
@@ -62,7 +58,8 @@ fn show_finding(
     let kind = finding.fault.kind;
     match finding.place {
         Some(place) => {
-            show_place(out, name, script, place)?;
+            let place = place.min(script.len());
+            show_place(out, name, position_of(script, place))?;
             write!(out, "{kind}\n")?;
             show_line(alloc, out, script, place)?;
         }
@@ -74,25 +71,38 @@ fn show_finding(
     Ok(())
 }
 
+/// Writes the warnings of a script.
+fn show_warnings(
+    alloc: Global,
+    out: &mut String,
+    name: &str,
+    script: &[u8],
+) -> Result<(), AllocError> {
+    let mut reached = beginning(script);
+    for warning in &warnings_of(alloc, script)? {
+        reached = go_to(script, reached, warning.place.min(script.len()));
+        show_warning(alloc, out, name, script, warning.kind, reached)?;
+    }
+    Ok(())
+}
+
 fn show_warning(
     alloc: Global,
     out: &mut String,
     name: &str,
     script: &[u8],
-    warning: Warning,
+    kind: WarningKind,
+    reached: Reached,
 ) -> Result<(), AllocError> {
-    let kind = warning.kind;
     let short = kind.name();
-    show_place(out, name, script, warning.place)?;
+    show_place(out, name, reached.position)?;
     write!(out, "{kind} [{short}]\n")?;
-    show_line(alloc, out, script, warning.place)
+    show_line(alloc, out, script, reached.place)
 }
 
-/// Writes the name of a file and the position of a place in it.
-fn show_place(out: &mut String, name: &str, script: &[u8], place: usize) -> Result<(), AllocError> {
-    let position = position_of(script, place.min(script.len()));
-    let line = position.line;
-    let column = position.column;
+/// Writes the name of a file and a position in it.
+fn show_place(out: &mut String, name: &str, position: Position) -> Result<(), AllocError> {
+    let Position { line, column } = position;
     write!(out, "{name}:{line}:{column}: ")
 }
 
@@ -113,14 +123,14 @@ fn show_line(
     out.push_str("^\n")
 }
 
-/// What stands after the last newline of a text, as far as it is shown.
+/// The end of a text after its last newline, as far as it is shown.
 fn end_of_line(text: &[u8]) -> &[u8] {
-    let line = text.rsplit(|byte| *byte == b'\n').next().unwrap_or(text);
-    &line[line.len().saturating_sub(MOST_SHOWN)..]
+    let shown = &text[text.len().saturating_sub(MOST_SHOWN)..];
+    shown.rsplit(|byte| *byte == b'\n').next().unwrap_or(shown)
 }
 
-/// What stands before the first newline of a text, as far as it is shown.
+/// The beginning of a text before its first newline, as far as it is shown.
 fn begin_of_line(text: &[u8]) -> &[u8] {
-    let line = text.split(|byte| *byte == b'\n').next().unwrap_or(text);
-    &line[..line.len().min(MOST_SHOWN)]
+    let shown = &text[..text.len().min(MOST_SHOWN)];
+    shown.split(|byte| *byte == b'\n').next().unwrap_or(shown)
 }

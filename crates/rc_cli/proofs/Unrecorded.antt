@@ -4,9 +4,9 @@ use Rattle.std.specs.Prelude.{IfOk, IfErr, Vec}
 use Rattle.std.specs.declared.alloc.Global.{Global}
 use Rattle.rc_model.specs.Run.Calls.{Event}
 use Rattle.rc_model.specs.Syntax.Accepted.{longest_script}
-use Rattle.rc_shell.proofs.Runs.{recorded_nothing}
+use Rattle.rc_shell.specs.Executed.{Program, text_from}
 use Rattle.rc_cli.specs.Requests.{Request, name_of}
-use Rattle.rc_cli.specs.Runs.{IsScriptOf, IsUnread, Program, RunsAsMeant, RunsInput, RunsRead, most_instructions, text_from}
+use Rattle.rc_cli.specs.Runs.{IsScriptOf, IsUnread, RunsInput, RunsProgram, RunsRead}
 use Rattle.rc_cli.specs.Start.{first_state}
 use Rattle.rc_cli.specs.declared.fault.RunError.{RunError}
 use Rattle.rc_cli.specs.declared.fault.RunError.TheVariants.{Usage, CannotRead, NoMemory}
@@ -17,8 +17,8 @@ script_of None = ([], tt)
 script_of (Some bytes) = (take (suc longest_script) bytes, refl)
 
 -- a run that was left out of memory before its first call
-pub left_unrecorded : (recorded : Option (List Event)) (p : Program) → RunsAsMeant recorded recorded p (Err NoMemory)
-left_unrecorded recorded p = (λ t s is. recorded_nothing most_instructions t s recorded recorded, λ error reason. refl)
+pub left_unrecorded : (recorded : Option (List Event)) (p : Program) → RunsProgram recorded recorded p (Err NoMemory)
+left_unrecorded recorded p = inr (refl, refl)
 
 -- why a script was not read
 abbrev IsReadingError : Bor (List ℕ) → RunError → Type 0

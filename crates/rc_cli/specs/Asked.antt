@@ -1,4 +1,4 @@
--- What a `Request` of the program stands for.
+-- The request that a `Request` of the program represents.
 use Rattle.std.specs.Prelude.{map, string_bytes}
 use Rattle.rc_cli.specs.Requests as model
 use Rattle.rc_cli.specs.declared.request.Source.{Source}

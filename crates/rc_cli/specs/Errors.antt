@@ -1,4 +1,4 @@
--- Why a run failed: what an error of the system is, and the line that says it.
+-- Why a run failed: the error for an error of the system, and the line that is printed.
 use Rattle.std.specs.Prelude.{ℕ, List, ◌++◌, codes}
 use Rattle.rc_model.specs.declared.call.Fault as call
 use Rattle.rc_model.specs.declared.call.Fault.TheVariants as refusal
@@ -17,7 +17,7 @@ error_line NoMemory = codes "rc: no memory"
 error_line Limit = codes "rc: limit"
 error_line Halted = codes "rc: halted"
 
--- what an error of the system is, by the fault that it stands for: out of memory, or else this other one
+-- the error for an error of the system, by its fault: out of memory, or else this other one
 abbrev pub error_at : call.Fault → RunError → RunError
 error_at refusal.NoMemory other = NoMemory
 error_at _ other = other

@@ -1,15 +1,15 @@
--- What the arguments of the program ask for.
+-- The requests that the arguments of the program make.
 use Rattle.std.specs.Prelude.{ℕ, List, [], ◌∷◌, Bool, true, false, ◌==◌, if◌then◌else◌, Option, Some, None, codes}
 use Rattle.std.specs.Str.{bytes_eq}
 
--- where the script comes from: standard input, an argument, the file of this name, or an image
+-- the source of the script: standard input, an argument, the file of this name, or an image
 pub data Source : Type 0 where
   Input : Source
   Text : List ℕ → Source
   File : List ℕ → Source
   Image : Source
 
--- the name of what is read, where something is
+-- the name of the file that is read, if there is one
 abbrev pub name_of : Source → Option (List ℕ)
 name_of Input = Some (codes "standard input")
 name_of (Text text) = None
@@ -28,12 +28,12 @@ abbrev pub is_option : List ℕ → Bool
 is_option [] = false
 is_option (b ∷ rest) = b == 45
 
--- `-c` wants a text after it
+-- `-c` needs a text after it
 abbrev pub request_of_text : Bool → List (List ℕ) → Option Request
 request_of_text strict [] = None
 request_of_text strict (text ∷ others) = Some (record { strict = strict; source = Text text; arguments = others })
 
--- `[-c text | file] [arg ...]`, or `-S` and the words of an image: any other option is none of the shell's
+-- `[-c text | file] [arg ...]`, or `-S` and the words of an image; there are no other options
 abbrev pub request_of_script : Bool → List (List ℕ) → Option Request
 request_of_script strict [] = Some (record { strict = strict; source = Input; arguments = [] })
 request_of_script strict (first ∷ others) =
@@ -42,7 +42,7 @@ request_of_script strict (first ∷ others) =
     else if is_option first then None
     else Some (record { strict = strict; source = File first; arguments = others })
 
--- `-e` comes before all else
+-- `-e` comes first
 abbrev pub request_of : List (List ℕ) → Option Request
 request_of [] = request_of_script false []
 request_of (first ∷ others) =

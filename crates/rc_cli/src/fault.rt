@@ -9,13 +9,12 @@ use std::alloc::AllocError;
 use std::error::Error;
 use std::{fmt, io};
 
-/// Why a run of the program failed. It is shown as the line that the program prints, without a
-/// newline.
+/// Why a run of the program failed. Its `Display` is the line that the program prints, without a newline.
 #[derive(Clone, Copy, Debug, PartialEq)]
 pub enum RunError<'a> {
-    /// The arguments ask for nothing that the program does.
+    /// The arguments are not a valid request.
     Usage,
-    /// What has this name couldn't be read: the script's file, or `standard input`.
+    /// The file of this name couldn't be read: that of the script, or `standard input`.
     CannotRead(&'a str),
     Syntax(SyntaxFault),
     /// What was handed over doesn't read back.
@@ -38,7 +37,7 @@ impl<'a> From<AllocError> for RunError<'a> {
 }
 
 impl<'a> RunError<'a> {
-    /// What an error of the system is: out of memory, or else this other one.
+    /// The error for an error of the system: out of memory, or else `other`.
     pub(crate) fn at(error: &io::Error, other: RunError<'a>) -> RunError<'a>
         ensures { result ≡ error_at (fault_at error.now) other.entry }
     {

@@ -1,4 +1,4 @@
-//! What the program does, over any world and any reader.
+//! The program, over any world and any reader.
 #![tactic(auto)]
 
 mod fault;

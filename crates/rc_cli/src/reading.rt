@@ -1,4 +1,4 @@
-//! The reading of a script.
+//! Reading a script.
 ghost use Rattle.std.specs.Prelude.{◌≡◌, ◌⊎◌, None, Err, IfOk, IfErr, IfSome};
 ghost use Rattle.rc_cli.specs.Runs.{IsScriptOf};
 ghost use Rattle.rc_cli.specs.declared.fault.RunError.TheVariants.{CannotRead, NoMemory};
@@ -11,8 +11,8 @@ use std::io::Read;
 /// One byte more than a script may have.
 const MOST_BYTES: u64 = LONGEST_SCRIPT as u64 + 1;
 
-/// The bytes of the script that is read from an input of this name, if it could be opened. No more are read than it
-/// takes to see that it is too long.
+/// Reads the bytes of the script from an input of this name, if it could be opened. It reads no more than it takes to
+/// see that the script is too long.
 pub(crate) fn read_script<'a, R: Read + Drop>(
     alloc: Global,
     input: Option<R>,

@@ -1,4 +1,4 @@
-//! What the arguments of the program ask for.
+//! The requests that the arguments of the program make.
 ghost use Rattle.std.specs.Prelude.{◌≡◌, map, option_map, string_bytes};
 ghost use Rattle.rc_cli.specs.Asked.{asked};
 ghost use Rattle.rc_cli.specs.Requests.{request_of, request_of_script, is_option};
@@ -10,9 +10,9 @@ pub enum Source<'a> {
     Input,
     /// An argument, after `-c`.
     Text(&'a str),
-    /// The file of this name.
+    /// The file with this name.
     File(&'a str),
-    /// An image. Its words come first among the arguments.
+    /// An image, whose words come first among the arguments.
     Image,
 }
 
@@ -31,7 +31,7 @@ fn is_option(word: &str) -> bool
     word.starts_with('-')
 }
 
-/// What `[-c text | file] [arg ...]` asks for, or `-S` and the words of an image.
+/// Parses `[-c text | file] [arg ...]`, or `-S` and the words of an image.
 fn request_of_script(strict: bool, arguments: &[String]) -> Option<Request<'_>>
     ensures { option_map asked result ≡ request_of_script strict (map string_bytes arguments.now) }
 {
@@ -52,7 +52,7 @@ fn request_of_script(strict: bool, arguments: &[String]) -> Option<Request<'_>>
     })
 }
 
-/// What the arguments of the program ask for: `None` for a wrong use.
+/// Parses the arguments of the program: `None` for wrong usage.
 pub fn request_of(arguments: &[String]) -> Option<Request<'_>>
     ensures { option_map asked result ≡ request_of (map string_bytes arguments.now) }
 {

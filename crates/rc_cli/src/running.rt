@@ -16,8 +16,8 @@ use std::alloc::Global;
 use std::io::Read;
 use std::mem::forget;
 
-/// Runs what the arguments ask for, with these entries of the environment, and answers the number that the process ends
-/// with. The input is that of the script's file, if it could be opened, or else standard input.
+/// Runs what the arguments ask for, with these entries of the environment, and returns the exit status of the process.
+/// The input is that of the script's file, if it could be opened, or else standard input.
 pub fn run_rc<'a, W: World, R: Read + Drop>(
     alloc: Global,
     world: &mut W,
@@ -60,7 +60,7 @@ fn run_input<'a, W: World, R: Read + Drop>(
     run_read(alloc, world, request, entries, read)
 }
 
-/// Runs the script that was read, or answers why it was not.
+/// Runs the script that was read, or returns why it was not read.
 fn run_read<'a, W: World>(
     alloc: Global,
     world: &mut W,
@@ -116,8 +116,8 @@ fn run_image<'a, W: World>(
     ))
 }
 
-/// The answer of the program, by that of the shell. The process ends then, so the memory of the
-/// state is left to the system, which takes it back at once.
+/// The result of the program, by that of the shell. The process then ends, so the memory of the state is left to the
+/// system, which takes it back at once.
 fn answer<'a>(ran: Result<Ran, ShellFault>) -> Result<u8, RunError<'a>>
     ensures usage { result ≢ Err RunError.Usage }
     ensures answers { Answers ran result }

@@ -34,12 +34,12 @@ fn given_state(alloc: Global, entries: &[String]) -> Result<State, AllocError>
 {
     match read_state(alloc, false, &[], entries) {
         Ok(state) => Ok(state),
-        // No function is read, and so no image is at fault.
+        // No function is read, so no image has a fault.
         Err(_) => Err(AllocError),
     }
 }
 
-/// Sets `$*`, also where there are no arguments.
+/// Sets `$*`, even if there are no arguments.
 fn set_arguments(alloc: Global, state: &mut State, arguments: &[String]) -> Result<(), AllocError>
     ensures { OnOk result (state_of state.new
         ≡ set_value (state_of state.old) (codes "*") (map string_bytes arguments.now)) }
@@ -48,7 +48,7 @@ fn set_arguments(alloc: Global, state: &mut State, arguments: &[String]) -> Resu
     state.set("*", arguments).map_err(|_| AllocError)
 }
 
-/// Sets what the environment leaves out.
+/// Sets the variables that the environment lacks.
 #[tactic(auto, unfolding(crate::specs::Start::with_defaults))]
 fn set_defaults(alloc: Global, state: &mut State) -> Result<(), AllocError>
     ensures { OnOk result (state_of state.new ≡ with_defaults (state_of state.old)) }
@@ -61,7 +61,7 @@ fn set_defaults(alloc: Global, state: &mut State) -> Result<(), AllocError>
     set_default(state, "home", home)
 }
 
-/// Sets a variable that has no members.
+/// Sets a variable, if it has no members.
 #[tactic(auto, unfolding(crate::specs::Start::with_default))]
 fn set_default(state: &mut State, name: &str, value: Vec<String>) -> Result<(), AllocError>
     ensures { OnOk result (state_of state.new

@@ -1,11 +1,11 @@
-//! The number that the process ends with.
+//! The exit status of the process.
 ghost use Rattle.std.specs.Prelude.{◌≡◌, ◌≢◌, ℕ, ◌<◌, ◌≤◌, ◌↔◌, IsTrue, IfSome, IfNone, slice_index};
 ghost use Rattle.std.specs.Fmt.{decimal};
 ghost use Rattle.rc_cli.specs.Statuses.{IsProcessStatus};
 
 use rc_text::is_true;
 
-/// The number that the process ends with where the script ends with this status.
+/// The exit status of the process for this status of its script.
 pub(crate) fn process_status(status: &str) -> u8
     ensures { IsProcessStatus status.now result }
 {
@@ -16,7 +16,7 @@ pub(crate) fn process_status(status: &str) -> u8
     }
 }
 
-/// The number of 1 to 255 that this is the decimal of.
+/// Parses the decimal of a number of 1 to 255.
 fn code_of(status: &str) -> Option<u8>
     ensures found { IfSome result (λ n. (0 < n) × (n < 256) × (status.now ≡ decimal n)) }
     ensures none { IfNone result ((n : ℕ) → 0 < n → n < 256 → status.now ≢ decimal n) }
@@ -28,7 +28,7 @@ fn code_of(status: &str) -> Option<u8>
     }
 }
 
-/// Whether it begins with a digit above 0.
+/// Whether the text begins with a digit above 0.
 fn has_leading_digit(text: &str) -> bool
     ensures { IsTrue result ↔ ((49 ≤ slice_index text.now 0) × (slice_index text.now 0 ≤ 57)) }
 {

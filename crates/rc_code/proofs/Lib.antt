@@ -1,3 +1,4 @@
+pub mod Naming
 pub mod Redirecting
 pub mod Parts
 pub mod Branches

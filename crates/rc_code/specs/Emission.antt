@@ -47,31 +47,31 @@ undefine_code names = cmd_code (tree.Undefine names) false
 abbrev pub subshell_code : Node cmd → Part
 subshell_code body = cmd_code (tree.Subshell body) false
 
--- an assignment, without what stands after it
+-- an assignment, without the code after it
 abbrev pub pair_code : Node pair → (bare : Bool) → Part
 pair_code (Pair name value) bare = arg_code name ⨾ arg_code value ⨾ Do Glob ⨾ Do (assign_by bare)
 
--- assignments, without what stands after them
+-- assignments, without the code after them
 abbrev pub pairs_alone : Many pair → (bare : Bool) → Part
 pairs_alone none bare = Nothing
 pairs_alone (more x rest) bare = pair_code x bare ⨾ pairs_alone rest bare
 
--- a redirection, without what stands after it
+-- a redirection, without the code after it
 abbrev pub redir_code : Node redir → Part
 redir_code (tree.Open mode slot path) = arg_code path ⨾ Do Glob ⨾ Do (Open mode slot)
 redir_code (tree.Copy to from) = Do (Copy to from)
 redir_code (tree.Here pieces) = Keep Here (KeptPieces pieces)
 
--- redirections, without what stands after them
+-- redirections, without the code after them
 abbrev pub redirs_alone : Many redir → Part
 redirs_alone none = Nothing
 redirs_alone (more x rest) = redir_code x ⨾ redirs_alone rest
 
--- a branch of a `switch` that is left for a known place
+-- a branch of a `switch` that ends with a jump to a known place
 abbrev pub branch_to : Node branch → (guarded : Bool) → (p : ℕ) → Part
 branch_to (Branch patterns body) g p = list_code patterns ⨾ Past Case (cmd_code body g ⨾ Do (Jump p))
 
--- branches of a `switch` that are left for a known place
+-- branches of a `switch` that end with jumps to a known place
 abbrev pub branches_to : Many branch → (guarded : Bool) → (p : ℕ) → Part
 branches_to none g p = Nothing
 branches_to (more b rest) g p = branch_to b g p ⨾ branches_to rest g p

@@ -1,3 +1,5 @@
+pub mod Words
+pub mod Names
 pub mod Listings
 pub mod Views
 pub mod Writing

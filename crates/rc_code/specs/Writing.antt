@@ -1,4 +1,4 @@
--- How a part is written: at the end of the code, with each jump put in when its target is known.
+-- How a part is written: at the end of the code, with each jump back-patched when its target is known.
 use Rattle.std.specs.Prelude.{◌≡◌, ℕ, List, [], ◌∷◌, ◌++◌, length, slice_set}
 use Rattle.rc_model.specs.Code.Layout.{Op, Jump, Kept, Code, Part, ops_of, kept_of}
 use Rattle.rc_code.specs.Listings.{listing_of}
@@ -8,7 +8,7 @@ use Rattle.rc_code.specs.declared.listing.Listing as program
 unfoldable pub with_part : Code → Part → Code
 with_part c part = record { ops = c.ops ++ ops_of part (length c.ops) (length c.kept); kept = c.kept ++ kept_of part }
 
--- the code with something more beside it
+-- the code with one more thing kept beside it
 unfoldable pub with_kept : Code → Kept → Code
 with_kept c x = record c { kept = c.kept ++ x ∷ [] }
 
@@ -16,7 +16,7 @@ with_kept c x = record c { kept = c.kept ++ x ∷ [] }
 unfoldable pub patched : Code → (p : ℕ) → Op → Code
 patched c p op = record c { ops = slice_set c.ops p op }
 
--- the code with jumps to one place at several
+-- the code with jumps to the same place at several places
 unfoldable pub redirected : Code → List ℕ → (p : ℕ) → Code
 redirected c [] p = c
 redirected c (from ∷ places) p = redirected (patched c from (Jump p)) places p

@@ -1,105 +1,110 @@
-//! The instructions, and the code that they stand in.
+//! The instructions, and the code that holds them.
 
-ghost use Rattle.std.specs.Prelude.{◌≡◌, ◌<◌, ◌^◌, IfOk, IfSome, IsOk, IsSome, OnOk, option_map, slice_get};
+ghost use Rattle.std.specs.Prelude.{◌≡◌, ◌<◌, ◌^◌, IfOk, IfSome, IsOk, IsSome, OnOk, length, option_map, slice_get};
 ghost use Rattle.std.specs.Option.{option_copied};
 ghost use Rattle.law_handed.specs.Kept.{AllKeptProper};
 ghost use Rattle.rc_model.specs.Handed.Proper.{IsProperTree};
 ghost use Rattle.rc_tree.specs.View.{cmd_tree, stages_tree, pieces_tree};
-ghost use Rattle.rc_code.specs.Listings.{op_of, listing_of};
+ghost use Rattle.rc_code.specs.Listings.{listing_of};
+ghost use Rattle.rc_code.specs.Names.{IsNamed, op_of, pipeline_at};
 ghost use Rattle.rc_code.specs.ProperCode.{kept_prop};
+ghost use Rattle.rc_code.specs.Words.{word_at};
 
 use crate::listing::Listing;
+use crate::pipelines::Pipeline;
 use rc_text::Literal;
 use rc_tree::{Cmd, Mode, Piece, Stage};
 use std::alloc::{AllocError, Global};
 use std::rc::Rc;
 
-/// One instruction. A place in the code is a `usize`, and so is the number of what is kept beside it.
-#[derive(Drop)]
+/// One instruction, in eight bytes. A place in the code has 32 bits, and so has the number of what stands beside it.
+#[derive(Clone, Copy)]
 pub enum Op {
     /// Pushes the empty list.
     Nil,
-    /// Pushes a list of one word.
-    Word(Rc<Literal>),
+    /// Pushes a list of one word, that of this number.
+    Word(u32),
     /// Pops two lists and pushes the first followed by the second.
     Join,
-    /// Pops two lists and pushes their concatenation, which is made word by word.
+    /// Pops two lists and pushes their concatenation, word by word.
     Concat,
     /// Pops the name of a variable and pushes its members.
     Value,
-    /// Pops the name of a variable and pushes how many members it has.
+    /// Pops the name of a variable and pushes the number of its members.
     Count,
     /// Pops the name of a variable and pushes its members as one word.
     Flat,
-    /// Pops the name of a variable and a list of subscripts, and pushes the members that these select.
+    /// Pops the name of a variable and a list of subscripts, and pushes the members that they select.
     Select,
-    /// Pops a list and pushes its words, with file names in the place of patterns.
+    /// Pops a list and pushes its words, with file names in place of patterns.
     Glob,
-    /// Pushes the output of the tree of this number.
-    Back(usize),
+    /// Pushes the output of the tree at this index.
+    Back(u32),
     /// Pops a list and runs it as a simple command.
     Run,
     /// Ends a strict shell after a simple command that failed.
     Check,
-    /// Pops a list and pushes its members as the one word that patterns are held against.
+    /// Pops a list and pushes its members as the one word that patterns are matched against.
     Subject,
     /// Pops a list.
     Drop,
-    /// Pops the patterns of a case, and jumps to this place where none of them matches the subject, which stays.
-    Case(usize),
+    /// Pops the patterns of a case, and jumps to this place if none of them matches the subject, which stays.
+    Case(u32),
     /// Pops a subject and its patterns, and sets the status by whether one of them matches.
     Match,
     /// Jumps to this place.
-    Jump(usize),
-    /// Jumps to this place where the status is true.
-    IfTrue(usize),
-    /// Jumps to this place where the status is not true.
-    IfFalse(usize),
+    Jump(u32),
+    /// Jumps to this place if the status is true.
+    IfTrue(u32),
+    /// Jumps to this place if the status is not true.
+    IfFalse(u32),
     /// Sets the status to null, which is true.
     SetNull,
     /// Turns a true status into `false`, and any other into null.
     Invert,
-    /// Where the status is not true, sets the flag of `if not` and jumps to this place.
-    If(usize),
+    /// If the status is not true, sets the flag of `if not` and jumps to this place.
+    If(u32),
     /// Clears the flag of `if not`.
     WasTrue,
-    /// Jumps to this place where the flag of `if not` is clear.
-    IfNot(usize),
-    /// Pops a list and a name, and begins a loop in which the name stands for each member.
+    /// Jumps to this place if the flag of `if not` is clear.
+    IfNot(u32),
+    /// Pops a list and a name, and begins a loop that assigns each member to the name.
     For,
     /// Begins the next turn of a loop, or ends the loop and jumps to this place.
-    Next(usize),
+    Next(u32),
     /// Pops a name and a list, which becomes the value of the variable.
     Assign,
     /// Pops a name and a list, which is the value of the variable until the local ends.
     Local,
     /// Ends this many locals.
-    Unlocal(usize),
-    /// Pops a list of names, and defines each as a function with the tree of this number.
-    Define(usize),
-    /// Pops a list of names, which stand for no function then.
+    Unlocal(u32),
+    /// Pops a list of names, and defines each as a function with the tree at this index.
+    Define(u32),
+    /// Pops a list of names, and removes their functions.
     Undefine,
-    /// Pops the name of a file, and opens it in the place of this descriptor.
+    /// Pops the name of a file, and opens it in place of this descriptor.
     Open { mode: Mode, slot: u8 },
     /// Makes one descriptor a copy of the other.
     Copy { to: u8, from: u8 },
-    /// Hands over the here document of this number as the input.
-    Here(usize),
+    /// Passes the here document at this index on as standard input.
+    Here(u32),
     /// Ends this many redirections.
-    Unredir(usize),
-    /// Starts the stages of this number, or jumps to the place `end` where one is refused.
-    Stages { stages: usize, end: usize },
+    Unredir(u32),
+    /// Starts the stages of the pipeline of this number, or jumps to its end where one is refused.
+    Stages(u32),
     /// Ends a pipeline: waits for its stages, and sets the status by theirs.
     EndPipe,
-    /// Runs the tree of this number in a subshell and waits for it.
-    Subshell(usize),
-    /// Starts the tree of this number in the background.
-    Background(usize),
-    /// Ends a body, and goes on where it was called, or ends the script.
+    /// Runs the tree at this index in a subshell and waits for it.
+    Subshell(u32),
+    /// Starts the tree at this index in the background.
+    Background(u32),
+    /// Returns from a body to its caller, or ends the script.
     Return,
 }
 
-/// What stands beside the instructions.
+const _: () = prove!(size_of::<Op>() == 8);
+
+/// What is kept beside the instructions.
 #[derive(Drop)]
 pub(crate) enum Kept {
     Tree(Rc<Cmd>),
@@ -107,7 +112,7 @@ pub(crate) enum Kept {
     Pieces(Vec<Piece>),
 }
 
-/// The instructions of a command, and what they keep of its tree. Nothing changes it once it is made, so it is shared.
+/// The instructions of a command, and the parts of its tree that they keep. It is immutable, so it is shared.
 #[derive(Drop)]
 pub struct Code {
     listing: Rc<Listing>,
@@ -115,9 +120,9 @@ pub struct Code {
 }
 
 impl Code {
-    ghost use Rattle.rc_code.specs.Views.{code_of, tree_at, stages_at, pieces_at};
+    ghost use Rattle.rc_code.specs.Views.{code_of, names_of, tree_at, stages_at, pieces_at};
 
-    /// The code of a listing, if all of it was written.
+    /// Freezes a listing into code, if all of it was written.
     #[tactic(auto, unfolding(crate::specs::Views::code_of))]
     pub(crate) fn of(
         alloc: Global,
@@ -134,7 +139,7 @@ impl Code {
         })
     }
 
-    /// The same code once more, which is not copied. It fails only where it has too many owners.
+    /// Another handle to the code. It fails only if the code has too many owners.
     #[tactic(auto, unfolding(crate::specs::Views::code_of))]
     pub fn share(&self) -> Result<Code, AllocError>
         ensures { IfOk result (λ shared. code_of shared ≡ code_of self.now) }
@@ -144,16 +149,36 @@ impl Code {
         })
     }
 
-    /// The instruction at a place: none past the end.
-    #[tactic(auto, unfolding(crate::specs::Views::code_of, crate::specs::Listings::listing_of))]
+    /// The instruction at a place, or none past the end.
+    #[tactic(auto, unfolding(crate::specs::Views::code_of, crate::specs::Views::names_of, crate::specs::Listings::listing_of))]
     pub fn op(&self, place: usize) -> Option<&Op>
-        ensures op { option_map op_of (option_copied result) ≡ slice_get (code_of self.now).ops place }
+        ensures op { option_map (op_of (names_of self.now)) (option_copied result)
+            ≡ slice_get (code_of self.now).ops place }
+        ensures named { IfSome (option_copied result) (λ op. IsNamed (names_of self.now) op) }
         ensures within { IsSome result → place < 2 ^ 63 }
     {
         self.listing.ops.get(place)
     }
 
-    /// The tree of this number, which is well formed: `None` where it is not that of a tree.
+    /// The word of this number.
+    #[tactic(auto, unfolding(crate::specs::Views::names_of))]
+    pub fn word(&self, number: u32) -> &Rc<Literal>
+        requires { number < length (names_of self.now).words }
+        ensures { result.now.value ≡ word_at (names_of self.now).words number }
+    {
+        self.listing.words.literal(number)
+    }
+
+    /// The pipeline of this number.
+    #[tactic(auto, unfolding(crate::specs::Views::names_of))]
+    pub fn pipeline(&self, number: u32) -> Pipeline
+        requires { number < length (names_of self.now).pipelines }
+        ensures { result ≡ pipeline_at (names_of self.now).pipelines number }
+    {
+        self.listing.pipelines[number as usize]
+    }
+
+    /// The tree at this index, which is well formed, or `None` if it isn't that of a tree.
     pub fn tree(&self, number: usize) -> Option<&Rc<Cmd>>
         ensures tree { option_map (λ tree. cmd_tree tree.value) (option_copied result)
             ≡ tree_at (code_of self.now) number }
@@ -162,7 +187,7 @@ impl Code {
         self.found_tree(number)
     }
 
-    /// What has this number, where it is a tree.
+    /// What is kept at this index, if that is a tree.
     #[tactic(auto, unfolding(crate::specs::Views::code_of, crate::specs::Listings::listing_of))]
     fn found_tree(&self, number: usize) -> Option<&Rc<Cmd>>
         ensures { option_map (λ tree. cmd_tree tree.value) (option_copied result) ≡ tree_at (code_of self.now) number }
@@ -173,7 +198,7 @@ impl Code {
         }
     }
 
-    /// The stages of this number: `None` where it is not that of stages.
+    /// The stages at this index, or `None` if it isn't that of stages.
     #[tactic(auto, unfolding(crate::specs::Views::code_of, crate::specs::Listings::listing_of))]
     pub fn stages(&self, number: usize) -> Option<&[Stage]>
         ensures { option_map stages_tree (option_copied result) ≡ stages_at (code_of self.now) number }
@@ -184,7 +209,7 @@ impl Code {
         }
     }
 
-    /// The here document of this number: `None` where it is not that of one.
+    /// The here document at this index, or `None` if it isn't that of one.
     #[tactic(auto, unfolding(crate::specs::Views::code_of, crate::specs::Listings::listing_of))]
     pub fn pieces(&self, number: usize) -> Option<&[Piece]>
         ensures { option_map pieces_tree (option_copied result) ≡ pieces_at (code_of self.now) number }

@@ -1,7 +1,7 @@
 //! The code of arguments.
 
 ghost use Rattle.std.specs.Prelude.{OnOk};
-ghost use Rattle.rc_model.specs.Code.Layout.{Do, Word, arg_code, parts_code};
+ghost use Rattle.rc_model.specs.Code.Layout.{arg_code, parts_code};
 ghost use Rattle.rc_tree.specs.View.{arg_tree, args_tree};
 ghost use Rattle.rc_code.specs.Writing.{Writes};
 ghost use Rattle.rc_code.specs.Emission.{list_code};
@@ -9,24 +9,8 @@ ghost use Rattle.rc_code.specs.Emission.{list_code};
 use crate::code::Op;
 use crate::kept::kept_tree;
 use crate::listing::Listing;
-use rc_text::Literal;
 use rc_tree::Arg;
 use std::alloc::{AllocError, Global};
-use std::rc::Rc;
-
-/// A word, whose literal all its evaluations share.
-#[tactic(auto, using(crate::proofs::Parts::emitting))]
-pub(crate) fn emit_word(
-    alloc: Global,
-    code: &mut Listing,
-    text: &str,
-    quoted: bool,
-) -> Result<(), AllocError>
-    ensures { OnOk result (Writes code.old code.new (Do (Word text.now quoted))) }
-{
-    let literal = Literal::new(alloc, text, quoted)?;
-    code.put(Op::Word(Rc::new(alloc, literal)?))
-}
 
 #[cycle(emit)]
 #[tactic(auto, using(crate::proofs::Parts::emitting))]
@@ -34,7 +18,7 @@ pub(crate) fn emit_arg(alloc: Global, code: &mut Listing, arg: &Arg) -> Result<(
     ensures { OnOk result (Writes code.old code.new (arg_code (arg_tree arg.now))) }
 {
     match arg {
-        Arg::Lit { text, quoted } => emit_word(alloc, code, text, *quoted),
+        Arg::Lit { text, quoted } => code.put_word(alloc, text, *quoted),
         Arg::Concat(parts) => emit_parts(alloc, code, parts),
         Arg::Paren(words) => emit_list(alloc, code, words),
         Arg::Var(name) => {
@@ -61,7 +45,7 @@ pub(crate) fn emit_arg(alloc: Global, code: &mut Listing, arg: &Arg) -> Result<(
     }
 }
 
-/// The words as one list.
+/// Emits the words as one list.
 #[cycle(emit)]
 #[tactic(auto, using(crate::proofs::Parts::emitting))]
 pub(crate) fn emit_list(alloc: Global, code: &mut Listing, words: &[Arg]) -> Result<(), AllocError>
@@ -75,7 +59,7 @@ pub(crate) fn emit_list(alloc: Global, code: &mut Listing, words: &[Arg]) -> Res
     Ok(())
 }
 
-/// The parts of a word that is made of several.
+/// Emits the parts of a word that has several.
 #[cycle(emit)]
 #[tactic(auto, using(crate::proofs::Parts::emitting))]
 fn emit_parts(alloc: Global, code: &mut Listing, parts: &[Arg]) -> Result<(), AllocError>

@@ -15,9 +15,11 @@ use crate::emit_plain::{
     emit_define, emit_match, emit_members, emit_pairs, emit_redirs, emit_simple, emit_star,
     emit_subject, emit_subshell, emit_undefine, emit_unlocal,
 };
-use crate::forms::{guards, has_no_items, skip};
+use crate::forms::{guards, has_no_items};
 use crate::kept::{kept_stages, kept_tree};
 use crate::listing::Listing;
+use crate::numbers::in_32_bits;
+use crate::pipelines::Pipeline;
 use rc_tree::{Arg, Branch, Cmd, Item, Logic, Redir, Stage, is_empty};
 use std::alloc::{AllocError, Global};
 
@@ -63,7 +65,7 @@ pub(crate) fn emit_cmd(
     }
 }
 
-/// Items in the background are kept.
+/// Emits items; those in the background are kept.
 #[cycle(emit)]
 #[tactic(auto, using(crate::proofs::Parts::emitting))]
 fn emit_items(
@@ -117,10 +119,10 @@ fn emit_redirect(
 {
     emit_redirs(alloc, code, redirs)?;
     emit_cmd(alloc, code, body, guarded)?;
-    code.put(Op::Unredir(redirs.len()))
+    code.put(Op::Unredir(in_32_bits(redirs.len())?))
 }
 
-/// The start of the stages before the last one, which are kept, and then the last one.
+/// Emits the start of the stages before the last one, which are kept, and then the last one.
 #[cycle(emit)]
 #[tactic(auto, using(crate::proofs::Parts::emitting))]
 fn emit_pipeline(
@@ -137,12 +139,11 @@ fn emit_pipeline(
     let start = code.put_later()?;
     emit_cmd(alloc, code, last, guarded)?;
     code.put(Op::EndPipe)?;
-    let end = code.end();
-    code.patch(start, Op::Stages { stages, end });
-    Ok(())
+    let end = code.end()?;
+    code.patch_stages(start, Pipeline { stages, end })
 }
 
-/// The first command, and what each `&&` and `||` skips.
+/// Emits the first command, and the others, which `&&` and `||` can skip.
 #[cycle(emit)]
 #[tactic(auto, using(crate::proofs::Parts::emitting))]
 fn emit_and_or(
@@ -159,8 +160,8 @@ fn emit_and_or(
     for (index, link) in links.iter().enumerate() {
         let place = code.put_later()?;
         emit_cmd(alloc, code, &link.1, guards(&links[index + 1..], guarded))?;
-        let end = code.end();
-        code.patch(place, skip(link.0, end));
+        let end = code.end()?;
+        code.patch_skip(place, link.0, end);
     }
     Ok(())
 }
@@ -181,7 +182,7 @@ fn emit_if(
     let place = code.put_later()?;
     emit_cmd(alloc, code, body, guarded)?;
     code.put(Op::WasTrue)?;
-    let end = code.end();
+    let end = code.end()?;
     code.patch(place, Op::If(end));
     Ok(())
 }
@@ -198,7 +199,7 @@ fn emit_if_not(
 {
     let place = code.put_later()?;
     emit_cmd(alloc, code, body, guarded)?;
-    let end = code.end();
+    let end = code.end()?;
     code.patch(place, Op::IfNot(end));
     Ok(())
 }
@@ -227,17 +228,17 @@ fn emit_while(
     ensures { OnOk result (Writes code.old code.new
         (cmd_code (tree.While (cmd_tree condition.now) (cmd_tree body.now)) guarded)) }
 {
-    let start = code.end();
+    let start = code.end()?;
     emit_condition(alloc, code, condition)?;
     let place = code.put_later()?;
     emit_cmd(alloc, code, body, guarded)?;
     code.put(Op::Jump(start))?;
-    let end = code.end();
+    let end = code.end()?;
     code.patch(place, Op::IfFalse(end));
     Ok(())
 }
 
-/// The turns of a `for`.
+/// Emits the turns of a `for`.
 #[cycle(emit)]
 #[tactic(auto, using(crate::proofs::Parts::emitting))]
 fn emit_turns(
@@ -252,7 +253,7 @@ fn emit_turns(
     let turn = code.put_later()?;
     emit_cmd(alloc, code, body, guarded)?;
     code.put(Op::Jump(turn))?;
-    let end = code.end();
+    let end = code.end()?;
     code.patch(turn, Op::Next(end));
     Ok(())
 }
@@ -288,12 +289,12 @@ fn emit_branches(
     for branch in branches {
         ends.push(emit_branch(alloc, code, branch, guarded)?)?;
     }
-    let end = code.end();
+    let end = code.end()?;
     code.redirect(&ends, end);
     Ok(())
 }
 
-/// A branch, and the place of its last instruction, the jump to the end of the `switch`.
+/// Emits a branch, and returns the place of its last instruction, the jump to the end of the `switch`.
 #[cycle(emit)]
 #[tactic(auto, using(crate::proofs::Parts::emitting))]
 fn emit_branch(
@@ -301,7 +302,7 @@ fn emit_branch(
     code: &mut Listing,
     branch: &Branch,
     guarded: bool,
-) -> Result<usize, AllocError>
+) -> Result<u32, AllocError>
     ensures branch { OnOk result (Writes code.old code.new (branch_to (branch_tree branch.now) guarded 0)) }
     ensures last { IfOk result (λ last. last + 1 ≡ length (listing_of code.new).ops) }
 {
@@ -309,7 +310,7 @@ fn emit_branch(
     let place = code.put_later()?;
     emit_cmd(alloc, code, &branch.body, guarded)?;
     let last = code.put_later()?;
-    let end = code.end();
+    let end = code.end()?;
     code.patch(place, Op::Case(end));
     Ok(last)
 }

@@ -1,21 +1,22 @@
-//! The code of what holds no command that is compiled with it.
+//! The code of forms without a command that is compiled with them.
 
 ghost use Rattle.std.specs.Prelude.{OnOk};
 ghost use Rattle.rc_model.specs.Syntax.Tree as tree;
-ghost use Rattle.rc_model.specs.Code.Layout.{cmd_code, unlocal};
+ghost use Rattle.rc_model.specs.Code.Layout.{Do, assign_by, cmd_code, unlocal};
 ghost use Rattle.rc_tree.specs.View.{cmd_tree, arg_tree, args_tree, pairs_tree, redir_tree, redirs_tree};
 ghost use Rattle.rc_code.specs.Writing.{Writes};
 ghost use Rattle.rc_code.specs.Emission.{star_code, members_code, pairs_alone, redir_code, redirs_alone};
 ghost use Rattle.rc_code.specs.Emission.{subject_code, match_code, define_code, undefine_code, subshell_code};
 
 use crate::code::Op;
-use crate::emit_args::{emit_arg, emit_list, emit_word};
+use crate::emit_args::{emit_arg, emit_list};
 use crate::kept::{kept_pieces, kept_tree};
 use crate::listing::Listing;
+use crate::numbers::in_32_bits;
 use rc_tree::{Arg, Cmd, Redir};
 use std::alloc::{AllocError, Global};
 
-/// A simple command, which is checked where it isn't guarded.
+/// Emits a simple command, with a check unless it is guarded.
 #[tactic(auto, using(crate::proofs::Parts::emitting))]
 pub(crate) fn emit_simple(
     alloc: Global,
@@ -31,17 +32,17 @@ pub(crate) fn emit_simple(
     if guarded { Ok(()) } else { code.put(Op::Check) }
 }
 
-/// The list and the name of a `for` over `$*`.
+/// Emits the list and the name of a `for` over `$*`.
 #[tactic(auto, using(crate::proofs::Parts::emitting))]
 pub(crate) fn emit_star(alloc: Global, code: &mut Listing, name: &Arg) -> Result<(), AllocError>
     ensures { OnOk result (Writes code.old code.new (star_code (arg_tree name.now))) }
 {
-    emit_word(alloc, code, "*", false)?;
+    code.put_word(alloc, "*", false)?;
     code.put(Op::Value)?;
     emit_arg(alloc, code, name)
 }
 
-/// The list and the name of a `for`.
+/// Emits the list and the name of a `for`.
 #[tactic(auto, using(crate::proofs::Parts::emitting))]
 pub(crate) fn emit_members(
     alloc: Global,
@@ -56,7 +57,19 @@ pub(crate) fn emit_members(
     emit_arg(alloc, code, name)
 }
 
-/// Assignments: bare ones stay, others end with a command.
+/// An assignment: a bare one stays, another ends with a command.
+#[tactic(auto, using(crate::proofs::Parts::emitting))]
+fn put_assign(code: &mut Listing, bare: bool) -> Result<(), AllocError>
+    ensures { OnOk result (Writes code.old code.new (Do (assign_by bare))) }
+{
+    if bare {
+        code.put(Op::Assign)
+    } else {
+        code.put(Op::Local)
+    }
+}
+
+/// Assignments, one after the other.
 #[tactic(auto, using(crate::proofs::Parts::emitting))]
 pub(crate) fn emit_pairs(
     alloc: Global,
@@ -70,7 +83,7 @@ pub(crate) fn emit_pairs(
         emit_arg(alloc, code, &pair.0)?;
         emit_arg(alloc, code, &pair.1)?;
         code.put(Op::Glob)?;
-        code.put(if bare { Op::Assign } else { Op::Local })?;
+        put_assign(code, bare)?;
     }
     Ok(())
 }
@@ -113,7 +126,7 @@ fn emit_redir(alloc: Global, code: &mut Listing, redir: &Redir) -> Result<(), Al
     }
 }
 
-/// The end of the locals of a command.
+/// Emits the end of the locals of a command.
 #[tactic(auto, using(crate::proofs::Parts::emitting))]
 pub(crate) fn emit_unlocal(code: &mut Listing, bare: bool, count: usize) -> Result<(), AllocError>
     ensures { OnOk result (Writes code.old code.new (unlocal bare count)) }
@@ -121,7 +134,7 @@ pub(crate) fn emit_unlocal(code: &mut Listing, bare: bool, count: usize) -> Resu
     if bare {
         Ok(())
     } else {
-        code.put(Op::Unlocal(count))
+        code.put(Op::Unlocal(in_32_bits(count)?))
     }
 }
 
@@ -151,7 +164,7 @@ pub(crate) fn emit_match(
     code.put(Op::Match)
 }
 
-/// The body is kept, and isn't compiled before the function is called.
+/// Emits a definition: the body is kept, and is not compiled before the function is called.
 #[tactic(auto, using(crate::proofs::Parts::emitting))]
 pub(crate) fn emit_define(
     alloc: Global,

@@ -1,4 +1,4 @@
-//! Copies of what is kept beside the code.
+//! Copies of the trees, stages and pieces that are kept beside the code.
 
 ghost use Rattle.std.specs.Prelude.{◌≡◌, IfOk};
 ghost use Rattle.rc_model.specs.Code.Layout as model;
@@ -10,7 +10,7 @@ use rc_tree::{Cmd, Piece, Stage, clone_tree};
 use std::alloc::{AllocError, Global};
 use std::rc::Rc;
 
-/// A tree, which the code shares with those that it is handed to.
+/// A copy of a tree, which the code shares with its users.
 pub(crate) fn kept_tree(alloc: Global, tree: &Cmd) -> Result<Kept, AllocError>
     ensures { IfOk result (λ kept. kept_of kept ≡ model.KeptTree (cmd_tree tree.now)) }
 {

@@ -1,13 +1,18 @@
-//! The compiler: from the tree of a command to its instructions.
+//! The compiler: from the tree of a command to its bytecode.
 #![tactic(auto)]
 
 mod code;
 mod emit_args;
 mod emit_commands;
 mod emit_plain;
+mod entries;
 mod forms;
 mod kept;
 mod listing;
+mod numbers;
+mod pipelines;
+mod slots;
+mod words;
 
 ghost use Rattle.std.specs.Prelude.{◌≡◌, false, IfOk, OnOk};
 ghost use Rattle.rc_model.specs.Code.Layout.{code, cmd_code, Do, Return, ◌⨾◌};
@@ -19,10 +24,11 @@ ghost use Rattle.rc_code.specs.Writing.{Writes};
 pub use code::{Code, Op};
 use emit_commands::emit_cmd;
 use listing::Listing;
+pub use pipelines::Pipeline;
 use rc_tree::Cmd;
 use std::alloc::{AllocError, Global};
 
-/// The code of a command, with its `Return`.
+/// Compiles a command into code, which ends with a `Return`.
 pub fn compile(alloc: Global, cmd: &Cmd) -> Result<Code, AllocError>
     requires { IsProperTree (cmd_tree cmd.now) }
     ensures { IfOk result (λ done. code_of done ≡ code (cmd_tree cmd.now)) }
@@ -32,7 +38,7 @@ pub fn compile(alloc: Global, cmd: &Cmd) -> Result<Code, AllocError>
     Code::of(alloc, listing, written)
 }
 
-/// A whole command, with its `Return`.
+/// Emits a whole command, with its `Return`.
 #[tactic(auto, using(crate::proofs::Parts::emitting))]
 fn emit_whole(alloc: Global, code: &mut Listing, cmd: &Cmd) -> Result<(), AllocError>
     ensures { OnOk result (Writes code.old code.new (cmd_code (cmd_tree cmd.now) false ⨾ Do Return)) }

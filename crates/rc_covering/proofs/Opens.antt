@@ -1,6 +1,6 @@
 -- How redirections are counted one by one.
-use Rattle.std.proofs.Common.{◌≡◌, refl, ap, ◌∙◌, ℕ, suc, ◌+◌, add-one}
-use Rattle.rc_model.specs.Syntax.Tree.{Node, Many, redir, none, more, Open, Copy, Here}
+use Rattle.std.proofs.Common.{◌≡◌, ap, ℕ, suc, ◌+◌, add-one}
+use Rattle.rc_model.specs.Syntax.Tree.{Many, redir, none, more, Open, Copy, Here}
 use Rattle.rc_tree.specs.View.{tree_walks}
 use Rattle.law_descriptors.specs.Covering.{opens_in}
 

@@ -14,13 +14,13 @@ use rc_tree::{Cmd, Redir};
 /// The redirections around a command.
 #[derive(Clone, Copy)]
 pub struct Covering {
-    /// How many files they open.
+    /// The number of files that they open.
     pub files: u32,
-    /// The descriptors once the last of these is open. Each file is taken for that of handle 0.
+    /// The descriptors after the last of these is opened. Each file counts as that of handle 0.
     pub slots: Slots,
 }
 
-/// The redirections around a command, perhaps inside assignments. `None`: they open too many files to be counted.
+/// The redirections around a command, perhaps inside assignments. `None`: they open more files than can be counted.
 pub fn covering_of(cmd: &Cmd) -> Option<Covering>
     ensures files { IfSome result (λ covering. covering.files ≡ opens_of (cmd_tree cmd.now)) }
     ensures slots { IfSome result (λ covering. covering.slots ≡ slots_after (cmd_tree cmd.now) plain) }
@@ -79,7 +79,7 @@ fn unless_opened(slots: Slots, inner: Covering) -> Covering
     }
 }
 
-/// How many files these redirections open, with this many within.
+/// The number of files that these redirections open, with this many inside.
 #[tactic(auto, using(crate::proofs::Opens::steps))]
 fn opens_in(redirs: &[Redir], inner: u32) -> Option<u32>
     ensures { IfSome result (λ files. files ≡ opens_in (redirs_tree redirs.now) inner) }

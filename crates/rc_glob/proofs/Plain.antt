@@ -7,7 +7,7 @@ use Rattle.std.proofs.lemmas.Slice.Eq.{bytes_eq-Decides}
 use Rattle.std.proofs.lemmas.Str.{encodes-chars}
 use Rattle.std.proofs.lemmas.Bool.{or_parts}
 use Rattle.rc_model.specs.Syntax.Words.{Word, has_pattern, is_pattern}
-use Rattle.rc_model.specs.Run.Patterns.{AnyOne, AnyRun, begun_by, Inside, is_dots, matches, outside, Outside, parts_from, parts_match, This}
+use Rattle.rc_model.specs.Run.Patterns.{AnyOne, AnyRun, class_begun_by, Inside, is_dots, matches, outside, Outside, parts_from, parts_match, This}
 
 part_by : (a b d : Bool) (c : ℕ) → (a || b) || d ≡ false → cond a (AnyRun ∷ []) (cond b (AnyOne ∷ []) (cond d [] (This c ∷ []))) ≡ This c ∷ []
 part_by true b d c h = absurd (let n : ⊥ = cc in n)
@@ -20,12 +20,12 @@ itself : (m : ℕ × Bool) → is_pattern m ≡ false → outside m ≡ This m.0
 itself (c, true) h = part_by (c == 42) (c == 63) (c == 91) c h
 itself (c, false) h = refl
 
-no_class : (m : ℕ × Bool) → is_pattern m ≡ false → begun_by m ≡ Outside
+no_class : (m : ℕ × Bool) → is_pattern m ≡ false → class_begun_by m ≡ Outside
 no_class (c, true) h = ap (λ b. cond b (Inside []) Outside) (or_parts ((c == 42) || (c == 63)) (c == 91) h).1
 no_class (c, false) h = refl
 
 pub first_plain : (m : ℕ × Bool) (w : Word) → is_pattern m ≡ false → parts_from Outside (m ∷ w) ≡ This m.0 ∷ parts_from Outside w
-first_plain m w h = ap (λ ps. ps ++ parts_from (begun_by m) w) (itself m h) ∙ ap (λ b. This m.0 ∷ parts_from b w) (no_class m h)
+first_plain m w h = ap (λ ps. ps ++ parts_from (class_begun_by m) w) (itself m h) ∙ ap (λ b. This m.0 ∷ parts_from b w) (no_class m h)
 
 -- the parts of such a word are its characters
 parts_plain : (w : Word) → has_pattern w ≡ false → parts_from Outside w ≡ map (λ m. This m.0) w

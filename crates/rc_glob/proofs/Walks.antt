@@ -9,7 +9,7 @@ use Rattle.rc_model.specs.Syntax.Words.{Word, has_pattern, plain_words, word_tex
 use Rattle.rc_model.specs.Run.Calls.{Event, list_names, as_names, probe, as_kind}
 use Rattle.rc_model.specs.declared.call.Kind.{Kind}
 use Rattle.rc_model.specs.Run.Plans.{Plan, done_with, asks, Ran}
-use Rattle.rc_model.specs.Run.Shell.{Result, Next, Shell, ◌>>=◌, leaves, pure, under}
+use Rattle.rc_model.specs.Run.Shell.{ShellResult, Next, Shell, ◌>>=◌, leaves, pure, under}
 use Rattle.rc_model.specs.Run.State.{State}
 use Rattle.rc_model.specs.Run.FileNames.{components, each_name, expanded, expanded_word, fitting_names, directory, if_there, listed, names_of, or_itself, ordered, walk}
 use Rattle.rc_glob.specs.Paths.{paths_from}
@@ -26,18 +26,18 @@ abbrev pub both : {A : Type 0} → Shell (List A) → Shell (List A) → Shell (
 both m rest = m >>= (λ first. rest >>= (λ others. pure (first ++ others)))
 
 -- Of a whole list, these were found between two records of the world, and the rest is still to be found.
-pub record Collected {A : Type 0} (before now : Option (List Event)) (s : State) (whole rest : Plan (Result (List A))) (found : List A) : Type 0 where
+pub record Collected {A : Type 0} (before now : Option (List Event)) (s : State) (whole rest : Plan (ShellResult (List A))) (found : List A) : Type 0 where
   pub ends : (later : Option (List Event)) (others : List A) → Ran now later rest (done_with (Next others s)) → Ran before later whole (done_with (Next (found ++ others) s))
   pub left : (later : Option (List Event)) (stop : Stop) → Left now later rest stop → Left before later whole stop
 
 module _ {A : Type 0} (s : State) where
-  pub collected_from : (a b : Option (List Event)) (whole rest : Plan (Result (List A))) → Ran a b whole rest → Collected a b s whole rest []
+  pub collected_from : (a b : Option (List Event)) (whole rest : Plan (ShellResult (List A))) → Ran a b whole rest → Collected a b s whole rest []
   collected_from a b whole rest h = record {
     ends = λ later others r. ran_join a b later whole rest (done_with (Next others s)) h r;
     left = λ later stop l. left_join a b later stop whole rest h l;
   }
 
-  pub collected_step : (a b c : Option (List Event)) (whole : Plan (Result (List A))) (m rest : Shell (List A)) (found first : List A) →
+  pub collected_step : (a b c : Option (List Event)) (whole : Plan (ShellResult (List A))) (m rest : Shell (List A)) (found first : List A) →
       Collected a b s whole (both m rest s) found → Ran b c (m s) (done_with (Next first s)) → Collected a c s whole (rest s) (found ++ first)
   collected_step a b c whole m rest found first so_far h = record {
     ends = λ later others r.
@@ -47,14 +47,14 @@ module _ {A : Type 0} (s : State) where
     left = λ later stop l. so_far.left later stop (left_done m (λ first. rest >>= (λ others. pure (first ++ others))) h (left_do rest (λ others. pure (first ++ others)) l));
   }
 
-  pub collected_left : (a b c : Option (List Event)) (stop : Stop) (whole : Plan (Result (List A))) (m rest : Shell (List A)) (found : List A) →
+  pub collected_left : (a b c : Option (List Event)) (stop : Stop) (whole : Plan (ShellResult (List A))) (m rest : Shell (List A)) (found : List A) →
       Collected a b s whole (both m rest s) found → Left b c (m s) stop → Left a c whole stop
   collected_left a b c stop whole m rest found so_far l = so_far.left c stop (left_do m (λ first. rest >>= (λ others. pure (first ++ others))) l)
 
-  pub collected_memory : (a b : Option (List Event)) (whole rest : Plan (Result (List A))) (found : List A) → Collected a b s whole rest found → Left a b whole NoMemory
+  pub collected_memory : (a b : Option (List Event)) (whole rest : Plan (ShellResult (List A))) (found : List A) → Collected a b s whole rest found → Left a b whole NoMemory
   collected_memory a b whole rest found so_far = so_far.left b NoMemory (left_memory b rest)
 
-  pub collected_end : (a b : Option (List Event)) (whole rest : Plan (Result (List A))) (found : List A) → rest ≡ done_with (Next [] s) → Collected a b s whole rest found → Ran a b whole (done_with (Next found s))
+  pub collected_end : (a b : Option (List Event)) (whole rest : Plan (ShellResult (List A))) (found : List A) → rest ≡ done_with (Next [] s) → Collected a b s whole rest found → Ran a b whole (done_with (Next found s))
   collected_end a b whole rest found e so_far =
       subst (λ l. Ran a b whole (done_with (Next l s))) (append-nil found)
       (so_far.ends b [] (subst (λ p. Ran b b p (done_with (Next [] s))) (sym e) (ran_none b (done_with (Next [] s)))))
@@ -125,7 +125,7 @@ names_left names i name lt is =
     ∙ (ap (λ n. string_bytes (get_or names i name) ∷ map string_bytes (drop n names)) (sym (add-one i))
     ∙ ap (λ d. string_bytes d ∷ map string_bytes (drop (i + 1) names)) (sym is))
 
-module _ (a b : Option (List Event)) (s : State) (whole : Plan (Result (List (List ℕ)))) (f : List ℕ → Shell (List (List ℕ))) (path : List ℕ) (names : List (String Global)) (i : ℕ) (found : List (String Global)) where
+module _ (a b : Option (List Event)) (s : State) (whole : Plan (ShellResult (List (List ℕ)))) (f : List ℕ → Shell (List (List ℕ))) (path : List ℕ) (names : List (String Global)) (i : ℕ) (found : List (String Global)) where
   -- these names are left
   abbrev pub At : Option (List Event) → ℕ → List (String Global) → Type 0
   At now n list = Collected a now s whole (each_name f path (map string_bytes (drop n names)) s) (map string_bytes list)
@@ -165,7 +165,7 @@ module _ (a b : Option (List Event)) (s : State) (whole : Plan (Result (List (Li
       collected_end s a b whole (each_name f path (map string_bytes (drop i names)) s) (map string_bytes found) (ap (λ ns. each_name f path (map string_bytes ns) s) (drop_all i names l)) so_far
 
 -- the same for words
-module _ (a b : Option (List Event)) (s : State) (whole : Plan (Result (List Word))) (words : List Word) (i : ℕ) (found : List Word) where
+module _ (a b : Option (List Event)) (s : State) (whole : Plan (ShellResult (List Word))) (words : List Word) (i : ℕ) (found : List Word) where
   abbrev pub AtWord : Option (List Event) → ℕ → List Word → Type 0
   AtWord now n list = Collected a now s whole (expanded (drop n words) s) list
 
@@ -192,7 +192,7 @@ module _ (a b : Option (List Event)) (s : State) (whole : Plan (Result (List Wor
 -- ** a path that is there
 
 module _ (path : List ℕ) (s : State) where
-  abbrev next : Option Kind → Plan (Result (List (List ℕ)))
+  abbrev next : Option Kind → Plan (ShellResult (List (List ℕ)))
   next k = done_with (Next (if is_some k then path ∷ [] else []) s)
 
   pub left_probe : (a b : Option (List Event)) (stop : Stop) (p : List ℕ) → p ≡ path → Left a b (asks (probe p) as_kind) stop → Left a b (if_there path s) stop
@@ -213,7 +213,7 @@ module _ (path : List ℕ) (s : State) where
 pub ran_value : {X : Type 0} (a : Option (List Event)) (s : State) (x y : X) → x ≡ y → Ran a a (done_with (Next y s)) (done_with (Next x s))
 ran_value a s x y h = subst (λ z. Ran a a (done_with (Next y s)) (done_with (Next z s))) (sym h) (ran_none a (done_with (Next y s)))
 
-pub comes_alone : (a b : Option (List Event)) (s : State) (p : Plan (Result (List Word))) (x : List Word) (r : Outcome (List Word) Stop) → MatchResult r (λ list. list ≡ x) (λ stop. stop ≡ NoMemory) →
+pub comes_alone : (a b : Option (List Event)) (s : State) (p : Plan (ShellResult (List Word))) (x : List Word) (r : Outcome (List Word) Stop) → MatchResult r (λ list. list ≡ x) (λ stop. stop ≡ NoMemory) →
     Ran a b p (done_with (Next x s)) → Comes a b p (λ list. Next list s) r
 comes_alone a b s p x (Ok v) h ran = subst (λ l. Ran a b p (done_with (Next l s))) (sym h) ran
 comes_alone a b s p x (Err stop) h ran = subst (λ t. Left a b p t) (sym h) (left_here a b p (done_with (Next x s)) ran)

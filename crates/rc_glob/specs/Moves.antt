@@ -1,4 +1,4 @@
--- What comes next in a match.
+-- The next move of a match.
 use Rattle.std.specs.Prelude.{◌<◌, ℕ, List, length, Option, Some, None}
 use Rattle.std.specs.Borrow.{Bor}
 use Rattle.std.specs.Str.{chars, IsUtf8}
@@ -21,7 +21,7 @@ move_of (PastOne c word text) = greedy.PastOne c (marks word.now) (chars text.no
 move_of AtEnd = greedy.AtEnd
 move_of Miss = greedy.Miss
 
--- a move leaves less of the word, and after a character less of the text
+-- after a move less of the word is left, and after a character less of the text
 abbrev pub LeavesLess : Move → List Ch → List ℕ → Type 0
 LeavesLess (PastStar rest) word text = length rest.now < length word
 LeavesLess (PastOne c rest more) word text =

@@ -1,4 +1,4 @@
--- The paths that components stand for.
+-- The paths that components match.
 use Rattle.std.specs.Prelude.{ℕ, List, [], ◌∷◌, Option, Some, None}
 use Rattle.std.specs.Borrow.{Bor}
 use Rattle.rc_model.specs.Syntax.Words.{Word, word_texts}
@@ -7,7 +7,7 @@ use Rattle.rc_model.specs.Run.Shell.{Shell, ◌>>=◌, pure}
 use Rattle.rc_text.specs.declared.literal.Ch.{Ch}
 use Rattle.rc_text.specs.Literals.{marks}
 
--- the components that follow a slash, none where there is no slash
+-- the components after a slash; none if there is no slash
 abbrev pub components_of : Option (Bor (List Ch)) → List Word
 components_of None = []
 components_of (Some rest) = components (marks rest.now)
@@ -17,7 +17,7 @@ abbrev pub paths_from : List Word → List ℕ → Shell (List (List ℕ))
 paths_from [] path = pure (path ∷ [])
 paths_from (c ∷ cs) path = step c (walk cs) path
 
--- the texts of what a word stands for
+-- the texts of the words that a word expands to
 abbrev pub expanded_texts : Word → Shell (List (List ℕ))
 expanded_texts w = do
   ws ← expanded_word w

@@ -13,7 +13,7 @@ pub(crate) fn is_marked(ch: Ch, c: char) -> bool
     ch.pat && ch.c == c
 }
 
-/// The members of a class, whose `[` stands before the word, and what follows its `]`.
+/// The members of a class, whose `[` comes before the word, and what follows its `]`.
 pub(crate) fn class_end(word: &[Ch]) -> Option<(&[Ch], &[Ch])>
     ensures { parts_of result ≡ class_end (marks word.now) }
 {
@@ -33,7 +33,7 @@ fn is_between(low: char, high: char, c: char) -> bool
     low <= c && c <= high
 }
 
-/// Whether the character is one of the members, or lies in one of their ranges.
+/// Whether the character is one of the members, or is in one of their ranges.
 fn holds(members: &[Ch], c: char) -> bool
     ensures { result ≡ holds (marks members.now) c }
 {

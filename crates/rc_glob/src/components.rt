@@ -33,8 +33,7 @@ pub(crate) fn push_text(path: &mut String, word: &[Ch]) -> Result<(), AllocError
     Ok(())
 }
 
-/// Goes past the components that hold no pattern character, to the first that holds one, and says
-/// what follows it.
+/// Skips the components without pattern characters, up to the first that has one, and returns what follows it.
 pub(crate) fn advance<'a>(
     path: &mut String,
     word: &'a [Ch],

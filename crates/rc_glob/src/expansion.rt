@@ -1,4 +1,4 @@
-//! The file names that words stand for.
+//! The file names that words expand to.
 ghost use Rattle.std.specs.Prelude.{◌≡◌, ◌∷◌, [], true, map, string_bytes, MatchResult};
 ghost use Rattle.rc_world.specs.declared.starts.Stop.TheVariants.{NoMemory};
 ghost use Rattle.rc_model.specs.Syntax.Words.{has_pattern};
@@ -17,7 +17,7 @@ use rc_text::{Ch, List, Word, any_pattern, joined_text};
 use rc_world::{Stop, World, calls};
 use std::alloc::Global;
 
-/// The names in a directory that the component stands for, none where they are refused.
+/// The names in a directory that the component matches, or none if it can't be read.
 fn listed<W: World>(
     alloc: Global,
     world: &mut W,
@@ -34,7 +34,7 @@ fn listed<W: World>(
     }
 }
 
-/// The path, where something is there.
+/// The path, if something is there.
 fn if_there<W: World>(alloc: Global, world: &mut W, path: String) -> Result<Vec<String>, Stop>
     ensures { (s : State) → Comes (W.events world.old) (W.events world.new) (if_there (string_bytes path) s)
         (λ paths. Next (map string_bytes paths.items) s) result }
@@ -73,7 +73,7 @@ fn walk<W: World>(
     Ok(found)
 }
 
-/// The paths that begin with this one and go on with a slash and what follows it.
+/// The paths that begin with this one and go on with a slash and these components.
 #[cycle(walk)]
 fn walk_on<W: World>(
     alloc: Global,
@@ -116,8 +116,8 @@ fn expand_word<W: World>(alloc: Global, world: &mut W, word: &Word) -> Result<Li
     Ok(List::plain(alloc, ordered(paths))?)
 }
 
-/// The names of the files that the word stands for, in byte order; its own text, where it holds no
-/// pattern character or there are none.
+/// Returns the names of the files that the word matches, in byte order; or its own text, if it has no pattern character
+/// or there are none.
 pub fn expand<W: World>(alloc: Global, world: &mut W, word: &Word) -> Result<Vec<String>, Stop>
     ensures { (s : State) → Comes (W.events world.old) (W.events world.new) (expanded_texts word.now s)
         (λ texts. Next (map string_bytes texts.items) s) result }
@@ -126,7 +126,7 @@ pub fn expand<W: World>(alloc: Global, world: &mut W, word: &Word) -> Result<Vec
     Ok(list.into_texts(alloc)?)
 }
 
-/// What each of the words stands for, one after the other.
+/// Expands each of the words, one after the other.
 pub fn expand_all<W: World>(alloc: Global, world: &mut W, words: &[Word]) -> Result<List, Stop>
     ensures { (s : State) → Comes (W.events world.old) (W.events world.new) (expanded words.now s)
         (λ list. Next list s) result }

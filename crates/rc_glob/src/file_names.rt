@@ -1,4 +1,4 @@
-//! The names that a component stands for.
+//! The names that a component matches.
 ghost use Rattle.std.specs.Prelude.{◌≡◌, ◌==◌, ◌||◌, ◌&&◌, not, true, map, string_bytes, Some};
 ghost use Rattle.std.specs.List.{list_any};
 ghost use Rattle.std.specs.Str.{chars};
@@ -15,7 +15,7 @@ fn has_separator(name: &str) -> bool
     name.bytes().any(|byte| byte == b'/' || byte == 0)
 }
 
-/// Whether no file can have the name.
+/// Whether no file can have this name.
 fn is_no_name(name: &str) -> bool
     ensures { result ≡ is_no_name name.now }
 {
@@ -28,7 +28,7 @@ fn is_fitting(component: &[Ch], name: &str) -> bool
     !is_no_name(name) && is_match(component, name, true)
 }
 
-/// The names that the component stands for, in byte order and each once.
+/// The names that the component matches, in byte order and each once.
 pub(crate) fn fitting_names(component: &[Ch], mut names: Vec<String>) -> Vec<String>
     ensures { map string_bytes result.items
         ≡ fitting_names (marks component.now) (Some (map string_bytes names.items)) }
@@ -37,7 +37,7 @@ pub(crate) fn fitting_names(component: &[Ch], mut names: Vec<String>) -> Vec<Str
     ordered(names)
 }
 
-/// The texts in byte order and each once.
+/// Puts the texts in byte order, each once.
 pub(crate) fn ordered(mut texts: Vec<String>) -> Vec<String>
     ensures { map string_bytes result.items ≡ ordered (map string_bytes texts.items) }
 {

@@ -1,4 +1,4 @@
-//! Patterns: which texts a word matches, and which file names it stands for.
+//! Patterns: which texts and which file names a word matches.
 #![tactic(auto)]
 
 mod classes;

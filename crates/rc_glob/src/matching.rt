@@ -1,4 +1,4 @@
-//! Which texts a word matches: from left to right, with one star to go back to.
+//! Pattern matching: from left to right, with one star to go back to.
 ghost use Rattle.std.specs.Prelude.{◌≡◌, false, option_map};
 ghost use Rattle.std.specs.List.{list_any};
 ghost use Rattle.std.specs.Str.{chars};
@@ -13,7 +13,7 @@ use crate::search::stands_for;
 use crate::stars::{Start, later_place, next_place, start_of};
 use rc_text::{Ch, Word, any_pattern, first_char};
 
-/// What comes next in a match.
+/// The next move of a match.
 enum Move<'a> {
     /// A star, and what follows it in the word.
     PastStar(&'a [Ch]),
@@ -23,7 +23,7 @@ enum Move<'a> {
     Miss,
 }
 
-/// What follows the first character or class of the word, if that is no star and stands for the character.
+/// The rest of the word after its first character or class, if that isn't a star and stands for the character.
 fn after_one(explicit: bool, word: &[Ch], c: char) -> Option<&[Ch]>
     ensures { option_map (λ rest. marks rest.now) result ≡ after_one explicit (marks word.now) c }
 {
@@ -49,7 +49,7 @@ fn after_one(explicit: bool, word: &[Ch], c: char) -> Option<&[Ch]>
     if first.c == c { Some(rest) } else { None }
 }
 
-/// What follows a star that the word begins with.
+/// The rest of the word after the star that it begins with.
 fn after_star(word: &[Ch]) -> Option<&[Ch]>
     ensures { option_map (λ rest. marks rest.now) result ≡ after_star (marks word.now) }
 {
@@ -83,8 +83,7 @@ fn next_move<'a>(explicit: bool, word: &'a [Ch], text: &'a str) -> Move<'a>
     }
 }
 
-/// Whether the whole word stands for the whole text. What follows a star is tried only at the places at which it can
-/// begin.
+/// Whether the whole word matches the whole text. What follows a star is tried only at the places where it can begin.
 fn fits(whole: &[Ch], text: &str, explicit: bool) -> bool
     ensures { result ≡ parts_match explicit (parts_from Outside (marks whole.now)) (chars text.now) }
 {
@@ -142,11 +141,10 @@ pub(crate) fn is_match(word: &[Ch], text: &str, explicit: bool) -> bool
     fits(word, text, explicit)
 }
 
-/// Whether the word matches the whole text. In explicit form no pattern character stands for `/`,
-/// and a word that holds one matches neither `.` nor `..`. It allocates nothing. What follows the last
-/// star is compared with the end of the text alone. Characters between two stars are looked for by
-/// sums, mostly in about as many steps as the text has characters. No match takes more steps than a few
-/// times the length of the word times that of the text.
+/// Whether the word matches the whole text. In path mode no pattern character stands for `/`, and a word that has one
+/// matches neither `.` nor `..`. It allocates nothing. What follows the last star is compared only with the end of the
+/// text. Characters between two stars are looked for by a rolling sum, mostly in about as many steps as the text has
+/// characters. No match takes more steps than a few times the length of the word times that of the text.
 pub fn matches(word: &Word, text: &str, explicit: bool) -> bool
     ensures { result ≡ matches word.now (chars text.now) explicit }
 {

@@ -1,5 +1,6 @@
-//! Places in a text, from its front and from its end.
-ghost use Rattle.std.specs.Prelude.{◌≡◌, ◌<◌, ◌≤◌, ◌+◌, ◌*◌, ◌%◌, ◌^◌, ◌++◌, ◌∷◌, ◌==◌, [], true, length, take, drop, option_map, IfSome, MatchOption};
+//! Searching in a text, from its start and from its end.
+ghost use Rattle.std.specs.Prelude.{◌≡◌, ◌<◌, ◌≤◌, ◌+◌, ◌*◌, ◌%◌, ◌^◌, ◌++◌, ◌∷◌, ◌==◌, [], true};
+ghost use Rattle.std.specs.Prelude.{length, take, drop, option_map, IfSome, MatchOption};
 ghost use Rattle.std.specs.Char.{encode_utf8};
 ghost use Rattle.std.specs.List.{list_all};
 ghost use Rattle.std.specs.Str.{chars, IsUtf8};
@@ -10,7 +11,7 @@ ghost use Rattle.rc_glob.specs.Sums.{add_char, scale_from, sum_from};
 
 use rc_text::{Ch, first_char};
 
-/// By what a sum is multiplied before the next character is added.
+/// The factor of a sum before the next character is added.
 const FACTOR: u64 = 1_099_511_628_211;
 
 /// Whether a pattern character may stand for the character.
@@ -30,7 +31,7 @@ fn star_stands_for(explicit: bool, text: &str) -> bool
     text.chars().all(|c| stands_for(explicit, c))
 }
 
-/// What stands before the last character of the text, and that character.
+/// Splits off the last character of the text.
 fn last_char(text: &str) -> Option<(&str, char)>
     ensures bytes { IfSome result (λ x. text.now ≡ x.0.now ++ encode_utf8 x.1) }
     ensures chars { MatchOption result (chars text.now ≡ []) (λ x. chars text.now ≡ chars x.0.now ++ x.1 ∷ []) }
@@ -43,7 +44,7 @@ fn last_char(text: &str) -> Option<(&str, char)>
     }
 }
 
-/// What stands before the last characters of the text, and these, if it has as many.
+/// Splits off the last characters of the text, if it has as many.
 fn split_last(count: usize, text: &str) -> Option<(&str, &str)>
     ensures parts { MatchOption result (length (chars text.now) < count)
         (λ x. (chars text.now ≡ chars x.0.now ++ chars x.1.now) × (length (chars x.1.now) ≡ count)) }
@@ -62,7 +63,7 @@ fn split_last(count: usize, text: &str) -> Option<(&str, &str)>
     Some(text.split_at(front.len()))
 }
 
-/// The last characters of the text, if it has as many and a star may stand for what is before them.
+/// The last characters of the text, if it has as many and a star may stand for those before them.
 pub(crate) fn last_place(explicit: bool, count: usize, text: &str) -> Option<&str>
     ensures place { option_map (λ rest. chars rest.now) result
         ≡ first_place explicit (λ rest. length rest == count) (chars text.now) }
@@ -79,7 +80,7 @@ pub(crate) fn last_place(explicit: bool, count: usize, text: &str) -> Option<&st
     }
 }
 
-/// The product and the number in one sum, as far as 64 bits hold it.
+/// Multiplies and adds, modulo 2^64.
 fn scaled(sum: u64, scale: u64, next: u64) -> u64
     ensures { result ≡ (sum * scale + next) % 2 ^ 64 }
 {
@@ -104,7 +105,7 @@ fn sum_of(run: &[Ch]) -> u64
     sum
 }
 
-/// By what the characters multiply the sum of what is before them.
+/// The factor by which the characters multiply the sum of those before them.
 fn scale_of(run: &[Ch]) -> u64
     ensures { result ≡ scale_from 1 (characters run.now) }
 {
@@ -117,7 +118,7 @@ fn scale_of(run: &[Ch]) -> u64
     scale
 }
 
-/// The sum of the first characters of the text, and what follows them, if it has as many.
+/// The sum of the first characters of the text, and what follows them, if it has that many.
 fn read(count: usize, text: &str) -> Option<(u64, &str)>
     ensures parts { MatchOption result (length (chars text.now) < count)
         (λ x. (count ≤ length (chars text.now)) × (x.0 ≡ sum_from 0 (take count (chars text.now)))
@@ -157,7 +158,7 @@ fn begins_with(run: &[Ch], text: &str) -> bool
     true
 }
 
-/// Whether the text begins with the characters. They are compared only where the sums are the same.
+/// Whether the text begins with the characters. They are compared only if the sums are equal.
 fn stands_at(run: &[Ch], text: &str, sum: u64, wanted: u64) -> bool
     requires { begins_with (characters run.now) (chars text.now) ≡ true → sum ≡ wanted }
     ensures { result ≡ begins_with (characters run.now) (chars text.now) }
@@ -169,8 +170,8 @@ fn stands_at(run: &[Ch], text: &str, sum: u64, wanted: u64) -> bool
     }
 }
 
-/// The text from the first place on at which the characters stand, if a star may stand for what is before them. The
-/// sum of as many characters of the text goes along with the place, and only where it is theirs are they compared.
+/// The text from the first place at which the characters occur, if a star may stand for what is before them. The sum of
+/// as many characters of the text moves along with the place; they are compared only if it is that of the characters.
 pub(crate) fn find<'a>(explicit: bool, run: &[Ch], text: &'a str) -> Option<&'a str>
     ensures place { option_map (λ rest. chars rest.now) result
         ≡ first_place explicit (begins_with (characters run.now)) (chars text.now) }

@@ -1,4 +1,4 @@
-//! What follows a star in a word: where it can begin.
+//! The part of a word after a star: where it can begin.
 ghost use Rattle.std.specs.Prelude.{◌≡◌, ◌<◌, ◌≤◌, ◌∷◌, [], false, length, option_map, IfSome};
 ghost use Rattle.std.specs.Str.{chars, IsUtf8};
 ghost use Rattle.rc_model.specs.Syntax.Words.{is_pattern};
@@ -12,12 +12,12 @@ use crate::classes::{class_end, is_marked};
 use crate::search::{find, last_place, stands_for};
 use rc_text::{Ch, first_char};
 
-/// Where a word that follows a star can begin.
+/// Where the part of a word after a star can begin.
 #[derive(Clone, Copy)]
 pub(crate) enum Start<'a> {
-    /// So many characters before the end of the text, since no star is in the word.
+    /// This many characters before the end of the text, since there is no star in the word.
     BeforeEnd(usize),
-    /// Where the text goes on with these characters.
+    /// Wherever the text goes on with these characters.
     AtFront(&'a [Ch]),
 }
 
@@ -42,7 +42,7 @@ fn plain_front(word: &[Ch]) -> &[Ch]
     word
 }
 
-/// What follows a class, whose `[` stands before the word; nothing if no `]` closes it.
+/// The word after a class, whose `[` comes before it; empty if no `]` closes it.
 fn after_class(word: &[Ch]) -> &[Ch]
     ensures width { width (parts_from (Inside []) (marks word.now))
         ≡ one_more (width (parts_from Outside (marks result.now))) }
@@ -54,7 +54,7 @@ fn after_class(word: &[Ch]) -> &[Ch]
     }
 }
 
-/// What follows the first character, or the class that it begins.
+/// The word after its first character, or after the class that it begins.
 fn after_part(first: Ch, others: &[Ch]) -> &[Ch]
     requires { is_marked 42 (mark_of first) ≡ false }
     ensures width { width (parts_from Outside (mark_of first ∷ marks others.now))
@@ -68,7 +68,7 @@ fn after_part(first: Ch, others: &[Ch]) -> &[Ch]
     }
 }
 
-/// How many characters the word stands for, if no star is in it.
+/// How many characters the word stands for, if there is no star in it.
 fn width(word: &[Ch]) -> Option<usize>
     ensures { result ≡ width (parts_from Outside (marks word.now)) }
 {
@@ -84,8 +84,8 @@ fn width(word: &[Ch]) -> Option<usize>
     Some(count)
 }
 
-/// Where a word that holds a star can begin. Its characters up to the star are looked for. Where a `?` or a class
-/// stands among them, no place is passed over.
+/// Where a word that has a star can begin. Its characters up to the star are looked for. If there is a `?` or a class
+/// among them, each place is tried.
 fn start_before_star(word: &[Ch]) -> Start<'_>
     ensures { IsStartOf result (marks word.now) }
 {
@@ -96,7 +96,7 @@ fn start_before_star(word: &[Ch]) -> Start<'_>
     }
 }
 
-/// Where the word can begin, if it follows a star.
+/// Where the word can begin after a star.
 pub(crate) fn start_of(word: &[Ch]) -> Start<'_>
     ensures { IsStartOf result (marks word.now) }
 {
@@ -106,7 +106,7 @@ pub(crate) fn start_of(word: &[Ch]) -> Start<'_>
     }
 }
 
-/// The text from the first place on at which it can begin, if the star may stand for what is before that.
+/// The text from the first place at which the word can begin, if the star may stand for what is before that.
 pub(crate) fn next_place<'a>(explicit: bool, start: Start<'_>, text: &'a str) -> Option<&'a str>
     ensures place { option_map (λ rest. chars rest.now) result
         ≡ first_place explicit (can_begin start.entry) (chars text.now) }

@@ -1,4 +1,4 @@
--- What a command asks of Linux, of the program, its arguments and its environment.
+-- The program, the arguments and the environment of a command.
 use Rattle.std.specs.Prelude.{◌≡◌, ℕ, ◌<◌, ◌==◌, List, [], length, SomeIndex, slice_index_or, fold}
 use Rattle.std.specs.Prelude.{Option, Some, None, option_map, IsSomeAnd, true, if◌then◌else◌}
 use Rattle.std.specs.List.{before_first, after_first, position_or_len}
@@ -16,15 +16,15 @@ use Rattle.rc_host.specs.Plan.{Plan, plan_of}
 abbrev pub IsEntry : List ℕ → Type 0
 IsEntry entry = position_or_len (λ b. b == 61) entry < length entry
 
--- what stands before the equals sign of an entry
+-- the part of an entry before the equals sign
 abbrev pub entry_name : List ℕ → List ℕ
 entry_name entry = before_first (λ b. b == 61) entry
 
--- what stands after the equals sign of an entry
+-- the part of an entry after the equals sign
 abbrev pub entry_value : List ℕ → List ℕ
 entry_value entry = after_first (λ b. b == 61) entry
 
--- the value of a name in an environment of these entries: of several of one name the last one counts
+-- the value of a name in an environment of these entries: the last one of this name counts
 abbrev pub value_in : List (List ℕ) → List ℕ → Option (List ℕ)
 value_in entries name =
     fold (λ value entry. if bytes_eq (entry_name entry) name then Some (entry_value entry) else value) None entries
@@ -40,7 +40,7 @@ pub record SetsEntry (old new : Command Global) (entry : List ℕ) : Type 0 wher
   pub value : (name : List ℕ) → command_var new name
       ≡ (if bytes_eq (entry_name entry) name then Some (Some (entry_value entry)) else command_var old name)
 
--- a command asks for a plan, but for its descriptors
+-- a command asks for a plan, except its descriptors
 pub record AsksFor (command : Command Global) (plan : Plan) : Type 0 where
   pub program : command_program command ≡ plan.program
   pub args : command_args command ≡ plan.args
@@ -51,7 +51,7 @@ abbrev pub AsksForPlanOf : (shell : List ℕ) → Launch → Command Global → 
 AsksForPlanOf shell launch command slots =
     IsSomeAnd (plan_of shell launch) (λ plan. AsksFor command plan × (slots ≡ plan.slots))
 
--- why a command was not made: out of memory, or one of the entries is none
+-- why a command was not made: out of memory, or one of the texts is not an entry
 abbrev pub IsNotMade : List (List ℕ) → Fault → Type 0
 IsNotMade entries NoMemory = Unit {0}
 IsNotMade entries Other = SomeIndex entries (λ k. ¬ IsEntry (slice_index_or entries k []))

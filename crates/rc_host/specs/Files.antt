@@ -1,4 +1,4 @@
--- Open files: how a file is opened, and what is held open.
+-- Open files: how a file is opened, and the kinds of open files.
 use Rattle.std.specs.Prelude.{true}
 use Rattle.std.specs.Fs.{new_options, with_read, with_write, with_append, with_create, with_create_new, with_truncate}
 use Rattle.std.specs.declared.fs.options.OpenOptions.{OpenOptions}
@@ -13,11 +13,11 @@ options_of Read = with_read new_options true
 options_of Write = with_truncate (with_create (with_write new_options true) true) true
 options_of Append = with_create (with_append new_options true) true
 
--- to write to a file that is created, and only where its name is free
+-- to write to a file that is created, only if its name is free
 abbrev pub fresh_options : OpenOptions
 fresh_options = with_create_new (with_write new_options true) true
 
--- a file, and no end of a pipe
+-- a file, not an end of a pipe
 abbrev pub IsFile : OpenFile → Type 0
 IsFile (File file) = Unit {0}
 IsFile _ = ⊥

@@ -31,12 +31,12 @@ pub record HoldsAllAlike (old new : HostWorld) : Type 0 where
   pub files : files_of new ≡ files_of old
   pub children : children_of new ≡ children_of old
 
--- all but the open files is as before
+-- all but the open files are as before
 pub record ChangesFilesAlone (old new : HostWorld) : Type 0 where
   pub shell : shell_of new ≡ shell_of old
   pub children : children_of new ≡ children_of old
 
--- all but the children is as before
+-- all but the children are as before
 pub record ChangesChildrenAlone (old new : HostWorld) : Type 0 where
   pub shell : shell_of new ≡ shell_of old
   pub files : files_of new ≡ files_of old
@@ -55,23 +55,23 @@ pub record AddsPipe (old new : HostWorld) (read_end write_end : ℕ) : Type 0 wh
   pub write : IsSomeAnd (held_at (files_of new) write_end) IsWriteEnd
   pub others : (k : ℕ) → k ≢ read_end → k ≢ write_end → held_at (files_of new) k ≡ held_at (files_of old) k
 
--- what a descriptor of a child stands for is there: the shell's own always, an open file where it is held
+-- the slot of a child's descriptor is there: the shell's own always, an open file if it is held
 abbrev pub IsThere : List (Option OpenFile) → Slot → Type 0
 IsThere files (Own n) = ⊤
 IsThere files (To file) = IsSome (held_at files file.0)
 
--- the same of all three
+-- the slots of all three are there
 pub record AreThere (files : List (Option OpenFile)) (slots : Slots) : Type 0 where
   pub input : IsThere files slots.input
   pub output : IsThere files slots.output
   pub errors : IsThere files slots.errors
 
--- an open file is the one that a slot names
+-- an open file is that of a slot
 abbrev pub IsNamed : List (Option OpenFile) → OpenFile → Slot → Type 0
 IsNamed files held (Own n) = ⊥
 IsNamed files held (To file) = held_at files file.0 ≡ Some held
 
--- a descriptor of this process, by its number, is the shell's own that a slot names
+-- a descriptor of this process, by its number, is the shell's own in a slot
 abbrev pub IsOwn : Option ℤ → Slot → Type 0
 IsOwn descriptor (Own n) = descriptor ≡ Some (pos n)
 IsOwn descriptor (To file) = ⊥

@@ -1,5 +1,4 @@
--- The texts of bytes in which a byte 0 ends each of them: the names of files, in what Linux gives of a directory, and
--- the entries of an environment.
+-- Texts that a byte 0 terminates: the names in a directory, as Linux has them, and the entries of an environment.
 use Rattle.std.specs.Prelude.{◌≡◌, ◌⊎◌, ◌==◌, ◌&&◌, ◌||◌, ◌-◌, not, if◌then◌else◌, ℕ, ℤ, pos, List, [], ◌∷◌, ◌++◌}
 use Rattle.std.specs.Prelude.{length, slice_index}
 use Rattle.std.specs.IoError.{os_error_kind}
@@ -9,38 +8,38 @@ use Rattle.rc_model.specs.Run.Patterns.{is_dots}
 use Rattle.rc_host.specs.declared.ended.Sort.{Sort}
 use Rattle.rc_host.specs.declared.ended.Sort.TheVariants.{Names, Entries}
 
--- the name, where it is UTF-8 and neither `.` nor `..`
+-- the name, if it is UTF-8 and neither `.` nor `..`
 abbrev pub named : List ℕ → List (List ℕ)
 named name = if is_utf8 name && not (is_dots name) then name ∷ [] else []
 
--- the text, where it is UTF-8
+-- the text, if it is UTF-8
 abbrev pub entered : List ℕ → List (List ℕ)
 entered text = if is_utf8 text then text ∷ [] else []
 
--- what is kept of these bytes, by what they are: a name or an entry
+-- the text that is kept of these bytes, by their sort: a name or an entry
 abbrev pub kept : Sort → List ℕ → List (List ℕ)
 kept Names bytes = named bytes
 kept Entries bytes = entered bytes
 
--- what is kept of bytes in which a byte 0 ends each text, after these bytes of the first one
+-- the texts that are kept of bytes with terminated texts, after these bytes of the first one
 abbrev pub ended_from : Sort → List ℕ → List ℕ → List (List ℕ)
 ended_from sort read [] = []
 ended_from sort read (byte ∷ bytes) =
     if byte == 0 then kept sort read ++ ended_from sort [] bytes else ended_from sort (read ++ byte ∷ []) bytes
 
--- the names in bytes in which a byte 0 ends each name
+-- the names in bytes in which a byte 0 terminates each name
 abbrev pub names_in : List ℕ → List (List ℕ)
 names_in bytes = ended_from Names [] bytes
 
--- the entries in bytes in which a byte 0 ends each entry
+-- the entries in bytes in which a byte 0 terminates each entry
 abbrev pub entries_in : List ℕ → List (List ℕ)
 entries_in bytes = ended_from Entries [] bytes
 
--- the path by which a directory is opened: a slash ends it, unless it is empty
+-- the path with which a directory is opened: it ends in a slash, unless it is empty
 abbrev pub directory_path : List ℕ → List ℕ
 directory_path path =
     if length path == 0 || slice_index path (length path - 1) == 47 then path else path ++ 47 ∷ []
 
--- with this number of an error, or 0, no name is left: a directory that was taken away has none
+-- with this error number, or 0, no name is left: a directory that was removed has none
 abbrev pub IsLast : ℤ → Type 0
 IsLast number = (number ≡ pos 0) ⊎ (os_error_kind number ≡ kind.NotFound)

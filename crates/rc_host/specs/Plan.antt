@@ -1,4 +1,4 @@
--- What a launch asks of Linux. A child inherits a descriptor only in its own place, so that /bin/sh makes the copies.
+-- The plan of a launch. A child inherits a descriptor only in its own place, so /bin/sh makes the copies.
 use Rattle.std.specs.Prelude.{ℕ, ◌==◌, Bool, true, false, ◌&&◌, ◌||◌, if◌then◌else◌, List, [], ◌∷◌, ◌++◌, codes}
 use Rattle.std.specs.Prelude.{Option, Some, None, unwrap_or, option_map}
 use Rattle.std.specs.List.{list_any}
@@ -19,7 +19,7 @@ abbrev pub is_own : ℕ → Slot → Bool
 is_own n (Own m) = m == n
 is_own n (To file) = false
 
--- one of these stands for the shell's own descriptor of this number
+-- one of these slots is the shell's own descriptor of this number
 abbrev pub stands : ℕ → Slots → Bool
 stands n slots = is_own n slots.input || (is_own n slots.output || is_own n slots.errors)
 
@@ -28,17 +28,17 @@ abbrev pub is_file : Slot → Bool
 is_file (Own m) = false
 is_file (To file) = true
 
--- what a child can have as this descriptor without a copy: the shell's own in its own place, or an open file
+-- a slot that a child can have as this descriptor without a copy: the shell's own in its own place, or an open file
 abbrev pub is_in_place : ℕ → Slot → Bool
 is_in_place n slot = is_own n slot || is_file slot
 
--- how copies come about: what /bin/sh runs, and what it is given as descriptors 1 and 2
+-- a way of copying: the script that /bin/sh runs, and what it gets as descriptors 1 and 2
 pub record Copying : Type 0 where
   pub text : List ℕ
   pub output : Slot
   pub errors : Slot
 
--- the copying by a text that is given these descriptors
+-- the copying by a script that gets these descriptors
 abbrev pub by_text : List ℕ → Slot → Slot → Copying
 by_text text output errors = record { text = text; output = output; errors = errors }
 
@@ -50,7 +50,7 @@ errors_to_output = codes "exec \"$@\" 2>&1"
 abbrev pub output_to_errors : List ℕ
 output_to_errors = codes "exec \"$@\" 1>&2"
 
--- descriptors 1 and 2 change places
+-- descriptors 1 and 2 are exchanged
 abbrev pub exchanged : List ℕ
 exchanged = codes "exec \"$@\" 3>&1 1>&2 2>&3 3>&-"
 
@@ -77,18 +77,18 @@ copying_plan program launch copying = record {
   slots = record { input = launch.slots.input; output = copying.output; errors = copying.errors };
 }
 
--- env takes a name with an equals sign for an entry
+-- a name that env would take for an entry, since it has an equals sign
 abbrev pub has_equals : List ℕ → Bool
 has_equals program = list_any (λ b. b == 61) program
 
--- the plan of a program, where descriptor 0 is in its place
+-- the plan of a program, if descriptor 0 is in its place
 abbrev pub plan_by : List ℕ → Launch → Option Plan
 plan_by program launch =
     if is_in_place 1 launch.slots.output && is_in_place 2 launch.slots.errors then Some (plain_plan program launch)
     else if has_equals program then None
     else option_map (copying_plan program launch) (copying_of launch.slots.output launch.slots.errors)
 
--- the plan of a launch, by the path of the shell's own program; none where its descriptors cannot be had
+-- the plan of a launch, given the path of the shell's own program; none if its descriptors are not possible
 abbrev pub plan_of : (shell : List ℕ) → Launch → Option Plan
 plan_of shell launch =
     if is_in_place 0 launch.slots.input then plan_by (unwrap_or launch.program shell) launch else None

@@ -1,18 +1,23 @@
--- How the plans of the program stand for plans.
-use Rattle.std.specs.Prelude.{map, string_bytes}
+-- The plans that the values of the program represent.
+use Rattle.std.specs.Prelude.{ℕ, List, map, string_bytes}
+use denote.Ref.{Bor}
 use Rattle.rc_host.specs.declared.launches.planned.Plan.{Plan as HostPlan}
 use Rattle.rc_host.specs.declared.launches.planning.Copying.{Copying as HostCopying}
 use Rattle.rc_host.specs.Plan.{Plan, Copying}
 
+-- texts that are lent
+abbrev pub texts_lent : List (Bor (List ℕ)) → List (List ℕ)
+texts_lent texts = map (λ text. text.now) texts
+
 -- the texts of a plan, and its descriptors
 abbrev pub plan_view : HostPlan → Plan
 plan_view plan = record {
-  program = string_bytes plan.program;
-  args = map string_bytes plan.args.items;
-  env = map string_bytes plan.env.items;
+  program = plan.program.now;
+  args = texts_lent plan.args.items;
+  env = map string_bytes plan.env.now;
   slots = plan.slots;
 }
 
--- the text of a copying, and what it is given
+-- the script of a copying, and the descriptors that it gets
 abbrev pub copying_view : HostCopying → Copying
 copying_view copying = record { text = copying.text.now; output = copying.output; errors = copying.errors }

@@ -1,4 +1,4 @@
-//! What Linux says, as what a world answers.
+//! Results of Linux as answers of a world.
 ghost use Rattle.std.specs.Prelude.{◌≡◌, ◌≢◌, ◌↔◌, Ok, Err, IfOk, IsOk, IfSome, IsSomeAnd, MatchResult};
 ghost use Rattle.std.specs.Fs.{IsDir, file_type};
 ghost use Rattle.std.specs.Process.{child_status};
@@ -12,10 +12,10 @@ use std::io;
 use std::os::unix::fs::PermissionsExt;
 use std::process::{Child, ExitStatus};
 
-/// The bits of a file's mode by which its owner, its group or all others may execute it.
+/// The bits of a file's mode that let its owner, its group or all others execute it.
 const EXECUTE: u32 = 0o111;
 
-/// The answer to a call of which Linux says this.
+/// Answers a call with this result of Linux.
 pub(crate) fn answer<T>(said: io::Result<T>) -> Result<T, Fault>
     ensures same { MatchResult said (λ value. result ≡ Ok value) (λ error. result ≡ Err (fault_at error)) }
     ensures answered { result ≢ Err Halt }
@@ -26,7 +26,7 @@ pub(crate) fn answer<T>(said: io::Result<T>) -> Result<T, Fault>
     }
 }
 
-/// Waits until the child has ended, and says how it did. A child whose ending is known ends as it did.
+/// Waits for the end of the child, and returns how it ended. A child whose end is known ends the same way.
 pub(crate) fn end_of(child: &mut Child) -> Result<Ending, Fault>
     ensures recorded { IfOk result (λ ending.
         IsSomeAnd (child_status child.new) (λ status. ending ≡ ending_of status)) }
@@ -36,7 +36,7 @@ pub(crate) fn end_of(child: &mut Child) -> Result<Ending, Fault>
     ended(child.wait())
 }
 
-/// How a child ended, by the answer to a wait for it.
+/// How a child ended, by the result of the wait for it.
 fn ended(status: io::Result<ExitStatus>) -> Result<Ending, Fault>
     ensures { MatchResult status (λ status. result ≡ Ok (ending_of status)) (λ error. result ≡ Err (fault_at error)) }
 {
@@ -55,7 +55,7 @@ fn ending_of(status: ExitStatus) -> Ending
     }
 }
 
-/// What a path names, by what Linux says of it.
+/// The kind of a path, by its metadata.
 pub(crate) fn kind_found(said: io::Result<Metadata>) -> Result<Kind, Fault>
     ensures same { MatchResult said (λ found. IfOk result (FindsKind found))
         (λ error. result ≡ Err (fault_at error)) }

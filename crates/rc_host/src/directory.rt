@@ -16,10 +16,10 @@ use std::os::fd::AsRawFd;
 use std::rt::HostRuntime;
 use std::{fs, io};
 
-/// How many bytes of names Linux is asked for at once.
+/// How many bytes of names are read at once.
 const NAME_BYTES: usize = 32_768;
 
-/// An open directory. It is read as the names in it, each ended by a byte 0.
+/// An open directory. It reads as the names in it, each terminated by a byte 0.
 #[derive(Drop)]
 struct Directory(File);
 
@@ -43,7 +43,7 @@ pub(crate) fn names_in(rt: &HostRuntime, path: &str) -> Result<Vec<String>, Faul
 }
 
 /// The path of a directory. With a slash at its end Linux refuses any other file, and does not wait for a named pipe.
-/// The empty path is that of no file.
+/// The empty path names no file.
 fn directory_path(alloc: Global, path: &str) -> Result<String, AllocError>
     ensures { IfOk result (λ text. string_bytes text ≡ directory_path path.now) }
 {
@@ -54,7 +54,7 @@ fn directory_path(alloc: Global, path: &str) -> Result<String, AllocError>
     Ok(text)
 }
 
-/// The names that are read of a directory.
+/// The names that are read from a directory.
 fn names_of<R: Read>(alloc: Global, directory: &mut R) -> Result<Vec<String>, Fault>
     ensures names { IfOk result (λ names. IfSome (R.remaining directory.old)
         (λ bytes. map string_bytes names.items ≡ names_in bytes)) }
@@ -68,7 +68,7 @@ fn names_of<R: Read>(alloc: Global, directory: &mut R) -> Result<Vec<String>, Fa
     }
 }
 
-/// All bytes of a reader that is a directory.
+/// All bytes of a reader for a directory.
 fn read_whole<R: Read>(alloc: Global, directory: &mut R) -> Result<Vec<u8>, Fault>
     ensures whole { IfOk result (λ bytes. IfSome (R.remaining directory.old) (λ all. bytes.items ≡ all)) }
     ensures answered { result ≢ Err Halt }
@@ -88,7 +88,7 @@ fn read_whole<R: Read>(alloc: Global, directory: &mut R) -> Result<Vec<u8>, Faul
     Err(Fault::Other)
 }
 
-/// What it means that no more names came, with Linux's number of an error or 0: none is left, or the error.
+/// The meaning of a read without names, with Linux's number of an error or 0: the end, or the error.
 fn end_at(number: i32) -> io::Result<usize>
     ensures end { IsOk result ↔ IsLast number }
     ensures none { IfOk result (λ count. count ≡ 0) }

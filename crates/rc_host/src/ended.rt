@@ -1,11 +1,11 @@
-//! Texts that stand one after the other, each ended by a byte 0.
+//! Texts in a sequence, each terminated by a byte 0.
 ghost use Rattle.std.specs.Prelude.{◌≡◌, ◌++◌, ◌∷◌, [], OnOk, MatchOption, map, string_bytes};
 ghost use Rattle.rc_host.specs.Names.{named, entered, kept, ended_from};
 
 use std::alloc::AllocError;
 use std::str;
 
-/// What the texts are.
+/// The sort of the texts.
 #[derive(Clone, Copy)]
 pub(crate) enum Sort {
     /// The names of files.
@@ -14,7 +14,7 @@ pub(crate) enum Sort {
     Entries,
 }
 
-/// Adds what is kept of the texts that stand in the bytes.
+/// Adds those of the texts in the bytes that are kept.
 pub(crate) fn push_ended(
     texts: &mut Vec<String>,
     bytes: &[u8],
@@ -56,7 +56,7 @@ fn kept_text(bytes: &[u8], sort: Sort) -> Option<&str>
     }
 }
 
-/// The name of a file: none where it is not UTF-8, and for `.` and `..`.
+/// The name of a file; none if it is not UTF-8, and for `.` and `..`.
 fn file_name(name: &[u8]) -> Option<&str>
     ensures { MatchOption result (named name.now ≡ []) (λ text. named name.now ≡ text.now ∷ []) }
 {
@@ -69,7 +69,7 @@ fn file_name(name: &[u8]) -> Option<&str>
     Some(text)
 }
 
-/// The entry of an environment: none where it is not UTF-8.
+/// The entry of an environment; none if it is not UTF-8.
 fn entry_text(entry: &[u8]) -> Option<&str>
     ensures { MatchOption result (entered entry.now ≡ []) (λ text. entered entry.now ≡ text.now ∷ []) }
 {

@@ -20,7 +20,7 @@ use std::random::RandomSource;
 use std::rt::HostRuntime;
 use std::{fs, io};
 
-/// The mode of the file of a here document, which nobody but its owner may read or write.
+/// The mode of the file of a here document, which only its owner may read or write.
 const PRIVATE: u32 = 0o600;
 
 /// A file or an end of a pipe that is open in this process and in none of its children.
@@ -32,7 +32,7 @@ pub(crate) enum OpenFile {
 }
 
 impl OpenFile {
-    /// A copy, to be a descriptor of a child.
+    /// Copies it, for a descriptor of a child.
     pub(crate) fn copy(&self) -> io::Result<Stdio> {
         match self {
             OpenFile::File(file) => Ok(Stdio::from(file.try_clone()?)),
@@ -41,7 +41,7 @@ impl OpenFile {
         }
     }
 
-    /// The next bytes, none at the end.
+    /// Reads the next bytes, none at the end.
     pub(crate) fn read(&self, alloc: Global) -> Result<Vec<u8>, Fault>
         ensures bound { IfOk result (λ bytes. vec_len bytes ≤ LONGEST_READ) }
         ensures write_end { IsWriteEnd self.now → result ≡ Err Other }
@@ -67,7 +67,7 @@ impl OpenFile {
     }
 }
 
-/// How a file is opened. It is closed where another program is started.
+/// The options for opening a file, which is closed when another program is started.
 pub(crate) fn options_of(mode: Mode) -> OpenOptions
     ensures { result ≡ options_of mode }
 {
@@ -80,7 +80,7 @@ pub(crate) fn options_of(mode: Mode) -> OpenOptions
     options
 }
 
-/// The next bytes of a reader, none at its end.
+/// Reads the next bytes of a reader, none at its end.
 pub(crate) fn read_some<R: Read>(alloc: Global, reader: &mut R) -> Result<Vec<u8>, Fault>
     ensures bound { IfOk result (λ bytes. vec_len bytes ≤ LONGEST_READ) }
     ensures bytes { IfOk result (λ bytes. Consumes (R.remaining reader.old) (R.remaining reader.new) bytes.items) }
@@ -101,7 +101,7 @@ pub(crate) fn read_some<R: Read>(alloc: Global, reader: &mut R) -> Result<Vec<u8
     }
 }
 
-/// One read, which is made again when a signal interrupts it.
+/// Reads once, and again if a signal interrupts it.
 pub(crate) fn read_again<R: Read>(reader: &mut R, buffer: &mut [u8]) -> io::Result<usize>
     ensures bound { ReadsAtMost result buffer.new }
     ensures bytes { ReadConsumes (R.remaining reader.old) (R.remaining reader.new) result buffer.new }
@@ -125,7 +125,7 @@ pub(crate) fn write_text<W: Write>(writer: &mut W, text: &[u8]) -> Result<(), Fa
     answer(writer.write_all(text))
 }
 
-/// A file for reading that holds this text and has no name.
+/// Makes a file for reading that holds this text and has no name.
 pub(crate) fn here_file(rt: &HostRuntime, text: &str) -> Result<File, Fault>
     ensures { result ≢ Err Halt }
 {
@@ -134,7 +134,7 @@ pub(crate) fn here_file(rt: &HostRuntime, text: &str) -> Result<File, Fault>
     Ok(reader)
 }
 
-/// A fresh file, for writing and for reading, whose name is gone. Nobody can guess that name.
+/// Makes a fresh file, for writing and for reading, whose name is removed. Nobody can guess that name.
 fn nameless_file(rt: &HostRuntime) -> io::Result<(File, File)> {
     let mut random = [0u8; 16];
     rt.fill_bytes(&mut random)?;
@@ -145,14 +145,14 @@ fn nameless_file(rt: &HostRuntime) -> io::Result<(File, File)> {
     Ok((writer, reader?))
 }
 
-/// The path of the file of a here document, which has the whole of a random number.
+/// The path of the file of a here document, with all digits of a random number.
 fn here_path(alloc: Global, number: u128) -> Result<String, AllocError>
     ensures { IfOk result (λ path. string_bytes path ≡ codes "/tmp/rc." ++ decimal number) }
 {
     format!(in alloc; "/tmp/rc.{number}")
 }
 
-/// How the file of a here document is opened for writing, but for its mode: nothing may have its name.
+/// The options for writing the file of a here document, except its mode: nothing may have its name.
 fn fresh_options() -> OpenOptions
     ensures { result ≡ fresh_options }
 {

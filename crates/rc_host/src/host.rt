@@ -31,9 +31,8 @@ use std::{env, fs, io};
 
 /// Linux as a world. It records no events.
 ///
-/// Open files, here documents and ends of pipes have numbers of their own, which are not those of
-/// Linux. A child has its three descriptors and no other, and starts in the directory of the last
-/// `chdir`.
+/// Open files, here documents and ends of pipes have numbers of their own, which are not Linux's. A child has its three
+/// descriptors and no others, and starts in the directory of the last `chdir`.
 #[derive(Drop)]
 pub struct HostWorld {
     rt: HostRuntime,
@@ -59,15 +58,15 @@ impl HostWorld {
         }
     }
 
-    /// From now on so many files are opened before the process gives up these descriptors of its own. No call may name
-    /// them after that.
+    /// Sets how many files are opened before the process closes descriptors of its own. No call may name them after
+    /// that.
     pub fn leave(&mut self, leaving: Leaving)
         ensures { HoldsAllAlike self.old self.new }
     {
         self.leaving = leaving;
     }
 
-    /// Counts a file that was opened. After the last one the process gives up descriptors of its own.
+    /// Counts a file that was opened. After the last one the process closes descriptors of its own.
     fn count_opened(&mut self)
         ensures { HoldsAllAlike self.old self.new }
     {
@@ -76,7 +75,7 @@ impl HostWorld {
         }
     }
 
-    /// Whether what each descriptor of a child stands for is there.
+    /// Whether each open file that a slot names is held.
     fn are_there(&self, slots: Slots) -> bool
         ensures { IsTrue result ↔ AreThere (files_of self.now) slots }
     {
@@ -92,7 +91,7 @@ impl HostWorld {
         }
     }
 
-    /// Gives a command the descriptors of its child.
+    /// Sets the descriptors of a command.
     fn connect(&self, mut command: Command, slots: Slots) -> Result<Connected, Fault>
         ensures call { IfOk result (λ connected. SameProgramAndArgs command connected.command) }
         ensures env { IfOk result (λ connected. SameEnv command connected.command) }
@@ -105,8 +104,8 @@ impl HostWorld {
         Ok(Connected { command, slots })
     }
 
-    /// A copy of what a slot names, to be a descriptor of a child. A child does not inherit the
-    /// shell's own as it is, since one that was opened where it was absent is closed there.
+    /// Copies the file of a slot, for a descriptor of a child. A child does not inherit the shell's own directly, since
+    /// one that was opened because it was absent is closed there.
     fn stream(&self, slot: Slot) -> Result<Stream, Fault>
         ensures made { IfOk result (λ stream. stream.slot ≡ slot) }
         ensures answered { result ≢ Err Halt }
@@ -124,7 +123,7 @@ impl HostWorld {
         answer(copy)
     }
 
-    /// A copy of the open file that the slot names.
+    /// Copies the open file of a slot.
     fn file_copy(&self, file: &OpenFile, slot: Slot) -> io::Result<Stream>
         requires { IsNamed (files_of self.now) file.now slot }
         ensures { IfOk result (λ stream. stream.slot ≡ slot) }
@@ -133,7 +132,7 @@ impl HostWorld {
         Ok(Stream { slot, copy })
     }
 
-    /// Opens the file that is to be held at this number, whose place is there already.
+    /// Opens the file to be held at this number, for which there is room already.
     fn file_for(&self, _number: u32, path: &str, mode: Mode) -> Result<File, Fault>
         requires place { _number < length (files_of self.now) }
         ensures answered { result ≢ Err Halt }
@@ -141,7 +140,7 @@ impl HostWorld {
         answer(options_of(mode).open(&self.rt, path))
     }
 
-    /// Makes the here document that is to be held at this number, whose place is there already.
+    /// Makes the here document to be held at this number, for which there is room already.
     fn here_for(&self, _number: u32, text: &str) -> Result<File, Fault>
         requires place { _number < length (files_of self.now) }
         ensures answered { result ≢ Err Halt }
@@ -149,7 +148,7 @@ impl HostWorld {
         here_file(&self.rt, text)
     }
 
-    /// Makes the pipe whose ends are to be held at these numbers, whose places are there already.
+    /// Makes the pipe whose ends are to be held at these numbers, for which there is room already.
     fn pipe_for(&self, _read_end: u32, _write_end: u32) -> Result<(PipeReader, PipeWriter), Fault>
         requires read_place { _read_end < length (files_of self.now) }
         requires write_place { _write_end < length (files_of self.now) }
@@ -307,7 +306,9 @@ impl World for HostWorld {
         let plan = plan(self.rt.alloc(), launch, &self.shell)?;
         let number = self.children.room()?;
         let command = command_of(self.rt.alloc(), &plan)?;
-        let connected = self.connect(command, plan.slots)?;
+        let slots = plan.slots;
+        drop(plan);
+        let connected = self.connect(command, slots)?;
         self.spawn(number, launch, connected)
     }
 

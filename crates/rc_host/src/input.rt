@@ -1,4 +1,4 @@
-//! What a script is read from.
+//! The input that a script is read from.
 ghost use Rattle.std.specs.Prelude.{◌≢◌, IfErr};
 ghost use Rattle.std.specs.Io.{ReadsAtMost};
 ghost use Rattle.std.specs.Io.KnownBytes.{ReadConsumes};
@@ -11,11 +11,11 @@ use std::io;
 use std::io::{ErrorKind, Read, Stdin};
 use std::os::fd::{AsRawFd, RawFd};
 
-/// How long is waited, in milliseconds: as long as it takes.
+/// The timeout of a wait, in milliseconds: none.
 const NO_LIMIT: i32 = -1;
 
-/// What a script is read from. A read that finds nothing yet waits, also where the file is not to wait, as a standard
-/// input may be that another process has set so.
+/// The input that a script is read from. A read waits if there is nothing yet, even if the file is nonblocking, as
+/// another process may have made a standard input.
 #[derive(Drop)]
 pub enum Input {
     File(File),
@@ -31,7 +31,7 @@ impl Read for Input {
     }
 }
 
-/// One read, which is made again once there is something to read, if there was nothing yet.
+/// Reads once, and again when there is something to read, if there was nothing yet.
 fn read_waiting<R: Read + AsRawFd>(reader: &mut R, buffer: &mut [u8]) -> io::Result<usize>
     ensures bound { ReadsAtMost result buffer.new }
     ensures bytes { ReadConsumes (R.remaining reader.old) (R.remaining reader.new) result buffer.new }
@@ -47,7 +47,7 @@ fn read_waiting<R: Read + AsRawFd>(reader: &mut R, buffer: &mut [u8]) -> io::Res
     Err(io::Error::from(ErrorKind::Other))
 }
 
-/// Waits until there is something to read, or until a signal comes.
+/// Waits until there is something to read, or until a signal arrives.
 fn wait_for(descriptor: RawFd) -> io::Result<()>
     ensures { IfErr result (λ error. error_kind error ≢ ErrorKind.WouldBlock) }
 {

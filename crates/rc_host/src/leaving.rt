@@ -1,4 +1,4 @@
-//! The descriptors of its own that a process gives up.
+//! Descriptors of its own that a process closes.
 ghost use Rattle.std.specs.Prelude.{◌≡◌, ◌-◌, ◌==◌, not};
 ghost use Rattle.rc_host.specs.Plan.{is_own, stands};
 
@@ -8,8 +8,8 @@ use std::io;
 use std::os::fd::{AsRawFd, IntoRawFd};
 use std::rt::HostRuntime;
 
-/// Which descriptors of its own a process gives up, and when: once it has opened so many files and here documents. With
-/// none to open it gives nothing up.
+/// Which descriptors of its own a process closes, and when: after it has opened this many files and here documents.
+/// With none to open it closes nothing.
 #[derive(Clone, Copy)]
 pub struct Leaving {
     pub files: u32,
@@ -19,7 +19,7 @@ pub struct Leaving {
 }
 
 impl Leaving {
-    /// Nothing is given up.
+    /// Closes nothing.
     pub fn never() -> Leaving
         ensures { result.files ≡ 0 }
     {
@@ -31,7 +31,7 @@ impl Leaving {
         }
     }
 
-    /// With so many files to open, each descriptor is given up that none of these stands for.
+    /// With this many files to open, closes each descriptor that is in none of these slots.
     pub fn all_but(files: u32, slots: Slots) -> Leaving
         ensures files { result.files ≡ files }
         ensures input { result.input ≡ not (stands 0 slots) }
@@ -46,7 +46,7 @@ impl Leaving {
         }
     }
 
-    /// Counts a file that was opened, and says whether it was the last.
+    /// Counts a file that was opened, and returns whether it was the last.
     pub fn count(&mut self) -> bool
         ensures last { result ≡ (self.old.files == 1) }
         ensures left { self.new ≡ record self.old { files = self.old.files - 1 } }
@@ -57,7 +57,7 @@ impl Leaving {
     }
 }
 
-/// Whether one of these stands for this process's own descriptor of this number.
+/// Whether one of these slots is this process's own descriptor of this number.
 fn stands(own: u8, slots: Slots) -> bool
     ensures { result ≡ stands own slots }
 {
@@ -73,13 +73,13 @@ fn is_own(own: u8, slot: Slot) -> bool
     }
 }
 
-/// Opens `/dev/null`, to stand in the place of a descriptor.
+/// Opens `/dev/null`, to take the place of a descriptor.
 pub(crate) fn open_null(rt: &HostRuntime) -> io::Result<File> {
     File::options().read(true).write(true).open(rt, "/dev/null")
 }
 
-/// Gives up descriptors of this process, as far as `/dev/null` can be opened to stand in their places. No other file
-/// takes their numbers.
+/// Closes descriptors of this process, as far as `/dev/null` can be opened to take their places. No other file gets
+/// their numbers.
 pub(crate) fn give_up(rt: &HostRuntime, leaving: Leaving) {
     if open_null(rt).is_err() {
         return;
@@ -95,7 +95,7 @@ pub(crate) fn give_up(rt: &HostRuntime, leaving: Leaving) {
     }
 }
 
-/// Closes a descriptor of this process. Linux gives `/dev/null` its number, the least that is free.
+/// Closes a descriptor of this process. Linux gives `/dev/null` its number, the lowest free one.
 fn replace<F: AsRawFd>(rt: &HostRuntime, own: &F) {
     libc::close(own.as_raw_fd());
     if let Ok(null) = open_null(rt) {

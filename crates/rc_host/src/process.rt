@@ -1,4 +1,4 @@
-//! What a program takes from its process.
+//! What a program gets from its process.
 ghost use Rattle.std.specs.Prelude.{◌≡◌, ◌==◌, ◌++◌, None, IfOk, OnErr, codes, count_by, drop, map, string_bytes};
 ghost use Rattle.std.specs.Fmt.{decimal};
 ghost use Rattle.std.specs.Path.{path_buf_bytes};
@@ -21,7 +21,7 @@ use thiserror::Error;
 /// Linux's number for a descriptor that is not open.
 const NOT_OPEN: i32 = 9;
 
-/// What is wrong with the arguments of a program.
+/// The fault of the arguments of a program.
 #[derive(Clone, Copy, Debug, Error)]
 pub enum ArgumentsFault {
     #[error("an argument is not UTF-8")]
@@ -68,7 +68,7 @@ pub fn entries(rt: &HostRuntime) -> Result<Vec<String>, AllocError> {
     entries_by_place(rt)
 }
 
-/// The entries that are UTF-8, in bytes in which a byte 0 ends each entry.
+/// The entries that are UTF-8, from bytes in which a byte 0 terminates each entry.
 fn entries_in(alloc: Global, bytes: &[u8]) -> Result<Vec<String>, AllocError>
     ensures { IfOk result (λ entries. map string_bytes entries.items ≡ entries_in bytes.now) }
 {
@@ -77,25 +77,25 @@ fn entries_in(alloc: Global, bytes: &[u8]) -> Result<Vec<String>, AllocError>
     Ok(entries)
 }
 
-/// How many texts end in the bytes.
+/// Counts the terminated texts in the bytes.
 fn count_ended(bytes: &[u8]) -> usize
     ensures { result ≡ count_by (λ byte. byte == 0) bytes.now }
 {
     bytes.iter().filter(|byte| **byte == 0).count()
 }
 
-/// Whether the environment has so many entries and no more.
+/// Whether the environment has exactly this many entries.
 fn has_entries<R: Env>(rt: &R, count: usize) -> bool {
     !is_present(rt, count) && (count == 0 || is_present(rt, count - 1))
 }
 
-/// Whether there is an entry at this place of the environment.
+/// Whether the environment has an entry at this index.
 fn is_present<R: Env>(rt: &R, place: usize) -> bool {
     !matches!(rt.var_at(place, &mut []), Err(FillError::NotPresent))
 }
 
-/// The entries of the environment that are UTF-8, in their order, each taken by its place. Linux is asked to count the
-/// places anew for each.
+/// The entries of the environment that are UTF-8, in their order, each taken by its index. Linux counts the entries
+/// anew for each.
 pub fn entries_by_place<R: Env + AllocGlobal>(rt: &R) -> Result<Vec<String>, AllocError> {
     let mut entries = Vec::new(rt.alloc());
     for place in 0..usize::MAX {
@@ -107,7 +107,7 @@ pub fn entries_by_place<R: Env + AllocGlobal>(rt: &R) -> Result<Vec<String>, All
     Ok(entries)
 }
 
-/// The entry at a place of the environment. A buffer that is too small is doubled.
+/// The entry at an index of the environment. A buffer that is too small is doubled.
 fn entry_at<R: Env + AllocGlobal>(rt: &R, place: usize) -> Result<Option<Vec<u8>>, AllocError> {
     let mut size = 256usize;
     for _ in 0..usize::BITS {
@@ -124,7 +124,7 @@ fn entry_at<R: Env + AllocGlobal>(rt: &R, place: usize) -> Result<Option<Vec<u8>
     Err(AllocError)
 }
 
-/// The path by which a program starts itself, by what Linux says of its path and by the number of its process: that
+/// The path with which a program starts itself, given its path according to Linux and the number of its process: that
 /// path, or else the link that Linux keeps to the program of a process.
 pub fn own_path(
     alloc: Global,
@@ -141,16 +141,16 @@ pub fn own_path(
     }
 }
 
-/// Opens `/dev/null` as each of the descriptors 0, 1 and 2 that is absent, so that no other file
-/// takes its number. To be called before any file is opened.
+/// Opens `/dev/null` as each of the descriptors 0, 1 and 2 that is absent, so that no other file gets its number. Call
+/// it before any file is opened.
 pub fn open_standard(rt: &HostRuntime) -> io::Result<()> {
     open_if_absent(rt, &rt.stdin())?;
     open_if_absent(rt, &rt.stdout())?;
     open_if_absent(rt, &rt.stderr())
 }
 
-/// Opens `/dev/null` as a descriptor that is absent: Linux gives it the least number that is free,
-/// so the descriptors before this one must be open.
+/// Opens `/dev/null` as a descriptor that is absent: Linux gives it the lowest free number, so the descriptors before
+/// this one must be open.
 fn open_if_absent<F: AsFd>(rt: &HostRuntime, own: &F) -> io::Result<()> {
     match own.as_fd().try_clone_to_owned() {
         Err(error) if error.raw_os_error() == Some(NOT_OPEN) => {

@@ -1,4 +1,4 @@
-//! Numbered things: a new one has the least number that is not held.
+//! Numbered things: a new one gets the lowest number that is not held.
 ghost use Rattle.std.specs.Prelude.{◌≡◌, ℕ, ◌+◌, ◌<◌, ◌≤◌, List, length, Option, None, Some, option_copied};
 ghost use Rattle.std.specs.Prelude.{IfOk, IfErr, IfSome, IfNone, IsSome};
 ghost use Rattle.rc_host.specs.Table.{held_at, IsLeastFree, IsLeastFreeFrom, AreLeastFree, HoldsTheSame, ChangesOnly};
@@ -21,7 +21,7 @@ impl<T> Model for Table<T> {
 }
 
 impl<T: Drop> Table<T> {
-    /// Nothing is held.
+    /// A table that holds nothing.
     pub(crate) fn new(alloc: Global) -> Table<T>
         ensures { (k : ℕ) → held_at result k ≡ None }
     {
@@ -37,7 +37,7 @@ impl<T: Drop> Table<T> {
         self.places.get(number as usize)?.as_ref()
     }
 
-    /// The least number that is not held, and a place for it.
+    /// Returns the lowest number that is not held, and makes room for it.
     pub(crate) fn room(&mut self) -> Result<u32, Fault>
         ensures least { IfOk result (IsLeastFree self.old) }
         ensures place { IfOk result (λ n. n < length self.new) }
@@ -47,7 +47,7 @@ impl<T: Drop> Table<T> {
         self.room_from(0)
     }
 
-    /// The two least numbers that are not held, and places for them.
+    /// Returns the two lowest numbers that are not held, and makes room for them.
     pub(crate) fn room_for_two(&mut self) -> Result<(u32, u32), Fault>
         ensures least { IfOk result (λ numbers. AreLeastFree self.old numbers.0 numbers.1) }
         ensures places { IfOk result (λ numbers. numbers.1 < length self.new) }
@@ -59,7 +59,7 @@ impl<T: Drop> Table<T> {
         Ok((first, second))
     }
 
-    /// The least number from this one on that is not held, and a place for it.
+    /// Returns the lowest number from `start` that is not held, and makes room for it.
     fn room_from(&mut self, start: usize) -> Result<u32, Fault>
         requires { start ≤ length self.old }
         ensures least { IfOk result (IsLeastFreeFrom self.old start) }
@@ -78,7 +78,7 @@ impl<T: Drop> Table<T> {
         Ok(number)
     }
 
-    /// The first free place from this one on.
+    /// The first free index from `start`.
     fn free_from(&self, start: usize) -> Option<usize>
         requires { start ≤ length self.now }
         ensures found { IfSome result (λ n. n < length self.now) }
@@ -102,7 +102,7 @@ impl<T: Drop> Table<T> {
         self.places[number as usize] = Some(thing);
     }
 
-    /// What was held at the number, which is free then.
+    /// Removes and returns the thing at a number, which is free then.
     pub(crate) fn take(&mut self, number: u32) -> Option<T>
         ensures taken { result ≡ held_at self.old number }
         ensures freed { ChangesOnly self.old self.new number None }

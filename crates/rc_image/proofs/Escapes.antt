@@ -10,7 +10,7 @@ use Rattle.std.specs.declared.alloc.Global.{Global}
 use Rattle.std.specs.declared.string.String.{String}
 use Rattle.rc_model.specs.Syntax.Text.{begins_with}
 use Rattle.rc_model.specs.Run.State.{is_function_name}
-use Rattle.rc_model.specs.Handed.Environment.{cut_entry, with_first, unescaped, members_of}
+use Rattle.rc_model.specs.Handed.Environment.{cut_entry, with_first, unescaped, entry_members}
 use Rattle.rc_image.specs.Entries.{pair_of, function_in}
 use Rattle.law_image.proofs.Members.{past_other}
 use Rattle.rc_image.proofs.Beginnings.{begun_by, not_begun}
@@ -85,28 +85,28 @@ split_at (x ∷ xs) ys h =
     ap (λ t. cond t ([] ∷ slice_split (λ b. b == 1) (xs ++ 1 ∷ ys)) (onto_first x (slice_split (λ b. b == 1) (xs ++ 1 ∷ ys)))) (other_first 1 x xs h)
     ∙ ap (onto_first x) (split_at xs ys (other_rest 1 x xs h))
 
-pub last_member : (xs : List ℕ) → Lacks 1 xs → members_of xs ≡ unescaped xs ∷ []
+pub last_member : (xs : List ℕ) → Lacks 1 xs → entry_members xs ≡ unescaped xs ∷ []
 last_member xs h = ap (map unescaped) (split_plain xs h)
 
-pub first_member : (xs ys : List ℕ) → Lacks 1 xs → members_of (xs ++ 1 ∷ ys) ≡ unescaped xs ∷ members_of ys
+pub first_member : (xs ys : List ℕ) → Lacks 1 xs → entry_members (xs ++ 1 ∷ ys) ≡ unescaped xs ∷ entry_members ys
 first_member xs ys h = ap (map unescaped) (split_at xs ys h)
 
 -- one more member
 pub one_member : (m written : List (String Global)) (s : String Global) (member after rest : List ℕ) (whole : List (List ℕ)) → rest ≡ member ++ 1 ∷ after →
-    Lacks 1 member → string_bytes s ≡ unescaped member → map string_bytes m ++ members_of rest ≡ whole → written ≡ m ++ s ∷ [] →
-    map string_bytes written ++ members_of after ≡ whole
+    Lacks 1 member → string_bytes s ≡ unescaped member → map string_bytes m ++ entry_members rest ≡ whole → written ≡ m ++ s ∷ [] →
+    map string_bytes written ++ entry_members after ≡ whole
 one_member m written s member after rest whole e h k i w =
-    ap (λ t. map string_bytes t ++ members_of after) w
-    ∙ ap (λ t. t ++ members_of after) (map-append string_bytes m (s ∷ []))
-    ∙ append_assoc (map string_bytes m) (string_bytes s ∷ []) (members_of after)
-    ∙ ap (λ t. map string_bytes m ++ t ∷ members_of after) k
+    ap (λ t. map string_bytes t ++ entry_members after) w
+    ∙ ap (λ t. t ++ entry_members after) (map-append string_bytes m (s ∷ []))
+    ∙ append_assoc (map string_bytes m) (string_bytes s ∷ []) (entry_members after)
+    ∙ ap (λ t. map string_bytes m ++ t ∷ entry_members after) k
     ∙ ap (λ t. map string_bytes m ++ t) (sym (first_member member after h))
-    ∙ ap (λ t. map string_bytes m ++ members_of t) (sym e)
+    ∙ ap (λ t. map string_bytes m ++ entry_members t) (sym e)
     ∙ i
 
 -- and the last
 pub no_more_members : (m written : List (String Global)) (s : String Global) (rest : List ℕ) (whole : List (List ℕ)) →
-    Lacks 1 rest → string_bytes s ≡ unescaped rest → map string_bytes m ++ members_of rest ≡ whole → written ≡ m ++ s ∷ [] →
+    Lacks 1 rest → string_bytes s ≡ unescaped rest → map string_bytes m ++ entry_members rest ≡ whole → written ≡ m ++ s ∷ [] →
     map string_bytes written ≡ whole
 no_more_members m written s rest whole h k i w =
     ap (map string_bytes) w

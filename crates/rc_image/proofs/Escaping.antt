@@ -1,13 +1,15 @@
 -- The text of a value.
-use Rattle.std.proofs.Common.{◌≡◌, ℕ, ◌<◌, suc, List, [], ◌∷◌, ◌++◌, length, map, get_or, refl, sym, ap, ◌∙◌, arith, string_bytes, append_assoc, cond, ◌==◌, lit<}
+use Rattle.std.proofs.Common.{◌≡◌, ℕ, ◌<◌, suc, List, [], ◌∷◌, ◌++◌, length, map, get_or, refl, sym, ap, ◌∙◌, arith, string_bytes, append_assoc, cond, ◌==◌, ◌||◌, Bool, true, false, lit<}
 use Rattle.std.proofs.lemmas.List.{append-nil}
 use Rattle.std.proofs.lemmas.Str.{encode_ascii, inside_one}
 use Rattle.std.proofs.lemmas.Bool.{ne_eqb}
 use Rattle.std.specs.Char.{encode_utf8}
-use Rattle.std.specs.List.{flat_map}
+use Rattle.std.specs.List.{flat_map, list_any}
+use mathlib.Core.Bool.{true≢false}
 use Rattle.std.specs.declared.alloc.Global.{Global}
 use Rattle.std.specs.declared.string.String.{String}
 use Rattle.rc_model.specs.Handed.Image.{escape, escaped, value_text}
+use Rattle.rc_image.specs.Additions.{is_mark}
 
 pub escaped_append : (a b : List ℕ) → escaped (a ++ b) ≡ escaped a ++ escaped b
 escaped_append [] b = refl
@@ -23,6 +25,17 @@ escaped_plain (b ∷ bs) h =
     let here = h 0 (omega arith) in
     ap (λ t. t ++ escaped bs) (escape_plain b here.0 here.1)
     ∙ ap (λ t. b ∷ t) (escaped_plain bs (λ k lt. h (suc k) (omega arith)))
+
+plain_by : (b : ℕ) (bs : List ℕ) (s t : Bool) → (b == 1) ≡ s → (b == 2) ≡ t → (s || t) || list_any is_mark bs ≡ false → (list_any is_mark bs ≡ false → escaped bs ≡ bs) → escaped (b ∷ bs) ≡ b ∷ bs
+plain_by b bs true t h k none go = absurd (true≢false none)
+plain_by b bs false true h k none go = absurd (true≢false none)
+plain_by b bs false false h k none go =
+    ap (λ u. cond u (2 ∷ 65 ∷ []) (cond (b == 2) (2 ∷ 66 ∷ []) (b ∷ [])) ++ escaped bs) h ∙ ap (λ u. cond u (2 ∷ 66 ∷ []) (b ∷ []) ++ escaped bs) k
+    ∙ ap (λ l. b ∷ l) (go none)
+
+pub without_marks : (bs : List ℕ) → list_any is_mark bs ≡ false → escaped bs ≡ bs
+without_marks [] none = refl
+without_marks (b ∷ bs) none = plain_by b bs (b == 1) (b == 2) refl refl none (without_marks bs)
 
 pub escaped_one : escaped (encode_utf8 1) ≡ 2 ∷ 65 ∷ []
 escaped_one = ap escaped (encode_ascii 1 (lit< tt))

@@ -1,23 +1,19 @@
 -- The entries of a launch, variable by variable.
 use Rattle.std.proofs.Common.{◌≡◌, ℕ, Bool, true, false, not, cond, List, [], ◌∷◌, ◌++◌, length, map, refl, sym, ap, ◌∙◌, arith, string_bytes, append_assoc, ◌&&◌, ◌==◌, ◌<◌, ◌+◌, drop, get_or, drop-cons, add-one, subst}
 use Rattle.std.proofs.lemmas.Bool.{ne_eqb}
-use Rattle.std.proofs.lemmas.Map.Keys.{sorted_tail}
 use mathlib.Core.Bool.{true≢false}
-use Rattle.std.specs.List.Sorted.{IsStrictlySortedBy}
-use Rattle.std.specs.Map.{keys_of}
-use Rattle.std.specs.String.{string_cmp}
-use Rattle.std.specs.declared.alloc.Global.{Global}
 use Rattle.std.specs.declared.cmp.Ordering.TheVariants.{Less, Equal, Greater}
-use Rattle.std.specs.declared.string.String.{String}
 use Rattle.rc_model.specs.Syntax.Text.{text_cmp}
 use Rattle.rc_model.specs.Run.State.{State, status_name, visible}
 use Rattle.rc_model.specs.Handed.Environment.{Bindings}
-use Rattle.rc_model.specs.Handed.Image.{entry, entries, value_text, with_binding, with_functions, is_kept, handed_values}
+use Rattle.rc_model.specs.Handed.Image.{entry, entries, value_text, with_binding, with_functions, stays_behind, handed_values}
 use Rattle.rc_scope.specs.Bindings.{binding_of, bindings_of, visible_values}
+use Rattle.rc_scope.specs.Bodies.{definitions_of}
+use Rattle.rc_scope.specs.declared.functions.Definition.{Definition}
 use Rattle.rc_scope.specs.declared.variables.Binding.{Binding}
-use Rattle.rc_model.specs.Handed.Proper.{Above}
-use Rattle.rc_image.specs.Additions.{added, handed, is_handed, put_all, texts_of}
-use Rattle.rc_image.proofs.Insertions.{BeginsAfter, comes_first, first_key, functions_among, passes_first, takes_place}
+use Rattle.rc_model.specs.Handed.Proper.{Above, Ordered}
+use Rattle.rc_image.specs.Additions.{additions, handed, is_handed, put_all}
+use Rattle.rc_image.proofs.Insertions.{BeginsAfter, comes_first, functions_among, in_order, passes_first, takes_place}
 
 -- the values that are handed over are those of the state
 pub handed_visible : (vs : List (List ℕ × List (List (List ℕ)))) → handed_values (map (λ v. (v.0, v.1 ∷ [])) (visible_values vs)) ≡ handed_values vs
@@ -29,23 +25,23 @@ and_false true = refl
 and_false false = refl
 
 -- a variable that is handed over
-on_by : (name : List ℕ) (value : List (List ℕ)) (others : Bindings) (k : Bool) → is_kept name ≡ k → not (length value == 0) && not k ≡ true → with_binding name value others ≡ (name, value_text value) ∷ others
+on_by : (name : List ℕ) (value : List (List ℕ)) (others : Bindings) (k : Bool) → stays_behind name ≡ k → not (length value == 0) && not k ≡ true → with_binding name value others ≡ (name, value_text value) ∷ others
 on_by name [] others true h e = cc
 on_by name [] others false h e = cc
 on_by name (m ∷ ms) others true h e = absurd (true≢false (sym e ∙ and_false _))
 on_by name (m ∷ ms) others false h e = ap (λ b. cond b others ((name, value_text (m ∷ ms)) ∷ others)) h
 
 pub handed_on : (v : Binding) (vs : List Binding) → is_handed (binding_of v) ≡ true → handed (v ∷ vs) ≡ (v.name.now, value_text (map string_bytes v.value.now)) ∷ handed vs
-handed_on v vs h = on_by (v.name.now) (map string_bytes v.value.now) (handed vs) (is_kept v.name.now) refl h
+handed_on v vs h = on_by (v.name.now) (map string_bytes v.value.now) (handed vs) (stays_behind v.name.now) refl h
 
 -- one that is not
-off_by : (name : List ℕ) (value : List (List ℕ)) (others : Bindings) (k : Bool) → is_kept name ≡ k → not (length value == 0) && not k ≡ false → with_binding name value others ≡ others
+off_by : (name : List ℕ) (value : List (List ℕ)) (others : Bindings) (k : Bool) → stays_behind name ≡ k → not (length value == 0) && not k ≡ false → with_binding name value others ≡ others
 off_by name [] others k h e = refl
 off_by name (m ∷ ms) others true h e = ap (λ b. cond b others ((name, value_text (m ∷ ms)) ∷ others)) h
 off_by name (m ∷ ms) others false h e = absurd (true≢false (sym (ap (λ b. not b && true) (ne_eqb (length (m ∷ ms)) 0 (λ z. omega (arith, z)))) ∙ e))
 
 pub handed_off : (v : Binding) (vs : List Binding) → is_handed (binding_of v) ≡ false → handed (v ∷ vs) ≡ handed vs
-handed_off v vs h = off_by (v.name.now) (map string_bytes v.value.now) (handed vs) (is_kept v.name.now) refl h
+handed_off v vs h = off_by (v.name.now) (map string_bytes v.value.now) (handed vs) (stays_behind v.name.now) refl h
 
 -- ** the variables that are left
 
@@ -99,21 +95,20 @@ ends_all name bs more last before after h i k = λ text others a.
 
 -- ** all of them
 
-pub all_to_come : (m : Bindings) (vs : List Binding) (s : State) → m ≡ added s → bindings_of vs ≡ visible_values s.variables → map entry (put_all m (handed vs)) ≡ entries s
-all_to_come m vs s h k =
+pub all_to_come : (ds : List Definition) (vs : List Binding) (s : State) → definitions_of ds ≡ s.functions → Ordered s.functions → bindings_of vs ≡ visible_values s.variables → map entry (put_all (additions ds s.status) (handed vs)) ≡ entries s
+all_to_come ds vs s g o k =
     let base : Bindings = (status_name, value_text (s.status ∷ [])) ∷ [] in
-    ap (λ n. map entry (put_all n (handed vs))) h
+    ap (λ n. map entry (put_all n (handed vs))) (sym (in_order ds s.status (subst Ordered (sym g) o)) ∙ ap (λ fs. with_functions fs base) g)
     ∙ sym (ap (map entry) (functions_among s.functions base (handed vs)))
     ∙ ap (λ l. map entry (with_functions s.functions (put_all base l))) (ap (λ v. handed_values (map (λ b. (b.0, b.1 ∷ [])) v)) k ∙ handed_visible s.variables)
 
 -- what was added under its name, and the others
-pub turn : (w v all : List (List ℕ)) (x : List ℕ) (e : String Global × String Global) (es more : List (String Global × String Global)) (bs rest : Bindings) → more ≡ e ∷ es →
-    ((text : List ℕ) (others : Bindings) → Above (string_bytes e.0) others → w ++ map entry (put_all ((string_bytes e.0, text) ∷ others) bs) ≡ v ++ (entry (string_bytes e.0, text) ∷ map entry (put_all others rest)))
-    → x ≡ entry (string_bytes e.0, string_bytes e.1) → IsStrictlySortedBy string_cmp (keys_of more) → w ++ map entry (put_all (texts_of more) bs) ≡ all → (v ++ x ∷ []) ++ map entry (put_all (texts_of es) rest) ≡ all
-turn w v all x e es more bs rest is pushes h sorted inv =
-    let after : Above (string_bytes e.0) (texts_of es) = first_key e es (subst (λ l. IsStrictlySortedBy string_cmp (keys_of l)) is sorted) in
-    append_assoc v (x ∷ []) (map entry (put_all (texts_of es) rest)) ∙ ap (λ y. v ++ y ∷ map entry (put_all (texts_of es) rest)) h
-    ∙ sym (pushes (string_bytes e.1) (texts_of es) after) ∙ ap (λ l. w ++ map entry (put_all (texts_of l) bs)) (sym is) ∙ inv
+pub turn : (w v all : List (List ℕ)) (x : List ℕ) (b : List ℕ × List ℕ) (others more bs rest : Bindings) → more ≡ b ∷ others →
+    ((text : List ℕ) (ms : Bindings) → Above b.0 ms → w ++ map entry (put_all ((b.0, text) ∷ ms) bs) ≡ v ++ (entry (b.0, text) ∷ map entry (put_all ms rest)))
+    → x ≡ entry b → Above b.0 others → w ++ map entry (put_all more bs) ≡ all → (v ++ x ∷ []) ++ map entry (put_all others rest) ≡ all
+turn w v all x b others more bs rest is pushes h after inv =
+    append_assoc v (x ∷ []) (map entry (put_all others rest)) ∙ ap (λ y. v ++ y ∷ map entry (put_all others rest)) h
+    ∙ sym (pushes b.1 others after) ∙ ap (λ l. w ++ map entry (put_all l bs)) (sym is) ∙ inv
 
-pub sorted_on : (e : String Global × String Global) (es more : List (String Global × String Global)) → more ≡ e ∷ es → IsStrictlySortedBy string_cmp (keys_of more) → IsStrictlySortedBy string_cmp (keys_of es)
-sorted_on e es more is sorted = sorted_tail string_cmp e.0 (keys_of es) (subst (λ l. IsStrictlySortedBy string_cmp (keys_of l)) is sorted)
+pub function_left : (ds : List Definition) (i : ℕ) (d : Definition) → i < length ds → d ≡ get_or ds i d → drop i ds ≡ d ∷ drop (i + 1) ds
+function_left ds i d lt is = drop-cons ds i d lt ∙ ap (λ n. get_or ds i d ∷ drop n ds) (sym (add-one i)) ∙ ap (λ e. e ∷ drop (i + 1) ds) (sym is)

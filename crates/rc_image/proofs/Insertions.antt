@@ -1,27 +1,21 @@
 -- Entries that are put in: which order does not matter, and where they stand.
-use Rattle.std.proofs.Common.{◌≡◌, ℕ, Bool, true, false, cond, codes, List, [], ◌∷◌, ◌++◌, map, Option, Some, None, refl, sym, ap, ◌∙◌, subst, string_bytes, take, ◌-◌}
+use Rattle.std.proofs.Common.{◌≡◌, ℕ, codes, List, [], ◌∷◌, ◌++◌, refl, sym, ap, ◌∙◌, subst}
 use Rattle.std.proofs.lemmas.Cmp.{nat_list_cmp_total, tied_itself, alike_right}
-use Rattle.std.proofs.lemmas.List.{append-nil, map-append}
-use Rattle.std.proofs.lemmas.Map.Keys.{sorted_head}
-use Rattle.std.specs.Cmp.Lexicographic.{bytes_decides, nat_list_eq_equiv}
+use Rattle.std.specs.Cmp.Lexicographic.{bytes_decides}
 use Rattle.std.proofs.lemmas.Map.Text.{is_eq-slice_cmp}
 use Rattle.std.specs.declared.cmp.Ordering.{Ordering}
 use Rattle.std.specs.declared.cmp.Ordering.TheVariants.{Less, Equal, Greater}
 use Rattle.std.specs.Ordering.{is_eq, match_ordering, ordering_reverse}
 use Rattle.std.specs.BTreeMap.{insert_entry}
-use Rattle.std.specs.List.{AllByRecursion}
-use Rattle.std.specs.List.Sorted.{IsStrictlySortedBy}
-use Rattle.std.specs.Map.{lookup, keys_of}
-use Rattle.std.specs.Str.{bytes_eq}
-use Rattle.std.specs.String.{string_cmp}
-use Rattle.std.specs.declared.alloc.Global.{Global}
-use Rattle.std.specs.declared.string.String.{String}
 use Rattle.rc_model.specs.Syntax.Text.{text_cmp}
-use Rattle.rc_model.specs.Syntax.Tree.{Node, cmd}
+use Rattle.rc_model.specs.Run.State.{status_name}
 use Rattle.rc_model.specs.Handed.Environment.{Bindings, Functions}
-use Rattle.rc_model.specs.Handed.Image.{image, with_functions}
-use Rattle.rc_model.specs.Handed.Proper.{Above}
-use Rattle.rc_image.specs.Additions.{put_all, texts_of, with_named}
+use Rattle.rc_model.specs.Handed.Image.{image, value_text, with_functions}
+use Rattle.rc_model.specs.Handed.Proper.{Above, Ordered}
+use Rattle.rc_tree.specs.View.{cmd_tree}
+use Rattle.rc_scope.specs.Bodies.{definitions_of}
+use Rattle.rc_scope.specs.declared.functions.Definition.{Definition}
+use Rattle.rc_image.specs.Additions.{additions, put_all}
 
 abbrev Entry : Type 0
 Entry = List ℕ × List ℕ
@@ -85,14 +79,6 @@ swap_by e es k v y w Greater Greater h i yk go =
 pub swap : (es : Bindings) (k v y w : List ℕ) → text_cmp y k ≡ Less → ins (ins es k v) y w ≡ ins (ins es y w) k v
 swap [] k v y w yk = less_in (k, v) [] y w yk ∙ sym (greater_in (y, w) [] k v (turned y k yk))
 swap (e ∷ es) k v y w yk = swap_by e es k v y w (text_cmp k e.0) (text_cmp y e.0) refl refl yk (swap es k v y w yk)
-
-any_by : (es : Bindings) (k v y w : List ℕ) (o : Ordering) → text_cmp y k ≡ o → is_eq o ≡ false → ins (ins es k v) y w ≡ ins (ins es y w) k v
-any_by es k v y w Less h other = swap es k v y w h
-any_by es k v y w Equal h other = cc
-any_by es k v y w Greater h other = sym (swap es y w k v (turned_back y k h))
-
-pub swap_any : (es : Bindings) (k v y w : List ℕ) → is_eq (text_cmp y k) ≡ false → ins (ins es k v) y w ≡ ins (ins es y w) k v
-swap_any es k v y w h = any_by es k v y w (text_cmp y k) refl h
 
 -- ** many are put in
 
@@ -163,79 +149,18 @@ pub functions_among : (fs : Functions) (base l : Bindings) → with_functions fs
 functions_among [] base l = refl
 functions_among (f ∷ fs) base l = ap (λ t. ins t (codes "fn#" ++ f.0) (image f.1)) (functions_among fs base l) ∙ sym (put_one (with_functions fs base) l (codes "fn#" ++ f.0) (image f.1))
 
--- functions by their names, the first of each
-abbrev pub with_names : Functions → List (List ℕ) → Bindings → Bindings
-with_names fs [] others = others
-with_names fs (n ∷ ns) others = with_named (lookup (bytes_eq n) fs) n (with_names fs ns others)
+-- a function comes before those after it, and before the status
+pub comes_before : (name : List ℕ) (ds : List Definition) (status : List ℕ) → Above name (definitions_of ds) → Above (codes "fn#" ++ name) (additions ds status)
+comes_before name [] status h = (refl, tt)
+comes_before name (d ∷ ds) status h = (h.0, comes_before name ds status h.1)
 
-pub last_name : (fs : Functions) (ns : List (List ℕ)) (n : List ℕ) (others : Bindings) → with_names fs (ns ++ n ∷ []) others ≡ with_names fs ns (with_named (lookup (bytes_eq n) fs) n others)
-last_name fs [] n others = refl
-last_name fs (m ∷ ns) n others = ap (with_named (lookup (bytes_eq m) fs) m) (last_name fs ns n others)
+begins_after : (k : List ℕ) (l : Bindings) → Above k l → BeginsAfter k l
+begins_after k [] h = tt
+begins_after k (b ∷ bs) h = h.0
 
--- what has the name of a function does not count before it is put in
-hides : (o : Option (Node cmd)) (n : List ℕ) (l : Bindings) (v : List ℕ) → ins (with_named o n l) (codes "fn#" ++ n) v ≡ ins l (codes "fn#" ++ n) v
-hides None n l v = refl
-hides (Some c) n l v = over l (codes "fn#" ++ n) (image c) v
-
-other : (o : Option (Node cmd)) (n k : List ℕ) (l m : Bindings) (v : List ℕ) → bytes_eq k n ≡ false → ins l (codes "fn#" ++ k) v ≡ ins m (codes "fn#" ++ k) v
-    → ins (with_named o n l) (codes "fn#" ++ k) v ≡ ins (with_named o n m) (codes "fn#" ++ k) v
-other None n k l m v h go = go
-other (Some c) n k l m v h go =
-    let differ : is_eq (text_cmp (codes "fn#" ++ k) (codes "fn#" ++ n)) ≡ false = is_eq-slice_cmp k n ∙ h in
-    swap_any l (codes "fn#" ++ n) (image c) (codes "fn#" ++ k) v differ ∙ ap (λ t. ins t (codes "fn#" ++ n) (image c)) go ∙ sym (swap_any m (codes "fn#" ++ n) (image c) (codes "fn#" ++ k) v differ)
-
-hidden_by : (f : List ℕ × Node cmd) (fs : Functions) (n : List ℕ) (l m : Bindings) (v : List ℕ) (b : Bool) → bytes_eq f.0 n ≡ b → ins l (codes "fn#" ++ f.0) v ≡ ins m (codes "fn#" ++ f.0) v
-    → ins (with_named (lookup (bytes_eq n) (f ∷ fs)) n l) (codes "fn#" ++ f.0) v ≡ ins (with_named (lookup (bytes_eq n) fs) n m) (codes "fn#" ++ f.0) v
-hidden_by f fs n l m v true h go =
-    let same : f.0 ≡ n = (bytes_decides f.0 n).0 h in
-    ap (λ k. ins (with_named (lookup (bytes_eq n) (f ∷ fs)) n l) (codes "fn#" ++ k) v) same ∙ hides (lookup (bytes_eq n) (f ∷ fs)) n l v
-    ∙ ap (λ k. ins l (codes "fn#" ++ k) v) (sym same) ∙ go ∙ ap (λ k. ins m (codes "fn#" ++ k) v) same
-    ∙ sym (ap (λ k. ins (with_named (lookup (bytes_eq n) fs) n m) (codes "fn#" ++ k) v) same ∙ hides (lookup (bytes_eq n) fs) n m v)
-hidden_by f fs n l m v false h go =
-    let missed : bytes_eq n f.0 ≡ false = nat_list_eq_equiv.symm n f.0 ∙ h in
-    ap (λ b. ins (with_named (cond b (Some f.1) (lookup (bytes_eq n) fs)) n l) (codes "fn#" ++ f.0) v) missed ∙ other (lookup (bytes_eq n) fs) n f.0 l m v h go
-
-hidden : (f : List ℕ × Node cmd) (fs : Functions) (ns : List (List ℕ)) (others : Bindings) (v : List ℕ) → ins (with_names (f ∷ fs) ns others) (codes "fn#" ++ f.0) v ≡ ins (with_names fs ns others) (codes "fn#" ++ f.0) v
-hidden f fs [] others v = refl
-hidden f fs (n ∷ ns) others v = hidden_by f fs n (with_names (f ∷ fs) ns others) (with_names fs ns others) v (bytes_eq f.0 n) refl (hidden f fs ns others v)
-
--- all functions by their names are the functions
-pub all_names : (fs : Functions) (others : Bindings) → with_names fs (map (λ f. f.0) fs) others ≡ with_functions fs others
-all_names [] others = refl
-all_names (f ∷ fs) others =
-    ap (λ b. with_named (cond b (Some f.1) (lookup (bytes_eq f.0) fs)) f.0 (with_names (f ∷ fs) (map (λ g. g.0) fs) others)) ((bytes_decides f.0 f.0).1 refl)
-    ∙ hidden f fs (map (λ g. g.0) fs) others (image f.1) ∙ ap (λ t. ins t (codes "fn#" ++ f.0) (image f.1)) (all_names fs others)
-
--- one name less
-pub name_put : (fs : Functions) (names more : List (String Global)) (name : String Global) (n : List ℕ) (before after all : Bindings) → string_bytes name ≡ n → names ≡ more ++ name ∷ []
-    → after ≡ with_named (lookup (bytes_eq n) fs) n before → with_names fs (map string_bytes names) before ≡ all → with_names fs (map string_bytes more) after ≡ all
-name_put fs names more name n before after all is h put inv =
-    ap (with_names fs (map string_bytes more)) (put ∙ ap (λ k. with_named (lookup (bytes_eq k) fs) k before) (sym is))
-    ∙ sym (last_name fs (map string_bytes more) (string_bytes name) before)
-    ∙ ap (λ ns. with_names fs ns before) (sym (ap (map string_bytes) h ∙ map-append string_bytes more (name ∷ []))) ∙ inv
-
--- no name is left where none was popped
-pub all_left : (fs : Functions) (names new : List (String Global)) (n : ℕ) (l all : Bindings) → names ≡ new ++ [] → new ≡ take (n - 1) names → n ≡ 0 → with_names fs (map string_bytes names) l ≡ all → l ≡ all
-all_left fs names new n l all h k e inv =
-    ap (λ ns. with_names fs (map string_bytes ns) l) (sym (h ∙ (append-nil new ∙ (k ∙ ap (λ m. take (m - 1) names) e)))) ∙ inv
-
--- ** maps of texts
-
-text_by : (e : String Global × String Global) (es more : List (String Global × String Global)) (k v : String Global) (o : Ordering) (others : Bindings) → texts_of more ≡ others →
-    texts_of (match_ordering o ((k, v) ∷ e ∷ es) ((e.0, v) ∷ es) (e ∷ more))
-    ≡ match_ordering o ((string_bytes k, string_bytes v) ∷ texts_of (e ∷ es)) ((string_bytes e.0, string_bytes v) ∷ texts_of es) ((string_bytes e.0, string_bytes e.1) ∷ others)
-text_by e es more k v Less others h = refl
-text_by e es more k v Equal others h = refl
-text_by e es more k v Greater others h = ap (λ l. (string_bytes e.0, string_bytes e.1) ∷ l) h
-
-pub put_text : (es : List (String Global × String Global)) (k v : String Global) → texts_of (insert_entry string_cmp es k v) ≡ ins (texts_of es) (string_bytes k) (string_bytes v)
-put_text [] k v = refl
-put_text (e ∷ es) k v = text_by e es (insert_entry string_cmp es k v) k v (string_cmp k e.0) _ (put_text es k v)
-
-keys_after : (k : String Global) (es : List (String Global × String Global)) → AllByRecursion (λ y. string_cmp k y ≡ Less) (keys_of es) → Above (string_bytes k) (texts_of es)
-keys_after k [] h = tt
-keys_after k (e ∷ es) h = (h.0, keys_after k es h.1)
-
--- the other names of a map come after its first
-pub first_key : (e : String Global × String Global) (es : List (String Global × String Global)) → IsStrictlySortedBy string_cmp (keys_of (e ∷ es)) → Above (string_bytes e.0) (texts_of es)
-first_key e es h = keys_after e.0 es (sorted_head string_cmp e.0 (keys_of es) h)
+-- the functions are put in before the status, in their order
+pub in_order : (ds : List Definition) (status : List ℕ) → Ordered (definitions_of ds) → with_functions (definitions_of ds) ((status_name, value_text (status ∷ [])) ∷ []) ≡ additions ds status
+in_order [] status h = refl
+in_order (d ∷ ds) status h =
+    ap (λ t. ins t (codes "fn#" ++ d.name.now) (image (cmd_tree d.function.now))) (in_order ds status h.1)
+    ∙ first_in (additions ds status) (codes "fn#" ++ d.name.now) (image (cmd_tree d.function.now)) (begins_after (codes "fn#" ++ d.name.now) (additions ds status) (comes_before d.name.now ds status h.0))

@@ -8,7 +8,7 @@ use Rattle.std.proofs.lemmas.Bool.{false≢true}
 use Rattle.std.proofs.lemmas.Slice.Eq.{bytes_eq-Decides}
 use Rattle.rc_model.specs.Syntax.Text.{text_cmp, spaced}
 use Rattle.rc_model.specs.Run.State.{State, covered, values_of, put_values, set_value, with_status, status_name, is_name}
-use Rattle.rc_model.specs.Handed.Environment.{Bindings, Variables, with_cut, cut_entry, members_of, is_variable, variables_in, status_in, own_status, fresh_state}
+use Rattle.rc_model.specs.Handed.Environment.{Bindings, Variables, with_cut, cut_entry, entry_members, is_variable, variables_in, status_in, own_status, fresh_state}
 use Rattle.rc_image.specs.Entries.{is_ignored, values_state}
 use Rattle.rc_image.proofs.Puts.{found}
 
@@ -21,31 +21,31 @@ pub single : (bs : Bindings) (n : List ℕ) → covered (unwrap_or (lookup (byte
 single [] n = refl
 single (b ∷ bs) n = by_test (is_variable b.0) (single bs n)
   where
-    by_test : (t : Bool) → covered (unwrap_or (lookup (bytes_eq n) (variables_in bs)) []) ≡ [] → covered (unwrap_or (lookup (bytes_eq n) (if t then insert_entry text_cmp (variables_in bs) b.0 (members_of b.1 ∷ []) else variables_in bs)) []) ≡ []
+    by_test : (t : Bool) → covered (unwrap_or (lookup (bytes_eq n) (variables_in bs)) []) ≡ [] → covered (unwrap_or (lookup (bytes_eq n) (if t then insert_entry text_cmp (variables_in bs) b.0 (entry_members b.1 ∷ []) else variables_in bs)) []) ≡ []
     by_test true h =
-        ap (λ o. covered (unwrap_or o [])) (found (variables_in bs) n b.0 (members_of b.1 ∷ []))
-        ∙ one_value (bytes_eq n b.0) (members_of b.1) (lookup (bytes_eq n) (variables_in bs)) h
+        ap (λ o. covered (unwrap_or o [])) (found (variables_in bs) n b.0 (entry_members b.1 ∷ []))
+        ∙ one_value (bytes_eq n b.0) (entry_members b.1) (lookup (bytes_eq n) (variables_in bs)) h
     by_test false h = h
 
 -- what an entry of this name adds, where the tests of the name are these
 abbrev step_variables : (star st nm : Bool) (name text : List ℕ) → Bindings → Variables
 step_variables star st nm name text bs =
-    if nm && not (star || st) then insert_entry text_cmp (variables_in bs) name (members_of text ∷ []) else variables_in bs
+    if nm && not (star || st) then insert_entry text_cmp (variables_in bs) name (entry_members text ∷ []) else variables_in bs
 
 abbrev step_status : (own st : Bool) (text : List ℕ) → Bindings → List ℕ
-step_status true st text bs = if st then spaced (members_of text) else status_in bs
+step_status true st text bs = if st then spaced (entry_members text) else status_in bs
 step_status false st text bs = []
 
 status_step : (own st : Bool) (name text : List ℕ) (bs : Bindings) → bytes_eq name status_name ≡ st → own_status own ((name, text) ∷ bs) ≡ step_status own st text bs
-status_step true st name text bs h = ap (λ t. if t then spaced (members_of text) else status_in bs) h
+status_step true st name text bs h = ap (λ t. if t then spaced (entry_members text) else status_in bs) h
 status_step false st name text bs h = refl
 
 variables_step : (star st nm : Bool) (name text : List ℕ) (bs : Bindings) → bytes_eq name (codes "*") ≡ star → bytes_eq name status_name ≡ st → is_name name ≡ nm →
     variables_in ((name, text) ∷ bs) ≡ step_variables star st nm name text bs
 variables_step star st nm name text bs h k i =
-    ap (λ t. if t && not (bytes_eq name (codes "*") || bytes_eq name status_name) then insert_entry text_cmp (variables_in bs) name (members_of text ∷ []) else variables_in bs) i
-    ∙ ap (λ t. if nm && not (t || bytes_eq name status_name) then insert_entry text_cmp (variables_in bs) name (members_of text ∷ []) else variables_in bs) h
-    ∙ ap (λ t. if nm && not (star || t) then insert_entry text_cmp (variables_in bs) name (members_of text ∷ []) else variables_in bs) k
+    ap (λ t. if t && not (bytes_eq name (codes "*") || bytes_eq name status_name) then insert_entry text_cmp (variables_in bs) name (entry_members text ∷ []) else variables_in bs) i
+    ∙ ap (λ t. if nm && not (t || bytes_eq name status_name) then insert_entry text_cmp (variables_in bs) name (entry_members text ∷ []) else variables_in bs) h
+    ∙ ap (λ t. if nm && not (star || t) then insert_entry text_cmp (variables_in bs) name (entry_members text ∷ []) else variables_in bs) k
 
 values_step : (own star st nm : Bool) (name text : List ℕ) (bs : Bindings) → bytes_eq name (codes "*") ≡ star → bytes_eq name status_name ≡ st → is_name name ≡ nm →
     values_state own ((name, text) ∷ bs) ≡ fresh_state (step_variables star st nm name text bs) [] (step_status own st text bs)
@@ -99,16 +99,16 @@ put_status s name value k =
     ap (λ t. if t then with_status s (spaced value) else record s { variables = put_values s.variables name (value ∷ covered (values_of s name)) }) k
 
 set_by : (own star st : Bool) (name text : List ℕ) (bs : Bindings) → bytes_eq name status_name ≡ st → (star || (st && not own)) ≡ false →
-    set_value (values_state own bs) name (members_of text) ≡ fresh_state (step_variables star st true name text bs) [] (step_status own st text bs)
+    set_value (values_state own bs) name (entry_members text) ≡ fresh_state (step_variables star st true name text bs) [] (step_status own st text bs)
 unfolding values_state
 set_by own true st name text bs k i = absurd (false≢true (sym i))
-set_by true false true name text bs k i = put_status (values_state true bs) name (members_of text) k
+set_by true false true name text bs k i = put_status (values_state true bs) name (entry_members text) k
 set_by false false true name text bs k i = absurd (false≢true (sym i))
-set_by true false false name text bs k i = put_one (values_state true bs) name (members_of text) (single bs name) k
-set_by false false false name text bs k i = put_one (values_state false bs) name (members_of text) (single bs name) k
+set_by true false false name text bs k i = put_one (values_state true bs) name (entry_members text) (single bs name) k
+set_by false false false name text bs k i = put_one (values_state false bs) name (entry_members text) (single bs name) k
 
 next_by : (own nm : Bool) (name text : List ℕ) (bs : Bindings) → is_name name ≡ nm → is_ignored own name ≡ false →
-    (if nm then set_value (values_state own bs) name (members_of text) else values_state own bs) ≡ values_state own ((name, text) ∷ bs)
+    (if nm then set_value (values_state own bs) name (entry_members text) else values_state own bs) ≡ values_state own ((name, text) ∷ bs)
 next_by own true name text bs i h =
     set_by own (bytes_eq name (codes "*")) (bytes_eq name status_name) name text bs refl h
     ∙ sym (values_step own (bytes_eq name (codes "*")) (bytes_eq name status_name) true name text bs refl refl i)
@@ -118,14 +118,14 @@ next_by own false name text bs i h =
 
 -- any other is set
 pub set_next : (own : Bool) (name text : List ℕ) (bs : Bindings) → is_ignored own name ≡ false →
-    (if is_name name then set_value (values_state own bs) name (members_of text) else values_state own bs) ≡ values_state own ((name, text) ∷ bs)
+    (if is_name name then set_value (values_state own bs) name (entry_members text) else values_state own bs) ≡ values_state own ((name, text) ∷ bs)
 set_next own name text bs h = next_by own (is_name name) name text bs refl h
 
-pub entry_set : (own : Bool) (name text entry : List ℕ) (bs : Bindings) (s t : State) (v : List (List ℕ)) → Some (name, text) ≡ cut_entry entry → is_ignored own name ≡ false → v ≡ members_of text →
+pub entry_set : (own : Bool) (name text entry : List ℕ) (bs : Bindings) (s t : State) (v : List (List ℕ)) → Some (name, text) ≡ cut_entry entry → is_ignored own name ≡ false → v ≡ entry_members text →
     s ≡ values_state own bs → t ≡ (if is_name name then set_value s name v else s) → t ≡ values_state own (with_cut (cut_entry entry) bs)
 entry_set own name text entry bs s t v h i k w d =
     d
     ∙ ap (λ v. if is_name name then set_value s name v else s) k
-    ∙ ap (λ s. if is_name name then set_value s name (members_of text) else s) w
+    ∙ ap (λ s. if is_name name then set_value s name (entry_members text) else s) w
     ∙ set_next own name text bs i
     ∙ ap (λ z. values_state own (with_cut z bs)) h

@@ -11,14 +11,14 @@ use Rattle.rc_image.specs.declared.launch.Handover.{Handover}
 abbrev pub handed_of : Handover → List (List ℕ) × List (List ℕ)
 handed_of h = (map string_bytes h.args.items, map string_bytes h.entries.items)
 
--- what is handed over reads back as this command and the state in which a subshell of this one begins
+-- the handover reads back as this command and the state in which a subshell of this one begins
 abbrev pub ReadsBack : Node cmd → State → Handover → Type 0
 ReadsBack c s h = reads (handed_of h).0 (handed_of h).1 ≡ Some (c, entry_state s)
 
--- the arguments of a shell that is handed its command in these words; `shell_args` has those of a tree
+-- the arguments of a shell whose command is in these words; `shell_args` has those of a tree
 abbrev pub args_with : List (List ℕ) → State → List (List ℕ)
 args_with words s = strict_option s.strict ++ (codes "-S" ∷ (words ++ value_of s (codes "*")))
 
--- the entries of a state, where none of them is too long
+-- the entries of a state, if none of them is too long
 unfoldable pub short_entries : State → Option (List (List ℕ))
 short_entries s = if list_all is_short (entries s) then Some (entries s) else None

@@ -1,4 +1,4 @@
-//! How an image begins.
+//! The beginning of an image.
 
 ghost use Rattle.std.specs.Prelude.{◌≡◌};
 ghost use Rattle.rc_image.specs.Images.{version_here, fault_here};
@@ -6,16 +6,16 @@ ghost use Rattle.rc_image.specs.Images.{version_here, fault_here};
 use rc_model::ImageFault;
 use rc_spelling::{begins_number, number};
 
-/// What an image in one word begins with.
+/// The mark of an image in one word.
 pub(crate) const MARK: &str = "rc1;";
 
-/// What the first word of an image in pieces begins with.
+/// The mark of the first word of an image in pieces.
 pub(crate) const PIECES_MARK: &str = "rc2;";
 
-/// What the marks of all versions begin with.
+/// The start of the marks of all versions.
 const VERSION_MARK: &str = "rc";
 
-/// Whether the digits of a version stand here, and a `;` after them.
+/// Whether the text begins with the digits of a version and a `;`.
 #[tactic(auto, using(crate::proofs::Beginnings::versions))]
 fn has_version(bytes: &[u8]) -> bool
     ensures { result ≡ version_here bytes.now }
@@ -32,7 +32,7 @@ fn has_version(bytes: &[u8]) -> bool
     }
 }
 
-/// The fault of another beginning than that of an image.
+/// The fault of a text that doesn't begin like an image.
 #[tactic(auto, using(crate::proofs::Beginnings::faults))]
 pub(crate) fn beginning_fault(text: &str) -> ImageFault
     ensures { result ≡ fault_here text.now }

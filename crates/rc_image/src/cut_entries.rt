@@ -1,20 +1,20 @@
-//! What the entries of an environment say.
+//! The names and values in the entries of an environment.
 
 ghost use Rattle.std.specs.Prelude.{◌≡◌, ◌∷◌, ◌<◌, ◌≤◌, length, IfOk, map, option_map, string_bytes};
-ghost use Rattle.rc_model.specs.Handed.Environment.{cut_entry, members_of, unescaped};
+ghost use Rattle.rc_model.specs.Handed.Environment.{cut_entry, entry_members, unescaped};
 ghost use Rattle.rc_image.specs.Entries.{pair_of, function_in};
 
 use rc_scope::is_function_name;
 use std::alloc::{AllocError, Global};
 
-/// What stands before the first `=` of an entry, and what stands after it.
+/// Cuts an entry at its first `=`.
 pub(crate) fn cut_entry(entry: &str) -> Option<(&str, &str)>
     ensures { option_map pair_of result ≡ cut_entry entry.now }
 {
     entry.split_once('=')
 }
 
-/// What byte 2 and the text after it begin with, and what comes then.
+/// The character that byte 2 and the text after it begin with, and the rest.
 fn unmarked(after: &str) -> (char, &str)
     ensures value { unescaped (2 ∷ after.now) ≡ result.0 ∷ unescaped result.1.now }
     ensures ascii { result.0 < 128 }
@@ -29,7 +29,7 @@ fn unmarked(after: &str) -> (char, &str)
     ('\u{2}', after)
 }
 
-/// A member as it was before bytes 1 and 2 in it were escaped.
+/// Undoes the escapes of bytes 1 and 2 in a member.
 fn unescaped(alloc: Global, text: &str) -> Result<String, AllocError>
     ensures { IfOk result (λ member. string_bytes member ≡ unescaped text.now) }
 {
@@ -45,9 +45,9 @@ fn unescaped(alloc: Global, text: &str) -> Result<String, AllocError>
     Ok(member)
 }
 
-/// The members of a value, which stand between bytes 1.
+/// The members of a value, which byte 1 separates.
 pub(crate) fn members(alloc: Global, text: &str) -> Result<Vec<String>, AllocError>
-    ensures { IfOk result (λ members. map string_bytes members.items ≡ members_of text.now) }
+    ensures { IfOk result (λ members. map string_bytes members.items ≡ entry_members text.now) }
 {
     let mut members = Vec::new(alloc);
     let mut rest = text;
@@ -59,7 +59,7 @@ pub(crate) fn members(alloc: Global, text: &str) -> Result<Vec<String>, AllocErr
     Ok(members)
 }
 
-/// The name of a function and its image, where an entry is one of a function.
+/// The name of a function and its image, if the entry is that of a function.
 pub(crate) fn function_entry(entry: &str) -> Option<(&str, &str)>
     ensures { option_map pair_of result ≡ function_in (cut_entry entry.now) }
 {

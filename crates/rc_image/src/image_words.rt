@@ -1,4 +1,4 @@
-//! Reads images from their words.
+//! Reading images from their words.
 
 ghost use Rattle.std.specs.Prelude.{◌≡◌, ◌∷◌, IfOk, map, min, ◌-◌, ◌^◌, string_bytes};
 ghost use Rattle.std.specs.List.{concat};
@@ -18,7 +18,7 @@ use rc_spelling::read_spelling;
 use rc_tree::Cmd;
 use std::alloc::{AllocError, Global};
 
-/// The number that digits say, where it isn't too large, and else the greatest.
+/// The number with these digits, or the greatest one if it is too large.
 fn claimed(digits: &[u8]) -> usize
     ensures { result ≡ min (digits_value 0 digits.now) (2 ^ 64 - 1) }
 {
@@ -31,7 +31,7 @@ fn claimed(digits: &[u8]) -> usize
     number
 }
 
-/// The texts, one after the other.
+/// Joins the texts.
 fn joined(alloc: Global, texts: &[String]) -> Result<String, AllocError>
     ensures { IfOk result (λ text. string_bytes text ≡ concat (map string_bytes texts.now)) }
 {
@@ -64,7 +64,7 @@ fn read_one(alloc: Global, word: &str) -> Result<(Box<Cmd>, usize), ImageError>
     Ok((read_boxed(alloc, word)?, 1))
 }
 
-/// The tree of an image in pieces. Its words must be those in which it is written.
+/// The tree of an image in pieces. Its words must be those in which it would be written.
 #[tactic(auto, using(crate::proofs::Claims::severals))]
 fn read_several(
     alloc: Global,

@@ -1,4 +1,4 @@
-//! Writes what a shell is handed: the arguments and the entries of its launch.
+//! Writing what a shell is handed: the arguments and the entries of its launch.
 
 ghost use Rattle.std.specs.Prelude.{◌≡◌, IfOk, map, string_bytes};
 ghost use Rattle.rc_model.specs.Handed.Arguments.{handed};
@@ -24,7 +24,7 @@ pub struct Handover {
     pub entries: Vec<String>,
 }
 
-/// The arguments of a shell that is handed its command in these words.
+/// The arguments of a shell whose command is in these words.
 fn shell_args(alloc: Global, state: &State, words: &[String]) -> Result<Vec<String>, AllocError>
     ensures { IfOk result (λ args. map string_bytes args.items
         ≡ args_with (map string_bytes words.now) (state_of state.now)) }
@@ -39,7 +39,7 @@ fn shell_args(alloc: Global, state: &State, words: &[String]) -> Result<Vec<Stri
     Ok(args)
 }
 
-/// The entries of a state. They are too large where one of them would be too long.
+/// The entries of a state. They are too large if one of them would be too long.
 pub fn write_env(alloc: Global, state: &State) -> Result<Vec<String>, ImageError>
     ensures { Writes (λ all. map string_bytes all.items) result (short_entries (state_of state.now)) }
 {
@@ -51,8 +51,8 @@ pub fn write_env(alloc: Global, state: &State) -> Result<Vec<String>, ImageError
     }
 }
 
-/// What a shell is handed that is to run a command in a state. It is too large where an argument or an entry would be
-/// too long, or the image in too many pieces.
+/// What is handed to a shell that is to run a command in a state. It is too large if an argument or an entry would be
+/// too long, or the image would take too many pieces.
 pub fn handed(alloc: Global, cmd: &Cmd, state: &State) -> Result<Handover, ImageError>
     ensures written { Writes (λ h. handed_of h) result (handed (cmd_tree cmd.now) (state_of state.now)) }
     // A well-formed command is read back, with the state in which a subshell begins.

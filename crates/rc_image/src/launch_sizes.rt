@@ -1,4 +1,4 @@
-//! How long what a launch is given may be.
+//! The sizes of the arguments and entries of a launch.
 
 ghost use Rattle.std.specs.Prelude.{◌≡◌, string_bytes};
 ghost use Rattle.std.specs.List.{list_all};
@@ -13,7 +13,7 @@ fn is_short(text: &str) -> bool
     text.len() <= LONGEST_ARGUMENT
 }
 
-/// Whether these can be the arguments or the entries of a launch.
+/// Whether all arguments, or all entries, are short enough for a launch.
 pub fn are_short(texts: &[String]) -> bool
     ensures { result ≡ list_all (λ text. is_short (string_bytes text)) texts.now }
 {

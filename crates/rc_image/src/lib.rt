@@ -1,9 +1,10 @@
-//! What a shell hands to another, as text: the image of a tree, and the state that arguments and entries denote.
+//! What a shell hands to another as text: the image of a tree, and the state that arguments and entries denote.
 #![tactic(auto)]
 
 mod beginning;
 mod cut_entries;
 mod image_words;
+mod kept_entries;
 mod launch;
 mod launch_environment;
 mod launch_sizes;
@@ -20,6 +21,7 @@ ghost use Rattle.rc_image.specs.Images.{Writes, short_image};
 
 use beginning::{MARK, beginning_fault};
 pub use image_words::read_pieces;
+pub use kept_entries::keep_entries;
 pub use launch::{Handover, handed, write_env};
 pub use launch_environment::entries;
 pub use launch_sizes::are_short;
@@ -33,7 +35,7 @@ pub use read_environment::read_env;
 pub use read_handed::{read_image, read_state};
 use std::alloc::Global;
 
-/// The image of a tree. It is too large where an argument or an entry of a launch can't be so long.
+/// The image of a tree. It is too large if it would not fit into one argument or entry of a launch.
 #[tactic(auto, using(crate::proofs::Lengths::lengths))]
 pub fn write_tree(alloc: Global, cmd: &Cmd) -> Result<String, ImageError>
     ensures { Writes (λ text. string_bytes text) result (short_image (cmd_tree cmd.now)) }

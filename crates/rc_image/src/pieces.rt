@@ -1,4 +1,4 @@
-//! Writes images in several words.
+//! Writing images in several words.
 
 ghost use Rattle.std.specs.Prelude.{◌≡◌, IfOk, map, string_bytes};
 ghost use Rattle.rc_model.specs.Handed.Image.{image_words};
@@ -13,7 +13,7 @@ use rc_spelling::push_spelling;
 use rc_tree::Cmd;
 use std::alloc::{AllocError, Global};
 
-/// The most bytes of a spelling that stands in one word with its mark.
+/// The greatest length of a spelling that fits in one word with its mark, in bytes.
 const LONGEST_SPELLING: usize = LONGEST_ARGUMENT - MARK.len();
 
 /// The pieces of a spelling, each the longest of what is left.
@@ -44,7 +44,7 @@ fn one_word(alloc: Global, spelling: &str) -> Result<Vec<String>, AllocError>
     Ok(words)
 }
 
-/// Pieces, with the word before them that says how many they are.
+/// Pieces, after the word with their number.
 #[tactic(auto, using(crate::proofs::Cuts::texts))]
 fn several_words(alloc: Global, mut pieces: Vec<String>) -> Result<Vec<String>, AllocError>
     ensures { IfOk result (λ words. map string_bytes words.items ≡ several_words (map string_bytes pieces.items)) }
@@ -66,7 +66,7 @@ pub(crate) fn words_of(alloc: Global, spelling: &str) -> Result<Vec<String>, Ima
     Ok(several_words(alloc, pieces)?)
 }
 
-/// The words in which a tree is handed over. It is too large where these would be too many.
+/// The words in which a tree is handed over. It is too large if there would be too many.
 #[tactic(auto, using(crate::proofs::Cuts::words))]
 pub fn write_pieces(alloc: Global, cmd: &Cmd) -> Result<Vec<String>, ImageError>
     ensures { Writes (λ words. map string_bytes words.items) result (image_words (cmd_tree cmd.now)) }

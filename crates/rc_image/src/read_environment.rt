@@ -1,4 +1,4 @@
-//! Reads the state that an environment denotes.
+//! Reading the state that an environment denotes.
 
 ghost use Rattle.std.specs.Prelude.{◌≡◌, [], if◌then◌else◌, Ok, OnOk, IfOk, map, string_bytes};
 ghost use Rattle.rc_model.specs.Handed.Environment.{Bindings, bindings, with_cut, cut_entry, read_state};
@@ -17,14 +17,14 @@ use rc_tree::Cmd;
 use std::alloc::{AllocError, Global};
 use std::rc::Rc;
 
-/// Whether a name is never read as that of a variable. The status comes only from a shell of the same kind.
+/// Whether a name is not read as that of a variable. The status comes only from a shell of the same kind.
 fn is_ignored(name: &str, own: bool) -> bool
     ensures { result ≡ is_ignored own name.now }
 {
     name == "*" || (name == "status" && !own)
 }
 
-/// Sets a variable. One with a bad name is ignored.
+/// Sets a variable, unless its name is bad.
 pub(crate) fn set_value(state: &mut State, name: &str, value: Vec<String>) -> Result<(), AllocError>
     ensures { OnOk result (state_of state.new
         ≡ (if is_name name.now
@@ -37,7 +37,7 @@ pub(crate) fn set_value(state: &mut State, name: &str, value: Vec<String>) -> Re
     }
 }
 
-/// Sets what an entry says of a variable or of the status, where the state is that of the entries after it.
+/// Sets the variable or the status of an entry, in the state of the entries after it.
 fn set_entry(alloc: Global, state: &mut State, entry: &str, own: bool) -> Result<(), AllocError>
     ensures { OnOk result ((bs : Bindings) → state_of state.old ≡ values_state own bs
         → state_of state.new ≡ values_state own (with_cut (cut_entry entry.now) bs)) }
@@ -51,7 +51,7 @@ fn set_entry(alloc: Global, state: &mut State, entry: &str, own: bool) -> Result
     set_value(state, name, members(alloc, text)?)
 }
 
-/// The state of the variables in these entries, and of the status. The first entry of a name is the last that is set.
+/// The state with the variables of these entries, and the status. The first entry of a name is set last.
 fn read_values(alloc: Global, entries: &[String], own: bool) -> Result<State, AllocError>
     ensures { IfOk result (λ state. state_of state
         ≡ values_state own (bindings (map string_bytes entries.now))) }
@@ -63,7 +63,7 @@ fn read_values(alloc: Global, entries: &[String], own: bool) -> Result<State, Al
     Ok(state)
 }
 
-/// Defines a function. One with a bad name is ignored.
+/// Defines a function, unless its name is bad.
 fn define(state: &mut State, name: &str, body: &Rc<Cmd>) -> Result<(), AllocError>
     requires { IsProperTree (cmd_tree body.now.value) }
     ensures { OnOk result (state_of state.new
@@ -77,7 +77,7 @@ fn define(state: &mut State, name: &str, body: &Rc<Cmd>) -> Result<(), AllocErro
     }
 }
 
-/// Defines the function of an entry, where it is one of a function and none of its name is there.
+/// Defines the function of an entry, if it is that of a function and there is none of its name yet.
 fn define_entry(alloc: Global, state: &mut State, entry: &str) -> Result<(), ImageError>
     ensures { Gives (λ _. state_of state.new) result
         (with_function (state_of state.old) (function_in (cut_entry entry.now))) }

@@ -1,4 +1,4 @@
-//! Reads what a shell is handed: arguments and the entries of an environment.
+//! Reading what a shell is handed: arguments and the entries of an environment.
 
 ghost use Rattle.std.specs.Prelude.{◌≡◌, OnOk, map, string_bytes};
 ghost use Rattle.rc_model.specs.Handed.Arguments.{read_image};
@@ -15,7 +15,7 @@ use rc_scope::{State, copy_texts};
 use rc_tree::Cmd;
 use std::alloc::{AllocError, Global};
 
-/// Makes these arguments `$*`, where there are any.
+/// Makes these arguments `$*`, if there are any.
 fn set_arguments(alloc: Global, state: &mut State, args: &[String]) -> Result<(), AllocError>
     ensures { OnOk result (state_of state.new
         ≡ with_arguments (map string_bytes args.now) (state_of state.old)) }
@@ -42,7 +42,7 @@ pub fn read_state(
     Ok(state)
 }
 
-/// The tree and the state that words and entries denote. What the image leaves of the words is `$*`.
+/// The tree and the state that words and entries denote. The words after the image are `$*`.
 pub fn read_image(
     alloc: Global,
     strict: bool,

@@ -7,7 +7,7 @@ use Rattle.rc_model.specs.Mirrors.Reading.{follow}
 use Rattle.law_syntax.specs.ByteReading as bytes
 use Rattle.law_syntax.specs.ByteReading.{after_byte}
 use Rattle.rc_lexer.specs.Spans as spans
-use Rattle.rc_lexer.specs.Spans.{Step, EndsWord, byte_class}
+use Rattle.rc_lexer.specs.Spans.{EndsWord, byte_class}
 use Rattle.rc_lexer.specs.SpanLaws.{seen}
 use Rattle.rc_lexer.specs.Machine.{pending_in, dollars_in, appended, Takes, AddsWord}
 use Rattle.rc_lexer.specs.Reads.{answers, HasRead}

@@ -49,7 +49,7 @@ one_byte : (script : List ℕ) (at b : ℕ) → StandsAt script at b → slice_r
 one_byte script at b h = h at (omega arith) ∙ ap (λ z. z ++ b ∷ []) (slice_empty script at)
 
 ok : {ts ts' : List t.Token} {bs bs' : List (List ℕ)} {s s' : r.State} {due due' : List PendingHereDoc} → ts ≡ ts' → bs ≡ bs' → s ≡ s' → due ≡ due' →
-    ◌≡◌ {A = r.Step} (Ok (ts, bs, s, due)) (Ok (ts', bs', s', due'))
+    ◌≡◌ {A = r.AfterCharacter} (Ok (ts, bs, s, due)) (Ok (ts', bs', s', due'))
 ok {ts} {ts'} {bs} {bs'} {s} {s'} {due} {due'} e f g h =
     ap (λ z. Ok (z, bs, s, due)) e ∙ ap (λ z. Ok (ts', z, s, due)) f ∙ ap (λ z. Ok (ts', bs', z, due)) g ∙ ap (λ z. Ok (ts', bs', s', z)) h
 
@@ -60,7 +60,7 @@ pub seen_emit : (script : List ℕ) (end : ℕ) (ts : List Token) (x : Step) →
 seen_emit script end ts (Ok x) = ok (seen_append script ts x.0) refl refl refl
 seen_emit script end ts (Err f) = refl
 
-emits : (script : List ℕ) (end : ℕ) (ts : List Token) (us : List t.Token) (x : Step) (y : r.Step) → tokens_of script ts ≡ us → seen script end x ≡ y →
+emits : (script : List ℕ) (end : ℕ) (ts : List Token) (us : List t.Token) (x : Step) (y : r.AfterCharacter) → tokens_of script ts ≡ us → seen script end x ≡ y →
     seen script end (spans.emit ts x) ≡ r.emit us y
 emits script end ts us x y e f = seen_emit script end ts x ∙ ap (λ z. r.emit z (seen script end x)) e ∙ ap (r.emit us) f
 

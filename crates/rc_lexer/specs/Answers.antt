@@ -1,4 +1,4 @@
--- What the lexer answers.
+-- The results of the lexer.
 use Rattle.std.specs.Prelude.{List, ℕ, Vec, Result, Ok, Err}
 use Rattle.rc_model.specs.Syntax.Tokens.{IsCut}
 use Rattle.rc_model.specs.declared.fault.SyntaxFault.{SyntaxFault}

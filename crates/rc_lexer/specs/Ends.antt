@@ -1,4 +1,4 @@
--- The end of a text, by spans, and what a finished reading is.
+-- The end of a text, by spans, and finished readings.
 use Rattle.std.specs.Prelude.{◌≡◌, ℕ, Bool, true, false, if◌then◌else◌, List, [], ◌∷◌, ◌++◌, map, slice_range}
 use Rattle.std.specs.Prelude.{Option, Some, None, Result, Ok, Err}
 use Rattle.std.specs.Str.{bytes_eq}
@@ -23,11 +23,11 @@ use Rattle.rc_lexer.specs.declared.lexer_state.State.TheVariants as state
 use Rattle.rc_lexer.specs.declared.lexer_state.TokenStart.{TokenStart}
 use Rattle.rc_lexer.specs.declared.lexer_state.Reading.{Reading}
 
--- what comes of the end: tokens and bodies, or a fault
+-- the outcome of the end: tokens and bodies, or a fault
 abbrev pub Outcome : Type 0
 Outcome = Result (List Token × List Span) SyntaxFault
 
--- the end after these tokens and bodies, where no here document is due
+-- the end after these tokens and bodies, if no here document is due
 abbrev pub closed : List Token → List Span → List PendingHereDoc → Outcome
 closed ts bodies [] = Ok (ts, bodies)
 closed ts bodies (d ∷ due) = Err (t.fault OpenHere d.line)
@@ -82,13 +82,13 @@ abbrev pub after : List Token → List Span → Outcome → Outcome
 after ts bodies (Ok x) = Ok (ts ++ x.0, bodies ++ x.1)
 after ts bodies (Err f) = Err f
 
--- the reading ends so, or memory ran out
+-- the reading ends this way, or memory ran out
 abbrev pub Ends : Reading → Reading → Result (Unit {0}) ScriptError → Outcome → Type 0
 Ends old new (Ok u) x = after old.tokens.items old.bodies.items x ≡ Ok (new.tokens.items, new.bodies.items)
 Ends old new (Err (Fault f)) x = x ≡ Err f
 Ends old new (Err NoMemory) x = Unit {0}
 
--- no here document is due, or the first that is has no body
+-- no here document is due, or the first one that is due has no body
 abbrev pub IsClosed : List PendingHereDoc → Result (Unit {0}) ScriptError → Type 0
 IsClosed due (Ok u) = closed [] [] due ≡ Ok ([], [])
 IsClosed due (Err (Fault f)) = closed [] [] due ≡ Err f

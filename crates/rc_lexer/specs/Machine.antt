@@ -1,4 +1,4 @@
--- How the definitions see what the lexer holds, and what its functions do.
+-- The state and the functions of the lexer, as the definitions see them.
 use Rattle.std.specs.Prelude.{◌≡◌, ℕ, Bool, List, [], ◌∷◌, ◌++◌, map, Result, Ok, Err}
 use Rattle.rc_model.specs.Syntax.Tokens as t
 use Rattle.rc_lexer.specs.Answers.{ScriptError}
@@ -23,7 +23,7 @@ pending_of d = record { mark = d.mark.items; line = d.line }
 abbrev pub pending_in : Reading → List t.PendingHereDoc
 pending_in r = map pending_of r.pending.items
 
--- the `$`s whose name is to come, which count only where an operator is read
+-- the `$`s whose name is still to come; they count only while an operator is read
 abbrev pub dollars_in : State → Reading → List Token
 dollars_in (Operator start op) r = r.dollars.items
 dollars_in s r = []
@@ -41,7 +41,7 @@ Takes old new (Ok s) x =
 Takes old new (Err (Fault f)) x = x ≡ Err f
 Takes old new (Err NoMemory) x = Unit {0}
 
--- nothing but tokens were added
+-- only tokens were added
 pub record Adds (ts : List Token) (old new : Reading) : Type 0 where
   pub tokens : new.tokens.items ≡ old.tokens.items ++ ts
   pub bodies : new.bodies.items ≡ old.bodies.items

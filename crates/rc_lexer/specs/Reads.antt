@@ -1,4 +1,4 @@
--- What a reading answers, whatever follows.
+-- The outcome of a reading, whatever follows.
 use Rattle.std.specs.Prelude.{◌≡◌, ℕ, ◌+◌, ◌≤◌, List, [], ◌++◌, map, drop, length, Vec}
 use Rattle.std.specs.Prelude.{Option, Some, None, Result, Ok, Err}
 use Rattle.std.specs.Str.{IsUtf8}
@@ -17,14 +17,14 @@ use Rattle.rc_model.specs.declared.syntax.Previous.TheVariants as previous
 use Rattle.rc_lexer.specs.declared.lexer_state.State.{State}
 use Rattle.rc_lexer.specs.declared.lexer_state.Reading.{Reading}
 
--- what comes of the script, from what is read of it on
+-- the outcome of the script, given what has been read of it
 abbrev pub answers : List ℕ → Reading → State → Place → t.Outcome
 answers script reading s p =
     t.join (tokens_of script reading.tokens.items) (map (slice_at script) reading.bodies.items)
     (bytes.run (state_of script p.byte (dollars_in s reading) (pending_in reading) s) (due_of (pending_in reading) s) p
     (drop p.byte script))
 
--- what comes of a whole script
+-- the outcome of a whole script
 abbrev pub whole : List ℕ → t.Outcome
 whole script = bytes.run (r.Between previous.Apart) [] t.first_place script
 
@@ -35,7 +35,7 @@ pub record HasRead (text : List ℕ) (reading : Reading) (s : State) (p : Place)
   pub stands : Stands text p.byte s
   pub lines : p.line ≤ p.byte + 1
 
--- the reading has come to the end of the text, or to its first fault, or memory ran out
+-- the reading has reached the end of the text, or its first fault, or memory ran out
 abbrev pub ReadsOn : List ℕ → Reading → Result (State × Place) ScriptError → Type 0
 ReadsOn text reading (Ok x) = HasRead text reading x.0 x.1 × (x.1.byte ≡ length text)
 ReadsOn text reading (Err (Fault f)) = (more : List ℕ) → whole (text ++ more) ≡ Err f
@@ -46,12 +46,12 @@ abbrev pub IsReading : List ℕ → Reading → State → Place → Option Synta
 IsReading text reading s p None = HasRead text reading s p
 IsReading text reading s p (Some f) = (more : List ℕ) → whole (text ++ more) ≡ Err f
 
--- what the whole text comes to, where no byte 0 is in it, or memory ran out
+-- the outcome of the whole text, if there is no byte 0 in it, or memory ran out
 abbrev pub Comes : {Z : Type 0} → List ℕ → Result (Vec Token Z) ScriptError → Type 0
 Comes text (Ok tokens) = t.result_of (whole text) ≡ Ok (tokens_of text tokens.items)
 Comes text (Err (Fault f)) = t.result_of (whole text) ≡ Err f
 Comes text (Err NoMemory) = Unit {0}
 
--- What a finished text answers: where it is UTF-8, its tokens or its first fault, or memory ran out.
+-- The result of a finished text, if it is UTF-8: its tokens or its first fault, or memory ran out.
 abbrev pub Finishes : {Z : Type 0} → List ℕ → Result (Vec Token Z) ScriptError → Type 0
 Finishes {Z} text result = IsUtf8 text → IsLexed {Z = Z} text result

@@ -1,4 +1,4 @@
--- How spans of a text are seen, and the law of the machine over spans.
+-- The meaning of spans of a text, and the law of the machine over spans.
 use Rattle.std.specs.Prelude.{◌≡◌, ℕ, false, ◌+◌, ◌≤◌, List, [], ◌∷◌, ◌++◌, map, slice_range, Ok, Err}
 use Rattle.rc_model.specs.Syntax.Tokens as t
 use Rattle.rc_model.specs.Syntax.Tokens.{PendingHereDoc}
@@ -12,7 +12,8 @@ use Rattle.rc_model.specs.declared.syntax.Place.{Place}
 use Rattle.rc_model.specs.declared.syntax.Previous.TheVariants as previous
 use Rattle.rc_lexer.specs.declared.Token.{Token}
 use Rattle.rc_lexer.specs.declared.lexer_state.State.{State}
-use Rattle.rc_lexer.specs.declared.lexer_state.State.TheVariants.{Between, Comment, Backslash, WordBackslash, Word, Name}
+use Rattle.rc_lexer.specs.declared.lexer_state.State.TheVariants.{Between, Comment, Backslash, WordBackslash}
+use Rattle.rc_lexer.specs.declared.lexer_state.State.TheVariants.{Word, Name}
 use Rattle.rc_lexer.specs.declared.lexer_state.State.TheVariants.{Quoted, Closed, Operator, Body}
 
 -- the body of the first here document that is due
@@ -49,7 +50,7 @@ abbrev pub due_of : List PendingHereDoc → State → List PendingHereDoc
 due_of due (Body body line) = after_first due
 due_of due s = due
 
--- the state says what stands in the script before this byte
+-- the state describes the part of the script before this byte
 abbrev pub Stands : List ℕ → ℕ → State → Type 0
 Stands script end (Backslash start) = (start.place.byte ≤ end) × (slice_range script start.place.byte end ≡ 92 ∷ [])
 Stands script end (WordBackslash start q) =
@@ -64,16 +65,16 @@ Stands script end (Body body line) = (body ≤ line) × (line ≤ end)
 Stands script end s = Unit {0}
 
 -- a step as the definitions see it
-abbrev pub seen : List ℕ → ℕ → Step → r.Step
+abbrev pub seen : List ℕ → ℕ → Step → r.AfterCharacter
 seen script end (Ok x) =
     Ok (tokens_of script x.0, map (slice_at script) x.1, state_of script end x.3 x.4 x.2, due_of x.4 x.2)
 seen script end (Err f) = Err f
 
--- the byte after this many others
+-- this is the byte after so many others
 abbrev pub StandsAt : List ℕ → ℕ → ℕ → Type 0
 StandsAt script at b = (a : ℕ) → a ≤ at → slice_range script a (at + 1) ≡ slice_range script a at ++ b ∷ []
 
--- the state after a step stands
+-- the state after a step describes the script
 abbrev pub StepStands : List ℕ → ℕ → Step → Type 0
 StepStands script end (Ok x) = Stands script end x.2
 StepStands script end (Err f) = Unit {0}
@@ -85,7 +86,7 @@ SpansLaw = (script : List ℕ) (s : State) (dollars : List Token) (due : List Pe
     seen script (p.byte + 1) (spans.step script s dollars due p b (spans.byte_class b))
     ≡ bytes.step (state_of script p.byte dollars due s) (due_of due s) p b (t.class_of b)
 
--- and what it comes to stands
+-- and the state that it reaches describes the script
 abbrev pub StandsLaw : Type 0
 StandsLaw = (script : List ℕ) (s : State) (dollars : List Token) (due : List PendingHereDoc) (p : Place) (b : ℕ) →
     StandsAt script p.byte b → Stands script p.byte s →

@@ -1,5 +1,5 @@
--- The machine over bytes, as the lexer does it: its tokens and bodies are spans of the text, and its operators nodes
--- of a trie. Of the text itself it needs the marks of here documents, and the lines of their bodies.
+-- The machine over bytes, as the lexer implements it: its tokens and bodies are spans of the text, and its operators
+-- nodes of a trie. Of the text itself it needs the marks of here documents, and the lines of their bodies.
 use Rattle.std.specs.Prelude.{ℕ, ◌+◌, Bool, true, false, if◌then◌else◌, ◌==◌, ◌||◌, List, [], ◌∷◌, ◌++◌, map}
 use Rattle.std.specs.Prelude.{slice_range}
 use Rattle.std.specs.Prelude.{Option, Some, None, Result, Ok, Err}
@@ -28,7 +28,7 @@ use Rattle.rc_lexer.specs.declared.byte_classes.ByteClass.{ByteClass}
 use Rattle.rc_lexer.specs.declared.byte_classes.ByteClass.TheVariants.{Alone, Begins, Blank, LineEnd, Hash, Quote}
 use Rattle.rc_lexer.specs.declared.byte_classes.ByteClass.TheVariants.{Backslash, Ordinary}
 
--- what a byte is
+-- the class of a byte
 abbrev pub byte_class : ℕ → ByteClass
 byte_class b =
     if is_alone b then Alone
@@ -52,7 +52,7 @@ token kind p q = record { kind = kind; span = record { start = p.byte; stop = q.
 abbrev pub shape : TokenKind → t.Lexeme
 shape kind = lexeme_of [] kind []
 
--- what an operator means after this, where no name follows
+-- the meaning of an operator in its context, if no name follows
 abbrev pub meaning : Previous → TokenKind → TokenKind
 meaning previous.Name tk.LeftParen = tk.Subscript
 meaning prev tk.Dollar = tk.BareDollar
@@ -60,8 +60,8 @@ meaning prev tk.DollarCount = tk.BareDollar
 meaning prev tk.DollarFlat = tk.BareDollar
 meaning prev kind = kind
 
--- a byte ends tokens and bodies, and leaves a state with the `$`s whose name is to come and the here documents that
--- are due
+-- a step: the tokens and bodies that a byte ends, then the state, the `$`s whose name is still to come and the here
+-- documents due; or a fault
 abbrev pub Step : Type 0
 Step = Result (List Token × List Span × State × List Token × List PendingHereDoc) SyntaxFault
 
@@ -74,7 +74,7 @@ abbrev pub emit : List Token → Step → Step
 emit ts (Ok x) = Ok (ts ++ x.0, x.1, x.2, x.3, x.4)
 emit ts (Err f) = Err f
 
--- the token of a `<<` whose mark does not come
+-- the token of a `<<` without a mark
 abbrev pub bare_here : Previous → List Token
 bare_here (previous.Here begin end) = token tk.BareHere begin end ∷ []
 bare_here _ = []
@@ -84,19 +84,19 @@ abbrev pub begin_line : List Token → List Span → List PendingHereDoc → ℕ
 begin_line ts bodies [] at = Ok (ts, bodies, state.Between previous.Apart, [], [])
 begin_line ts bodies (d ∷ due) at = Ok (ts, bodies, state.Body at at, [], d ∷ due)
 
--- a `^` where the token wants one
+-- a `^` if the token wants one
 abbrev pub caret : Previous → TokenKind → Place → List Token
 caret prev kind p = if t.wants_caret prev (shape kind) then token tk.FreeCaret p p ∷ [] else []
 
--- a token between two places, with a `^` before it where it wants one
+-- a token between two places, after a `^` if it wants one
 abbrev pub tokens_of : Previous → TokenKind → Place → Place → List Token
 tokens_of prev kind p q = caret prev kind p ++ token kind p q ∷ []
 
--- a token begins at this place, after this
+-- the start of a token at this place, in this context
 abbrev pub starts : Previous → Place → TokenStart
 starts prev p = record { previous = prev; place = p }
 
--- what a byte begins
+-- what a byte begins, in each class
 abbrev pub begin : Previous → List PendingHereDoc → Place → ℕ → ByteClass → Step
 begin prev due p b Alone =
     let before = without_here prev in
@@ -117,12 +117,12 @@ word_tokens quoted (previous.Here begin end) p q =
     token (tk.HereDoc quoted (record { start = 0; stop = 0 })) begin q ∷ []
 word_tokens quoted prev p q = tokens_of prev (if quoted then tk.Quoted else tk.Word) p q
 
--- what it is for what follows
+-- the context that it leaves
 abbrev pub word_after : Bool → Previous → Previous
 word_after quoted (previous.Here _ _) = previous.Apart
 word_after quoted prev = t.after_token prev (shape (if quoted then tk.Quoted else tk.Word))
 
--- what the mark of a here document says
+-- the mark of a here document, as a text
 abbrev pub mark_of : Bool → List ℕ → List ℕ
 mark_of quoted text = if quoted then t.unquoted_text text else text
 

@@ -1,4 +1,4 @@
--- Operators of more than one byte, as far as they are read: a trie of their texts.
+-- A trie of the operators of more than one byte.
 use Rattle.std.specs.Prelude.{ℕ, if◌then◌else◌, ◌==◌, List, [], ◌∷◌, Option, Some, None}
 use Rattle.rc_lexer.specs.declared.TokenKind.{TokenKind}
 use Rattle.rc_lexer.specs.declared.TokenKind.TheVariants as tk
@@ -60,7 +60,7 @@ first_op b =
     if b == 38 then And1 else (if b == 124 then Bar0 else (if b == 62 then Out0 else (if b == 60 then In0
     else Dollar0)))
 
--- with one more byte, if an operator begins so
+-- the operator with one more byte, if some operator begins this way
 abbrev pub next_op : Op → ℕ → Option Op
 next_op And1 b = if b == 38 then Some And2 else None
 next_op Bar0 b = if b == 124 then Some BarBar else (if b == 91 then Some BarOpen else None)
@@ -88,7 +88,7 @@ next_op HereZero b = if b == 93 then Some HereZeroEnd else None
 next_op Dollar0 b = if b == 35 then Some DollarHash else (if b == 34 then Some DollarQuote else None)
 next_op _ b = None
 
--- the token that is written so, if one is
+-- the token with this spelling, if there is one
 abbrev pub op_kind : Op → Option TokenKind
 op_kind And1 = Some tk.Ampersand
 op_kind And2 = Some tk.AndAnd

@@ -1,4 +1,4 @@
--- How the definitions see this crate's tokens. A token's text is the slice of the script at its span.
+-- This crate's tokens, as the definitions see them. A token's text is the slice of the script at its span.
 use Rattle.std.specs.Prelude.{ℕ, List, map, slice_range}
 use Rattle.rc_model.specs.Syntax.Tokens as model
 use Rattle.rc_model.specs.Syntax.Tokens.{unquoted_text}
@@ -17,7 +17,7 @@ use Rattle.rc_lexer.specs.declared.Token.{Token}
 abbrev pub slice_at : List ℕ → Span → List ℕ
 slice_at script span = slice_range script span.start span.stop
 
--- what a token of this kind is, where the script says this at its span
+-- the lexeme of a token of this kind, with this text at its span
 abbrev pub lexeme_of : List ℕ → TokenKind → List ℕ → model.Lexeme
 lexeme_of script Word text = model.Word text
 lexeme_of script Quoted text = model.Quoted (unquoted_text text)
@@ -46,7 +46,7 @@ lexeme_of script Subscript text = model.Subscript
 lexeme_of script BareDollar text = model.BareDollar
 lexeme_of script BareHere text = model.BareHere
 
--- the token of a script that a value stands for
+-- the token of a script that a value represents
 abbrev pub token_of : List ℕ → Token → model.Token
 token_of script t =
     record {
@@ -56,6 +56,6 @@ token_of script t =
       line = t.line;
     }
 
--- the tokens of a script that values stand for
+-- the tokens of a script that values represent
 abbrev pub tokens_of : List ℕ → List Token → List model.Token
 tokens_of script ts = map (λ t. token_of script t) ts

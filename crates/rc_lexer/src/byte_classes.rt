@@ -1,4 +1,4 @@
-//! What a byte is outside of quotes and comments.
+//! The class of a byte outside of quotes and comments.
 
 ghost use Rattle.std.specs.Prelude.{◌≡◌};
 ghost use Rattle.rc_model.specs.Syntax.Tokens.{is_name_char};
@@ -6,10 +6,10 @@ ghost use Rattle.rc_lexer.specs.Spans.{alone_kind, byte_class};
 
 use crate::TokenKind;
 
-/// What a byte is outside of quotes and comments.
+/// The class of a byte outside of quotes and comments.
 #[derive(Clone, Copy)]
 pub(crate) enum ByteClass {
-    /// An operator of one byte that no operator goes on from.
+    /// An operator of one byte that begins no other operator.
     Alone,
     /// The first byte of the other operators.
     Begins,
@@ -21,7 +21,7 @@ pub(crate) enum ByteClass {
     Ordinary,
 }
 
-/// What the byte is.
+/// Returns the class of a byte.
 pub(crate) fn class_of(b: u8) -> ByteClass
     ensures { result ≡ byte_class b }
 {
@@ -53,7 +53,7 @@ pub(crate) fn alone_kind(b: u8) -> TokenKind
     }
 }
 
-/// Whether the byte may stand in an unquoted name.
+/// Whether the byte is allowed in an unquoted name.
 pub(crate) fn is_name_byte(b: u8) -> bool
     ensures { result ≡ is_name_char b }
 {

@@ -22,7 +22,7 @@ fn begins_dollar_name(b: u8) -> bool
     is_name_byte(b) || b == b'\''
 }
 
-/// Puts the `$`s after the tokens, as bare ones.
+/// Adds the `$`s to the tokens, as bare ones.
 fn push_as_bare(tokens: &mut Vec<Token>, dollars: &[Token]) -> Result<(), AllocError>
     ensures { OnOk result (tokens.new.items ≡ tokens.old.items ++ spans.bare dollars.now) }
 {
@@ -37,7 +37,7 @@ fn push_as_bare(tokens: &mut Vec<Token>, dollars: &[Token]) -> Result<(), AllocE
 }
 
 impl Reading {
-    /// The `$`s have no name.
+    /// Ends `$`s that have no name.
     pub(crate) fn push_bare_dollars(&mut self) -> Result<(), AllocError>
         ensures { OnOk result (PushedDollars spans.bare self.old self.new) }
     {
@@ -46,7 +46,7 @@ impl Reading {
         Ok(())
     }
 
-    /// The `$`s have a name.
+    /// Ends `$`s that have a name.
     fn push_named_dollars(&mut self) -> Result<(), AllocError>
         ensures { OnOk result (PushedDollars (λ dollars. dollars) self.old self.new) }
     {
@@ -55,7 +55,7 @@ impl Reading {
         Ok(())
     }
 
-    /// The byte after `$`s whose name is still to come.
+    /// Reads the byte after `$`s whose name is still to come.
     pub(crate) fn continue_dollars(
         &mut self,
         place: Place,
@@ -84,7 +84,7 @@ impl Reading {
         self.begin_token(Previous::Apart, place, b, class)
     }
 
-    /// The byte after an operator that it ends.
+    /// Ends an operator at the byte after it.
     pub(crate) fn end_operator(
         &mut self,
         start: TokenStart,
@@ -126,7 +126,7 @@ impl Reading {
         }
     }
 
-    /// The byte after an operator that is read so far.
+    /// Reads the byte after an operator so far.
     pub(crate) fn continue_operator(
         &mut self,
         start: TokenStart,

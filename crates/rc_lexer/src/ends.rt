@@ -16,7 +16,7 @@ use crate::tokens::token_between;
 use crate::{ScriptError, Span, Token, TokenKind, fault};
 use rc_model::{FaultKind, Place};
 
-/// The token with the next body, if it is a here document, and the bodies after that.
+/// Gives the token the next body, if it is a here document, and returns the bodies after that.
 fn with_body(token: Token, bodies: &[Span]) -> (Token, &[Span])
     ensures { (script : List ℕ) (ts : List model.Token) →
         model.filled (token_of script token ∷ ts) (map (slice_at script) bodies.now)
@@ -40,7 +40,7 @@ fn with_body(token: Token, bodies: &[Span]) -> (Token, &[Span])
     (token, rest)
 }
 
-/// Each here document takes the next body.
+/// Gives each here document the next body.
 fn fill_bodies(tokens: &mut [Token], bodies: &[Span])
     ensures { (script : List ℕ) → tokens_of script tokens.new
         ≡ model.filled (tokens_of script tokens.old) (map (slice_at script) bodies.now) }
@@ -57,7 +57,7 @@ fn fill_bodies(tokens: &mut [Token], bodies: &[Span])
 }
 
 impl Reading {
-    /// No here document waits for its body.
+    /// Fails if a here document still has no body.
     fn expect_none_pending(&self) -> Result<(), ScriptError>
         ensures { IsClosed (pending_in self.now) result }
     {
@@ -67,7 +67,7 @@ impl Reading {
         }
     }
 
-    /// The text ends after a word.
+    /// Ends the text after a word.
     fn finish_word(
         &mut self,
         script: &[u8],
@@ -83,7 +83,7 @@ impl Reading {
         self.expect_none_pending()
     }
 
-    /// The text ends after an operator.
+    /// Ends the text after an operator.
     fn finish_operator(
         &mut self,
         start: TokenStart,
@@ -102,7 +102,7 @@ impl Reading {
         self.expect_none_pending()
     }
 
-    /// The text ends in a body, whose last line is the mark, if there is one.
+    /// Ends the text in a body, whose last line is the mark, if there is one.
     fn finish_body(
         &mut self,
         script: &[u8],
@@ -130,7 +130,7 @@ impl Reading {
         self.expect_none_pending()
     }
 
-    /// The text ends in this state.
+    /// Ends the text in this state.
     pub(crate) fn finish(
         &mut self,
         script: &[u8],
@@ -164,7 +164,7 @@ impl Reading {
         }
     }
 
-    /// The tokens, with the bodies of the here documents.
+    /// Returns the tokens, with the bodies of the here documents.
     pub(crate) fn into_tokens(self) -> Vec<Token>
         ensures { (script : List ℕ) → tokens_of script result.items
             ≡ model.filled (tokens_of script self.tokens.items) (map (slice_at script) self.bodies.items) }

@@ -25,7 +25,7 @@ impl Reading {
         }
     }
 
-    /// The byte in the body of a here document.
+    /// Reads a byte in the body of a here document.
     pub(crate) fn continue_body(
         &mut self,
         script: &[u8],

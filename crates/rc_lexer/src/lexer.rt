@@ -1,4 +1,4 @@
-//! The tokens of a text that comes in pieces.
+//! The lexer for a text that comes in pieces.
 
 ghost use Rattle.std.specs.Prelude.{◌≡◌, ◌++◌, List, ℕ, [], OnErr, OnOk};
 ghost use Rattle.std.specs.Str.{IsUtf8};
@@ -9,7 +9,7 @@ use crate::{ScriptError, Token};
 use std::alloc::{AllocError, Global};
 use std::marker::Model;
 
-/// A text so far.
+/// The text so far.
 #[derive(Drop)]
 pub struct Lexer {
     pieces: Pieces,
@@ -24,7 +24,7 @@ impl Model for Lexer {
 }
 
 impl Lexer {
-    /// No text yet.
+    /// A lexer without text.
     pub fn new(alloc: Global) -> Self
         ensures { result ≡ [] }
     {
@@ -33,7 +33,7 @@ impl Lexer {
         }
     }
 
-    /// One more piece. If memory is refused, the text stays as it is.
+    /// Adds a piece. If memory runs out, the text stays as it was.
     pub fn feed(&mut self, piece: &str) -> Result<(), AllocError>
         ensures ok { OnOk result (self.new ≡ self.old ++ piece.now) }
         ensures err { OnErr result (self.new ≡ self.old) }
@@ -41,7 +41,7 @@ impl Lexer {
         self.pieces.feed(piece.as_bytes())
     }
 
-    /// The tokens of the text, or its first fault. A byte 0 is looked for first.
+    /// Returns the tokens of the text, or its first fault. A byte 0 is looked for first.
     pub fn finish(self) -> Result<Vec<Token>, ScriptError>
         ensures { IsLexed self result }
     {
@@ -51,7 +51,7 @@ impl Lexer {
     }
 }
 
-/// The tokens of the script, or its first fault.
+/// Returns the tokens of the script, or its first fault.
 pub fn lex(alloc: Global, script: &str) -> Result<Vec<Token>, ScriptError>
     ensures { IsLexed script.now result }
 {

@@ -1,4 +1,4 @@
-//! What the lexer holds between two bytes.
+//! The state of the lexer between two bytes.
 
 ghost use Rattle.std.specs.Prelude.{◌≡◌, []};
 
@@ -8,14 +8,14 @@ use rc_model::{Place, Previous};
 use std::alloc::Global;
 use std::collections::VecDeque;
 
-/// Where a token begins, and what stands directly before it.
+/// Where a token begins, and the context before it.
 #[derive(Clone, Copy)]
 pub(crate) struct TokenStart {
     pub previous: Previous,
     pub place: Place,
 }
 
-/// What has begun and has not ended.
+/// What is being read.
 #[derive(Clone, Copy)]
 pub(crate) enum State {
     Between(Previous),
@@ -27,7 +27,7 @@ pub(crate) enum State {
     Word(TokenStart),
     Name(Place),
     Quoted(TokenStart),
-    /// A quoted word after a quote that ends it if no other follows.
+    /// A quoted word after a quote that ends it unless another follows.
     Closed(TokenStart),
     Operator(TokenStart, Op),
     /// The body of the first pending here document: where it begins, and where the line begins.
@@ -41,12 +41,12 @@ pub(crate) struct PendingHereDoc {
     pub(crate) line: usize,
 }
 
-/// What is read so far.
+/// The result of reading so far.
 #[derive(Drop)]
 pub(crate) struct Reading {
     pub(crate) alloc: Global,
     pub(crate) tokens: Vec<Token>,
-    /// Where an operator is read: the `$`s whose name is still to come.
+    /// The `$`s before the operator that is being read, whose name is still to come.
     pub(crate) dollars: Vec<Token>,
     pub(crate) bodies: Vec<Span>,
     pub(crate) pending: VecDeque<PendingHereDoc>,

@@ -1,5 +1,5 @@
-//! The tokens of a script, whole or in pieces. What they are follows rc(1), the manual page of Plan 9's shell, and Tom
-//! Duff's paper "Rc - The Plan 9 Shell".
+//! The lexer: the tokens of a script, whole or in pieces. Their definition follows rc(1), the manual page of Plan 9's
+//! shell, and Tom Duff's paper "Rc - The Plan 9 Shell".
 #![tactic(auto)]
 
 ghost use Rattle.std.specs.Prelude.{◌≡◌};
@@ -28,7 +28,7 @@ pub struct Span {
     pub stop: usize,
 }
 
-/// What a token is. Its text is the slice of the script at its span.
+/// The kind of a token. Its text is the slice of the script at its span.
 #[derive(Clone, Copy, PartialEq)]
 pub enum TokenKind {
     Word,
@@ -51,7 +51,7 @@ pub enum TokenKind {
     Backquote,
     Redirection(Mode, u8),
     CopyTo { to: u8, from: u8 },
-    /// `<<` with its mark, whether that is quoted, and where the body stands.
+    /// `<<` with its mark, whether that is quoted, and the span of the body.
     HereDoc { is_quoted: bool, body: Span },
     Dollar,
     DollarCount,
@@ -72,10 +72,10 @@ pub struct Token {
     pub line: usize,
 }
 
-/// Why a script has no tokens, or no tree: its first fault, or memory was refused.
+/// Why a script has no tokens, or no tree: its first fault, or memory ran out.
 pub type ScriptError = InputError<SyntaxFault>;
 
-/// The fault of this kind at this line.
+/// Returns the fault of this kind at this line.
 fn fault(kind: FaultKind, line: usize) -> ScriptError
     ensures { result ≡ InputError.Fault (record { kind = kind; line = line }) }
 {

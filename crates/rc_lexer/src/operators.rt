@@ -1,4 +1,4 @@
-//! Operators of more than one byte, as far as they are read.
+//! Operators of more than one byte, as far as they have been read.
 
 ghost use Rattle.std.specs.Prelude.{◌≡◌};
 ghost use Rattle.rc_lexer.specs.Trie.{first_op, next_op, op_kind};
@@ -6,7 +6,7 @@ ghost use Rattle.rc_lexer.specs.Trie.{first_op, next_op, op_kind};
 use crate::TokenKind;
 use rc_model::Mode;
 
-/// What is read of an operator.
+/// An operator so far.
 #[derive(Clone, Copy)]
 pub(crate) enum Op {
     /// `&`
@@ -101,7 +101,7 @@ pub(crate) fn first_op(b: u8) -> Op
 }
 
 impl Op {
-    /// The operator with one more byte, if one begins so.
+    /// The operator with one more byte, if some operator begins this way.
     pub(crate) fn next(self, b: u8) -> Option<Op>
         ensures { result ≡ next_op self b }
     {
@@ -170,7 +170,7 @@ impl Op {
         }
     }
 
-    /// The token that is written so, if one is.
+    /// The token with this spelling, if there is one.
     pub(crate) fn kind(self) -> Option<TokenKind>
         ensures { result ≡ op_kind self }
     {

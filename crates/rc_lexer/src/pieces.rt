@@ -1,4 +1,4 @@
-//! A text that comes in pieces, cut anywhere, also within a character.
+//! A text that comes in pieces, cut anywhere, even within a character.
 
 ghost use Rattle.std.specs.Prelude.{◌≡◌, ◌<◌, ◌≤◌, true, IfOk, ◌^◌, ◌++◌, List, ℕ, [], length};
 ghost use Rattle.std.specs.Prelude.{MatchOption, Some, None, OnErr, OnOk};
@@ -16,7 +16,7 @@ use rc_model::{FaultKind, InputError, Place, Previous, SyntaxFault};
 use std::alloc::{AllocError, Global};
 use std::marker::Model;
 
-/// The end of a word that has begun, if it is here yet.
+/// The end of a word that has begun, if it is in the text yet.
 fn word_end(reading: &Reading, text: &[u8], start: TokenStart, place: Place) -> Place
     requires short { length text.now < 2 ^ 63 }
     requires read { HasRead text.now reading.now (state.Word start) place }
@@ -44,7 +44,7 @@ fn ends_word(class: ByteClass) -> bool
     }
 }
 
-/// Reads blanks, words and tokens of one byte, until something else comes.
+/// Reads blanks, words and tokens of one byte, up to anything else.
 fn read_plain(
     reading: &mut Reading,
     text: &[u8],
@@ -106,7 +106,7 @@ fn read_on(
     Ok((state, place))
 }
 
-/// Reads the rest of the text, which is all of it.
+/// Reads the rest of the text, which is complete.
 fn finish_reading(
     reading: Reading,
     text: &[u8],
@@ -144,7 +144,7 @@ fn zero_line(text: &[u8]) -> Option<usize>
     None
 }
 
-/// The tokens of a text that is read so far, or its first fault.
+/// Returns the tokens of a text that was read so far, or its first fault.
 fn finished(
     reading: Reading,
     text: &[u8],
@@ -165,7 +165,7 @@ fn finished(
     finish_reading(reading, text, state, place)
 }
 
-/// A text so far, and what is read of it.
+/// The text so far, and what was read of it.
 #[derive(Drop)]
 pub struct Pieces {
     text: Vec<u8>,
@@ -184,7 +184,7 @@ impl Model for Pieces {
 }
 
 impl Pieces {
-    /// No text yet.
+    /// A lexer without text.
     pub fn new(alloc: Global) -> Self
         ensures { result ≡ [] }
     {
@@ -197,7 +197,7 @@ impl Pieces {
         }
     }
 
-    /// One more piece. If memory is refused, the text stays as it is.
+    /// Adds a piece. If memory runs out, the text stays as it was.
     pub fn feed(&mut self, piece: &[u8]) -> Result<(), AllocError>
         ensures ok { OnOk result (self.new ≡ self.old ++ piece.now) }
         ensures err { OnErr result (self.new ≡ self.old) }
@@ -218,7 +218,7 @@ impl Pieces {
                 self.place = place;
             }
             Err(InputError::Fault(fault)) => self.fault = Some(fault),
-            // What was read is given up, and is read again with the next piece.
+            // What was read is discarded, and is read again with the next piece.
             Err(InputError::NoMemory) => {
                 self.text.truncate(before);
                 self.reading = Reading::new(self.reading.alloc);
@@ -230,7 +230,7 @@ impl Pieces {
         Ok(())
     }
 
-    /// The text, and its tokens or its first fault. A byte 0 is looked for first.
+    /// Returns the text, and its tokens or its first fault. A byte 0 is looked for first.
     pub fn finish(self) -> (Vec<u8>, Result<Vec<Token>, ScriptError>)
         ensures text { result.0.items ≡ self }
         ensures tokens { Finishes self result.1 }

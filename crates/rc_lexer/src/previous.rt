@@ -1,4 +1,4 @@
-//! What stands directly before a token, and what it makes of the token.
+//! The context directly before a token, and its effect on the token.
 
 ghost use Rattle.std.specs.Prelude.{false, ◌≡◌};
 ghost use Rattle.rc_model.specs.Syntax.Tokens as model;
@@ -29,7 +29,7 @@ pub(crate) fn wants_caret(previous: Previous, kind: TokenKind) -> bool
     }
 }
 
-/// What stands before the place after a blank.
+/// The context after a blank.
 pub(crate) fn after_blank(previous: Previous) -> Previous
     ensures { result ≡ model.after_blank previous }
 {
@@ -39,7 +39,7 @@ pub(crate) fn after_blank(previous: Previous) -> Previous
     }
 }
 
-/// The same where the mark of a `<<` no longer comes.
+/// The context if a `<<` gets no mark.
 pub(crate) fn without_here(previous: Previous) -> Previous
     ensures value { result ≡ reading.without_here previous }
 {
@@ -59,7 +59,7 @@ pub(crate) fn begins_name(previous: Previous, b: u8) -> bool
     }
 }
 
-/// What the token is for what follows.
+/// The context that a token leaves for the next one.
 pub(crate) fn after_token(previous: Previous, kind: TokenKind) -> Previous
     ensures { result ≡ model.after_token previous (shape kind) }
 {
@@ -74,7 +74,7 @@ pub(crate) fn after_token(previous: Previous, kind: TokenKind) -> Previous
     }
 }
 
-/// What the operator means here, where no name follows.
+/// The meaning of an operator in its context, if no name follows.
 pub(crate) fn meaning_after(previous: Previous, kind: TokenKind) -> TokenKind
     ensures { result ≡ meaning previous kind }
 {

@@ -1,4 +1,4 @@
-//! Tokens that are put after those that are read so far.
+//! Adding tokens to those read so far.
 
 ghost use Rattle.std.specs.Prelude.{◌≡◌, ◌<◌, ◌≤◌, ◌+◌, ◌^◌, length, IfOk, OnOk};
 ghost use Rattle.law_syntax.specs.ByteReading as bytes;
@@ -43,7 +43,7 @@ pub(crate) fn after_byte(place: Place, b: u8) -> Place
 }
 
 impl Reading {
-    /// A `<<` whose mark does not come.
+    /// Adds the `<<` whose mark doesn't follow.
     pub(crate) fn push_bare_here(&mut self, previous: Previous) -> Result<(), AllocError>
         ensures { OnOk result (Adds (spans.bare_here previous) self.old self.new) }
     {
@@ -54,7 +54,7 @@ impl Reading {
         Ok(())
     }
 
-    /// A `^` before a token of this kind that wants one.
+    /// Adds a `^` if a token of this kind wants one.
     pub(crate) fn push_caret(
         &mut self,
         previous: Previous,
@@ -70,7 +70,7 @@ impl Reading {
         Ok(())
     }
 
-    /// A token between two places, with a `^` where it wants one.
+    /// Adds a token between two places, after a `^` if it wants one.
     pub(crate) fn push_token(
         &mut self,
         previous: Previous,
@@ -95,7 +95,7 @@ impl Reading {
         word.to_vec(self.alloc)
     }
 
-    /// A word, quoted or not. What it is for what follows.
+    /// Adds a word, quoted or not, and returns the context that it leaves.
     pub(crate) fn push_word(
         &mut self,
         script: &[u8],

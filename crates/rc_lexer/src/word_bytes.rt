@@ -1,4 +1,4 @@
-//! What a byte begins, and what goes on with it or ends before it: words, names, quoted words and backslashes.
+//! What a byte begins, continues or ends: words, names, quoted words and backslashes.
 
 ghost use Rattle.std.specs.Prelude.{◌≡◌, ◌<◌, ◌≤◌, ◌+◌, ◌^◌, [], length, Ok, IfOk};
 ghost use Rattle.rc_lexer.specs.Spans as spans;
@@ -16,7 +16,7 @@ use rc_model::{Place, Previous};
 use std::alloc::AllocError;
 
 impl Reading {
-    /// A byte that is a token. What it is for what follows.
+    /// Adds a token of one byte, and returns the context that it leaves.
     pub(crate) fn push_one(
         &mut self,
         previous: Previous,
@@ -35,7 +35,7 @@ impl Reading {
         Ok(after_token(before, kind))
     }
 
-    /// A byte that is a token.
+    /// Adds a token of one byte.
     fn push_alone(&mut self, previous: Previous, place: Place, b: u8) -> Result<State, ScriptError>
         requires byte { place.byte < 2 ^ 63 }
         requires line { place.line < 2 ^ 63 + 1 }
@@ -45,7 +45,7 @@ impl Reading {
         Ok(State::Between(after))
     }
 
-    /// A newline, which ends a command.
+    /// Adds a newline, which ends a command.
     fn push_newline(
         &mut self,
         previous: Previous,
@@ -64,7 +64,7 @@ impl Reading {
         Ok(self.begin_line(next.byte))
     }
 
-    /// What the byte begins.
+    /// Begins a token with this byte.
     pub(crate) fn begin_token(
         &mut self,
         previous: Previous,
@@ -97,7 +97,7 @@ impl Reading {
         }
     }
 
-    /// The byte after a word, quoted or not, that it ends.
+    /// Ends a word, quoted or not, at the byte after it.
     pub(crate) fn end_word(
         &mut self,
         script: &[u8],
@@ -118,7 +118,7 @@ impl Reading {
         self.begin_token(after, place, b, class)
     }
 
-    /// The byte after a word that is read so far.
+    /// Reads the byte after a word so far.
     pub(crate) fn continue_word(
         &mut self,
         script: &[u8],
@@ -141,7 +141,7 @@ impl Reading {
         }
     }
 
-    /// The newline after a word and a backslash: the two are a blank.
+    /// Ends a word at a backslash and newline, which are a blank.
     pub(crate) fn end_continued(
         &mut self,
         script: &[u8],
@@ -160,7 +160,7 @@ impl Reading {
         Ok(State::Between(Previous::Apart))
     }
 
-    /// The byte after a name that is read so far.
+    /// Reads the byte after a name so far.
     pub(crate) fn continue_name(
         &mut self,
         start: Place,

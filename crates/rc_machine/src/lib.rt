@@ -1,4 +1,4 @@
-//! The machine, which runs compiled code over a world.
+//! The virtual machine, which runs compiled code over a world.
 #![tactic(auto)]
 
 mod configuration;

@@ -1,4 +1,4 @@
-//! The commands of the shell itself.
+//! The built-in commands.
 
 ghost use Rattle.std.specs.Prelude.{◌≡◌};
 ghost use Rattle.rc_model.specs.Run.Builtins.{builtin_named};
@@ -18,7 +18,7 @@ pub enum Builtin {
 }
 
 impl Builtin {
-    /// The built-in command of this name.
+    /// Returns the built-in command of this name.
     pub fn named(name: &str) -> Option<Builtin>
         ensures { result ≡ builtin_named name.now }
     {

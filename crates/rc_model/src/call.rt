@@ -1,21 +1,21 @@
-//! What the calls of a world take and answer.
+//! What the calls of a world take and return.
 
-/// Why a call was refused. Which fault it is, a halt aside, changes nothing for a script.
+/// Why a call was refused. Scripts can't tell these faults apart, except `Halt`.
 #[derive(Clone, Copy, PartialEq)]
 pub enum Fault {
-    /// There is nothing of this name.
+    /// Nothing has this name.
     NotFound,
     /// There is no permission for it.
     Denied,
-    /// Something of this name is there already.
+    /// Something has this name already.
     Exists,
     /// Nobody reads from the other end of the pipe.
     Broken,
     /// There is no space left.
     Full,
-    /// Any other reason, as a number that isn't held.
+    /// Any other reason, such as a number that isn't held.
     Other,
-    /// The world is over, and the call was not answered.
+    /// The world has stopped, and the call was not answered.
     Halt,
     /// The call was not made.
     NoMemory,
@@ -29,7 +29,7 @@ pub struct Handle(pub u32);
 #[derive(Clone, Copy, PartialEq)]
 pub struct ChildNo(pub u32);
 
-/// What a descriptor of a child stands for: a descriptor of the shell's own, or an open file.
+/// A descriptor of a child: a descriptor of the shell's own, or an open file.
 #[derive(Clone, Copy, PartialEq)]
 pub enum Slot {
     Own(u8),
@@ -44,14 +44,14 @@ pub struct Slots {
     pub errors: Slot,
 }
 
-/// The descriptors as a shell finds them: each is its own.
+/// The shell's own descriptors, each in its own place.
 pub const PLAIN_SLOTS: Slots = Slots {
     input: Slot::Own(0),
     output: Slot::Own(1),
     errors: Slot::Own(2),
 };
 
-/// How a file is opened. `Write` creates the file, or cuts it to nothing.
+/// How a file is opened. `Write` creates the file, or truncates it.
 #[derive(Clone, Copy, PartialEq)]
 pub enum Mode {
     Read,
@@ -59,7 +59,7 @@ pub enum Mode {
     Append,
 }
 
-/// What a path names, links followed. A program is a plain file that can be executed.
+/// What a path names, following links. A program is a regular file that can be executed.
 #[derive(Clone, Copy, PartialEq)]
 pub enum Kind {
     Directory,

@@ -1,4 +1,4 @@
-//! What is wrong with an input, and why there is no answer to it.
+//! The faults of inputs, and why there is no result for one.
 
 ghost use Rattle.std.specs.Prelude.{◌≡◌, Some};
 ghost use Rattle.rc_model.specs.Run.Lists.{list_words};
@@ -22,7 +22,7 @@ pub enum FaultKind {
     BadDescriptor,
     /// A here document lacks its last line.
     OpenHere,
-    /// A token fits no script at its place.
+    /// A token that no script can have at this place.
     Unexpected,
     /// An `if not` does not follow an `if`.
     IfNot,
@@ -70,7 +70,7 @@ impl error::Error for SyntaxFault {}
 /// What is wrong with a list of tokens.
 #[derive(Clone, Copy, Debug)]
 pub enum DescentFault {
-    /// A token fits no script at its place.
+    /// A token that no script can have at this place.
     Unexpected,
     /// An `if not` does not follow an `if`.
     IfNot,
@@ -84,13 +84,13 @@ pub enum DescentFault {
 /// too large.
 #[derive(Clone, Copy, Debug, PartialEq, Error)]
 pub enum ImageFault {
-    /// An image begins otherwise, or no tag of the wanted sort stands at a place.
+    /// An image begins differently, or a place has no tag of the wanted sort.
     #[error("bad tag")]
     BadTag,
-    /// A number or a text is not spelled as it must be, or a list is too short or too long.
+    /// A number or a text is not spelled correctly, or a list is too short or too long.
     #[error("bad length")]
     BadLength,
-    /// Something stands after the tree.
+    /// There is something after the tree.
     #[error("something after the tree")]
     Trailing,
     /// A node is below the deepest level.
@@ -114,7 +114,7 @@ pub enum ListFault {
 }
 
 impl ListFault {
-    /// The fault in words, as a shell reports it.
+    /// Returns the fault in words, as a shell reports it.
     pub fn words(self) -> &'static str
         ensures { result.now ≡ list_words self }
     {
@@ -135,7 +135,7 @@ impl fmt::Display for ListFault {
 
 impl error::Error for ListFault {}
 
-/// Why there is no answer to an input: a fault of its own, or memory was refused.
+/// Why there is no result for an input: it has a fault, or memory ran out.
 #[derive(Clone, Copy, Debug, PartialEq)]
 pub enum InputError<F> {
     Fault(F),

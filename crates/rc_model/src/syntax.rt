@@ -3,21 +3,21 @@
 ghost use Rattle.std.specs.Prelude.{◌≡◌};
 ghost use Rattle.rc_model.specs.Syntax.Ahead.{keyword};
 
-/// Whether a command runs where the one before was true, or where it was not.
+/// Whether a command runs if the one before was true, or if it was not.
 #[derive(Clone, Copy, PartialEq)]
 pub enum Logic {
     And,
     Or,
 }
 
-/// A place in a script: how many bytes stand before it, and its line.
+/// A place in a script: the number of bytes before it, and its line.
 #[derive(Clone, Copy)]
 pub struct Place {
     pub byte: usize,
     pub line: usize,
 }
 
-/// What stands directly before a place.
+/// The context directly before a place.
 #[derive(Clone, Copy)]
 pub enum Previous {
     /// Nothing that matters to what follows.
@@ -31,7 +31,7 @@ pub enum Previous {
     Here(Place, Place),
 }
 
-/// What a character is outside of quotes and comments.
+/// The class of a character outside of quotes and comments.
 #[derive(Clone, Copy)]
 pub enum Class {
     Operates,
@@ -43,7 +43,7 @@ pub enum Class {
     Ordinary,
 }
 
-/// The keywords, and a word that is none.
+/// The keywords, and `Plain` for any other word.
 #[derive(Clone, Copy)]
 pub enum Keyword {
     For,
@@ -60,7 +60,7 @@ pub enum Keyword {
 }
 
 impl Keyword {
-    /// Which keyword an unquoted word is.
+    /// Returns the keyword that an unquoted word is.
     pub fn named(word: &str) -> Keyword
         ensures { result ≡ keyword word.now }
     {

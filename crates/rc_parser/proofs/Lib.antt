@@ -2,7 +2,9 @@ pub mod Steps
 pub mod Turns
 pub mod Texts
 pub mod Lines
+pub mod Pieces
 pub mod Spelled
+pub mod Keywords
 pub mod Parsing
 pub mod Scripts
 pub mod Kept

@@ -4,7 +4,7 @@ use Rattle.std.specs.Result.{IsErrAnd}
 use Rattle.std.proofs.Common.{◌≡◌, ℕ, ◌<◌, ◌≤◌, ◌-◌, List, Result, Ok, Err, length, ◌⊎◌, inl, inr, refl, sym, ap, subst, ◌∙◌}
 use Rattle.std.proofs.lemmas.Str.{is_utf8-from_IsUtf8}
 use Rattle.std.specs.Str.{IsUtf8}
-use Rattle.rc_model.specs.Syntax.Tokens.{Token, Lexes}
+use Rattle.rc_model.specs.Syntax.Tokens.{Token}
 use Rattle.rc_model.specs.Syntax.Tokens as t
 use Rattle.rc_model.specs.Syntax.Tree.{Node, cmd}
 use Rattle.rc_model.specs.Syntax.WellFormed.{depth, most_stages}
@@ -19,8 +19,8 @@ use Rattle.rc_lexer.specs.Answers.{ScriptError, IsLexed}
 use Rattle.rc_lexer.specs.Views.{tokens_of}
 use Rattle.rc_model.specs.declared.fault.DescentFault.{DescentFault}
 use Rattle.rc_model.specs.declared.fault.DescentFault.TheVariants as descent
-use Rattle.rc_lexemes.specs.declared.token_faults.TokenFault.{TokenFault}
-use Rattle.rc_lexemes.specs.Reading.{HasFault, TokenError}
+use Rattle.rc_parser.specs.declared.token_faults.TokenFault.{TokenFault}
+use Rattle.rc_parser.specs.Answers.{HasFault, TokenError}
 use Rattle.rc_tree.specs.declared.types.Cmd.{Cmd}
 use Rattle.rc_tree.specs.View.{cmd_tree}
 use Rattle.rc_parser.specs.Faults.{Refuses, line_left, placed}

@@ -8,16 +8,14 @@ use Rattle.rc_model.specs.Syntax.WellFormed.{depth, most_stages}
 use Rattle.rc_model.specs.Syntax.Grammar.{HaveTree, HaveAcceptedTree}
 use Rattle.rc_model.specs.Mirrors.Descent as d
 use Rattle.law_syntax.proofs.Laws as laws
-use Rattle.rc_lexemes.specs.declared.lexeme.Lexeme.{Lexeme}
 use Rattle.rc_tree.specs.View.{cmd_tree}
 use Rattle.rc_tree.specs.declared.types.Cmd.{Cmd}
 use Rattle.rc_model.specs.declared.fault.DescentFault.{DescentFault}
 use Rattle.rc_model.specs.declared.fault.DescentFault.TheVariants as descent
-use Rattle.rc_lexemes.specs.Lexemes.{lexemes_of}
-use Rattle.rc_lexemes.specs.Reading.{Gives, HasFault, TokenError}
+use Rattle.rc_parser.specs.Answers.{Gives, HasFault, TokenError}
 
 -- the list is the whole script, and its tree has few levels or too many
-pub script_fits : (levels : ℕ) (ts : List model.Lexeme) (is : Many t.item) (xs : List Lexeme) → d.read levels (d.a_list false) ts ≡ Ok (is, lexemes_of xs) → length xs ≡ 0 →
+pub script_fits : (levels : ℕ) (ts : List model.Lexeme) (is : Many t.item) (rest : List model.Lexeme) → d.read levels (d.a_list false) ts ≡ Ok (is, rest) → length rest ≡ 0 →
     nat_le (depth (t.Seq is)) 200 ≡ true → d.script_tree levels ts ≡ Ok (t.Seq is)
 unfolding d.script_tree
 script_fits levels ts is [] h e k = ap (λ o. d.whole o) h ∙ whole_fits is k
@@ -26,7 +24,7 @@ script_fits levels ts is [] h e k = ap (λ o. d.whole o) h ∙ whole_fits is k
     whole_fits is k = rw k refl
 script_fits levels ts is (x ∷ xs) h e k = absurd (omega arith)
 
-pub script_unfit : (levels : ℕ) (ts : List model.Lexeme) (is : Many t.item) (xs : List Lexeme) → d.read levels (d.a_list false) ts ≡ Ok (is, lexemes_of xs) → length xs ≡ 0 →
+pub script_unfit : (levels : ℕ) (ts : List model.Lexeme) (is : Many t.item) (rest : List model.Lexeme) → d.read levels (d.a_list false) ts ≡ Ok (is, rest) → length rest ≡ 0 →
     nat_le (depth (t.Seq is)) 200 ≡ false → d.script_tree levels ts ≡ Err descent.TooDeep
 unfolding d.script_tree
 script_unfit levels ts is [] h e k = ap (λ o. d.whole o) h ∙ whole_unfit is k
@@ -36,7 +34,7 @@ script_unfit levels ts is [] h e k = ap (λ o. d.whole o) h ∙ whole_unfit is k
 script_unfit levels ts is (x ∷ xs) h e k = absurd (omega arith)
 
 -- tokens are left
-pub script_goes_on : (levels : ℕ) (ts : List model.Lexeme) (is : Many t.item) (xs : List Lexeme) → d.read levels (d.a_list false) ts ≡ Ok (is, lexemes_of xs) → (length xs ≡ 0 → ⊥) →
+pub script_goes_on : (levels : ℕ) (ts : List model.Lexeme) (is : Many t.item) (rest : List model.Lexeme) → d.read levels (d.a_list false) ts ≡ Ok (is, rest) → (length rest ≡ 0 → ⊥) →
     d.script_tree levels ts ≡ Err descent.Unexpected
 unfolding d.script_tree
 script_goes_on levels ts is [] h e = absurd (e refl)

@@ -1,16 +1,13 @@
 -- One turn of a loop of the descent.
-use Rattle.std.proofs.Common.{◌≡◌, ℕ, suc, ◌+◌, ◌-◌, ◌<◌, ◌≤◌, Bool, false, if◌then◌else◌, List, ◌∷◌, length, Ok, Err, ap, arith}
-use Rattle.std.proofs.lemmas.List.{length-map}
+use Rattle.std.proofs.Common.{◌≡◌, ℕ, suc, ◌+◌, ◌-◌, ◌<◌, ◌≤◌, Bool, true, false, if◌then◌else◌, List, ◌∷◌, drop, length, Ok, Err, sym, ◌∙◌, ap, arith}
 use Rattle.std.proofs.lemmas.Grind.{common_steps}
 use Rattle.rc_model.specs.Syntax.Tokens as model
 use Rattle.rc_model.specs.Syntax.Tree.{Node, Many, none, snoc}
 use Rattle.rc_model.specs.Syntax.Tree as t
-use Rattle.rc_model.specs.Syntax.Grammar.{begins_arg, begins_redir, begins_command, past_blanks, after_caret, ends}
+use Rattle.rc_model.specs.Syntax.Grammar.{begins_arg, begins_redir, begins_command, past_blanks, past_caret, after_caret, ends, is_case}
 use Rattle.rc_model.specs.Mirrors.Descent as d
 use Rattle.rc_model.specs.Mirrors.Descent.{Reader, Readers, ◌>>=◌}
 use Rattle.rc_tree.specs.View.{nodes_push}
-use Rattle.rc_lexemes.specs.declared.lexeme.Lexeme.{Lexeme}
-use Rattle.rc_lexemes.specs.Lexemes.{lexemes_of}
 use Rattle.rc_model.specs.declared.fault.DescentFault.TheVariants as descent
 
 one_less : (turns i : ℕ) → i < turns → turns - i ≡ suc (turns - (i + 1))
@@ -19,12 +16,12 @@ one_less turns i h = omega arith
 none_left : (turns i : ℕ) → turns ≤ i → turns - i ≡ 0
 none_left turns i h = omega arith
 
-all_left : (turns : ℕ) (xs : List Lexeme) → turns ≡ length xs → length (lexemes_of xs) ≡ turns - 0
-all_left turns xs h = let e : length (lexemes_of xs) ≡ length xs = simp length-map in omega arith
+all_left : (turns : ℕ) (ts : List model.Lexeme) → turns ≡ length ts → length ts ≡ turns - 0
+all_left turns ts h = omega arith
 
-pub parts_start : (p : Reader (Node t.arg)) (inside : Bool) (turns : ℕ) (xs : List Lexeme) → turns ≡ length xs → d.parts_by p inside (lexemes_of xs) ≡ d.parts_from p inside (turns - 0) none (lexemes_of xs)
+pub parts_start : (p : Reader (Node t.arg)) (inside : Bool) (turns : ℕ) (ts : List model.Lexeme) → turns ≡ length ts → d.parts_by p inside ts ≡ d.parts_from p inside (turns - 0) none ts
 unfolding d.parts_by
-parts_start p inside turns xs h = ap (λ k. d.parts_from p inside k none (lexemes_of xs)) (all_left turns xs h)
+parts_start p inside turns ts h = ap (λ k. d.parts_from p inside k none ts) (all_left turns ts h)
 
 pub parts_more : (p : Reader (Node t.arg)) (inside : Bool) (turns i : ℕ) (front : Many t.arg) (ts : List model.Lexeme) → i < turns → d.parts_from p inside (turns - i) front ts ≡ d.parts_turn p inside (λ as' u. d.parts_from p inside (turns - (i + 1)) as' u) front ts (after_caret (past_blanks inside ts))
 unfolding d.parts_from
@@ -36,9 +33,9 @@ parts_done p inside turns i front ts h = ap (λ k. d.parts_from p inside k front
 
 pub ruleset parts = (parts_start, parts_more, parts_done, nodes_push, common_steps)
 
-pub words_start : (p : Reader (Node t.arg)) (turns : ℕ) (xs : List Lexeme) → turns ≡ length xs → d.words_by p (lexemes_of xs) ≡ d.words_from p (turns - 0) none (lexemes_of xs)
+pub words_start : (p : Reader (Node t.arg)) (turns : ℕ) (ts : List model.Lexeme) → turns ≡ length ts → d.words_by p ts ≡ d.words_from p (turns - 0) none ts
 unfolding d.words_by
-words_start p turns xs h = ap (λ k. d.words_from p k none (lexemes_of xs)) (all_left turns xs h)
+words_start p turns ts h = ap (λ k. d.words_from p k none ts) (all_left turns ts h)
 
 pub words_more : (p : Reader (Node t.arg)) (turns i : ℕ) (front : Many t.arg) (ts : List model.Lexeme) → i < turns → d.words_from p (turns - i) front ts ≡ (if begins_arg ts then (d.arg_by p false ts >>= λ a. d.words_from p (turns - (i + 1)) (snoc front a.0) a.1) else Ok (front, ts))
 unfolding d.words_from
@@ -50,9 +47,9 @@ words_done p turns i front ts h = ap (λ k. d.words_from p k front ts) (none_lef
 
 pub ruleset words = (words_start, words_more, words_done, nodes_push, common_steps)
 
-pub redirs_start : (p : Reader (Node t.arg)) (turns : ℕ) (xs : List Lexeme) → turns ≡ length xs → d.redirs_by p (lexemes_of xs) ≡ d.redirs_from p (turns - 0) none (lexemes_of xs)
+pub redirs_start : (p : Reader (Node t.arg)) (turns : ℕ) (ts : List model.Lexeme) → turns ≡ length ts → d.redirs_by p ts ≡ d.redirs_from p (turns - 0) none ts
 unfolding d.redirs_by
-redirs_start p turns xs h = ap (λ k. d.redirs_from p k none (lexemes_of xs)) (all_left turns xs h)
+redirs_start p turns ts h = ap (λ k. d.redirs_from p k none ts) (all_left turns ts h)
 
 pub redirs_more : (p : Reader (Node t.arg)) (turns i : ℕ) (front : Many t.redir) (ts : List model.Lexeme) → i < turns → d.redirs_from p (turns - i) front ts ≡ (if begins_redir ts then (d.redir_by p ts >>= λ r. d.redirs_from p (turns - (i + 1)) (snoc front r.0) r.1) else Ok (front, ts))
 unfolding d.redirs_from
@@ -64,9 +61,9 @@ redirs_done p turns i front ts h = ap (λ k. d.redirs_from p k front ts) (none_l
 
 pub ruleset redirs = (redirs_start, redirs_more, redirs_done, nodes_push, common_steps)
 
-pub simple_start : (p : Reader (Node t.arg)) (turns : ℕ) (xs : List Lexeme) → turns ≡ length xs → d.simple_by p (lexemes_of xs) ≡ d.simple_from p (turns - 0) none none (lexemes_of xs)
+pub simple_start : (p : Reader (Node t.arg)) (turns : ℕ) (ts : List model.Lexeme) → turns ≡ length ts → d.simple_by p ts ≡ d.simple_from p (turns - 0) none none ts
 unfolding d.simple_by
-simple_start p turns xs h = ap (λ k. d.simple_from p k none none (lexemes_of xs)) (all_left turns xs h)
+simple_start p turns ts h = ap (λ k. d.simple_from p k none none ts) (all_left turns ts h)
 
 pub simple_more : (p : Reader (Node t.arg)) (turns i : ℕ) (as' : Many t.arg) (rs : Many t.redir) (ts : List model.Lexeme) → i < turns → d.simple_from p (turns - i) as' rs ts ≡ (if begins_arg ts then (d.arg_by p false ts >>= λ a. d.simple_from p (turns - (i + 1)) (snoc as' a.0) rs a.1) else if begins_redir ts then (d.redir_by p ts >>= λ r. d.simple_from p (turns - (i + 1)) as' (snoc rs r.0) r.1) else Ok ((as', rs), ts))
 unfolding d.simple_from
@@ -78,9 +75,9 @@ simple_done p turns i as' rs ts h = ap (λ k. d.simple_from p k as' rs ts) (none
 
 pub ruleset simple = (simple_start, simple_more, simple_done, nodes_push, common_steps)
 
-pub members_start : (p : Reader (Node t.arg)) (turns : ℕ) (xs : List Lexeme) → turns ≡ length xs → d.members_by p (lexemes_of xs) ≡ d.members_from p (turns - 0) none (lexemes_of xs)
+pub members_start : (p : Reader (Node t.arg)) (turns : ℕ) (ts : List model.Lexeme) → turns ≡ length ts → d.members_by p ts ≡ d.members_from p (turns - 0) none ts
 unfolding d.members_by
-members_start p turns xs h = ap (λ k. d.members_from p k none (lexemes_of xs)) (all_left turns xs h)
+members_start p turns ts h = ap (λ k. d.members_from p k none ts) (all_left turns ts h)
 
 pub members_more : (p : Reader (Node t.arg)) (turns i : ℕ) (front : Many t.arg) (ts : List model.Lexeme) → i < turns → d.members_from p (turns - i) front ts ≡ d.members_turn p (λ as' u. d.members_from p (turns - (i + 1)) as' u) front ts
 unfolding d.members_from
@@ -92,9 +89,9 @@ members_done p turns i front ts h = ap (λ k. d.members_from p k front ts) (none
 
 pub ruleset members = (members_start, members_more, members_done, nodes_push, common_steps)
 
-pub links_start : (r : Readers) (turns : ℕ) (xs : List Lexeme) → turns ≡ length xs → d.links_by r (lexemes_of xs) ≡ d.links_from r (turns - 0) none (lexemes_of xs)
+pub links_start : (r : Readers) (turns : ℕ) (ts : List model.Lexeme) → turns ≡ length ts → d.links_by r ts ≡ d.links_from r (turns - 0) none ts
 unfolding d.links_by
-links_start r turns xs h = ap (λ k. d.links_from r k none (lexemes_of xs)) (all_left turns xs h)
+links_start r turns ts h = ap (λ k. d.links_from r k none ts) (all_left turns ts h)
 
 pub links_more : (r : Readers) (turns i : ℕ) (front : Many t.link) (ts : List model.Lexeme) → i < turns → d.links_from r (turns - i) front ts ≡ d.links_turn r (λ ls u. d.links_from r (turns - (i + 1)) ls u) front ts
 unfolding d.links_from
@@ -106,9 +103,9 @@ links_done r turns i front ts h = ap (λ k. d.links_from r k front ts) (none_lef
 
 pub ruleset links = (links_start, links_more, links_done, nodes_push, common_steps)
 
-pub branches_start : (r : Readers) (turns : ℕ) (xs : List Lexeme) → turns ≡ length xs → d.branches_by r (model.LeftBrace ∷ lexemes_of xs) ≡ d.branches_from r (turns - 0) none (lexemes_of xs)
+pub branches_start : (r : Readers) (turns : ℕ) (ts : List model.Lexeme) → turns ≡ length ts → d.branches_by r (model.LeftBrace ∷ ts) ≡ d.branches_from r (turns - 0) none ts
 unfolding d.branches_by
-branches_start r turns xs h = ap (λ k. d.branches_from r k none (lexemes_of xs)) (all_left turns xs h)
+branches_start r turns ts h = ap (λ k. d.branches_from r k none ts) (all_left turns ts h)
 
 pub branches_more : (r : Readers) (turns i : ℕ) (front : Many t.branch) (ts : List model.Lexeme) → i < turns → d.branches_from r (turns - i) front ts ≡ d.branches_turn r (λ bs u. d.branches_from r (turns - (i + 1)) bs u) front ts
 unfolding d.branches_from
@@ -118,11 +115,24 @@ pub branches_done : (r : Readers) (turns i : ℕ) (front : Many t.branch) (ts : 
 unfolding d.branches_from
 branches_done r turns i front ts h = ap (λ k. d.branches_from r k front ts) (none_left turns i h)
 
+-- the turn of a case line
+pub branches_case :
+    (r : Readers) (turns i : ℕ) (front front' : Many t.branch) (b : Node t.branch) (us ts cs vs : List model.Lexeme) (text : List ℕ) (whole : d.Read (Many t.branch)) →
+    d.branches_from r (turns - i) front us ≡ whole → us ≡ model.Word text ∷ ts → is_case text ≡ true → cs ≡ past_caret ts → d.branch_by r cs ≡ Ok (b, vs) → i < turns →
+    front' ≡ snoc front b → d.branches_from r (turns - (i + 1)) front' vs ≡ whole
+branches_case r turns i front front' b us ts cs vs text whole so_far e named after read h pushed =
+    let go : Many t.branch → Reader (Many t.branch) = λ bs u. d.branches_from r (turns - (i + 1)) bs u in
+    let line : d.branches_turn r go front (model.Word text ∷ ts) ≡ (d.branch_by r (past_caret ts) >>= λ x. go (snoc front x.0) x.1) =
+    ap (λ q. if q then (d.branch_by r (past_caret ts) >>= λ x. go (snoc front x.0) x.1) else Err descent.Unexpected) named in
+    let taken : (d.branch_by r (past_caret ts) >>= λ x. go (snoc front x.0) x.1) ≡ go (snoc front b) vs =
+    ap (λ q. q >>= λ x. go (snoc front x.0) x.1) (ap (λ q. d.branch_by r q) (sym after) ∙ read) in
+    ap (λ f. go f vs) pushed ∙ sym (branches_more r turns i front us h ∙ ap (λ q. d.branches_turn r go front q) e ∙ line ∙ taken) ∙ so_far
+
 pub ruleset branches = (branches_start, branches_more, branches_done, nodes_push, common_steps)
 
-pub pipe_start : (r : Readers) (turns : ℕ) (first : Node t.cmd) (xs : List Lexeme) → turns ≡ length xs → d.pipe_by r first (lexemes_of xs) ≡ d.pipe_from r (turns - 0) none first (lexemes_of xs)
+pub pipe_start : (r : Readers) (turns : ℕ) (first : Node t.cmd) (ts : List model.Lexeme) → turns ≡ length ts → d.pipe_by r first ts ≡ d.pipe_from r (turns - 0) none first ts
 unfolding d.pipe_by
-pipe_start r turns first xs h = ap (λ k. d.pipe_from r k none first (lexemes_of xs)) (all_left turns xs h)
+pipe_start r turns first ts h = ap (λ k. d.pipe_from r k none first ts) (all_left turns ts h)
 
 pub pipe_more : (r : Readers) (turns i : ℕ) (stages : Many t.stage) (last : Node t.cmd) (ts : List model.Lexeme) → i < turns → d.pipe_from r (turns - i) stages last ts ≡
     d.pipe_turn r (λ ss c u. d.pipe_from r (turns - (i + 1)) ss c u) stages last ts
@@ -136,9 +146,9 @@ pipe_done r turns i stages last ts h = ap (λ k. d.pipe_from r k stages last ts)
 
 pub ruleset pipe = (pipe_start, pipe_more, pipe_done, nodes_push, common_steps)
 
-pub values_start : (r : Readers) (turns : ℕ) (front : Many t.pair) (xs : List Lexeme) → turns ≡ length xs → d.values_by r front (lexemes_of xs) ≡ d.values_from r (turns - 0) front (lexemes_of xs)
+pub values_start : (r : Readers) (turns : ℕ) (front : Many t.pair) (ts : List model.Lexeme) → turns ≡ length ts → d.values_by r front ts ≡ d.values_from r (turns - 0) front ts
 unfolding d.values_by
-values_start r turns front xs h = ap (λ k. d.values_from r k front (lexemes_of xs)) (all_left turns xs h)
+values_start r turns front ts h = ap (λ k. d.values_from r k front ts) (all_left turns ts h)
 
 pub values_more : (r : Readers) (turns i : ℕ) (front : Many t.pair) (ts : List model.Lexeme) → i < turns → d.values_from r (turns - i) front ts ≡ (if d.begins_leading ts then (d.leading_by r false ts >>= λ c. Ok (t.Assign front c.0, c.1)) else if begins_command ts then (d.opening_by r ts >>= λ o. d.value_turn r (λ ps u. d.values_from r (turns - (i + 1)) ps u) front o.0 o.1) else Ok (t.Assign front t.Empty, ts))
 unfolding d.values_from
@@ -150,10 +160,10 @@ values_done r turns i front ts h = ap (λ k. d.values_from r k front ts) (none_l
 
 pub ruleset values = (values_start, values_more, values_done, nodes_push, common_steps)
 
-pub items_start : (r : Readers) (in_switch : Bool) (turns : ℕ) (xs : List Lexeme) → turns ≡ length xs →
-    d.items_by r in_switch (lexemes_of xs) ≡ d.items_from r in_switch (turns - 0) false none (lexemes_of xs)
+pub items_start : (r : Readers) (in_switch : Bool) (turns : ℕ) (ts : List model.Lexeme) → turns ≡ length ts →
+    d.items_by r in_switch ts ≡ d.items_from r in_switch (turns - 0) false none ts
 unfolding d.items_by
-items_start r in_switch turns xs h = ap (λ k. d.items_from r in_switch k false none (lexemes_of xs)) (all_left turns xs h)
+items_start r in_switch turns ts h = ap (λ k. d.items_from r in_switch k false none ts) (all_left turns ts h)
 
 pub items_more : (r : Readers) (in_switch : Bool) (turns i : ℕ) (after_if : Bool) (front : Many t.item) (ts : List model.Lexeme) → i < turns → d.items_from r in_switch (turns - i) after_if front ts ≡ (if ends in_switch ts then Ok (front, ts) else d.item_turn r (λ b is u. d.items_from r in_switch (turns - (i + 1)) b is u) after_if front ts)
 unfolding d.items_from

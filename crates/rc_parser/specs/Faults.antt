@@ -10,7 +10,7 @@ use Rattle.rc_model.specs.Syntax.Tokens.{Token}
 use Rattle.rc_model.specs.declared.fault.DescentFault.{DescentFault}
 use Rattle.rc_model.specs.declared.fault.DescentFault.TheVariants as descent
 
--- a fault is the script's own; where memory ran out nothing is said of the script
+-- a fault is the script's own; out of memory says nothing about the script
 abbrev pub Refuses : ScriptError → List ℕ → Type 0
 Refuses (error.Fault f) script = IsRefused script f
 Refuses error.NoMemory script = Unit {0}
@@ -20,7 +20,7 @@ abbrev pub first_line : List ℕ → List Token → ℕ
 first_line script [] = line_of script (length script)
 first_line script (token ∷ tokens) = token.line
 
--- the line of a fault at which so many of the tokens are left: that of the first of those, or of the end of the script
+-- the line of a fault at which this many tokens are left: that of the first of those, or of the end of the script
 abbrev pub line_left : List ℕ → List Token → ℕ → ℕ
 line_left script tokens left = first_line script (drop (length tokens - left) tokens)
 

@@ -1,4 +1,4 @@
--- What is answered of a script.
+-- The result of the parser.
 use Rattle.std.specs.Prelude.{◌≡◌, ℕ, List, Result, IfOk, IfErr}
 use Rattle.rc_model.specs.Syntax.Accepted.{IsAccepted}
 use Rattle.rc_model.specs.Syntax.Tree.{Node, cmd}

@@ -1,13 +1,17 @@
-//! The parser: a script's tree, or why it has none; the script comes whole or in pieces. The grammar follows rc(1), the
-//! manual page of Plan 9's shell, and Tom Duff's paper "Rc - The Plan 9 Shell".
+//! The parser: the tree of a script, or why it has none. A script comes whole or in pieces. The grammar follows rc(1),
+//! the manual page of Plan 9's shell, and Tom Duff's paper "Rc - The Plan 9 Shell".
 #![tactic(auto)]
 
 mod descent;
-mod lexemes;
+mod here_pieces;
+mod lookahead;
 mod reader;
 mod syntax_faults;
 mod text;
+mod token_faults;
+mod tokens;
 mod trees;
+mod words;
 
 ghost use Rattle.std.specs.Prelude.{◌≡◌, IfOk, IfErr};
 ghost use Rattle.rc_model.specs.Syntax.Accepted.{IsAccepted};
@@ -15,17 +19,18 @@ ghost use Rattle.rc_model.specs.Syntax.Tree.{Node, cmd};
 ghost use Rattle.rc_parser.specs.Faults.{Refuses};
 ghost use Rattle.rc_tree.specs.View.{cmd_tree};
 
-pub use rc_lexemes::{Lexeme, TokenError, TokenFault};
 pub use rc_lexer::ScriptError;
 pub use rc_model::{FaultKind, InputError, SyntaxFault};
 use rc_tree::Cmd;
 pub use reader::Reader;
 use std::alloc::Global;
+pub use token_faults::{TokenError, TokenFault};
+pub use tokens::{Source, Tokens};
 pub use trees::script;
 
-/// The tree of a script, or its first fault. The faults come in this order: it is too long, it is not UTF-8, it has a
-/// zero byte; an open quote or a bad descriptor, whichever is read first; an open here document; what the grammar
-/// refuses.
+/// Parses a script into its tree, or returns its first fault. The faults come in this order: it is too long, it is not
+/// UTF-8, it has a zero byte; an open quote or a bad descriptor, whichever is read first; an open here document; what
+/// the grammar refuses.
 pub fn parse(alloc: Global, script: &[u8]) -> Result<Cmd, ScriptError>
     ensures accepted { IfOk result (λ c. IsAccepted script.now (cmd_tree c)) }
     // It has no other tree.

@@ -11,9 +11,9 @@ ghost use Rattle.rc_parser.specs.Kept.{IsKept};
 ghost use Rattle.rc_parser.specs.Parsed.{Parses};
 ghost use Rattle.rc_tree.specs.View.{cmd_tree};
 
-use crate::lexemes::lexemes;
 use crate::syntax_faults::syntax_fault;
 use crate::text::checked;
+use crate::tokens::{Source, Tokens};
 use crate::trees::script;
 use rc_lexer::{Pieces, ScriptError, Token};
 use rc_model::limits::LONGEST_SCRIPT;
@@ -23,13 +23,16 @@ use std::alloc::{AllocError, Global};
 use std::marker::Model;
 use std::snapshot::Snapshot;
 
-/// The tree of a script that has these tokens.
+/// Parses a script that has these tokens.
 fn tree_of_tokens(alloc: Global, text: &[u8], tokens: &[Token]) -> Result<Cmd, ScriptError>
     requires { HasTokens text.now (tokens_of text.now tokens.now) }
     ensures { Parses text.now result }
 {
-    let lexemes = lexemes(alloc, text, tokens)?;
-    match script(alloc, &lexemes) {
+    let source = Source {
+        script: text,
+        tokens,
+    };
+    match script(alloc, Tokens::new(&source)) {
         Ok(cmd) => Ok(cmd),
         Err(InputError::Fault(found)) => {
             Err(InputError::Fault(syntax_fault(text, tokens, found)))
@@ -38,7 +41,7 @@ fn tree_of_tokens(alloc: Global, text: &[u8], tokens: &[Token]) -> Result<Cmd, S
     }
 }
 
-/// The tree of a script that is short enough, of which the lexer answers this.
+/// Returns the tree of a script that is short enough, given the result of the lexer.
 fn tree_of(
     alloc: Global,
     text: &[u8],
@@ -53,7 +56,7 @@ fn tree_of(
     tree_of_tokens(alloc, text, &tokens)
 }
 
-/// Adds what the view alone keeps of a text that is too long. Snapshots have no bytes.
+/// Adds to the bytes past the greatest length, which only the view keeps. Snapshots have no bytes.
 fn pass(passed: &mut Vec<Snapshot<u8>>, piece: &[u8]) -> Result<(), AllocError>
     ensures ok { OnOk result (map (λ s. s.value) passed.new.items ≡ map (λ s. s.value) passed.old.items ++ piece.now) }
     ensures err { OnErr result (passed.new.items ≡ passed.old.items) }
@@ -68,14 +71,14 @@ fn pass(passed: &mut Vec<Snapshot<u8>>, piece: &[u8]) -> Result<(), AllocError>
     Ok(())
 }
 
-/// A script so far. Past the longest one it takes no more memory, since it is known to be too long.
+/// The script so far. Past the greatest length it takes no more memory, since it is known to be too long.
 #[derive(Drop)]
 pub struct Reader {
     alloc: Global,
     pieces: Pieces,
-    /// How many bytes more may come.
+    /// How many more bytes may come.
     room: usize,
-    /// What came where there was no room.
+    /// The bytes that came when there was no room.
     passed: Vec<Snapshot<u8>>,
 }
 
@@ -88,7 +91,7 @@ impl Model for Reader {
 }
 
 impl Reader {
-    /// No text yet.
+    /// A reader without text.
     pub fn new(alloc: Global) -> Self
         ensures { result ≡ [] }
     {
@@ -100,14 +103,14 @@ impl Reader {
         }
     }
 
-    /// Whether the text has more bytes than a script may have.
+    /// Whether the text is longer than a script may be.
     pub fn is_too_long(&self) -> bool
         ensures { IsTrue result ↔ (longest_script < length self.now) }
     {
         !self.passed.is_empty()
     }
 
-    /// One more piece, which may begin and end within a character. If memory is refused, the text stays as it is.
+    /// Adds a piece, which may begin and end within a character. If memory runs out, the text stays as it was.
     pub fn feed(&mut self, piece: &[u8]) -> Result<(), AllocError>
         ensures ok { OnOk result (self.new ≡ self.old ++ piece.now) }
         ensures err { OnErr result (self.new ≡ self.old) }
@@ -120,7 +123,7 @@ impl Reader {
         Ok(())
     }
 
-    /// The tree of the text, or its first fault, in the order of [`parse`](crate::parse).
+    /// Returns the tree of the text, or its first fault, in the order of [`parse`](crate::parse).
     pub fn finish(self) -> Result<Cmd, ScriptError>
         ensures accepted { IfOk result (λ c. IsAccepted self (cmd_tree c)) }
         // It has no other tree.

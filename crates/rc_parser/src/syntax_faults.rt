@@ -6,11 +6,11 @@ ghost use Rattle.rc_lexer.specs.Views.{tokens_of};
 ghost use Rattle.rc_parser.specs.Faults.{line_left, placed};
 
 use crate::text::line_of;
-use rc_lexemes::TokenFault;
+use crate::token_faults::TokenFault;
 use rc_lexer::Token;
 use rc_model::{DescentFault, FaultKind, SyntaxFault};
 
-/// The fault of a script whose tokens have this one.
+/// The fault of a script whose tokens have this fault.
 pub(crate) fn syntax_fault(script: &[u8], tokens: &[Token], found: TokenFault) -> SyntaxFault
     requires { length script.now ≤ longest_script }
     ensures { result ≡ placed (line_left script.now (tokens_of script.now tokens.now) found.left) found.fault }

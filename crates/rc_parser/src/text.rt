@@ -20,7 +20,7 @@ pub(crate) fn checked(script: &[u8]) -> Result<&str, SyntaxFault>
     })
 }
 
-/// The line of the byte at this place.
+/// The line of the byte at this offset.
 pub(crate) fn line_of(script: &[u8], place: usize) -> usize
     requires inside { place ≤ length script.now }
     requires short { length script.now ≤ longest_script }

@@ -7,7 +7,7 @@ use Rattle.rc_model.specs.Run.Acts.{set_status}
 use Rattle.rc_model.specs.Run.Builtins.{Finished, finished, cd, dirs_of, first_dir, first_member}
 use Rattle.rc_model.specs.Run.Calls.{Event, change_dir, as_done}
 use Rattle.rc_model.specs.Run.Plans.{Plan, done_with, asks, Ran}
-use Rattle.rc_model.specs.Run.Shell.{Result, Next, Shell, leaves}
+use Rattle.rc_model.specs.Run.Shell.{ShellResult, Next, Shell, leaves}
 use Rattle.rc_model.specs.Run.State.{State, value_of, with_status}
 use Rattle.rc_world.specs.Comes.{Left, Comes}
 use Rattle.rc_world.specs.declared.starts.Stop.{Stop}
@@ -24,7 +24,7 @@ texts_left dirs i dir lt is =
 
 module _ (dir : List ℕ) (dirs : List (List ℕ)) (s : State) where
   -- what follows the call
-  abbrev next : Bool → Plan (Result (Unit {0}))
+  abbrev next : Bool → Plan (ShellResult (Unit {0}))
   next b = (cond b (set_status []) (first_dir dirs)) s
 
   pub ran_changed : (a b : Option (List Event)) → Ran a b (asks (change_dir dir) as_done) (done_with true) → Ran a b (first_dir (dir ∷ dirs) s) (done_with (Next tt (with_status s [])))

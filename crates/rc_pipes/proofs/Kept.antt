@@ -1,5 +1,5 @@
 -- A child that is taken back leaves the list as it was.
-use Rattle.std.proofs.Common.{◌≡◌, ◌-◌, ◌+◌, ℕ, List, [], ◌∷◌, ◌++◌, length, take, ap, sym, arith, length-append}
+use Rattle.std.proofs.Common.{◌≡◌, ◌-◌, ◌+◌, ℕ, List, [], ◌∷◌, ◌++◌, length, take, ap, arith, length-append}
 use Rattle.std.proofs.lemmas.List.{take_at}
 use Rattle.rc_model.specs.Run.State.{State, add_child}
 

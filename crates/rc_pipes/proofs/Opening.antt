@@ -4,7 +4,7 @@ use Rattle.std.specs.Prelude.{Result as Outcome}
 use Rattle.rc_model.specs.Run.Builtins.{open_first, opened_or}
 use Rattle.rc_model.specs.Run.Calls.{Event, open_file, as_file}
 use Rattle.rc_model.specs.Run.Plans.{Plan, done_with, asks, Ran}
-use Rattle.rc_model.specs.Run.Shell.{Result, Shell, Next, ◌>>=◌}
+use Rattle.rc_model.specs.Run.Shell.{ShellResult, Shell, Next, ◌>>=◌}
 use Rattle.rc_model.specs.Run.State.{State}
 use Rattle.rc_model.specs.declared.call.Mode.TheVariants.{Read}
 use Rattle.rc_world.specs.Comes.{Comes, GoesOn, Left}
@@ -15,7 +15,7 @@ use Rattle.law_plans.proofs.Runs.{ran_none}
 
 module _ (path : List ℕ) (paths : List (List ℕ)) (s : State) (a b : Option (List Event)) where
   -- what follows the call
-  abbrev next : Option ℕ → Plan (Result (Option ℕ))
+  abbrev next : Option ℕ → Plan (ShellResult (Option ℕ))
   next file = opened_or (open_first paths) file s
 
   pub ran_opened : (n : ℕ) → Ran a b (asks (open_file path Read) as_file) (done_with (Some n)) →

@@ -1,7 +1,7 @@
 -- What a backquote does once its shell is started, call by call.
 use Rattle.std.proofs.Common.{◌≡◌, ℕ, Bool, List, [], Option, Some, None, option_map, unwrap_or, ap}
 use Rattle.std.specs.Borrow.{Bor}
-use Rattle.rc_model.specs.Run.Acts.{Started, Child, NoChild, Got, read_all, longest_output, waited, set_status, back_status, back_child, members_of}
+use Rattle.rc_model.specs.Run.Acts.{Started, Child, NoChild, Got, read_all, longest_output, waited, set_status, back_status, back_child, output_members}
 use Rattle.rc_model.specs.Run.Calls.{Event, close, as_done}
 use Rattle.rc_model.specs.Run.Plans.{done_with, asks, Ran}
 use Rattle.rc_model.specs.Run.Shell.{Shell, Next, ◌>>=◌, ◌>>◌, pure, get, say}
@@ -26,7 +26,7 @@ module _ (r w : ℕ) (s : State) where
 
   -- what follows each call where one was
   abbrev finish : Got → List ℕ → Shell (List (List ℕ))
-  finish out status = set_status (back_status out.why status) >> (get >>= (λ t. pure (members_of t out.text)))
+  finish out status = set_status (back_status out.why status) >> (get >>= (λ t. pure (output_members t out.text)))
 
   abbrev wait_and_finish : ℕ → Got → Shell (List (List ℕ))
   wait_and_finish n out = waited n >>= finish out
@@ -80,5 +80,5 @@ module _ (r w : ℕ) (s : State) where
 
         pub ran_finished : (f : Option (List Event)) (status : List ℕ) → Ran e f (waited n s) (done_with (Next status s)) →
             let t = with_status s (back_status out.why status) in
-            Ran a f (back_child r w (Child n) s) (done_with (Next (members_of t out.text) t))
+            Ran a f (back_child r w (Child n) s) (done_with (Next (output_members t out.text) t))
         ran_finished f status h = ran_join a e f _ _ _ have_closed (ran_do {s = s} {t = s} (waited n) (finish out) h (ran_none f _))

@@ -3,7 +3,7 @@ use Rattle.std.proofs.Common.{◌≡◌, ℕ, zero, suc, ◌+◌, ◌<◌, ◌�
 use Rattle.std.specs.Prelude.{nat_le}
 use Rattle.rc_model.specs.Run.Calls.{Event, read, as_bytes}
 use Rattle.rc_model.specs.Run.Plans.{Plan, done_with, asks, Ran}
-use Rattle.rc_model.specs.Run.Shell.{Result, Shell, Next, pure}
+use Rattle.rc_model.specs.Run.Shell.{ShellResult, Shell, Next, pure}
 use Rattle.rc_model.specs.Run.State.{State}
 use Rattle.rc_model.specs.Run.Acts.{Got, got_all, read_on, reading, read_all}
 use Rattle.law_plans.proofs.Runs.{ran_none, ran_join}
@@ -34,7 +34,7 @@ nothing_yet a most file h =
       left = suc most;
       enough = omega arith;
       ran = λ s.
-          let P : Plan (Result Got) → Type 0 = λ q. Ran a a (read_all most file s) q in
+          let P : Plan (ShellResult Got) → Type 0 = λ q. Ran a a (read_all most file s) q in
           subst P (sym (onwards_is (suc most) most file [] s true h)) (ran_none a (read_all most file s));
     }
 
@@ -43,11 +43,11 @@ module _ (a b c : Option (List Event)) (most file : ℕ) (text : List ℕ) (shor
   begun : (left : ℕ) (s : State) → Ran a b (read_all most file s) (onwards left most file text s) →
       Ran a b (read_all most file s) (reading left most file text s)
   begun left s f =
-      let P : Plan (Result Got) → Type 0 = λ q. Ran a b (read_all most file s) q in
+      let P : Plan (ShellResult Got) → Type 0 = λ q. Ran a b (read_all most file s) q in
       subst P (onwards_is left most file text s true short) f
 
   -- what follows its answer
-  abbrev next : ℕ → State → Option (List ℕ) → Plan (Result Got)
+  abbrev next : ℕ → State → Option (List ℕ) → Plan (ShellResult Got)
   next left s got = read_on (reading left most file) most text got s
 
   -- some bytes more
@@ -81,7 +81,7 @@ module _ (a b c : Option (List Event)) (most file : ℕ) (text : List ℕ) (shor
   ended_by (suc left) got why e le enough s ran f =
       ran_join a b c _ _ _ (begun (suc left) s ran)
       (ran_answered b c c (read file) as_bytes got (next left s) _ f
-      (let P : Plan (Result Got) → Type 0 = λ q. Ran c c (next left s got) q in subst P (e left s) (ran_none c _)))
+      (let P : Plan (ShellResult Got) → Type 0 = λ q. Ran c c (next left s got) q in subst P (e left s) (ran_none c _)))
 
   pub at_end : length text ≤ most → HasRead a b most file text → Ran b c (asks (read file) as_bytes) (done_with (Some [])) →
       (s : State) → Ran a c (read_all most file s) (done_with (Next (got_all text None) s))
@@ -105,7 +105,7 @@ module _ (a b c : Option (List Event)) (most file : ℕ) (text : List ℕ) (shor
 pub too_large : (a b : Option (List Event)) (most file : ℕ) (text : List ℕ) → nat_le (length text) most ≡ false → HasRead a b most file text →
     (s : State) → Ran a b (read_all most file s) (done_with (Next (got_all text (Some (codes "too large"))) s))
 too_large a b most file text h r s =
-    let P : Plan (Result Got) → Type 0 = λ q. Ran a b (read_all most file s) q in
+    let P : Plan (ShellResult Got) → Type 0 = λ q. Ran a b (read_all most file s) q in
     subst P (onwards_is r.left most file text s false h) (r.ran s)
 
 -- a list of no members

@@ -6,7 +6,7 @@ use Rattle.rc_model.specs.Run.Acts.{candidate, is_program, first_program}
 use Rattle.rc_model.specs.Run.Calls.{Event, probe, as_kind}
 use Rattle.rc_model.specs.declared.call.Kind.{Kind}
 use Rattle.rc_model.specs.Run.Plans.{Plan, done_with, asks, Ran}
-use Rattle.rc_model.specs.Run.Shell.{Result, Next, pure}
+use Rattle.rc_model.specs.Run.Shell.{ShellResult, Next, pure}
 use Rattle.rc_model.specs.Run.State.{State}
 use Rattle.rc_world.specs.Comes.{Left}
 use Rattle.rc_world.specs.declared.starts.Stop.{Stop}
@@ -23,7 +23,7 @@ dirs_left name dirs i dir lt is =
 
 module _ (name dir : List ℕ) (paths : List (List ℕ)) (s : State) where
   -- what follows the probe
-  abbrev next : Option Kind → Plan (Result (Option (List ℕ)))
+  abbrev next : Option Kind → Plan (ShellResult (Option (List ℕ)))
   next k = (cond (is_program k) (pure (Some (candidate dir name))) (first_program paths)) s
 
   next_is : (a : Option (List Event)) (k : Option Kind) (b : Bool) → is_program k ≡ b → Ran a a (next k) ((cond b (pure (Some (candidate dir name))) (first_program paths)) s)

@@ -3,9 +3,9 @@ use Rattle.std.proofs.Common.{ℕ, List, [], ◌∷◌, ◌++◌, Option, Some, 
 use Rattle.rc_model.specs.Run.Calls.{Event, make_pipe, close, as_pair, as_done, with_slot, to_file}
 use Rattle.rc_model.specs.declared.call.Slots.{Slots}
 use Rattle.rc_model.specs.Run.Plans.{Plan, done_with, asks, Ran}
-use Rattle.rc_model.specs.Run.Shell.{Result, Shell, Next, ◌>>◌, ◌>>=◌, say, pure, leaves}
+use Rattle.rc_model.specs.Run.Shell.{ShellResult, Shell, Next, ◌>>◌, ◌>>=◌, say, pure, leaves}
 use Rattle.rc_model.specs.Run.State.{State}
-use Rattle.rc_model.specs.Run.Acts.{Started, Child, NoChild, StartedStages, Refused, start_shell, close_end, from_pipe, wait_each, set_status, stages_status}
+use Rattle.rc_model.specs.Run.Acts.{Started, Child, NoChild, LaunchedStages, NotLaunched, start_shell, close_end, from_pipe}
 use Rattle.rc_model.specs.Run.Acts.{stages_from, stage_with, next_stage, no_stages}
 use Rattle.rc_model.specs.Syntax.Tree.{Node, Many, cmd, stage, more, Stage}
 use Rattle.law_plans.proofs.Runs.{ran_none, ran_next, ran_join}
@@ -15,13 +15,13 @@ use Rattle.rc_world.proofs.Joins.{left_asked, left_join, ran_answered}
 use Rattle.rc_world.proofs.Shells.{left_under}
 use Rattle.rc_pipes.proofs.Steps.{ran_said, left_saying, ran_both, left_first}
 
--- the waits after a refusal
-abbrev refusal : List ℕ → List ℕ → Shell StartedStages
-refusal children why = wait_each children >>= (λ statuses. set_status (stages_status (statuses ++ why ∷ [])) >> pure Refused)
+-- a refusal
+abbrev refusal : List ℕ → List ℕ → Shell LaunchedStages
+refusal children why = pure (NotLaunched children why)
 
 -- once the end before is closed
 pub ran_refusal : (a b : Option (List Event)) (before : Option ℕ) (children why : List ℕ) (s : State) →
-    Ran a b (close_end before s) (done_with (Next tt s)) → Ran a b (no_stages before children why s) (no_stages None children why s)
+    Ran a b (close_end before s) (done_with (Next tt s)) → Ran a b (no_stages before children why s) (done_with (Next (NotLaunched children why) s))
 ran_refusal a b before children why s f = ran_both a b b s s (close_end before) (refusal children why) _ f (ran_none b _)
 
 pub left_refusal : (a b : Option (List Event)) (stop : Stop) (before : Option ℕ) (children why : List ℕ) (s : State) →
@@ -29,14 +29,14 @@ pub left_refusal : (a b : Option (List Event)) (stop : Stop) (before : Option �
 left_refusal a b stop before children why s f = left_first a b b s s (close_end before) (refusal children why) stop f
 
 module _ (slots : Slots) (rest : Many stage) (body : Node cmd) (number : ℕ) (before : Option ℕ) (children : List ℕ) (s : State) where
-  abbrev go : Option ℕ → List ℕ → Shell StartedStages
+  abbrev go : Option ℕ → List ℕ → Shell LaunchedStages
   go = stages_from slots rest
 
-  abbrev pub plan : Plan (Result StartedStages)
+  abbrev pub plan : Plan (ShellResult LaunchedStages)
   plan = stages_from slots (more (Stage body number) rest) before children s
 
   -- what follows the pipe
-  abbrev piped : Option (ℕ × ℕ) → Plan (Result StartedStages)
+  abbrev piped : Option (ℕ × ℕ) → Plan (ShellResult LaunchedStages)
   piped ends = stage_with go slots body number before children ends s
 
   -- the descriptors of the stage
@@ -51,7 +51,7 @@ module _ (slots : Slots) (rest : Many stage) (body : Node cmd) (number : ℕ) (b
 
   module _ (r w : ℕ) where
     -- what follows the start
-    abbrev pub started_stage : Started → Plan (Result StartedStages)
+    abbrev pub started_stage : Started → Plan (ShellResult LaunchedStages)
     started_stage st = next_stage go before children r w st s
 
     with_pipe : (a b : Option (List Event)) → Ran a b (asks make_pipe as_pair) (done_with (Some (r, w))) → Ran a b plan (piped (Some (r, w)))
@@ -70,7 +70,7 @@ module _ (slots : Slots) (rest : Many stage) (body : Node cmd) (number : ℕ) (b
         (ran_next b c c (start_shell (inner w) body s) st s (λ st t. next_stage go before children r w st t) leaves _ g (ran_none c _))
 
     -- what follows the close of the write end
-    abbrev pub cut_off : Started → Shell StartedStages
+    abbrev pub cut_off : Started → Shell LaunchedStages
     cut_off (Child n) = close_end before >> go (Some r) (children ++ n ∷ [])
     cut_off (NoChild why) = say (close r) >> no_stages before children why
 

@@ -2,7 +2,7 @@
 use Rattle.std.proofs.Common.{List, Option}
 use Rattle.rc_model.specs.Run.Calls.{Call, Event, Answer}
 use Rattle.rc_model.specs.Run.Plans.{Plan, done_with, asks, Ran}
-use Rattle.rc_model.specs.Run.Shell.{Result, Shell, Next, ◌>>◌, say, leaves}
+use Rattle.rc_model.specs.Run.Shell.{ShellResult, Shell, Next, ◌>>◌, say, leaves}
 use Rattle.rc_model.specs.Run.State.{State}
 use Rattle.law_plans.proofs.Runs.{ran_none, ran_next}
 use Rattle.rc_world.specs.Comes.{Left}
@@ -11,11 +11,11 @@ use Rattle.rc_world.proofs.Joins.{left_asked, ran_answered}
 use Rattle.rc_world.proofs.Shells.{left_under, left_next}
 
 module _ {X V : Type 0} (a b c : Option (List Event)) (s : State) (call : Call) (taken : Answer → V) (m : Shell X) where
-  said : V → Plan (Result (Unit {0}))
+  said : V → Plan (ShellResult (Unit {0}))
   said v = done_with (Next tt s)
 
   -- the call was answered, and what follows went on
-  pub ran_said : (v : V) (q : Plan (Result X)) → Ran a b (asks call taken) (done_with v) → Ran b c (m s) q → Ran a c ((say call >> m) s) q
+  pub ran_said : (v : V) (q : Plan (ShellResult X)) → Ran a b (asks call taken) (done_with v) → Ran b c (m s) q → Ran a c ((say call >> m) s) q
   unfolding said
   ran_said v q f g = ran_next a b c (say call s) tt s (λ x. m) leaves q (ran_answered a b b call taken v said _ f (ran_none b _)) g
 
@@ -31,7 +31,7 @@ module _ {X V : Type 0} (a b c : Option (List Event)) (s : State) (call : Call) 
 
 -- a piece that gives nothing, and what follows it
 module _ {X : Type 0} (a b c : Option (List Event)) (s t : State) (n : Shell (Unit {0})) (m : Shell X) where
-  pub ran_both : (q : Plan (Result X)) → Ran a b (n s) (done_with (Next tt t)) → Ran b c (m t) q → Ran a c ((n >> m) s) q
+  pub ran_both : (q : Plan (ShellResult X)) → Ran a b (n s) (done_with (Next tt t)) → Ran b c (m t) q → Ran a c ((n >> m) s) q
   ran_both q f g = ran_next a b c (n s) tt t (λ x. m) leaves q f g
 
   pub left_first : (stop : Stop) → Left a b (n s) stop → Left a b ((n >> m) s) stop

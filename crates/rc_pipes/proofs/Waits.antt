@@ -4,7 +4,7 @@ use Rattle.std.proofs.lemmas.List.{append-nil}
 use Rattle.rc_model.specs.declared.call.ChildNo.{ChildNo}
 use Rattle.rc_model.specs.Run.Calls.{Event}
 use Rattle.rc_model.specs.Run.Plans.{Plan, done_with, Ran}
-use Rattle.rc_model.specs.Run.Shell.{Result, Next, pure, ◌>>=◌}
+use Rattle.rc_model.specs.Run.Shell.{ShellResult, Next, pure, ◌>>=◌}
 use Rattle.rc_model.specs.Run.State.{State}
 use Rattle.rc_model.specs.Run.Acts.{waited, wait_each}
 use Rattle.law_plans.proofs.Runs.{ran_none}
@@ -27,7 +27,7 @@ none_yet s a all = record { ends = λ c others f. f; stops = λ c stop f. f }
 
 module _ (s : State) (a b : Option (List Event)) (all : List ℕ) (n : ℕ) (left : List ℕ) (statuses : List (List ℕ)) where
   -- what follows the first wait
-  abbrev next : List ℕ → State → Plan (Result (List (List ℕ)))
+  abbrev next : List ℕ → State → Plan (ShellResult (List (List ℕ)))
   next first = wait_each left >>= (λ others. pure (first ∷ others))
 
   pub one_more : (c : Option (List Event)) (status : List ℕ) → HasWaited s a b all (n ∷ left) statuses →

@@ -1,4 +1,4 @@
--- What `wait` is given, and what it leaves.
+-- The argument of `wait`, and its effect.
 use Rattle.std.specs.Borrow.{Bor}
 use Rattle.std.specs.Prelude.{ℕ, List, [], ◌∷◌, Option, Some, None}
 use Rattle.rc_model.specs.Run.State.{State, with_status}

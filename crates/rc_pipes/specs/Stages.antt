@@ -1,5 +1,5 @@
--- What the start of the stages of a pipeline gave.
-use Rattle.std.specs.Prelude.{ℕ, List, [], ◌∷◌, ◌++◌, Option, Some, None, Result, option_map}
+-- The start of the stages of a pipeline.
+use Rattle.std.specs.Prelude.{ℕ, List, [], ◌∷◌, ◌++◌, Option, Some, Result, option_map}
 use Rattle.rc_model.specs.Run.Acts as acts
 use Rattle.rc_model.specs.Run.Calls.{Event}
 use Rattle.rc_model.specs.Run.Plans.{Plan, done_with}
@@ -12,26 +12,22 @@ use Rattle.rc_world.specs.Comes.{GoesOn}
 use Rattle.rc_world.specs.declared.starts.Stop.{Stop}
 use Rattle.rc_pipes.specs.declared.stages.StageStart.{StageStart}
 use Rattle.rc_pipes.specs.declared.stages.StageStart.TheVariants.{Running, Refused}
-use Rattle.rc_pipes.specs.declared.stages.StartedStages.{StartedStages}
+use Rattle.rc_pipes.specs.declared.stages.LaunchedStages.{LaunchedStages}
+use Rattle.rc_pipes.specs.declared.stages.LaunchedStages.TheVariants as launched
 
--- what follows the start of a stage: the next one, or the waits after a refusal
-abbrev pub after_stage : Slots → Many stage → List ℕ → State → StageStart → Plan (shell.Result acts.StartedStages)
+-- what follows the start of a stage: the next one, or nothing after a refusal
+abbrev pub after_stage : Slots → Many stage → List ℕ → State → StageStart → Plan (shell.ShellResult acts.LaunchedStages)
 after_stage slots rest children s (Running read_end child) =
     acts.stages_from slots rest (Some read_end.0) (children ++ child.0 ∷ []) s
-after_stage slots rest children s (Refused why) = acts.no_stages None children why.now s
+after_stage slots rest children s (Refused why) = done_with (shell.Next (acts.NotLaunched children why.now) s)
 
--- what follows the start of all: nothing, or the waits after a refusal
-abbrev pub ends_or_waits : Option ℕ → List ℕ → State → Option (List ℕ) → Plan (shell.Result acts.StartedStages)
-ends_or_waits read children s None = done_with (shell.Next (acts.Running read children) s)
-ends_or_waits read children s (Some why) = acts.no_stages None children why s
+-- what became of the stages but the last
+abbrev pub launched_of : LaunchedStages → acts.LaunchedStages
+launched_of (launched.Running read_end children) =
+    acts.Launched (option_map (λ end. end.0) read_end) (child_numbers children.items)
+launched_of (launched.Refused children why) = acts.NotLaunched (child_numbers children.items) why.now
 
--- the same of what a start of stages returned
-abbrev pub after_stages : State → StartedStages → Plan (shell.Result acts.StartedStages)
-after_stages s started =
-    ends_or_waits (option_map (λ end. end.0) started.read) (child_numbers started.children.items) s
-    (option_map (λ why. why.now) started.refused)
-
--- the first of any row of stages that reads from an end was started, or was not, beside any children before it
+-- the first of any list of stages that reads from an end was started, or was not, after any children before it
 abbrev pub StartsStage : (before after : Option (List Event)) → Slots → Node stage → Option ℕ → State →
     Result StageStart Stop → Type 0
 StartsStage before after slots first read s result = (rest : Many stage) (children : List ℕ) →

@@ -1,4 +1,4 @@
--- What the start of a child gave.
+-- The result of the start of a child.
 use Rattle.std.specs.Prelude.{ℕ, List, Option, String, map, option_map, string_bytes}
 use Rattle.std.specs.declared.alloc.Global.{Global}
 use Rattle.rc_model.specs.Run.Acts as acts
@@ -10,10 +10,10 @@ abbrev pub started_of : Started → acts.Started
 started_of (Child n) = acts.Child n.0
 started_of (NoChild why) = acts.NoChild why.now
 
--- where a program of this name may be, by these directories
+-- the paths at which a program of this name may be, by these directories
 abbrev pub paths_in : List ℕ → List (String Global) → List (List ℕ)
 paths_in name dirs = map (λ d. acts.candidate d name) (map string_bytes dirs)
 
--- the path of a program, where it was found
+-- the path of a program, if it was found
 abbrev pub path_of : Option (String Global) → Option (List ℕ)
 path_of found = option_map string_bytes found

@@ -1,8 +1,8 @@
-//! Backquotes: what a command writes.
+//! Backquotes: the output of a command.
 
 ghost use Rattle.std.specs.Prelude.{◌≡◌, IfOk, OnErr, map, string_bytes};
 ghost use Rattle.std.specs.List.{concat};
-ghost use Rattle.rc_model.specs.Run.Acts.{backquote, back_child, members_of};
+ghost use Rattle.rc_model.specs.Run.Acts.{backquote, back_child, output_members};
 ghost use Rattle.rc_tree.specs.View.{cmd_tree};
 ghost use Rattle.rc_world.specs.Comes.{Does};
 ghost use Rattle.rc_pipes.specs.Starts.{started_of};
@@ -12,6 +12,7 @@ use crate::child_statuses::wait_child;
 use crate::launches::start_shell;
 use crate::output_reading::read_all;
 use crate::programs::Started;
+use rc_image::keep_entries;
 use rc_model::limits::LONGEST_OUTPUT;
 use rc_scope::State;
 use rc_text::{Output, into_lossy};
@@ -19,7 +20,7 @@ use rc_tree::Cmd;
 use rc_world::{Handle, Slot, Slots, Stop, World, calls};
 use std::alloc::{AllocError, Global};
 
-/// The texts one after the other.
+/// Joins the texts.
 fn concat(alloc: Global, texts: &[String]) -> Result<String, AllocError>
     ensures { IfOk result (λ all. string_bytes all ≡ concat (map string_bytes texts.now)) }
 {
@@ -30,16 +31,16 @@ fn concat(alloc: Global, texts: &[String]) -> Result<String, AllocError>
     Ok(all)
 }
 
-/// What was read, with the characters of `$ifs` between its members.
+/// The output that was read, separated by the characters of `$ifs`.
 fn output_of(alloc: Global, state: &State, bytes: Vec<u8>) -> Result<Output, AllocError>
-    ensures { IfOk result (λ output. output ≡ members_of (state_of state.now) bytes.items) }
+    ensures { IfOk result (λ output. output ≡ output_members (state_of state.now) bytes.items) }
 {
     let separators = concat(alloc, state.value("ifs"))?;
     let text = into_lossy(alloc, bytes)?;
     Ok(Output::new(text, separators))
 }
 
-/// What a backquote gives once its shell is started, and the status that it leaves.
+/// The output and the status of a backquote, once its shell is started.
 #[tactic(auto, unfolding(rc_model::specs::Run::Acts::longest_output))]
 fn back_child<W: World>(
     alloc: Global,
@@ -71,8 +72,8 @@ fn back_child<W: World>(
     Ok(output)
 }
 
-/// What a command writes. Its members become words. The status is how the command ended, or why it could not be run or
-/// read to the end.
+/// The output of a command. Its members become words. The status is how the command ended, or why it could not be run
+/// or read to the end.
 pub fn backquote<W: World>(
     alloc: Global,
     world: &mut W,
@@ -92,6 +93,7 @@ pub fn backquote<W: World>(
         output: Slot::To(write_end),
         ..slots
     };
+    keep_entries(alloc, state)?;
     let started = start_shell(alloc, world, state, inner, body)?;
     back_child(alloc, world, state, read_end, write_end, started)
 }

@@ -1,8 +1,8 @@
-//! Children: they are waited for, and how they ended is a status.
+//! Waiting for children, and their statuses.
 
 ghost use Rattle.std.specs.Prelude.{◌≡◌, ◌++◌, ◌∷◌, [], None, IfOk, OnErr, map, string_bytes};
 ghost use Rattle.rc_model.specs.Run.Acts.{waited, wait_each};
-ghost use Rattle.rc_model.specs.Run.Acts.{stages_status, end_stages, no_stages, Refused};
+ghost use Rattle.rc_model.specs.Run.Acts.{stages_status, end_stages, settled, NotLaunched, Refused};
 ghost use Rattle.rc_model.specs.Run.State as model;
 ghost use Rattle.rc_world.specs.Comes.{Reads, Does};
 ghost use Rattle.rc_scope.specs.Children.{child_numbers};
@@ -13,7 +13,7 @@ use rc_scope::State;
 use rc_world::{ChildNo, Stop, World, calls};
 use std::alloc::{AllocError, Global};
 
-/// Waits for a child: the status by which it ended.
+/// Waits for a child, and returns the status for how it ended.
 pub(crate) fn wait_child<W: World>(
     alloc: Global,
     world: &mut W,
@@ -26,7 +26,7 @@ pub(crate) fn wait_child<W: World>(
     Ok(status)
 }
 
-/// Waits for the children in their order: the statuses by which they ended.
+/// Waits for the children in their order, and returns their statuses.
 pub fn wait_stages<W: World>(
     alloc: Global,
     world: &mut W,
@@ -44,7 +44,7 @@ pub fn wait_stages<W: World>(
     Ok(statuses)
 }
 
-/// The statuses of stages and then a last one, joined by bars.
+/// The statuses of stages and of a last one, joined by bars.
 fn stages_status(alloc: Global, statuses: &[String], last: &str) -> Result<String, AllocError>
     ensures { let all = map string_bytes statuses.now ++ last.now ∷ [] in
         IfOk result (λ text. string_bytes text ≡ stages_status all) }
@@ -58,8 +58,8 @@ fn stages_status(alloc: Global, statuses: &[String], last: &str) -> Result<Strin
     Ok(text)
 }
 
-/// The end of a pipeline whose last read end is closed: the children are waited for, and the
-/// status of the last stage becomes that of all.
+/// Ends a pipeline whose last read end is closed: waits for the children, and makes the status of the last stage that
+/// of all.
 pub fn end_stages<W: World>(
     alloc: Global,
     world: &mut W,
@@ -77,8 +77,7 @@ pub fn end_stages<W: World>(
     Ok(())
 }
 
-/// The end of a pipeline of which a stage was refused: the children are waited for, and the status
-/// is theirs and why.
+/// Ends a pipeline of which a stage was refused: waits for the children, and sets the status to theirs and why.
 pub fn end_refused<W: World>(
     alloc: Global,
     world: &mut W,
@@ -88,7 +87,7 @@ pub fn end_refused<W: World>(
 ) -> Result<(), Stop>
     ensures does { let numbers = child_numbers children.now in
         Does W.events world.old world.new state_of state.old state.new
-        (no_stages None numbers why.now) (λ x. Refused) result }
+        (settled (NotLaunched numbers why.now)) (λ x. Refused) result }
     ensures err { OnErr result (state_of state.new ≡ state_of state.old) }
 {
     let statuses = wait_stages(alloc, world, children)?;

@@ -1,4 +1,4 @@
-//! Files of commands: the first that a name stands for is opened.
+//! Files of commands: opening the first of a name.
 
 ghost use Rattle.std.specs.Prelude.{◌≡◌, ◌∷◌, ℕ, List, IfOk, map, option_map, string_bytes};
 ghost use Rattle.rc_pipes.specs.Starts.{paths_in};
@@ -13,7 +13,7 @@ use rc_scope::State;
 use rc_world::{Handle, Mode, Stop, World, calls};
 use std::alloc::{AllocError, Global};
 
-/// Where a file of this name may be, by these directories.
+/// The paths at which a file of this name may be, by these directories.
 fn paths_in(alloc: Global, name: &str, dirs: &[String]) -> Result<Vec<String>, AllocError>
     ensures { IfOk result (λ paths. map string_bytes paths.items ≡ paths_in name.now dirs.now) }
 {
@@ -24,7 +24,7 @@ fn paths_in(alloc: Global, name: &str, dirs: &[String]) -> Result<Vec<String>, A
     Ok(paths)
 }
 
-/// The paths by which a name is looked for.
+/// The paths at which a name is looked up.
 fn candidates(alloc: Global, state: &State, name: &str) -> Result<Vec<String>, AllocError>
     ensures { IfOk result (λ paths. map string_bytes paths.items ≡ candidates (state_of state.now) name.now) }
 {
@@ -52,8 +52,7 @@ fn open_first<W: World>(world: &mut W, paths: &[String]) -> Result<Option<Handle
     Ok(None)
 }
 
-/// Opens the first file of commands of this name that opens, by `$path` where the name is no path; `None` where none
-/// opens.
+/// Opens the first file of commands of this name that opens, in `$path` unless the name is a path; `None` if none does.
 pub fn open_file<W: World>(
     alloc: Global,
     world: &mut W,

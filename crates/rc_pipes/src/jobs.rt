@@ -1,4 +1,4 @@
-//! Commands in the background: they are started, and waited for.
+//! Commands in the background: starting them, and waiting for them.
 
 ghost use Rattle.std.specs.Prelude.{◌≡◌, ◌==◌, [], ◌∷◌, Some, OnErr, OnOk, codes, string_bytes};
 ghost use Rattle.std.specs.Fmt.{decimal};
@@ -19,13 +19,14 @@ use crate::child_statuses::wait_child;
 use crate::launches::start_shell;
 use crate::programs::Started;
 use crate::statuses::misuse;
+use rc_image::keep_entries;
 use rc_scope::State;
 use rc_text::number_of;
 use rc_tree::Cmd;
 use rc_world::{ChildNo, Handle, Mode, Slot, Slots, Stop, World, calls};
 use std::alloc::{AllocError, Global};
 
-/// A child is put among those in the background, and `$apid` is its number.
+/// Adds a child to those in the background, and sets `$apid` to its number.
 #[tactic(auto, using(crate::proofs::Kept::taken_back))]
 fn add_job(alloc: Global, state: &mut State, child: ChildNo) -> Result<(), AllocError>
     ensures ok { OnOk result (state_of state.new
@@ -43,8 +44,8 @@ fn add_job(alloc: Global, state: &mut State, child: ChildNo) -> Result<(), Alloc
     }
 }
 
-/// A child that was started is kept among those in the background, and `$apid` is its number; else the
-/// status is why there is none.
+/// Adds a child that was started to those in the background, and sets `$apid` to its number; else sets the status to
+/// why there is none.
 fn keep_child(alloc: Global, state: &mut State, started: Started) -> Result<(), AllocError>
     ensures ok { OnOk result
         (kept_child (started_of started) (state_of state.old) ≡ done_with (Next tt (state_of state.new))) }
@@ -74,14 +75,15 @@ fn background_with<W: World>(
         input: Slot::To(file),
         ..slots
     };
+    keep_entries(alloc, state)?;
     let started = start_shell(alloc, world, state, inner, body)?;
     calls::close(world, file)?;
     keep_child(alloc, state, started)?;
     Ok(())
 }
 
-/// Starts a command in the background, which reads nothing. The status stays as it is where the child runs; else it is
-/// `cannot open`, or why the shell was not started.
+/// Starts a command in the background, without input. The status stays as it is if the child runs; else it is `cannot
+/// open`, or why the shell was not started.
 #[tactic(auto, using(crate::proofs::Acts::acting))]
 pub fn background<W: World>(
     alloc: Global,
@@ -101,7 +103,7 @@ pub fn background<W: World>(
     background_with(alloc, world, state, slots, file, body)
 }
 
-/// Waits for a child in the background, which is taken out of the list: the status is how it ended.
+/// Removes a child from those in the background and waits for it; the status is how it ended.
 fn wait_job<W: World>(
     alloc: Global,
     world: &mut W,
@@ -117,7 +119,7 @@ fn wait_job<W: World>(
     Ok(())
 }
 
-/// Waits for these children in their order: how the last of them ended, null where there is none.
+/// Waits for these children in their order, and returns how the last of them ended, or null if there is none.
 fn wait_all<W: World>(alloc: Global, world: &mut W, children: &[ChildNo]) -> Result<String, Stop>
     ensures { (s : model.State) → let numbers = child_numbers children.now in
         Comes (W.events world.old) (W.events world.new) (wait_all numbers (with_jobs s [] numbers))
@@ -137,7 +139,7 @@ fn is_in_background(state: &State, child: ChildNo) -> bool
     state.children().contains(&child)
 }
 
-/// Waits for this child, where it is one of those in the background.
+/// Waits for this child, if it is one of those in the background.
 fn wait_one<W: World>(
     alloc: Global,
     world: &mut W,
@@ -167,8 +169,8 @@ fn wait_every<W: World>(alloc: Global, world: &mut W, state: &mut State) -> Resu
 }
 
 /// Waits for the child of this number in the background, or for all of them. The status is how that child ended, or the
-/// last of all; null where there was none, `usage` where the text is no number, and `no such child` where no child in
-/// the background has that number.
+/// last of all; null if there was none, `usage` if the text isn't a number, and `no such child` if no child in the
+/// background has that number.
 pub fn wait_for<W: World>(
     alloc: Global,
     world: &mut W,

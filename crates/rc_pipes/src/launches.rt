@@ -12,13 +12,13 @@ ghost use Rattle.rc_pipes.specs.Launches.{if_fit};
 
 use crate::child_statuses::wait_child;
 use crate::programs::{Started, start_child};
-use rc_image::{Handover, InputError, handed};
+use rc_image::{Handover, InputError, handed, keep_entries};
 use rc_scope::State;
 use rc_tree::Cmd;
 use rc_world::{Launch, Program, Slots, Stop, World};
 use std::alloc::{AllocError, Global};
 
-/// What is asked for a shell with a command; `None` where it would be too large.
+/// The launch of a subshell with a command, or `None` if it would be too large.
 fn shell_launch(
     alloc: Global,
     state: &State,
@@ -40,7 +40,7 @@ fn shell_launch(
     }
 }
 
-/// Starts a shell with a command.
+/// Starts a subshell with a command.
 #[tactic(auto, using(crate::proofs::Acts::acting))]
 pub(crate) fn start_shell<W: World>(
     alloc: Global,
@@ -58,7 +58,7 @@ pub(crate) fn start_shell<W: World>(
     start_child(world, &launch)
 }
 
-/// A subshell that was started is waited for.
+/// Waits for a subshell that was started.
 #[tactic(auto, using(crate::proofs::Acts::acting))]
 fn wait_subshell<W: World>(
     alloc: Global,
@@ -82,7 +82,7 @@ fn wait_subshell<W: World>(
     Ok(())
 }
 
-/// Runs a command in a shell of its own.
+/// Runs a command in a subshell.
 #[tactic(auto, using(crate::proofs::Acts::acting))]
 pub fn subshell<W: World>(
     alloc: Global,
@@ -95,6 +95,7 @@ pub fn subshell<W: World>(
         (subshell slots (cmd_tree body.now)) (λ x. x) result }
     ensures err { OnErr result (state_of state.new ≡ state_of state.old) }
 {
+    keep_entries(alloc, state)?;
     let started = start_shell(alloc, world, state, slots, body)?;
     wait_subshell(alloc, world, state, started)
 }

@@ -1,5 +1,5 @@
-//! Children: programs, the stages of pipelines, subshells, commands in the background and backquotes; files of commands
-//! are opened.
+//! Children: programs, the stages of pipelines, subshells, commands in the background and backquotes; and opening files
+//! of commands.
 #![tactic(auto)]
 
 mod backquotes;
@@ -17,6 +17,6 @@ pub use child_statuses::{end_refused, end_stages, wait_stages};
 pub use files::open_file;
 pub use jobs::{background, wait_for};
 pub use launches::subshell;
-pub use programs::{fault, find_program, is_path, run_program};
-pub use stages::{StartedStages, start_stages};
+pub use programs::{find_program, is_path, run_program, runtime_error};
+pub use stages::{LaunchedStages, start_stages};
 pub use statuses::misuse;

@@ -8,14 +8,14 @@ ghost use Rattle.rc_pipes.specs.Readings.{got_of};
 use rc_world::{Handle, Stop, World, calls};
 use std::alloc::Global;
 
-/// What was read up to the end, with why it stopped before.
+/// The bytes read, and why reading stopped early, if it did.
 #[derive(Drop)]
 pub(crate) struct ReadBytes {
     pub(crate) bytes: Vec<u8>,
     pub(crate) why: Option<&'static str>,
 }
 
-/// Reads up to the empty answer, and until there are more than this many bytes.
+/// Reads up to the empty answer, or until there are more than this many bytes.
 pub(crate) fn read_all<W: World>(
     alloc: Global,
     world: &mut W,

@@ -1,8 +1,9 @@
-//! Programs: they are looked for, started and waited for.
+//! Programs: finding, starting and waiting for them.
 
 ghost use Rattle.std.specs.Prelude.{◌≡◌, ◌∷◌, ◌++◌, [], Some, codes, IfOk, OnErr, map, string_bytes};
-ghost use Rattle.rc_model.specs.Run.Acts.{report, fault, is_path, candidate, is_program, first_program, find_program};
-ghost use Rattle.rc_model.specs.Run.Acts.{ending_status, started, refuse, wait_started, run_found, run_program};
+ghost use Rattle.rc_model.specs.Run.Acts.{report, runtime_error, is_path, candidate};
+ghost use Rattle.rc_model.specs.Run.Acts.{is_program, first_program, find_program};
+ghost use Rattle.rc_model.specs.Run.Acts.{ending_status, start_if_fit, refuse, wait_started, run_found, run_program};
 ghost use Rattle.rc_model.specs.Run.State as model;
 ghost use Rattle.rc_model.specs.Handed.Image.{is_fit, program_launch};
 ghost use Rattle.rc_world.specs.Comes.{Reads, Does};
@@ -10,7 +11,7 @@ ghost use Rattle.rc_world.specs.Views.{launch_of};
 ghost use Rattle.rc_pipes.specs.Starts.{path_of, paths_in, started_of};
 ghost use Rattle.rc_scope.specs.States.{state_of};
 
-use rc_image::{are_short, entries};
+use rc_image::{are_short, entries, keep_entries};
 use rc_scope::State;
 use rc_world::{ChildNo, Ending, Kind, Launch, Program, Slots, Stop, World, calls};
 use std::alloc::{AllocError, Global};
@@ -31,14 +32,14 @@ fn report<W: World>(alloc: Global, world: &mut W, slots: Slots, text: &str) -> R
     Ok(())
 }
 
-/// Whether a name is its own path.
+/// Whether a name is a path.
 pub fn is_path(name: &str) -> bool
     ensures { result ≡ is_path name.now }
 {
     name.starts_with("/") || name.starts_with("./") || name.starts_with("../")
 }
 
-/// Where a program or a file of commands may be.
+/// The path of a program or a file of commands in a directory.
 pub(crate) fn candidate(alloc: Global, dir: &str, name: &str) -> Result<String, AllocError>
     ensures { IfOk result (λ path. string_bytes path ≡ candidate dir.now name.now) }
 {
@@ -74,7 +75,7 @@ fn first_program<W: World>(
     Ok(None)
 }
 
-/// The path of a program: its name where that is a path, else the first of `$path` that has it.
+/// The path of a program: its name if that is a path, else that in the first directory of `$path` that has it.
 #[tactic(auto, using(crate::proofs::ProgramActs::acting))]
 pub fn find_program<W: World>(
     alloc: Global,
@@ -93,7 +94,7 @@ pub fn find_program<W: World>(
     first_program(alloc, world, name, state.value("path"))
 }
 
-/// The status by which a child ended; `None` where it could not be waited for.
+/// The status for how a child ended, or for a child that could not be waited for.
 pub(crate) fn ending_status(alloc: Global, ending: Option<Ending>) -> Result<String, AllocError>
     ensures { IfOk result (λ status. string_bytes status ≡ ending_status ending) }
 {
@@ -111,7 +112,7 @@ fn refusal_text(alloc: Global, name: &str, why: &str) -> Result<String, AllocErr
     format!(in alloc; "{name}: {why}")
 }
 
-/// A program that cannot be run, and why.
+/// Reports a program that cannot be run, and why.
 #[tactic(auto, using(crate::proofs::ProgramActs::acting))]
 fn refuse<W: World>(
     alloc: Global,
@@ -131,26 +132,26 @@ fn refuse<W: World>(
     Ok(())
 }
 
-/// What the start of a child gave.
+/// The result of the start of a child.
 #[derive(Clone, Copy)]
 pub(crate) enum Started {
     Child(ChildNo),
-    /// There is no child, and this is why.
+    /// There is no child, for this reason.
     NoChild(&'static str),
 }
 
-/// Whether a launch can be made.
+/// Whether a launch is within the limits.
 fn is_fit(launch: &Launch) -> bool
     ensures { result ≡ is_fit (launch_of launch.now) }
 {
     are_short(&launch.args) && are_short(&launch.env)
 }
 
-/// Starts a child, where its arguments and entries are short enough.
+/// Starts a child, if its arguments and entries are short enough.
 #[tactic(auto, using(crate::proofs::ProgramActs::acting))]
 pub(crate) fn start_child<W: World>(world: &mut W, launch: &Launch) -> Result<Started, Stop>
     ensures { (s : model.State) →
-        Reads W.events world.old world.new s (started (launch_of launch.now)) started_of result }
+        Reads W.events world.old world.new s (start_if_fit (launch_of launch.now)) started_of result }
 {
     if !is_fit(launch) {
         return Ok(Started::NoChild("too large"));
@@ -161,7 +162,7 @@ pub(crate) fn start_child<W: World>(world: &mut W, launch: &Launch) -> Result<St
     }
 }
 
-/// A program that was started is waited for.
+/// Waits for a program that was started.
 #[tactic(auto, using(crate::proofs::ProgramActs::acting))]
 fn wait_started<W: World>(
     alloc: Global,
@@ -185,7 +186,7 @@ fn wait_started<W: World>(
     Ok(())
 }
 
-/// What is asked for a program, which is given its arguments as they are.
+/// The launch of a program, whose arguments are passed on unchanged.
 fn launch(
     alloc: Global,
     state: &State,
@@ -205,7 +206,7 @@ fn launch(
     })
 }
 
-/// The program at this path is started.
+/// Starts the program at this path.
 #[tactic(auto, using(crate::proofs::ProgramActs::acting))]
 fn run_at<W: World>(
     alloc: Global,
@@ -220,12 +221,13 @@ fn run_at<W: World>(
         (run_found slots name.now (map string_bytes args.items) (Some (string_bytes path))) (λ x. x) result }
     ensures err { OnErr result (state_of state.new ≡ state_of state.old) }
 {
+    keep_entries(alloc, state)?;
     let launch = launch(alloc, state, slots, path, args)?;
     let child = start_child(world, &launch)?;
     wait_started(alloc, world, state, slots, name, child)
 }
 
-/// A program that was looked for is started.
+/// Starts a program, if it was found.
 #[tactic(auto, using(crate::proofs::ProgramActs::acting))]
 fn run_found<W: World>(
     alloc: Global,
@@ -247,8 +249,8 @@ fn run_found<W: World>(
 }
 
 /// Runs a program by its name, and waits for it. The status is how it ended: null for 0, another number in decimal, or
-/// `signal`. Where it could not be run the status is `not found`, `cannot start` or `too large`, with a report; where
-/// it could not be waited for, `cannot wait`.
+/// `signal`. If it could not be run the status is `not found`, `cannot start` or `too large`, with a report; if it
+/// could not be waited for, `cannot wait`.
 #[tactic(auto, using(crate::proofs::ProgramActs::acting))]
 pub fn run_program<W: World>(
     alloc: Global,
@@ -266,9 +268,9 @@ pub fn run_program<W: World>(
     run_found(alloc, world, state, slots, name, args, path)
 }
 
-/// A runtime error: a report, and the status `error`. The shell ends then.
+/// Reports a runtime error, and sets the status to `error`. The shell then ends.
 #[tactic(auto, using(crate::proofs::ProgramActs::acting))]
-pub fn fault<W: World>(
+pub fn runtime_error<W: World>(
     alloc: Global,
     world: &mut W,
     state: &mut State,
@@ -276,7 +278,7 @@ pub fn fault<W: World>(
     text: &str,
 ) -> Result<(), Stop>
     ensures does { Does W.events world.old world.new state_of state.old state.new
-        (fault slots text.now) (λ x. x) result }
+        (runtime_error slots text.now) (λ x. x) result }
     ensures err { OnErr result (state_of state.new ≡ state_of state.old) }
 {
     report(alloc, world, slots, text)?;

@@ -1,39 +1,44 @@
 //! The stages of a pipeline but the last: each is started with a pipe to the next.
 
 ghost use Rattle.std.specs.Prelude.{◌≡◌, option_map};
-ghost use Rattle.rc_model.specs.Run.Acts.{close_end, from_pipe, start_stages};
+ghost use Rattle.rc_model.specs.Run.Acts.{close_end, from_pipe, launch_stages};
 ghost use Rattle.rc_model.specs.Run.Calls.{with_slot, to_file};
 ghost use Rattle.rc_model.specs.Run.State as model;
 ghost use Rattle.rc_tree.specs.View.{stage_tree, stages_tree};
-ghost use Rattle.rc_world.specs.Comes.{GoesOn, Reads};
+ghost use Rattle.rc_world.specs.Comes.{Reads};
 ghost use Rattle.rc_scope.specs.States.{state_of};
-ghost use Rattle.rc_pipes.specs.Stages.{StartsStage, after_stages};
+ghost use Rattle.rc_pipes.specs.Stages.{StartsStage, launched_of};
 
 use crate::launches::start_shell;
 use crate::programs::Started;
+use rc_image::keep_entries;
 use rc_scope::State;
 use rc_tree::Stage;
 use rc_world::{ChildNo, Handle, Slot, Slots, Stop, World, calls};
 use std::alloc::Global;
 
-/// What became of a stage.
+/// The result of the start of a stage.
 #[derive(Clone, Copy)]
 pub(crate) enum StageStart {
     /// It runs as this child, and the next reads from this end.
     Running { read_end: Handle, child: ChildNo },
-    /// It was not started, and this is why. Nothing is held.
+    /// It was not started, for this reason. Nothing is held.
     Refused(&'static str),
 }
 
-/// What became of the stages but the last.
+/// What became of the stages but the last. None of the children was waited for.
 #[derive(Drop)]
-pub struct StartedStages {
-    /// The last stage reads from this end.
-    pub read: Option<Handle>,
-    /// None of them was waited for.
-    pub children: Vec<ChildNo>,
-    /// Why a stage could not be started. Nothing is held then.
-    pub refused: Option<&'static str>,
+pub enum LaunchedStages {
+    /// They run, and the last stage reads from this end.
+    Running {
+        read_end: Option<Handle>,
+        children: Vec<ChildNo>,
+    },
+    /// One could not be started, for this reason, and those before it run. Nothing is held.
+    Refused {
+        children: Vec<ChildNo>,
+        why: &'static str,
+    },
 }
 
 /// The descriptors of a stage: it reads from the pipe before it, and one of them goes into the next.
@@ -98,17 +103,16 @@ fn start_stage<W: World>(
     }
 }
 
-/// Starts the stages but the last, each with a pipe to the next.
-pub fn start_stages<W: World>(
+/// Starts the stages, each with a pipe to the next, until one is refused.
+fn launch_each<W: World>(
     alloc: Global,
     world: &mut W,
     state: &State,
     slots: Slots,
     stages: &[Stage],
-) -> Result<StartedStages, Stop>
-    ensures { GoesOn (W.events world.old) (W.events world.new)
-        (start_stages slots (stages_tree stages.now) (state_of state.now))
-        (after_stages (state_of state.now)) result }
+) -> Result<LaunchedStages, Stop>
+    ensures { Reads W.events world.old world.new (state_of state.now)
+        (launch_stages slots (stages_tree stages.now)) launched_of result }
 {
     let mut children = Vec::with_capacity(alloc, stages.len())?;
     let mut read = None;
@@ -119,17 +123,28 @@ pub fn start_stages<W: World>(
                 children.push(child)?;
             }
             StageStart::Refused(why) => {
-                return Ok(StartedStages {
-                    read: None,
-                    children,
-                    refused: Some(why),
-                });
+                return Ok(LaunchedStages::Refused { children, why });
             }
         }
     }
-    Ok(StartedStages {
-        read,
+    Ok(LaunchedStages::Running {
+        read_end: read,
         children,
-        refused: None,
     })
+}
+
+/// Starts the stages but the last, each with a pipe to the next, until one is refused.
+pub fn start_stages<W: World>(
+    alloc: Global,
+    world: &mut W,
+    state: &mut State,
+    slots: Slots,
+    stages: &[Stage],
+) -> Result<LaunchedStages, Stop>
+    ensures launched { Reads W.events world.old world.new (state_of state.old)
+        (launch_stages slots (stages_tree stages.now)) launched_of result }
+    ensures same { state_of state.new ≡ state_of state.old }
+{
+    keep_entries(alloc, state)?;
+    launch_each(alloc, world, state, slots, stages)
 }

@@ -1,4 +1,4 @@
-//! What the text of a command depends on besides the texts of its parts.
+//! The text of a command apart from that of its parts: order, operators and separators.
 
 ghost use Rattle.std.specs.Prelude.{◌≡◌, ◌++◌, OnErr, OnOk, string_bytes, codes, if◌then◌else◌};
 ghost use Rattle.rc_model.specs.Syntax.Printing.{stands_first, begins_with_case, begin_with_case, literal, bar, sign};
@@ -10,7 +10,7 @@ use rc_text::push_quoted;
 use rc_tree::{Arg, Cmd};
 use std::alloc::AllocError;
 
-/// Whether redirections stand after the command.
+/// Whether redirections follow the command.
 #[tactic(auto, using(rc_tree::specs::View::tree_walks))]
 pub(crate) fn stands_first(cmd: &Cmd, begins: bool) -> bool
     ensures { result ≡ stands_first (cmd_tree cmd.now) begins }
@@ -45,7 +45,7 @@ fn begin_with_case(words: &[Arg]) -> bool
     }
 }
 
-/// What stands between an item and the next one.
+/// The separator between an item and the next one.
 pub(crate) fn separator(background: bool) -> &'static str
     ensures { result.now ≡ (if background then codes " " else codes "; ") }
 {
@@ -59,7 +59,7 @@ pub(crate) fn bar(slot: u8) -> &'static str
     if slot == 2 { " |[2] " } else { " | " }
 }
 
-/// How `&&` and `||` are written.
+/// How `&&` and `||` are spelled.
 pub(crate) fn sign(logic: Logic) -> &'static str
     ensures { result.now ≡ sign logic }
 {
@@ -69,7 +69,7 @@ pub(crate) fn sign(logic: Logic) -> &'static str
     }
 }
 
-/// What stands before a file's name.
+/// The operator before the name of a file.
 pub(crate) fn opening(mode: Mode, slot: u8) -> &'static str
     ensures { result.now ≡ opening mode slot }
 {
@@ -89,7 +89,7 @@ pub(crate) fn copying(to: u8, from: u8) -> &'static str
     if to == 2 { ">[2=1]" } else { ">[1=2]" }
 }
 
-/// Writes a word as it is written in a script.
+/// Writes a word as a script spells it.
 pub(crate) fn print_literal(out: &mut String, text: &str, quoted: bool) -> Result<(), AllocError>
     ensures ok { OnOk result (string_bytes out.new ≡ string_bytes out.old ++ literal text.now quoted) }
     ensures err { OnErr result (string_bytes out.new ≡ string_bytes out.old) }

@@ -1,4 +1,4 @@
-//! Whether a here document is inside a tree.
+//! Whether there is a here document inside a tree.
 
 ghost use Rattle.std.specs.Prelude.{◌≡◌};
 ghost use Rattle.rc_model.specs.Syntax.Printing.{has_here, have_here};
@@ -9,7 +9,7 @@ ghost use Rattle.rc_tree.specs.View.{branches_tree};
 use rc_model::Logic;
 use rc_tree::{Arg, Branch, Cmd, Item, Redir, Stage};
 
-/// Whether a here document is inside.
+/// Whether there is a here document inside.
 #[cycle(here)]
 #[tactic(auto, using(rc_tree::specs::View::tree_walks))]
 pub(crate) fn has_here(cmd: &Cmd) -> bool

@@ -18,8 +18,8 @@ pub enum PrintFault {
     HereInside,
 }
 
-/// The text of the tree. What is read back from it is the tree, if that was read from a script and the text is
-/// no longer than a script may be.
+/// Prints a tree. The text parses to the same tree, if that was parsed from a script and the text is no longer than a
+/// script may be.
 pub fn print(alloc: Global, cmd: &Cmd) -> Result<String, InputError<PrintFault>>
     ensures text { IfOk result (λ text. string_bytes text ≡ printed (cmd_tree cmd.now)) }
     ensures without { OnOk result (has_here (cmd_tree cmd.now) ≡ false) }

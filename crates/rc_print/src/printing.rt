@@ -1,4 +1,4 @@
-//! What is written for each form of a tree.
+//! Printing each form of a tree.
 
 ghost use Rattle.std.specs.Prelude.{◌≡◌, ◌++◌, [], OnOk, IfOk, true, false, string_bytes, codes};
 ghost use Rattle.rc_model.specs.Syntax.Tree as t;
@@ -15,7 +15,7 @@ use rc_model::Logic;
 use rc_tree::{Arg, Branch, Cmd, Item, Redir, Stage, is_empty};
 use std::alloc::AllocError;
 
-/// Writes a command. `begins` says that an item of a branch begins with it.
+/// Writes a command. `begins` means that an item of a branch begins with it.
 #[cycle(print)]
 #[tactic(auto, using(crate::proofs::Texts::writing))]
 pub(crate) fn print_cmd(out: &mut String, cmd: &Cmd, begins: bool) -> Result<(), AllocError>
@@ -60,7 +60,7 @@ pub(crate) fn print_cmd(out: &mut String, cmd: &Cmd, begins: bool) -> Result<(),
     }
 }
 
-/// Writes redirections and their command, whichever stands first.
+/// Writes redirections and their command, in the order that the command needs.
 #[cycle(print)]
 #[tactic(auto, using(crate::proofs::Texts::writing))]
 fn print_redirect(
@@ -232,7 +232,7 @@ fn print_redir(out: &mut String, redir: &Redir) -> Result<(), AllocError>
     match redir {
         Redir::Open { mode, slot, file } => print_arg_after(out, opening(*mode, *slot), file),
         Redir::Copy { to, from } => out.push_str(copying(*to, *from)),
-        // No tree that is written has one.
+        // No tree that is printed has one.
         Redir::Here(_) => Ok(()),
     }
 }
@@ -322,8 +322,8 @@ fn print_links(out: &mut String, links: &[(Logic, Cmd)]) -> Result<(), AllocErro
     Ok(())
 }
 
-/// Writes items with `between` before the first one, and gives what stands before a further one. `begins` says that an
-/// item of a branch begins with the first item, and `others` says so of each other one.
+/// Writes items with `between` before the first one, and returns the separator before a further one. `begins` means
+/// that an item of a branch begins with the first item, `others` that one begins with each other item.
 #[cycle(print)]
 #[tactic(auto, using(crate::proofs::Texts::writing))]
 fn print_items<'a>(
@@ -369,7 +369,7 @@ fn print_branches(out: &mut String, branches: &[Branch]) -> Result<(), AllocErro
     Ok(())
 }
 
-/// Writes what follows a case line, and gives what stands before a further line.
+/// Writes what follows a case line, and returns the separator before a further line.
 #[cycle(print)]
 #[tactic(auto, using(crate::proofs::Texts::writing))]
 fn print_body(out: &mut String, body: &Cmd) -> Result<&'static str, AllocError>

@@ -14,7 +14,7 @@ use Rattle.rc_redir.specs.declared.RedirError.{RedirError}
 use Rattle.rc_redir.specs.declared.RedirError.TheVariants.{Fault, Stopped}
 use Rattle.rc_world.specs.declared.starts.Stop.TheVariants.{NoMemory}
 
--- a call that opens what has this name
+-- a call that opens the file of this name
 abbrev pub open_by : Call → Slots → (name : List ℕ) → Shell ℕ
 open_by c slots name = do
   a ← call c
@@ -24,7 +24,7 @@ open_by c slots name = do
 abbrev pub open_text : Slots → (text : List ℕ) → Shell ℕ
 open_text slots text = open_by (here text) slots here_name
 
--- the file that was opened stands in the place of a descriptor
+-- the file that was opened is in place of a descriptor
 abbrev pub with_file : Redirections → (slot file : ℕ) → Redirections
 with_file r slot file = redirected r (Some file) (with_slot r.slots slot (to_file file))
 
@@ -33,8 +33,8 @@ abbrev pub redir_words : RedirFault → List ℕ
 redir_words NotOneWord = not_one_word
 redir_words (CannotOpen name) = cannot_open (string_bytes name)
 
--- in each state, an act that opens a file came to that file, which stands in the place of the descriptor now;
--- or it came to a runtime error, of which nothing was reported yet; or it was left
+-- in each state, an act that opens a file returned that file, which is now in place of the descriptor; or it came to a
+-- runtime error, which was not reported yet; or it was stopped
 abbrev pub Opens : (before after : Option (List Event)) → (old new : Redirections) → (slot : ℕ) → Shell ℕ →
     Result (Unit {0}) RedirError → Type 0
 Opens before after old new slot act (Ok x) =
@@ -43,8 +43,8 @@ Opens before after old new slot act (Err (Fault fault)) =
     (s : State) → Ran before after (act s) (fails old.slots (redir_words fault) s)
 Opens before after old new slot act (Err (Stopped stop)) = (s : State) → Left before after (act s) stop
 
--- where memory was refused, no file is held: no call was made, or the act came to a runtime error,
--- so that its call was refused
+-- if memory ran out, no file is held: no call was made, or the act came to a runtime error, so that its call was
+-- refused
 abbrev pub HoldsNothing : (before after : Option (List Event)) → Slots → Shell ℕ →
     Result (Unit {0}) RedirError → Type 0
 HoldsNothing before after slots act (Err (Stopped NoMemory)) =

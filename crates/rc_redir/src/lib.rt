@@ -1,4 +1,4 @@
-//! Redirections: the descriptors of the shell, and the files that are open for them.
+//! Redirections: the file descriptors of the shell, and the files that are open for them.
 #![tactic(auto)]
 
 ghost use Rattle.std.specs.Prelude.{◌≡◌, ◌++◌, ◌∷◌, ◌<◌, [], Some, None, OnOk, OnErr, map, string_bytes};
@@ -17,9 +17,9 @@ use std::marker::Model;
 /// Why a redirection is refused.
 #[derive(Drop)]
 pub enum RedirFault {
-    /// The name of a file is no word, or several.
+    /// The file name is not exactly one word.
     NotOneWord,
-    /// The world does not open what has this name.
+    /// The world does not open the file of this name.
     CannotOpen(String),
 }
 
@@ -39,9 +39,9 @@ impl fmt::Display for RedirFault {
 /// Why no redirection was added.
 #[derive(Drop)]
 pub enum RedirError {
-    /// It is refused, which is not reported yet.
+    /// It was refused, which is not reported yet.
     Fault(RedirFault),
-    /// The work was given up: the world halted, or memory was refused and no file is held.
+    /// Work stopped: the world halted, or memory ran out and no file is held.
     Stopped(Stop),
 }
 
@@ -66,18 +66,18 @@ impl From<AllocError> for RedirError {
     }
 }
 
-/// What a redirection has opened, and the descriptors before it.
+/// The file that a redirection has opened, and the descriptors before it.
 #[derive(Clone, Copy)]
 pub struct Redirection {
     pub file: Option<Handle>,
     pub outer: Slots,
 }
 
-/// The descriptors as they are now, and the redirections that stand open.
+/// The current descriptors, and the open redirections.
 #[derive(Drop)]
 pub struct RedirStack {
     slots: Slots,
-    /// The newest is the last.
+    /// The newest is last.
     redirections: Vec<Redirection>,
 }
 
@@ -90,7 +90,7 @@ impl Model for RedirStack {
     ghost view = { λ s. record { slots = s.slots; scopes = reverse (map scope_of s.redirections.items) } };
 }
 
-/// The descriptors with another in the place of this one.
+/// Replaces one of the descriptors.
 pub fn with_slot(slots: Slots, number: u8, slot: Slot) -> Slots
     ensures { result ≡ with_slot slots number slot }
 {
@@ -110,7 +110,7 @@ pub fn with_slot(slots: Slots, number: u8, slot: Slot) -> Slots
     }
 }
 
-/// What a descriptor stands for.
+/// Returns the slot of a descriptor.
 pub fn slot_of(slots: Slots, number: u8) -> Slot
     ensures { result ≡ slot_of slots number }
 {
@@ -121,7 +121,7 @@ pub fn slot_of(slots: Slots, number: u8) -> Slot
     }
 }
 
-/// Adds a redirection, for which there is room.
+/// Adds a redirection; there must be room for it.
 fn push_within(redirections: &mut Vec<Redirection>, redirection: Redirection)
     requires { vec_len redirections.old < vec_capacity redirections.old }
     ensures { redirections.new.items ≡ redirections.old.items ++ redirection ∷ [] }
@@ -131,7 +131,7 @@ fn push_within(redirections: &mut Vec<Redirection>, redirection: Redirection)
     };
 }
 
-/// The newest of these redirections.
+/// Returns the newest of these redirections.
 #[tactic(auto, using(crate::proofs::Stacks::last_of))]
 fn newest(redirections: &[Redirection]) -> Option<Redirection>
     ensures { let older = take (length redirections.now - 1) redirections.now in
@@ -166,15 +166,15 @@ impl RedirStack {
         }
     }
 
-    /// The descriptors as they are now.
+    /// The current descriptors.
     pub fn slots(&self) -> Slots
         ensures { result ≡ self.now.slots }
     {
         self.slots
     }
 
-    /// Opens the file that the one word names, in the place of a descriptor. That the descriptor is
-    /// 0, 1 or 2 is left to the caller.
+    /// Opens the file that the one word names, in place of a descriptor. The caller makes sure that the descriptor is
+    /// 0, 1 or 2.
     pub fn push_open<W: World>(
         &mut self,
         world: &mut W,
@@ -229,7 +229,7 @@ impl RedirStack {
         Ok(())
     }
 
-    /// One descriptor becomes what another is now. That both are 0, 1 or 2 is left to the caller.
+    /// Makes one descriptor what another is now. The caller makes sure that both are 0, 1 or 2.
     pub fn push_copy(&mut self, to: u8, from: u8) -> Result<(), AllocError>
         ensures ok { let slots = with_slot self.old.slots to (slot_of self.old.slots from) in
             OnOk result (self.new ≡ redirected self.old None slots) }
@@ -244,7 +244,7 @@ impl RedirStack {
         Ok(())
     }
 
-    /// The read end of a pipe is descriptor 0. It is closed by its `pop`.
+    /// Makes the read end of a pipe descriptor 0. Its `pop` closes it.
     pub fn push_end(&mut self, read_end: Handle) -> Result<(), AllocError>
         ensures ok { let slots = from_pipe (Some read_end.0) self.old.slots in
             OnOk result (self.new ≡ redirected self.old (Some read_end.0) slots) }
@@ -259,8 +259,8 @@ impl RedirStack {
         Ok(())
     }
 
-    /// Ends the newest redirection: its file is closed, and the descriptors are those before it.
-    /// A refused close changes nothing of that.
+    /// Ends the newest redirection: its file is closed, and the descriptors are those before it, even if the close is
+    /// refused.
     pub fn pop<W: World>(&mut self, world: &mut W) -> Result<(), Stop>
         ensures closed { Comes (W.events world.old) (W.events world.new)
             (closing (newest_file self.old.scopes) (done_with tt)) (λ x. x) result }

@@ -26,13 +26,6 @@ use Rattle.rc_scope.specs.declared.locals.Local.{Local}
 use Rattle.rc_scope.specs.declared.value_rows.Value.{Value}
 use Rattle.rc_scope.specs.declared.variables.Variables.{Variables}
 
--- ** texts
-pub same_texts : (xs ys : List (String Global)) → AllZip (λ s t. string_bytes t ≡ string_bytes s) xs ys → map string_bytes ys ≡ map string_bytes xs
-same_texts [] [] h = refl
-same_texts [] (y ∷ ys) h = absurd h
-same_texts (x ∷ xs) [] h = absurd h
-same_texts (x ∷ xs) (y ∷ ys) h = ap (λ t. t ∷ map string_bytes ys) h.0 ∙ ap (λ ts. string_bytes x ∷ ts) (same_texts xs ys h.1)
-
 -- ** rows
 abbrev pub IsRowCopy : BTreeMap (String Global) Value → BTreeMap (String Global) Value → Type 0
 IsRowCopy r t = AreCopies r.entries t.entries

@@ -7,3 +7,4 @@ pub mod Newest
 pub mod Places
 pub mod Copies
 pub mod ProperStates
+pub mod Unchanged

@@ -1,5 +1,5 @@
 -- The list of children without the newest.
-use Rattle.std.proofs.Common.{◌≡◌, ◌-◌, List, map, length, take, ap, sym, ◌∙◌}
+use Rattle.std.proofs.Common.{◌≡◌, ◌-◌, List, length, take, ap, sym, ◌∙◌}
 use Rattle.std.proofs.lemmas.List.{take-map, length-map}
 use Rattle.rc_model.specs.declared.call.ChildNo.{ChildNo}
 use Rattle.rc_scope.specs.Children.{child_numbers}

@@ -1,5 +1,5 @@
 -- What changes a state keeps its variables and functions those of a proper one.
-use Rattle.std.proofs.Common.{◌≡◌, ℕ, Bool, true, false, cond, if◌then◌else◌, IsTrue, List, [], ◌∷◌, map, Option, Some, Result, Ok, Err, OnOk, OnErr, refl, sym, ap, ◌∙◌, subst, string_bytes}
+use Rattle.std.proofs.Common.{◌≡◌, ℕ, Bool, true, false, cond, if◌then◌else◌, IsTrue, List, [], ◌∷◌, Option, Some, Result, Ok, Err, OnOk, OnErr, refl, sym, ap, ◌∙◌, subst, string_bytes}
 use Rattle.std.specs.Cmp.Lexicographic.{slice_cmp}
 use Rattle.std.specs.Ordering.{nat_cmp}
 use Rattle.std.specs.Map.{lookup, remove_entry}
@@ -11,7 +11,7 @@ use Rattle.std.specs.declared.string.String.{String}
 use Rattle.rc_model.specs.Syntax.Text.{spaced}
 use Rattle.rc_model.specs.Syntax.Tree.{Node, cmd}
 use Rattle.rc_model.specs.Run.State as model
-use Rattle.rc_model.specs.Run.State.{status_name, covered, is_name, is_function_name, put_values, values_of, with_status}
+use Rattle.rc_model.specs.Run.State.{status_name, covered, is_name, is_function_name, put_values, with_status}
 use Rattle.rc_model.specs.Handed.Proper.{IsProper, IsProperTree, AllProperTrees}
 use Rattle.rc_tree.specs.View.{cmd_tree}
 use Rattle.law_image.proofs.Proper.{proper_set, proper_push, proper_pop, proper_define, proper_undefine, proper_same}

@@ -4,6 +4,7 @@ pub mod Stacks
 pub mod Bindings
 pub mod Bodies
 pub mod Children
+pub mod CompiledTexts
 pub mod ProperStates
 pub mod States
 pub mod Copies

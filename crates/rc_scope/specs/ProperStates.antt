@@ -19,7 +19,7 @@ abbrev pub state_with : Variables → List (String Global × Function) → State
 state_with variables functions =
     record new_state { variables = stacks_of variables; functions = functions_of functions }
 
--- it is proper
+-- that state is proper
 abbrev pub AreProper : Variables → List (String Global × Function) → Type 0
 AreProper variables functions = IsProper (state_with variables functions)
 

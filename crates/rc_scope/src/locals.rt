@@ -6,7 +6,7 @@ ghost use Rattle.rc_scope.specs.Locals.{name_of};
 use crate::value_rows::Value;
 use std::alloc::{AllocError, Global};
 
-/// The name of a local. Those that the shell itself gives take no memory: each call of a function binds `$*`.
+/// The name of a local. The names that the shell itself binds take no memory: each call of a function binds `$*`.
 #[derive(Drop)]
 pub(crate) enum LocalName {
     Arguments,
@@ -29,7 +29,7 @@ impl Clone for LocalName {
 }
 
 impl LocalName {
-    /// This name.
+    /// The local name for this name.
     pub(crate) fn of(alloc: Global, name: &str) -> Result<LocalName, AllocError>
         ensures { IfOk result (λ local. name_of local ≡ name.now) }
     {
@@ -55,7 +55,7 @@ impl LocalName {
 #[derive(Drop)]
 pub(crate) struct Local {
     pub name: LocalName,
-    /// What it covers: nothing where its name had no value.
+    /// The value that it covers, or none if its name had no value.
     pub covered: Value,
 }
 

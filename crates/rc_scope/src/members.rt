@@ -1,11 +1,11 @@
-//! Members of a value by the digits of their places.
+//! Members of a value, by decimal place.
 
 ghost use Rattle.std.specs.Prelude.{◌≡◌, ◌<◌, ◌≤◌, ◌^◌, MatchOption, length, map, string_bytes, true, Some};
 ghost use Rattle.std.specs.List.{list_all};
 ghost use Rattle.rc_model.specs.Run.Lists.{member};
 ghost use Rattle.rc_model.specs.Run.Numbers.{is_digit, digits_value};
 
-/// The number that the digits write: none where it is above every length.
+/// Parses digits as a number, or returns none if it is above every length.
 #[tactic(auto, using(crate::proofs::Places::place_read))]
 fn place_of(digits: &str) -> Option<usize>
     requires digits { list_all is_digit digits.now ≡ true }
@@ -15,7 +15,7 @@ fn place_of(digits: &str) -> Option<usize>
     digits.parse().ok()
 }
 
-/// The member at the place that the digits write, counted from 1.
+/// The member at the decimal place, counted from 1.
 #[tactic(auto, using(crate::proofs::Places::no_member, crate::proofs::Places::one_member))]
 pub(crate) fn member<'a>(value: &'a [String], digits: &str) -> &'a [String]
     requires digits { list_all is_digit digits.now ≡ true }

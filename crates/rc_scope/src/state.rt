@@ -1,25 +1,29 @@
 //! The state of a shell.
 
-ghost use Rattle.std.specs.Prelude.{◌≡◌, ◌↔◌, ◌∷◌, [], IfOk, OnOk, OnErr, false, map};
+ghost use Rattle.std.specs.Prelude.{◌≡◌, ◌↔◌, ◌∷◌, [], IfOk, IfSome, OnOk, OnErr, false, map};
 ghost use Rattle.std.specs.Prelude.{string_bytes, option_map, codes, drop, take, length, ◌-◌, IsTrue};
 ghost use Rattle.std.specs.Option.{option_copied};
 ghost use Rattle.std.specs.Result.{IsErrOf};
 ghost use Rattle.rc_model.specs.Run.State.{new_state, value_of, got, set_value, with_status, with_flag, is_name};
 ghost use Rattle.rc_model.specs.Run.State.{push_local, pop_local, is_function_name, define, undefine, function_of};
 ghost use Rattle.rc_model.specs.Run.State.{add_child, drop_child};
+ghost use Rattle.rc_model.specs.Handed.Image.{image, value_text};
 ghost use Rattle.rc_model.specs.Handed.Proper.{IsProper, IsProperTree};
 ghost use Rattle.rc_tree.specs.View.{cmd_tree};
 ghost use Rattle.rc_scope.specs.Bindings.{bindings_of, visible_values};
-ghost use Rattle.rc_scope.specs.Bodies.{IsCodeOf};
+ghost use Rattle.rc_scope.specs.Bodies.{IsCodeOf, definitions_of};
+ghost use Rattle.rc_scope.specs.CompiledTexts.{IsCodeOfText};
 ghost use Rattle.rc_scope.specs.ProperStates.{AreProper, proper_prop, state_with};
 ghost use Rattle.rc_scope.specs.Stacks.{flat_names};
 ghost use Rattle.rc_scope.specs.Children.{child_numbers};
 
 use crate::background_children::place_of;
-use crate::functions::{Function, names};
+use crate::functions::{Definition, Function, definitions, names};
 use crate::members::member;
 use crate::names::{NameFault, has_digits, is_function_name, is_name, is_status};
+use crate::recent_codes::RecentCodes;
 use crate::texts::copy_texts;
+use crate::value_members::Members;
 use crate::variables::{Binding, Variables};
 use rc_code::Code;
 use rc_model::{ChildNo, InputError};
@@ -39,13 +43,15 @@ pub struct State {
     if_not: bool,
     strict: bool,
     background: Vec<ChildNo>,
+    /// What ran last as a script. It is no part of what the shell does.
+    recent_codes: RecentCodes,
     ghost proper: { AreProper variables functions.entries } by { proper_prop (state_with variables functions.entries) },
 }
 
 impl State {
     ghost use Rattle.rc_scope.specs.States.{state_of};
 
-    /// No variables, and the null status.
+    /// A state with no variables, and the null status.
     #[tactic(auto, unfolding(crate::specs::States::state_of))]
     pub fn new(alloc: Global) -> State
         ensures { state_of result ≡ new_state }
@@ -57,10 +63,11 @@ impl State {
             if_not: false,
             strict: false,
             background: Vec::new(alloc),
+            recent_codes: RecentCodes::new(alloc),
         }
     }
 
-    /// The members of a variable, lent: none where it was never assigned.
+    /// Borrows the members of a variable: none if it was never assigned.
     #[tactic(auto, unfolding(crate::specs::States::state_of))]
     pub fn value(&self, name: &str) -> &[String]
         ensures { map string_bytes result.now ≡ value_of (state_of self.now) name.now }
@@ -71,7 +78,7 @@ impl State {
         self.variables.get(name)
     }
 
-    /// What `$` and a name give, lent: for digits the member of `$*` at that place, counted from 1, or nothing.
+    /// Borrows the value of `$` and a name: for digits the member of `$*` at that place, counted from 1, or nothing.
     pub fn lookup(&self, name: &str) -> &[String]
         ensures { map string_bytes result.now ≡ got (state_of self.now) name.now }
     {
@@ -81,14 +88,14 @@ impl State {
         member(self.value("*"), name)
     }
 
-    /// What `$` and a name give: for digits the member of `$*` at that place, counted from 1, or nothing.
+    /// Returns the value of `$` and a name: for digits the member of `$*` at that place, counted from 1, or nothing.
     pub fn get(&self, name: &str) -> Result<Vec<String>, AllocError>
         ensures { IfOk result (λ value. map string_bytes value.items ≡ got (state_of self.now) name.now) }
     {
         copy_texts(*self.status.allocator(), self.lookup(name))
     }
 
-    /// Assigns to a variable. An `Err` changes nothing.
+    /// Assigns to a variable. On `Err` nothing has changed.
     #[tactic(auto, unfolding(crate::specs::States::state_of))]
     pub fn set(&mut self, name: &str, value: Vec<String>) -> Result<(), InputError<NameFault>>
         ensures ok { OnOk result (state_of self.new
@@ -104,11 +111,43 @@ impl State {
             self.status = flat(alloc, value.as_slice())?;
             return Ok(());
         }
-        self.variables.set(alloc, name, value)?;
+        self.variables.set(alloc, name, Members::new(value))?;
         Ok(())
     }
 
-    /// Takes the first members of `$*` away, which are not copied. An `Err` changes nothing.
+    /// Assigns one text to a variable. An `Err` changes nothing.
+    #[tactic(auto, unfolding(crate::specs::States::state_of))]
+    pub fn set_one(&mut self, variable: &str, text: String) -> Result<(), InputError<NameFault>>
+        ensures ok { OnOk result (state_of self.new
+            ≡ set_value (state_of self.old) variable.now (string_bytes text ∷ [])) }
+        ensures bad_name { IsErrOf result (InputError.Fault NameFault.BadName) ↔ (is_name variable.now ≡ false) }
+        ensures err { OnErr result (state_of self.new ≡ state_of self.old) }
+    {
+        if !is_name(variable) {
+            return Err(InputError::Fault(NameFault::BadName));
+        }
+        if is_status(variable) {
+            self.status = text;
+            return Ok(());
+        }
+        let alloc = *self.status.allocator();
+        self.variables.set_one(alloc, variable, text)?;
+        Ok(())
+    }
+
+    /// Keeps the text that an environment has for the value of a variable, until that changes.
+    #[tactic(auto, unfolding(crate::specs::States::state_of))]
+    pub fn keep_text(&mut self, name: &str, text: String)
+        requires { string_bytes text ≡ value_text (value_of (state_of self.old) name.now) }
+        ensures { state_of self.new ≡ state_of self.old }
+    {
+        if is_status(name) {
+            return;
+        }
+        self.variables.keep_text(name, text);
+    }
+
+    /// Removes the first members of `$*`; no other is moved. On `Err` nothing has changed.
     #[tactic(auto, unfolding(crate::specs::States::state_of))]
     pub fn shift(&mut self, count: usize) -> Result<(), AllocError>
         ensures ok { OnOk result (state_of self.new
@@ -119,7 +158,7 @@ impl State {
         self.variables.drop_first(alloc, "*", count)
     }
 
-    /// Opens a local with this value; one of the status sets it. An `Err` changes nothing.
+    /// Opens a local with this value; one of the status sets it. On `Err` nothing has changed.
     #[tactic(auto, unfolding(crate::specs::States::state_of))]
     pub fn push_local(
         &mut self,
@@ -141,11 +180,11 @@ impl State {
             self.status = status;
             return Ok(());
         }
-        self.variables.push(alloc, variable, value)?;
+        self.variables.push(alloc, variable, Members::new(value))?;
         Ok(())
     }
 
-    /// The newest local ends; with none open nothing changes. One of the status leaves the status as it is.
+    /// Ends the newest local, if one is open. One of the status leaves the status as it is.
     #[tactic(auto, using(crate::proofs::Ends::ended), unfolding(crate::specs::States::state_of))]
     pub fn pop_local(&mut self)
         ensures { state_of self.new ≡ pop_local (state_of self.old) }
@@ -169,7 +208,7 @@ impl State {
         self.variables.bindings(*self.status.allocator())
     }
 
-    /// Defines a function. An `Err` changes nothing.
+    /// Defines a function. On `Err` nothing has changed.
     #[tactic(auto, using(crate::proofs::Bodies::bodies), unfolding(crate::specs::States::state_of))]
     pub fn define(&mut self, name: &str, body: Cmd) -> Result<(), InputError<NameFault>>
         requires { IsProperTree (cmd_tree body) }
@@ -185,7 +224,7 @@ impl State {
         Ok(())
     }
 
-    /// Defines a function by a body that others have, too. An `Err` changes nothing.
+    /// Defines a function with a shared body. On `Err` nothing has changed.
     #[tactic(auto, using(crate::proofs::Bodies::bodies), unfolding(crate::specs::States::state_of))]
     pub fn define_shared(&mut self, name: &str, body: &Rc<Cmd>) -> Result<(), InputError<NameFault>>
         requires { IsProperTree (cmd_tree body.now.value) }
@@ -200,7 +239,7 @@ impl State {
         Ok(())
     }
 
-    /// Puts a function in, or another body in the place of its body.
+    /// Inserts a function, or replaces its body.
     #[tactic(auto, using(crate::proofs::Bodies::bodies), unfolding(crate::specs::States::state_of))]
     fn insert_function(&mut self, name: &str, body: Rc<Cmd>) -> Result<(), AllocError>
         requires name { IsTrue (is_function_name name.now) }
@@ -213,7 +252,7 @@ impl State {
         Ok(())
     }
 
-    /// Removes a function, where there is one of this name.
+    /// Removes the function of this name, if there is one.
     #[tactic(auto, using(crate::proofs::Bodies::bodies), unfolding(crate::specs::States::state_of))]
     pub fn remove(&mut self, name: &str)
         ensures { state_of self.new ≡ undefine (state_of self.old) (name.now ∷ []) }
@@ -221,7 +260,7 @@ impl State {
         let _ = self.functions.remove(name);
     }
 
-    /// The body of a function.
+    /// Returns the body of a function.
     #[tactic(auto, using(crate::proofs::Bodies::bodies), unfolding(crate::specs::States::state_of))]
     pub fn function(&self, name: &str) -> Option<&Cmd>
         ensures { option_map cmd_tree (option_copied result) ≡ function_of (state_of self.now) name.now }
@@ -232,7 +271,7 @@ impl State {
         }
     }
 
-    /// The code of a function's body, which is shared: it is compiled once for all calls.
+    /// Returns the code of a function's body, which is shared: it is compiled once for all calls.
     #[tactic(auto, using(crate::proofs::Bodies::bodies), unfolding(crate::specs::States::state_of))]
     pub fn code(&mut self, name: &str) -> Result<Option<Code>, AllocError>
         ensures code { IfOk result (λ code. IsCodeOf (function_of (state_of self.old) name.now) code) }
@@ -245,6 +284,42 @@ impl State {
         }
     }
 
+    /// The code of a text, if it is one of those that ran last as scripts. It fails only if it has too many owners.
+    pub fn recent_code(&self, text: &str) -> Result<Option<Code>, AllocError>
+        ensures { IfOk result (λ found. IfSome found (λ code. IsCodeOfText text.now code)) }
+    {
+        self.recent_codes.find(text)
+    }
+
+    /// Keeps the code of a text that runs as a script.
+    #[tactic(auto, unfolding(crate::specs::States::state_of))]
+    pub fn keep_code(&mut self, text: String, code: &Code) -> Result<(), AllocError>
+        requires { IsCodeOfText (string_bytes text) code.now }
+        ensures { state_of self.new ≡ state_of self.old }
+    {
+        self.recent_codes.keep(text, code)
+    }
+
+    /// Keeps the image of a function's body, until the function is defined anew or removed.
+    #[tactic(auto, using(crate::proofs::Bodies::bodies), unfolding(crate::specs::States::state_of))]
+    pub fn keep_image(&mut self, name: &str, text: String)
+        requires { IfSome (function_of (state_of self.old) name.now) (λ body. string_bytes text ≡ image body) }
+        ensures { state_of self.new ≡ state_of self.old }
+    {
+        let Some(function) = self.functions.get_mut(name) else {
+            return;
+        };
+        function.keep_image(text);
+    }
+
+    /// Each function with its name, in byte order of the names.
+    #[tactic(auto, unfolding(crate::specs::States::state_of))]
+    pub fn definitions(&self) -> Result<Vec<Definition<'_>>, AllocError>
+        ensures { IfOk result (λ all. definitions_of all.items ≡ (state_of self.now).functions) }
+    {
+        definitions(*self.status.allocator(), &self.functions)
+    }
+
     /// The names of the functions, in byte order.
     #[tactic(auto, unfolding(crate::specs::States::state_of))]
     pub fn functions(&self) -> Result<Vec<String>, AllocError>
@@ -253,7 +328,7 @@ impl State {
         names(*self.status.allocator(), &self.functions)
     }
 
-    /// What the last command left: empty for the null status.
+    /// The status of the last command: empty for the null status.
     #[tactic(auto, unfolding(crate::specs::States::state_of))]
     pub fn status(&self) -> &str
         ensures { result.now ≡ (state_of self.now).status }
@@ -261,7 +336,7 @@ impl State {
         self.status.as_str()
     }
 
-    /// Sets the status. An `Err` changes nothing.
+    /// Sets the status. On `Err` nothing has changed.
     #[tactic(auto, unfolding(crate::specs::States::state_of))]
     pub fn set_status(&mut self, status: &str) -> Result<(), AllocError>
         ensures ok { OnOk result (state_of self.new ≡ with_status (state_of self.old) status.now) }
@@ -279,7 +354,7 @@ impl State {
         self.status = String::new(*self.status.allocator());
     }
 
-    /// What `if not` looks at.
+    /// The flag for `if not`.
     #[tactic(auto, unfolding(crate::specs::States::state_of))]
     pub fn if_not(&self) -> bool
         ensures { result ≡ (state_of self.now).flag }
@@ -317,7 +392,7 @@ impl State {
         self.background.as_slice()
     }
 
-    /// Adds a child that runs in the background. An `Err` changes nothing.
+    /// Adds a child that runs in the background. On `Err` nothing has changed.
     #[tactic(auto, unfolding(crate::specs::States::state_of))]
     pub fn add_child(&mut self, child: ChildNo) -> Result<(), AllocError>
         ensures ok { OnOk result (state_of self.new ≡ add_child (state_of self.old) child.0) }
@@ -327,7 +402,7 @@ impl State {
         Ok(())
     }
 
-    /// Takes out the newest child, where there is one.
+    /// Removes the newest child, if there is one.
     #[tactic(auto, using(crate::proofs::Newest::without_newest), unfolding(crate::specs::States::state_of))]
     pub fn pop_child(&mut self)
         ensures { let children = (state_of self.old).background in
@@ -336,7 +411,7 @@ impl State {
         let _ = self.background.pop();
     }
 
-    /// Takes out the first child of this number, where there is one.
+    /// Removes the first child of this number, if there is one.
     #[tactic(auto, unfolding(crate::specs::States::state_of))]
     pub fn drop_child(&mut self, child: ChildNo)
         ensures { state_of self.new ≡ drop_child (state_of self.old) child.0 }
@@ -347,7 +422,7 @@ impl State {
         let _ = self.background.remove(place);
     }
 
-    /// Takes out all children.
+    /// Removes all children.
     #[tactic(auto, unfolding(crate::specs::States::state_of))]
     pub fn clear_children(&mut self)
         ensures { state_of self.new ≡ record (state_of self.old) { background = [] } }
@@ -355,7 +430,7 @@ impl State {
         self.background.clear();
     }
 
-    /// The same state once more. The bodies of functions are shared.
+    /// Copies the state. The bodies of functions are shared.
     #[tactic(auto, using(crate::proofs::Copies::functions), unfolding(crate::specs::States::state_of))]
     pub fn copy(&self) -> Result<State, AllocError>
         ensures { IfOk result (λ copy. state_of copy ≡ state_of self.now) }
@@ -367,11 +442,12 @@ impl State {
             if_not: self.if_not,
             strict: self.strict,
             background: self.background.clone()?,
+            recent_codes: RecentCodes::new(*self.status.allocator()),
         })
     }
 
-    /// What holds of every state: the names of variables and functions are such names and in byte order, and the body
-    /// of each function is well formed.
+    /// The invariant of states: the names of variables and functions are valid and in byte order, and the body of each
+    /// function is well formed.
     #[tactic(auto, unfolding(crate::specs::States::state_of))]
     pub fn proper(&self)
         ensures { IsProper (state_of self.now) }

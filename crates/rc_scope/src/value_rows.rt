@@ -1,24 +1,27 @@
-//! Values by the names of variables. Those whose names begin with the same byte are in one row.
+//! The values of variables, by name. Names that begin with the same byte are in the same row.
 
-ghost use Rattle.std.specs.Prelude.{◌≡◌, [], ◌<◌, length, None, Some, is_some, true, IfOk, IfErr, OnOk, OnErr};
+ghost use Rattle.std.specs.Prelude.{◌≡◌, [], ◌∷◌, ◌<◌, length, None, Some, is_some, true, IfOk, IfErr, IfSome, OnOk};
+ghost use Rattle.std.specs.Prelude.{OnErr, string_bytes};
+ghost use Rattle.rc_model.specs.Handed.Image.{value_text};
 ghost use Rattle.std.specs.Option.{option_copied};
 ghost use Rattle.std.specs.List.Sorted.{IsStrictlySortedBy};
 ghost use Rattle.std.specs.Map.{lookup, set_value, remove_entry, keys_of};
 ghost use Rattle.std.specs.BTreeMap.{insert_entry};
 ghost use Rattle.std.specs.String.{string_cmp};
 ghost use Rattle.rc_scope.specs.Rows.{row_of, is_named, entries_of, Grows};
-ghost use Rattle.rc_scope.specs.Stacks.{covers_in};
+ghost use Rattle.rc_scope.specs.Stacks.{covers_in, texts_of};
 
+use crate::value_members::Members;
 use std::alloc::{AllocError, Global};
 use std::collections::BTreeMap;
 use std::marker::Model;
 use std::mem::replace;
 
-/// The value of a variable, as it is visible or covered.
+/// The value of a variable, visible or covered.
 #[derive(Drop)]
 pub(crate) struct Value {
-    pub texts: Vec<String>,
-    /// Whether it covers another one, which the log has.
+    pub texts: Members,
+    /// Whether it covers another value, which is in the log.
     pub covers: bool,
 }
 
@@ -35,10 +38,10 @@ impl Clone for Value {
     }
 }
 
-/// The values of variables: a name is looked for only among those that begin with its first byte.
+/// The values of variables: a name is looked up only among those that begin with its first byte.
 #[derive(Drop)]
 pub(crate) struct Values {
-    /// The place of a row is the byte that its names begin with; the empty name is in the first.
+    /// The index of a row is the byte that its names begin with; the empty name is in the first row.
     rows: Vec<BTreeMap<String, Value>>,
 }
 
@@ -56,7 +59,7 @@ impl Model for Values {
     ghost invariant = { λ v. AreRows 0 v.rows.items };
 }
 
-/// The place of the row that a name belongs in.
+/// The index of the row for a name.
 fn row_of(name: &str) -> usize
     ensures { result ≡ row_of name.now }
 {
@@ -66,7 +69,7 @@ fn row_of(name: &str) -> usize
     }
 }
 
-/// Adds empty rows up to one at this place.
+/// Adds empty rows up to this index.
 fn grow(
     rows: &mut Vec<BTreeMap<String, Value>>,
     alloc: Global,
@@ -93,7 +96,7 @@ impl Values {
         }
     }
 
-    /// The value at a name.
+    /// The value of a name.
     pub(crate) fn get(&self, name: &str) -> Option<&Value>
         ensures { option_copied result ≡ lookup (is_named name.now) self.now }
     {
@@ -104,7 +107,7 @@ impl Values {
         self.rows[row].get(name)
     }
 
-    /// Writes a value over the one at a name, and gives that; or gives the value back where there is none.
+    /// Replaces the value of a name, and returns the old one; or returns `value` if the name has none.
     pub(crate) fn replace(&mut self, name: &str, value: Value) -> Result<Value, Value>
         ensures found { IfOk result (λ old. lookup (is_named name.now) self.old ≡ Some old) }
         ensures new { OnOk result (self.new ≡ set_value (is_named name.now) self.old value) }
@@ -124,8 +127,8 @@ impl Values {
         Err(value)
     }
 
-    /// Writes texts over those of the value at a name; or gives them back where there is none.
-    pub(crate) fn write(&mut self, name: &str, texts: Vec<String>) -> Result<(), Vec<String>>
+    /// Replaces the texts in the value of a name; or returns them if it has none.
+    pub(crate) fn write(&mut self, name: &str, texts: Members) -> Result<(), Members>
         ensures found { OnOk result (is_some (lookup (is_named name.now) self.old) ≡ true) }
         ensures new { OnOk result (self.new ≡ set_value (is_named name.now) self.old
             (record { texts = texts; covers = covers_in name.now self.old })) }
@@ -146,7 +149,44 @@ impl Values {
         Err(texts)
     }
 
-    /// Puts a value in at a name. An `Err` changes nothing.
+    /// Writes one text over that of the value at a name, whose room it takes; or returns it if there is no value of one
+    /// text.
+    pub(crate) fn write_one(&mut self, name: &str, text: String) -> Result<(), String>
+        ensures found { OnOk result (is_some (lookup (is_named name.now) self.old) ≡ true) }
+        ensures new { OnOk result (self.new ≡ set_value (is_named name.now) self.old
+            (record { texts = text ∷ []; covers = covers_in name.now self.old })) }
+        ensures back { IfErr result (λ given. given ≡ text) }
+        ensures same { OnErr result (self.new ≡ self.old) }
+        ensures ordered { IsStrictlySortedBy string_cmp (keys_of self.old) }
+    {
+        let row = row_of(name);
+        if self.rows.len() <= row {
+            return Err(text);
+        }
+        let row = &mut self.rows[row];
+        if let Some(value) = row.get_mut(name) {
+            return value.texts.replace_only(text);
+        }
+        Err(text)
+    }
+
+    /// Keeps the text of the value at a name, where there is one.
+    pub(crate) fn keep_text(&mut self, name: &str, text: String)
+        requires { IfSome (lookup (is_named name.now) self.old) (λ v. string_bytes text ≡ value_text (texts_of v)) }
+        ensures { self.new ≡ self.old }
+    {
+        let row = row_of(name);
+        if self.rows.len() <= row {
+            return;
+        }
+        let row = &mut self.rows[row];
+        let Some(value) = row.get_mut(name) else {
+            return;
+        };
+        value.texts.keep(text);
+    }
+
+    /// Inserts the value of a name. On `Err` nothing has changed.
     pub(crate) fn insert(
         &mut self,
         alloc: Global,
@@ -164,7 +204,7 @@ impl Values {
         Ok(())
     }
 
-    /// Takes the value at a name away, where there is one.
+    /// Removes the value of a name, if it has one.
     pub(crate) fn remove(&mut self, name: &str)
         ensures taken { self.new ≡ remove_entry (is_named name.now) self.old }
         ensures gone { lookup (is_named name.now) self.new ≡ None }
@@ -177,7 +217,7 @@ impl Values {
         let _ = row.remove(name);
     }
 
-    /// The same values once more.
+    /// Copies the values.
     pub(crate) fn copy(&self) -> Result<Values, AllocError>
         ensures { IfOk result (λ copy. AreCopies self.now copy) }
     {

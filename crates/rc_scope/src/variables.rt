@@ -1,8 +1,9 @@
-//! The variables of a shell: one map from each name to its visible value, and a log of what locals have covered.
+//! The variables of a shell: a map from names to visible values, and a log of the values that locals cover.
 
 ghost use Rattle.std.specs.Prelude.{◌≡◌, ◌∷◌, ◌++◌, [], None, false, drop, map, string_bytes, OnOk, OnErr, IfOk};
 ghost use Rattle.std.specs.Str.{bytes_eq};
 ghost use Rattle.rc_model.specs.Run.State.{status_name, visible, covered, put_values};
+ghost use Rattle.rc_model.specs.Handed.Image.{value_text};
 ghost use Rattle.std.specs.Map.{lookup, set_value, keys_of};
 ghost use Rattle.std.specs.List.Sorted.{IsStrictlySortedBy};
 ghost use Rattle.std.specs.String.{string_cmp};
@@ -12,7 +13,7 @@ ghost use Rattle.rc_scope.specs.Stacks.{names_in, uncovered, without_newest, fla
 
 use crate::locals::{Local, LocalName};
 use crate::names::is_status;
-use crate::texts::drop_first;
+use crate::value_members::Members;
 use crate::value_rows::{Value, Values};
 use std::alloc::{AllocError, Global};
 use std::collections::BTreeMap;
@@ -29,10 +30,10 @@ pub(crate) struct Variables {
 #[derive(Clone, Copy)]
 pub struct Binding<'a> {
     pub name: &'a str,
-    pub value: &'a [String],
+    pub value: &'a Members,
 }
 
-/// Whether a variable is one that has members.
+/// Whether a variable has members.
 #[tactic(auto, using(crate::proofs::Stacks::length_texts))]
 fn is_listed(name: &str, texts: &[String]) -> bool
     ensures { result ≡ is_listed name.now (map string_bytes texts.now) }
@@ -64,7 +65,7 @@ fn push_bindings<'a>(
     for (name, value) in row {
         all.push(Binding {
             name,
-            value: value.texts.as_slice(),
+            value: &value.texts,
         })?;
     }
     Ok(())
@@ -86,7 +87,7 @@ impl Variables {
         }
     }
 
-    /// The visible value of a variable: empty where it was never assigned.
+    /// The visible value of a variable: empty if it was never assigned.
     #[tactic(auto, using(crate::proofs::Stacks::variables), unfolding(crate::specs::Stacks::stacks_of))]
     pub(crate) fn get(&self, name: &str) -> &[String]
         ensures { map string_bytes result.now ≡ visible (stack_in (stacks_of self.now) name.now) }
@@ -97,16 +98,16 @@ impl Variables {
         }
     }
 
-    /// Changes the visible value. An `Err` changes nothing.
+    /// Changes the visible value. On `Err` nothing has changed.
     #[tactic(auto, using(crate::proofs::Stacks::variables), unfolding(crate::specs::Stacks::stacks_of))]
     pub(crate) fn set(
         &mut self,
         alloc: Global,
         name: &str,
-        texts: Vec<String>,
+        texts: Members,
     ) -> Result<(), AllocError>
         ensures ok { OnOk result (stacks_of self.new
-            ≡ put_values (stacks_of self.old) name.now (map string_bytes texts.items
+            ≡ put_values (stacks_of self.old) name.now (map string_bytes texts
             ∷ covered (stack_in (stacks_of self.old) name.now))) }
         ensures locals { locals_of self.new ≡ locals_of self.old }
         ensures err { OnErr result (stacks_of self.new ≡ stacks_of self.old) }
@@ -122,7 +123,38 @@ impl Variables {
         self.values.insert(alloc, name, value)
     }
 
-    /// Takes the first members of the visible value away. An `Err` changes nothing.
+    /// Changes the visible value to one text. An `Err` changes nothing.
+    #[tactic(auto, using(crate::proofs::Stacks::variables), unfolding(crate::specs::Stacks::stacks_of))]
+    pub(crate) fn set_one(
+        &mut self,
+        alloc: Global,
+        name: &str,
+        text: String,
+    ) -> Result<(), AllocError>
+        ensures ok { OnOk result (stacks_of self.new
+            ≡ put_values (stacks_of self.old) name.now ((string_bytes text ∷ [])
+            ∷ covered (stack_in (stacks_of self.old) name.now))) }
+        ensures locals { locals_of self.new ≡ locals_of self.old }
+        ensures err { OnErr result (stacks_of self.new ≡ stacks_of self.old) }
+    {
+        let Err(text) = self.values.write_one(name, text) else {
+            return Ok(());
+        };
+        let texts = Members::one(alloc, text)?;
+        self.set(alloc, name, texts)
+    }
+
+    /// Keeps the text of the visible value, where there is one.
+    #[tactic(auto, using(crate::proofs::Stacks::variables), unfolding(crate::specs::Stacks::stacks_of))]
+    pub(crate) fn keep_text(&mut self, name: &str, text: String)
+        requires { string_bytes text ≡ value_text (visible (stack_in (stacks_of self.old) name.now)) }
+        ensures stacks { stacks_of self.new ≡ stacks_of self.old }
+        ensures locals { locals_of self.new ≡ locals_of self.old }
+    {
+        self.values.keep_text(name, text);
+    }
+
+    /// Removes the first members of the visible value. On `Err` nothing has changed.
     #[tactic(auto, using(crate::proofs::Stacks::variables), unfolding(crate::specs::Stacks::stacks_of))]
     pub(crate) fn drop_first(
         &mut self,
@@ -136,22 +168,22 @@ impl Variables {
         ensures locals { locals_of self.new ≡ locals_of self.old }
         ensures err { OnErr result (stacks_of self.new ≡ stacks_of self.old) }
     {
-        let empty = Value {
-            texts: Vec::new(alloc),
+        let nothing = Value {
+            texts: Members::none(alloc),
             covers: false,
         };
-        let Ok(mut value) = self.values.replace(name, empty) else {
-            return self.set(alloc, name, Vec::new(alloc));
+        let Ok(mut value) = self.values.replace(name, nothing) else {
+            return self.set(alloc, name, Members::none(alloc));
         };
-        drop_first(&mut value.texts, count);
+        value.texts.drop_first(count);
         let _ = self.values.replace(name, value);
         Ok(())
     }
 
-    /// Puts in a value over what the name has, and gives that: an empty one where it has none.
-    fn cover(&mut self, alloc: Global, name: &str, texts: Vec<String>) -> Result<Value, AllocError>
+    /// Covers the value of a name, and returns the covered one: an empty one if it has none.
+    fn cover(&mut self, alloc: Global, name: &str, texts: Members) -> Result<Value, AllocError>
         ensures ok { IfOk result (λ old.
-            Covers name.now (map string_bytes texts.items) self.old.values self.new.values old) }
+            Covers name.now (map string_bytes texts) self.old.values self.new.values old) }
         ensures err { OnErr result (self.new.values ≡ self.old.values) }
         ensures log { self.new.log ≡ self.old.log }
     {
@@ -165,11 +197,11 @@ impl Variables {
         }
     }
 
-    /// Puts in a value of a name that has none, and gives an empty one.
-    fn put(&mut self, alloc: Global, name: &str, texts: Vec<String>) -> Result<Value, AllocError>
+    /// Inserts the value of a name that has none, and returns an empty one.
+    fn put(&mut self, alloc: Global, name: &str, texts: Members) -> Result<Value, AllocError>
         requires { lookup (is_named name.now) self.old.values ≡ None }
         ensures ok { IfOk result (λ old.
-            Covers name.now (map string_bytes texts.items) self.old.values self.new.values old) }
+            Covers name.now (map string_bytes texts) self.old.values self.new.values old) }
         ensures err { OnErr result (self.new.values ≡ self.old.values) }
         ensures log { self.new.log ≡ self.old.log }
     {
@@ -180,22 +212,22 @@ impl Variables {
         };
         self.values.insert(alloc, name, value)?;
         Ok(Value {
-            texts: Vec::new(alloc),
+            texts: Members::none(alloc),
             covers: false,
         })
     }
 
-    /// A new local with this value. An `Err` changes nothing.
+    /// Opens a local with this value. On `Err` nothing has changed.
     #[tactic(auto, using(crate::proofs::Stacks::variables), unfolding(crate::specs::Stacks::stacks_of))]
     pub(crate) fn push(
         &mut self,
         alloc: Global,
         name: &str,
-        texts: Vec<String>,
+        texts: Members,
     ) -> Result<(), AllocError>
         requires { bytes_eq name.now status_name ≡ false }
         ensures ok { OnOk result (stacks_of self.new
-            ≡ put_values (stacks_of self.old) name.now (map string_bytes texts.items
+            ≡ put_values (stacks_of self.old) name.now (map string_bytes texts
             ∷ stack_in (stacks_of self.old) name.now)) }
         ensures locals { OnOk result (locals_of self.new ≡ name.now ∷ locals_of self.old) }
         ensures err { OnErr result (stacks_of self.new ≡ stacks_of self.old) }
@@ -211,7 +243,7 @@ impl Variables {
         Ok(())
     }
 
-    /// A new local of the status, which covers nothing. An `Err` changes nothing.
+    /// Opens a local of the status, which covers nothing. On `Err` nothing has changed.
     #[tactic(auto, using(crate::proofs::Stacks::variables), unfolding(crate::specs::Stacks::stacks_of))]
     pub(crate) fn push_status(&mut self, alloc: Global) -> Result<(), AllocError>
         ensures stacks { stacks_of self.new ≡ stacks_of self.old }
@@ -219,7 +251,7 @@ impl Variables {
         ensures err { OnErr result (locals_of self.new ≡ locals_of self.old) }
     {
         let covered = Value {
-            texts: Vec::new(alloc),
+            texts: Members::none(alloc),
             covers: false,
         };
         self.log.push(Local {
@@ -229,7 +261,7 @@ impl Variables {
         Ok(())
     }
 
-    /// Writes what is covered over the value of a name, and says whether that value covers another.
+    /// Restores the covered value of a name, and returns whether that value covers another.
     fn restore(&mut self, name: &str, covered: Value) -> bool
         ensures covers { result ≡ covers_in name.now self.old.values }
         ensures written { self.new.values ≡ set_value (is_named name.now) self.old.values covered }
@@ -242,7 +274,7 @@ impl Variables {
         }
     }
 
-    /// What a local covers becomes visible. It allocates nothing: its name is there.
+    /// Makes the value that a local covers visible. It allocates nothing: its name is there.
     fn uncover(&mut self, local: Local)
         ensures values { Uncovers local self.old.values self.new.values }
         ensures log { self.new.log ≡ self.old.log }
@@ -258,7 +290,7 @@ impl Variables {
         self.values.remove(name);
     }
 
-    /// The newest local ends.
+    /// Ends the newest local.
     #[tactic(auto, using(crate::proofs::Stacks::variables), unfolding(crate::specs::Stacks::stacks_of))]
     pub(crate) fn pop(&mut self)
         ensures stacks { stacks_of self.new ≡ uncovered (locals_of self.old) (stacks_of self.old) }
@@ -294,7 +326,7 @@ impl Variables {
         Ok(all)
     }
 
-    /// The same variables once more, with the open locals.
+    /// Copies the variables, with the open locals.
     #[tactic(auto, using(crate::proofs::Copies::variables))]
     pub(crate) fn copy(&self) -> Result<Variables, AllocError>
         ensures stacks { IfOk result (λ copy. stacks_of copy ≡ stacks_of self.now) }

@@ -19,10 +19,10 @@ at_true : {X : Type 0} (b : Bool) (x y : X) → b ≡ true → (if b then x else
 at_true b x y e = ap (λ t. if t then x else y) e
 
 -- a step of this process, and of another
-pub given_here : (k : ℕ) (e : family.Step) → e.at ≡ k → answers_at k (e ∷ []) ≡ e.answer ∷ []
+pub given_here : (k : ℕ) (e : family.FamilyEvent) → e.at ≡ k → answers_at k (e ∷ []) ≡ e.answer ∷ []
 given_here k e h = at_true (nat_eq e.at k) (e.answer ∷ []) [] (eq-eqb e.at k h)
 
-pub given_elsewhere : (k : ℕ) (e : family.Step) → (e.at ≡ k → ⊥) → answers_at k (e ∷ []) ≡ []
+pub given_elsewhere : (k : ℕ) (e : family.FamilyEvent) → (e.at ≡ k → ⊥) → answers_at k (e ∷ []) ≡ []
 given_elsewhere k e h = at_false (nat_eq e.at k) (e.answer ∷ []) [] (ne_eqb e.at k h)
 
 -- the answer of a step of this process was added

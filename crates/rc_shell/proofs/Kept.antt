@@ -9,10 +9,11 @@ use Rattle.rc_model.specs.Run.Script.{Recorded, EndsAsMeant, IsBegunAsMeant}
 use Rattle.rc_model.specs.Run.State as model
 use Rattle.rc_scope.specs.States.{state_of}
 use Rattle.rc_scope.proofs.ProperStates.{is_proper}
+use Rattle.rc_model.specs.Family.Accounts.{IsFresh, NothingLost}
 use Rattle.law_handed.proofs.Played.{traces_start_by_rule}
 use Rattle.law_traces.proofs.Traces.{begun_loses_nothing, ended_leaves_nothing}
 use Rattle.rc_shell.specs.Outcome.{RunsAsMeant}
-use Rattle.rc_shell.specs.Executed.{LosesNothing, LeavesNothing, IfEnded}
+use Rattle.rc_shell.specs.Executed.{LeavesNothing, EndsProper}
 use Rattle.rc_shell.specs.declared.run.Ran.{Ran}
 use Rattle.rc_shell.specs.declared.run.Ran.TheVariants.{Ended, Limit, Halted}
 use Rattle.rc_shell.specs.declared.run.ShellFault.{ShellFault}
@@ -40,7 +41,7 @@ module _ (before after : Option (List Event)) (limit : ℕ) (t : Node cmd) (s : 
   abbrev pub IsMeant : Type 0
   IsMeant = Recorded before after (λ trace. RunsAsMeant limit t s trace result)
 
-  pub loses_nothing : IsMeant → Recorded before after (LosesNothing s)
+  pub loses_nothing : IsMeant → Recorded before after (λ trace. IsFresh s trace → NothingLost s trace)
   loses_nothing k = (k.0, k.1, begun_loses_nothing t s k.0 (begun limit t s k.0 result k.2))
 
   pub leaves_nothing : IsMeant → Recorded before after (LeavesNothing s result)
@@ -49,8 +50,8 @@ module _ (before after : Option (List Event)) (limit : ℕ) (t : Node cmd) (s : 
   pub reads_back : IsProperTree t → IsProper s → IsMeant → Recorded before after (StartsByRule t s)
   reads_back c p k = (k.0, k.1, traces_start_by_rule t s k.0 c p (begun limit t s k.0 result k.2))
 
--- the state at the end is one that a value stands for
-pub ended_proper : (result : Result Ran ShellFault) → IfEnded result (λ end. IsProper end)
+-- the state at the end is proper
+pub ended_proper : (result : Result Ran ShellFault) → EndsProper result
 ended_proper (Ok (Ended end)) = is_proper end
 ended_proper (Ok Limit) = tt
 ended_proper (Ok Halted) = tt

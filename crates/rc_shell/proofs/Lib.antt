@@ -1,6 +1,5 @@
 pub mod Runs
-pub mod Scripts
-pub mod Images
+pub mod Executed
 pub mod Kept
 pub mod Limits
 pub mod Replays

@@ -11,7 +11,7 @@ use Rattle.rc_model.specs.Run.State.{State}
 use Rattle.rc_model.specs.Syntax.Tree.{Node, cmd}
 use Rattle.law_machine.proofs.Recorded as recorded
 use Rattle.law_plans.proofs.Plays.{ends_over, waits_over, cut_over, halts_over}
-use Rattle.rc_machine.specs.Runs.{Begun, Reached, RunsTo}
+use Rattle.rc_machine.specs.Runs.{CameSomewhere, Reached, RunsTo}
 use Rattle.rc_machine.specs.declared.machine.Progress.{Progress}
 use Rattle.rc_machine.specs.declared.machine.Progress.TheVariants as progress
 use Rattle.rc_shell.specs.Outcome.{EndsWithin, HaltsWithin, IsOutcome, IsBegunWithin, RunsAsMeant}
@@ -45,7 +45,7 @@ module _ (limit : ℕ) (t : Node cmd) (s : State) (a b : Option (List Event)) wh
     record { ran = halts_over (exec limit (begin t s)) f.trace f.call f.go f.goes; meant = recorded.halted_as_meant limit t s f.trace f.call f.go f.goes },
   )
 
-  pub recorded_begun : Begun a b (exec limit (begin t s)) → Recorded a b (λ trace. IsBegunWithin limit t s trace)
+  pub recorded_begun : CameSomewhere a b (exec limit (begin t s)) → Recorded a b (λ trace. IsBegunWithin limit t s trace)
   recorded_begun f = (
     f.1.trace,
     f.1.recorded,

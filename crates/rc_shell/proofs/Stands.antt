@@ -105,7 +105,7 @@ state_stays [] k d o more l = absurd (omega (arith, l))
 state_stays (p ∷ ps) zero d o more l = refl
 state_stays (p ∷ ps) (suc k) d o more l = refl
 
-abbrev made : ℕ → Node cmd → model.State → List family.Step → Made
+abbrev made : ℕ → Node cmd → model.State → List family.FamilyEvent → Made
 made limit t s es = record { limit = limit; tree = t; state = s; steps = es }
 
 module _ (h : Held) (holds : Holds h) (k : ℕ) (answer : Answer) (change : Change) (c : Changes h k (answer_of answer) change) (ps : List Process) (es : List Step)

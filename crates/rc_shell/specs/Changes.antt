@@ -1,4 +1,4 @@
--- What a step of a family changes.
+-- The changes of a step of a family.
 use Rattle.std.specs.Prelude.{◌≡◌, ℕ, ◌<◌, ◌≤◌, List, ◌++◌, length, Option, Some, None, slice_index_or, slice_set}
 use Rattle.std.specs.Option.{option_to_list}
 use Rattle.rc_model.specs.Run.Calls as calls
@@ -31,7 +31,7 @@ IsNotAnswered ps k x fault.Ended = WaitsAt ps k None
 IsNotAnswered ps k x fault.WrongKind = (c : Call) × WaitsAt ps k (Some c) × (IsAnswered (call_of c) x → ⊥)
 IsNotAnswered ps k x _ = ⊥
 
--- what a step of process k with this answer changes
+-- the changes of a step of process k with this answer
 pub record Changes (h : Held) (k : ℕ) (x : calls.Answer) (change : Change) : Type 0 where
   pub in_family : k < length h.processes
   pub same : call_of change.answered ≡ call_of change.kept

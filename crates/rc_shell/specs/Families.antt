@@ -1,4 +1,4 @@
--- What a family stands for, and what holds of it.
+-- The family that values represent, and its invariant.
 use Rattle.std.specs.Prelude.{ℕ, List, [], ◌∷◌, map}
 use Rattle.rc_model.specs.Run.State as model
 use Rattle.rc_model.specs.Run.State.{new_state}
@@ -23,11 +23,11 @@ abbrev pub first_state : List Process → model.State
 first_state [] = new_state
 first_state (p ∷ ps) = state_of p.state
 
--- these values
+-- the values of a family
 abbrev pub held : ℕ → List Process → List Step → Held
 held limit ps es = record { limit = limit; processes = ps; steps = es }
 
--- the family that values stand for
+-- the family that values represent
 abbrev pub made_of : Held → Made
 made_of f = record {
   limit = f.limit;
@@ -36,7 +36,7 @@ made_of f = record {
   steps = map step_of f.steps;
 }
 
--- its steps were made, and its values stand for the processes that come of them
+-- its steps were made, and its values represent the processes after them
 pub record Holds (f : Held) : Type 0 where
   pub made : IsMadeBy read_launch f.limit (made_of f).tree (made_of f).state (made_of f).steps
   pub stand : Stand f.limit f.processes (processes (made_of f))

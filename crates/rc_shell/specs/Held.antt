@@ -3,7 +3,7 @@ use Rattle.std.specs.Prelude.{ℕ, List}
 use Rattle.rc_shell.specs.declared.family.process.Process.{Process}
 use Rattle.rc_shell.specs.declared.family.process.Step.{Step}
 
--- what the fields of a family hold
+-- the fields of a family
 pub record Held : Type 0 where
   pub limit : ℕ
   pub processes : List Process

@@ -1,10 +1,11 @@
--- A family by its first process and the steps that were made, and what the calls of a family give.
+-- A family by its first process and the steps that were made, and the results of its calls.
 use Rattle.std.specs.Prelude.{◌≡◌, ℕ, ◌<◌, ◌≤◌, List, [], ◌∷◌, ◌++◌, Option, Some, None}
 use Rattle.rc_model.specs.Run.Calls.{Call, Answer}
 use Rattle.rc_model.specs.Run.Plans.{IsAnswered}
 use Rattle.rc_model.specs.Run.State.{State}
 use Rattle.rc_model.specs.Syntax.Tree.{Node, cmd}
-use Rattle.rc_model.specs.Family.Family.{Process, Family, Step, IsPending, HasEnded, OneAtATime, first, family, stepped}
+use Rattle.rc_model.specs.Family.Family.{Process, Family, FamilyEvent, IsPending, HasEnded}
+use Rattle.rc_model.specs.Family.Family.{OneAtATime, first, family, stepped}
 use Rattle.rc_model.specs.Family.Family.{read_launch, AllRead}
 use Rattle.rc_model.specs.Family.Steps.{HitsLimit, IsMade, IsMadeBy, IsRefused, NoProcess, AtEnd, WrongKind, AtLimit}
 use Rattle.rc_model.specs.Family.Steps.{IsPromised}
@@ -16,9 +17,9 @@ pub record Made : Type 0 where
   pub limit : ℕ
   pub tree : Node cmd
   pub state : State
-  pub steps : List Step
+  pub steps : List FamilyEvent
 
--- before any step
+-- a family before any step
 abbrev pub begun : ℕ → Node cmd → State → Made
 begun limit t s = record { limit = limit; tree = t; state = s; steps = [] }
 
@@ -31,23 +32,23 @@ abbrev pub first_process : Node cmd → State → Process
 first_process t s = (first read_launch t s).at 0
 
 -- process k and the answer to a call
-abbrev pub answering : ℕ → Call → Answer → Step
+abbrev pub answering : ℕ → Call → Answer → FamilyEvent
 answering k c x = record { at = k; call = c; answer = x }
 
 -- one step more
-abbrev pub with_step : Made → Step → Made
+abbrev pub with_step : Made → FamilyEvent → Made
 with_step m e = record m { steps = m.steps ++ e ∷ [] }
 
--- ** what is promised
+-- ** the promises
 
--- each step was made, and what is promised of families that are made by such steps is kept
+-- each step was made, and the promises for families that are made by such steps are kept
 pub record KeepsPromise (m : Made) : Type 0 where
   pub made : IsMadeBy read_launch m.limit m.tree m.state m.steps
   pub promised : IsPromised m.limit m.tree m.state m.steps (processes m)
   -- so each process began with what the one that started it handed over
   pub read : AllRead (processes m)
 
--- ** what the calls give
+-- ** the results of the calls
 
 -- why there is no family: the first process hits the limit
 abbrev pub BeginsNot : ℕ → Node cmd → State → FamilyFault → Type 0
@@ -70,7 +71,7 @@ pub record IsAnswering (m : Made) (k : ℕ) (x : Answer) : Type 0 where
   pub pending : IsPending ((processes m).at k) call
   pub answered : IsAnswered call x
 
--- why a step is refused; out of memory comes in place of the limit or of an answer alone
+-- why a step is refused; out of memory only comes in place of the limit or of an answer
 abbrev pub StepsNot : Made → ℕ → Answer → FamilyFault → Type 0
 StepsNot m k x fault.NoProcess = IsRefused read_launch m.limit (processes m) k x NoProcess
 StepsNot m k x fault.Ended = IsRefused read_launch m.limit (processes m) k x AtEnd
@@ -78,7 +79,7 @@ StepsNot m k x fault.WrongKind = IsRefused read_launch m.limit (processes m) k x
 StepsNot m k x fault.Limit = IsRefused read_launch m.limit (processes m) k x AtLimit
 StepsNot m k x fault.NoMemory = IsAnswering m k x
 
--- the pending call of process k: none where it has ended, and where there is no such process
+-- the pending call of process k: none if it has ended, or if there is no such process
 pub data PendingAt (m : Made) (k : ℕ) : Option Call → Type 0 where
   waits : (c : Call) → k < (processes m).count → IsPending ((processes m).at k) c → PendingAt m k (Some c)
   ended : k < (processes m).count → HasEnded ((processes m).at k) → PendingAt m k None

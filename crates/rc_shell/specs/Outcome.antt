@@ -1,4 +1,4 @@
--- How the run of a tree ends, by the instructions that it may take and by what the tree means.
+-- How the run of a tree ends, by its limit of instructions and by the meaning of the tree.
 use Rattle.std.specs.Prelude.{◌≡◌, ℕ, List, [], Result, Ok, Err}
 use Rattle.std.specs.declared.alloc.AllocError.{AllocError}
 use Rattle.rc_model.specs.Run.Calls.{Event, calls, answers}
@@ -25,7 +25,7 @@ pub record HaltsWithin (limit : ℕ) (t : Node cmd) (s : model.State) (trace : L
   pub ran : run limit t s (answers trace) ≡ Waits (calls trace)
   pub meant : HaltsAsMeant t s trace
 
--- the calls are the first ones of at most `limit` instructions, and of the meaning
+-- the calls are a prefix of those of at most `limit` instructions, and of those of the meaning
 pub record IsBegunWithin (limit : ℕ) (t : Node cmd) (s : model.State) (trace : List Event) : Type 0 where
   pub ran : IsPrefix (calls trace) (calls_made (run limit t s (answers trace)))
   pub meant : IsBegunAsMeant t s trace
@@ -39,7 +39,7 @@ RunsAsMeant limit t s trace (Err NoMemory) = IsBegunWithin limit t s trace
 RunsAsMeant limit t s trace (Err (Syntax fault)) = ⊥
 RunsAsMeant limit t s trace (Err (Image fault)) = ⊥
 
--- the outcome of a script whose machine came so far, with this state
+-- the outcome of a script whose machine made this progress, with this state
 abbrev pub IsOutcome : Result Progress AllocError → model.State → Result Ran ShellFault → Type 0
 IsOutcome (Ok progress.Ended) s (Ok (Ended end)) = state_of end ≡ s
 IsOutcome (Ok progress.Limit) s result = result ≡ Ok Limit

@@ -1,4 +1,4 @@
--- How far the code of a process comes over its answers.
+-- How far the code of a process runs over its answers.
 use Rattle.std.specs.Prelude.{◌≡◌, ℕ, List, [], ◌∷◌, ◌++◌, Bool, true, false, Option, Some, None}
 use Rattle.rc_model.specs.Run.Calls as calls
 use Rattle.rc_model.specs.Run.Plans.{Ends, Waits, Cut}
@@ -14,7 +14,7 @@ use Rattle.rc_shell.specs.declared.family.fault.FamilyFault.TheVariants as fault
 use Rattle.rc_shell.specs.declared.family.replaying.Reached.{Reached}
 use Rattle.rc_shell.specs.declared.family.replaying.Reached.TheVariants.{Waiting, Ended, Limit}
 
--- within the limit the code came to a call, or to its end, or to neither
+-- within the limit the code reached a call, or its end, or neither
 abbrev pub IsReached : ℕ → Node cmd → State → List calls.Answer → Reached → Type 0
 IsReached limit t s given (Waiting c) =
     (made : List calls.Call) × (run limit t s given ≡ Waits (made ++ call_of c ∷ []))
@@ -26,19 +26,19 @@ IsReached limit t s given Limit = (made : List calls.Call) × (run limit t s giv
 abbrev pub IsLast : calls.Call → List calls.Call → Type 0
 IsLast c made = (before : List calls.Call) × (made ≡ before ++ c ∷ [])
 
--- how far a run came that made these calls
+-- how far a run with these calls came
 abbrev pub IsSaid : Progress → List calls.Call → Reached → Type 0
 IsSaid progress.Halted made (Waiting c) = IsLast (call_of c) made
 IsSaid progress.Ended made Ended = Unit {0}
 IsSaid progress.Limit made Limit = Unit {0}
 IsSaid _ made _ = ⊥
 
--- the call to which the code comes, or its end
+-- the call that the code reaches, or its end
 abbrev pub ComesTo : ℕ → Node cmd → State → List calls.Answer → Option Call → Type 0
 ComesTo limit t s given (Some c) = IsReached limit t s given (Waiting c)
 ComesTo limit t s given None = IsReached limit t s given Ended
 
--- why it comes to neither
+-- why it reaches neither
 abbrev pub ComesNot : ℕ → Node cmd → State → List calls.Answer → FamilyFault → Type 0
 ComesNot limit t s given fault.Limit = IsReached limit t s given Limit
 ComesNot limit t s given fault.NoMemory = Unit {0}

@@ -1,4 +1,4 @@
--- What the values of a family stand for.
+-- The processes and steps that the values of a family represent.
 use Rattle.std.specs.Prelude.{◌≡◌, ℕ, ◌<◌, List, length, map, Bool, Option, Some, None, String, string_bytes}
 use Rattle.std.specs.Prelude.{slice_index_or}
 use Rattle.std.specs.Borrow.{Bor}
@@ -18,32 +18,32 @@ use Rattle.rc_shell.specs.declared.family.process.Process.{Process}
 use Rattle.rc_shell.specs.declared.family.process.Step.{Step}
 
 -- a step
-abbrev pub step_of : Step → family.Step
+abbrev pub step_of : Step → family.FamilyEvent
 step_of e = record { at = e.process; call = call_of e.call; answer = answer_of e.answer }
 
 -- the options of a shell by its arguments
 abbrev pub words_of : Bool × Bor (List (String Global)) → Bool × List (List ℕ)
 words_of o = (o.0, map string_bytes o.1.now)
 
--- within the limit a process comes to this call, or to its end
+-- within the limit a process reaches this call, or its end
 abbrev pub StandsAt : ℕ → family.Process → Option Call → Type 0
 StandsAt limit q (Some c) = WaitsInTime limit q (call_of c)
 StandsAt limit q None = EndsInTime limit q
 
--- a value stands for a process
+-- a value represents a process
 pub record StandsFor (limit : ℕ) (p : Process) (q : family.Process) : Type 0 where
   pub tree : cmd_tree p.cmd ≡ q.tree
   pub state : state_of p.state ≡ q.state
-  -- the tree is one that a shell holds
+  -- the tree is proper
   pub proper : IsProperTree q.tree
   pub at : StandsAt limit q p.pending
 
--- values stand for the processes of a family
+-- values represent the processes of a family
 pub record Stand (limit : ℕ) (ps : List Process) (f : family.Family) : Type 0 where
   pub count : length ps ≡ f.count
   pub each : (i : ℕ) (p : Process) → i < length ps → StandsFor limit (slice_index_or ps i p) (f.at i)
 
--- the shell that was started, if one was, before any answer
+-- the shell that was started, if any, before any answer
 abbrev pub StartsAs : ℕ → Option (calls.Launch × ℕ) → Option Process → Type 0
 StartsAs limit None p = p ≡ None
 StartsAs limit (Some (l, n)) None = ⊥

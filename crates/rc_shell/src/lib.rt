@@ -1,6 +1,6 @@
 //! Runs a script over a world, and families of shells.
 //!
-//! The language is that of rc, the shell of Plan 9. It is described by the page rc(1) of the manual of Plan 9, and by
+//! The language is that of rc, the shell of Plan 9. It is described in the page rc(1) of the manual of Plan 9, and in
 //! Tom Duff's paper "Rc - The Plan 9 Shell".
 #![tactic(auto)]
 

@@ -1,4 +1,4 @@
-//! Runs a tree from a state.
+//! Running a tree from a state.
 
 ghost use Rattle.rc_machine.specs.Machines.{config_of};
 ghost use Rattle.rc_model.specs.Handed.Proper.{IsProperTree};
@@ -21,7 +21,7 @@ use thiserror::Error;
 pub enum Ran {
     /// At its end, with the state there.
     Ended { state: State },
-    /// Its instructions were used up.
+    /// The limit of instructions was reached.
     Limit,
     /// A call was not answered.
     Halted,
@@ -40,7 +40,7 @@ pub enum ShellFault {
     NoMemory,
 }
 
-/// Runs a command that is a script of its own.
+/// Runs a command as a script by itself.
 pub(crate) fn run_tree<W: World>(
     alloc: Global,
     world: &mut W,
@@ -62,7 +62,7 @@ pub(crate) fn run_tree<W: World>(
     outcome(machine, progress)
 }
 
-/// The outcome of a script whose machine came so far.
+/// The outcome of a script, by how far its machine came.
 fn outcome(machine: Machine, progress: Result<Progress, AllocError>) -> Result<Ran, ShellFault>
     ensures { IsOutcome progress (config_of machine).state result }
 {

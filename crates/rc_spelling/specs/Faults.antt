@@ -2,6 +2,6 @@
 use Rattle.rc_model.specs.declared.fault.InputError.{InputError}
 use Rattle.rc_model.specs.declared.fault.ImageFault.{ImageFault}
 
--- why there is no image, or no tree of one
+-- why there is no image, or no tree for one
 abbrev pub ImageError : Type 0
 ImageError = InputError ImageFault

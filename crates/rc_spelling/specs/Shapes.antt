@@ -1,4 +1,4 @@
--- The marks that nodes begin with, and what follows each.
+-- The marks at the beginning of nodes, and what follows each.
 use Rattle.std.specs.Prelude.{ℕ, ◌==◌, if◌then◌else◌, Option, Some, None, Ok, Err}
 use Rattle.rc_model.specs.declared.call.Mode.TheVariants.{Write, Append}
 use Rattle.rc_model.specs.Handed.TreeReading.{Reader, ◌>>=◌}
@@ -65,7 +65,7 @@ redir_shape m =
     else if m == 104 then Some r.Here
     else None
 
--- a shape, where there is one
+-- the shape, if there is one
 abbrev pub shaped : {X : Type 0} → Option X → Reader X
 shaped (Some x) rest = Ok (x, rest)
 shaped None rest = Err BadTag

@@ -13,25 +13,25 @@ use Rattle.rc_model.specs.Syntax.WellFormed.{has_text}
 use Rattle.rc_model.specs.declared.fault.ImageFault.TheVariants.{BadLength, BadTag}
 use Rattle.rc_model.specs.declared.limits.TheConstants.{MOST_STAGES}
 
--- the byte that stands here
+-- the next byte
 unfoldable pub first_by : Reader ℕ
 first_by [] = Err BadTag
 first_by (b ∷ rest) = Ok (b, rest)
 
--- whether a digit stands here
+-- whether a digit is next
 unfoldable pub digit_here : List ℕ → Bool
 digit_here [] = false
 digit_here (b ∷ rest) = is_digit b
 
--- whether a number stands here
+-- whether a number is next
 unfoldable pub number_here : List ℕ → Bool
 number_here bytes = is_numeral (digit_run bytes)
 
--- what the digits here are worth after those worth n
+-- the value of the digits that are next, after digits of value n
 unfoldable pub value_from : ℕ → List ℕ → ℕ
 value_from n bytes = digits_value n (digit_run bytes)
 
--- what follows the digits here
+-- what follows the digits that are next
 unfoldable pub after_digits : List ℕ → List ℕ
 after_digits bytes = past_digits bytes
 
@@ -43,15 +43,15 @@ number_by mark bytes = count_at mark bytes
 unfoldable pub string_by : ℕ → Reader (List ℕ)
 string_by n bytes = bytes_at n bytes
 
--- a text with its length
+-- a text, after its length
 unfoldable pub text_by : Reader (List ℕ)
 text_by bytes = number_by 58 bytes >>= λ n. string_by n.0 n.1
 
--- how many nodes a list has, which are this many at least
+-- the length of a list, which is at least this
 unfoldable pub count_from : (least : ℕ) → Reader ℕ
 count_from least bytes = number_by 44 bytes >>= λ n. if nat_le least n.0 then Ok n else Err BadLength
 
--- how many stages stand before the last
+-- the number of stages before the last
 unfoldable pub stage_count : Reader ℕ
 stage_count bytes = count_from 1 bytes >>= λ n. if nat_lt n.0 MOST_STAGES then Ok n else Err BadLength
 
@@ -94,21 +94,21 @@ piece_by bytes = first_by bytes >>= λ x.
 unfoldable pub here_by : Reader (Node t.redir)
 here_by bytes = list_by (count_from 0) piece_by bytes >>= λ x. Ok (t.Here x.0, x.1)
 
--- the descriptor of what a command writes
+-- the descriptor that a command writes to
 unfoldable pub slot_by : Reader ℕ
 slot_by bytes = first_by bytes >>= λ x. if x.0 == 49 then Ok (1, x.1) else if x.0 == 50 then Ok (2, x.1) else Err BadTag
 
--- what stands before a command in a list
+-- the mark before a command in a list
 unfoldable pub background_by : Reader Bool
 background_by bytes = first_by bytes >>= λ x.
     if x.0 == 59 then Ok (false, x.1) else if x.0 == 38 then Ok (true, x.1) else Err BadTag
 
--- how an operand is joined to those before it
+-- the mark of an operand: how it is joined to those before it
 unfoldable pub logic_by : Reader Logic
 logic_by bytes = first_by bytes >>= λ x.
     if x.0 == 38 then Ok (And, x.1) else if x.0 == 124 then Ok (Or, x.1) else Err BadTag
 
--- arguments of this level, this many at least
+-- arguments of this level, at least this many
 unfoldable pub args_by : (least d : ℕ) → Reader (Many t.arg)
 args_by least d bytes = list_by (count_from least) (arg_at true d) bytes
 

@@ -1,4 +1,4 @@
-//! Numbers as an image has them, and the byte that stands at a place.
+//! Numbers in images, and the next byte of one.
 
 ghost use Rattle.std.specs.Prelude.{◌≡◌, ◌<◌, ◌≤◌, MatchOption};
 ghost use Rattle.rc_model.specs.Run.Numbers.{greatest_number};
@@ -10,7 +10,7 @@ use crate::image_error::ImageError;
 use rc_model::limits::{GREATEST_NUMBER, MOST_STAGES};
 use rc_model::{ImageFault, InputError};
 
-/// The byte that stands here, and those after it.
+/// Splits off the first byte.
 #[tactic(auto, using(crate::proofs::Digits::firsts))]
 pub(crate) fn first(bytes: &[u8]) -> Result<(u8, &[u8]), ImageError>
     ensures { Gives (λ x. (x.0, x.1.now)) result (first_by bytes.now) }
@@ -21,7 +21,7 @@ pub(crate) fn first(bytes: &[u8]) -> Result<(u8, &[u8]), ImageError>
     }
 }
 
-/// Whether a digit stands here.
+/// Whether the bytes begin with a digit.
 #[tactic(auto, using(crate::proofs::Digits::numerals))]
 fn begins_with_digit(bytes: &[u8]) -> bool
     ensures { result ≡ digit_here bytes.now }
@@ -32,7 +32,7 @@ fn begins_with_digit(bytes: &[u8]) -> bool
     }
 }
 
-/// Whether digits stand here, of which the first isn't a `0` before others.
+/// Whether the bytes begin with digits without a leading zero.
 #[tactic(auto, using(crate::proofs::Digits::numerals))]
 pub fn begins_number(bytes: &[u8]) -> bool
     ensures { result ≡ number_here bytes.now }
@@ -45,8 +45,8 @@ pub fn begins_number(bytes: &[u8]) -> bool
     }
 }
 
-/// The value of the digits that stand here, after others that are worth `value`, and what follows them.
-/// There is none where it is too large. A number that begins with no `0` has ten digits at most until then.
+/// Parses digits that follow others of this value, and returns the value and the rest. None if it is too large. A
+/// number without leading zeros has at most ten digits until then.
 #[cycle(number)]
 #[tactic(auto, using(crate::proofs::Digits::values))]
 fn number_from(value: usize, bytes: &[u8]) -> Option<(usize, &[u8])>
@@ -68,7 +68,7 @@ fn number_from(value: usize, bytes: &[u8]) -> Option<(usize, &[u8])>
     number_from(value, rest)
 }
 
-/// The value of the digits that stand here, where it isn't too large, and what follows them.
+/// Parses digits, and returns their value, if it isn't too large, and the rest.
 pub fn number(bytes: &[u8]) -> Option<(usize, &[u8])>
     ensures { MatchOption result (greatest_number < value_from 0 bytes.now)
         (λ x. (x.0 ≡ value_from 0 bytes.now) × (x.1.now ≡ after_digits bytes.now) × (x.0 ≤ greatest_number)) }
@@ -76,7 +76,7 @@ pub fn number(bytes: &[u8]) -> Option<(usize, &[u8])>
     number_from(0, bytes)
 }
 
-/// A number and the mark that follows it.
+/// Parses a number and the mark after it.
 #[tactic(auto, using(crate::proofs::Digits::counts))]
 pub(crate) fn count_at(mark: u8, bytes: &[u8]) -> Result<(usize, &[u8]), ImageError>
     ensures { Gives (λ x. (x.0, x.1.now)) result (number_by mark bytes.now) }
@@ -96,7 +96,7 @@ pub(crate) fn count_at(mark: u8, bytes: &[u8]) -> Result<(usize, &[u8]), ImageEr
     Ok((number, rest))
 }
 
-/// How many things a list has, where these are enough.
+/// Parses the length of a list, if it isn't too short.
 #[tactic(auto, unfolding(crate::specs::Steps::count_from))]
 pub(crate) fn count_from(least: usize, bytes: &[u8]) -> Result<(usize, &[u8]), ImageError>
     ensures { Gives (λ x. (x.0, x.1.now)) result (count_from least bytes.now) }
@@ -108,7 +108,7 @@ pub(crate) fn count_from(least: usize, bytes: &[u8]) -> Result<(usize, &[u8]), I
     Ok((count, rest))
 }
 
-/// How many stages stand before the last one.
+/// Parses the number of stages before the last one.
 #[tactic(auto, unfolding(crate::specs::Steps::stage_count))]
 pub(crate) fn stage_count(bytes: &[u8]) -> Result<(usize, &[u8]), ImageError>
     ensures { Gives (λ x. (x.0, x.1.now)) result (stage_count bytes.now) }

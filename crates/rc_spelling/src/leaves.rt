@@ -1,7 +1,6 @@
-//! What an image has where no command or argument is inside.
+//! Reading the parts of an image that have no command or argument inside.
 
-ghost use Rattle.std.specs.Prelude.{◌≡◌, IfOk, string_bytes};
-ghost use Rattle.rc_model.specs.Syntax.Tree as t;
+ghost use Rattle.std.specs.Prelude.{string_bytes};
 ghost use Rattle.rc_tree.specs.View.{arg_tree, redir_tree, piece_tree, pieces_tree};
 ghost use Rattle.rc_model.specs.Syntax.Faults.{Gives};
 ghost use Rattle.rc_spelling.specs.Steps.{string_by, text_by, only_by, word_by, quoted_by, copy_by, piece_by, here_by};
@@ -9,12 +8,12 @@ ghost use Rattle.rc_spelling.specs.Steps.{slot_by, background_by, logic_by, list
 
 use crate::image_error::ImageError;
 use crate::image_numbers::{count_at, count_from, first};
-use rc_lexemes::{boxed_arg, boxed_redir, copying};
 use rc_model::{ImageFault, InputError, Logic};
+use rc_nodes::{copying, here_doc, literal};
 use rc_tree::{Arg, Piece, Redir};
 use std::alloc::{AllocError, Global};
 
-/// This many bytes, where they are a text without byte 0.
+/// This many bytes, if they are a text without byte 0.
 #[tactic(auto, using(crate::proofs::Strings::strings))]
 fn string_at(alloc: Global, count: usize, bytes: &[u8]) -> Result<(String, &[u8]), ImageError>
     ensures { Gives (λ x. (string_bytes x.0, x.1.now)) result (string_by count bytes.now) }
@@ -32,21 +31,13 @@ fn string_at(alloc: Global, count: usize, bytes: &[u8]) -> Result<(String, &[u8]
     }
 }
 
-/// A text with its length in bytes.
+/// A text, after its length in bytes.
 #[tactic(auto, unfolding(crate::specs::Steps::text_by))]
 fn text_at(alloc: Global, bytes: &[u8]) -> Result<(String, &[u8]), ImageError>
     ensures { Gives (λ x. (string_bytes x.0, x.1.now)) result (text_by bytes.now) }
 {
     let (length, rest) = count_at(b':', bytes)?;
     string_at(alloc, length, rest)
-}
-
-/// A literal in a box.
-#[tactic(auto, using(rc_tree::specs::View::tree_Lit, std::proofs::lemmas::Grind::common_steps))]
-fn literal(alloc: Global, text: String, quoted: bool) -> Result<Box<Arg>, AllocError>
-    ensures { IfOk result (λ b. arg_tree b.value ≡ t.Lit (string_bytes text) quoted) }
-{
-    boxed_arg(alloc, Arg::Lit { text, quoted })
 }
 
 /// An unquoted word, which isn't empty.
@@ -70,7 +61,7 @@ pub(crate) fn quoted(alloc: Global, bytes: &[u8]) -> Result<(Box<Arg>, &[u8]), I
     Ok((literal(alloc, text, true)?, rest))
 }
 
-/// The descriptor of what a command writes.
+/// The descriptor that a command writes to.
 #[tactic(auto, unfolding(crate::specs::Steps::slot_by))]
 pub(crate) fn slot(bytes: &[u8]) -> Result<(u8, &[u8]), ImageError>
     ensures { Gives (λ x. (x.0, x.1.now)) result (slot_by bytes.now) }
@@ -115,7 +106,7 @@ pub(crate) fn copy(alloc: Global, bytes: &[u8]) -> Result<(Box<Redir>, &[u8]), I
     }
 }
 
-/// Whether an item runs in the background.
+/// The mark of an item: whether it runs in the background.
 #[tactic(auto, unfolding(crate::specs::Steps::background_by))]
 pub(crate) fn background(bytes: &[u8]) -> Result<(bool, &[u8]), ImageError>
     ensures { Gives (λ x. (x.0, x.1.now)) result (background_by bytes.now) }
@@ -128,7 +119,7 @@ pub(crate) fn background(bytes: &[u8]) -> Result<(bool, &[u8]), ImageError>
     }
 }
 
-/// How an operand is joined to those before it.
+/// The mark of an operand: how it is joined to those before it.
 #[tactic(auto, unfolding(crate::specs::Steps::logic_by))]
 pub(crate) fn logic(bytes: &[u8]) -> Result<(Logic, &[u8]), ImageError>
     ensures { Gives (λ x. (x.0, x.1.now)) result (logic_by bytes.now) }
@@ -181,5 +172,5 @@ pub(crate) fn here(alloc: Global, bytes: &[u8]) -> Result<(Box<Redir>, &[u8]), I
     ensures { Gives (λ x. (redir_tree x.0.value, x.1.now)) result (here_by bytes.now) }
 {
     let (pieces, rest) = pieces(alloc, bytes)?;
-    Ok((boxed_redir(alloc, Redir::Here(pieces))?, rest))
+    Ok((here_doc(alloc, pieces)?, rest))
 }

@@ -1,4 +1,4 @@
-//! The spelling of a tree, as images have it: it is written, and read again.
+//! The spelling of a tree in images: writing it, and reading it.
 #![tactic(auto)]
 
 mod image_error;
@@ -34,7 +34,7 @@ fn push_number(out: &mut String, number: usize) -> Result<(), AllocError>
     out.push_str(&digits)
 }
 
-/// Writes a text with its length in bytes.
+/// Writes a text, after its length in bytes.
 fn push_text(out: &mut String, text: &str) -> Result<(), AllocError>
     ensures { OnOk result (string_bytes out.new ≡ string_bytes out.old ++ text_image text.now) }
 {
@@ -43,7 +43,7 @@ fn push_text(out: &mut String, text: &str) -> Result<(), AllocError>
     out.push_str(text)
 }
 
-/// Writes how many things a list has.
+/// Writes the length of a list.
 fn push_count(out: &mut String, count: usize) -> Result<(), AllocError>
     ensures { OnOk result (string_bytes out.new ≡ string_bytes out.old ++ list_image count []) }
 {
@@ -51,21 +51,21 @@ fn push_count(out: &mut String, count: usize) -> Result<(), AllocError>
     out.push_str(",")
 }
 
-/// The mark of a word: a quoted one has another.
+/// The mark of a word, which is different for a quoted one.
 fn literal_mark(quoted: bool) -> &'static str
     ensures { result.now ≡ literal_mark quoted }
 {
     if quoted { "q" } else { "w" }
 }
 
-/// The mark of an item: one that runs in the background has another.
+/// The mark of an item, which is different in the background.
 fn item_mark(background: bool) -> &'static str
     ensures { result.now ≡ item_mark background }
 {
     if background { "&" } else { ";" }
 }
 
-/// The mark of `&&` and that of `||`.
+/// The marks of `&&` and `||`.
 fn logic_mark(logic: Logic) -> &'static str
     ensures { result.now ≡ logic_mark logic }
 {
@@ -75,7 +75,7 @@ fn logic_mark(logic: Logic) -> &'static str
     }
 }
 
-/// Writes how a file is opened, and as which descriptor.
+/// Writes the mode of an opened file, and its descriptor.
 fn push_opening(out: &mut String, mode: Mode, slot: u8) -> Result<(), AllocError>
     ensures { OnOk result (string_bytes out.new ≡ string_bytes out.old ++ opening_mark mode slot) }
 {
@@ -121,8 +121,7 @@ fn push_pieces(out: &mut String, pieces: &[Piece]) -> Result<(), AllocError>
     Ok(())
 }
 
-/// Writes the spelling of a command after what stands there. After an error the text holds part of a spelling, and is
-/// only fit to be dropped.
+/// Appends the spelling of a command. After an error the text has a part of a spelling, and can only be dropped.
 #[cycle(spell)]
 #[tactic(auto, using(crate::proofs::Spelling::spelling))]
 pub fn push_spelling(out: &mut String, cmd: &Cmd) -> Result<(), AllocError>
@@ -209,7 +208,7 @@ fn push_and_or(out: &mut String, first: &Cmd, links: &[(Logic, Cmd)]) -> Result<
     push_links(out, links)
 }
 
-/// Writes a tag, a condition and what it governs.
+/// Writes a tag, a condition and the command that it governs.
 #[cycle(spell)]
 fn push_conditional(
     out: &mut String,

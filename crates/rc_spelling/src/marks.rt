@@ -1,4 +1,4 @@
-//! The marks that nodes begin with.
+//! The marks at the beginning of nodes.
 
 ghost use Rattle.std.specs.Prelude.{◌≡◌};
 ghost use Rattle.rc_model.specs.Syntax.Faults.{Gives};

@@ -1,4 +1,4 @@
-//! Reads nodes, each with as many levels as are left. Each function answers what it read and the bytes after it.
+//! Reading nodes, each with as many levels as are left. Each function returns what it read and the bytes after it.
 
 ghost use Rattle.std.specs.Prelude.{true};
 ghost use Rattle.rc_model.specs.Handed.TreeReading.{cmd_at, arg_at};
@@ -15,12 +15,12 @@ use crate::leaves::{background, copy, here, logic, quoted, slot, word};
 use crate::marks::{arg_mark, cmd_mark, redir_mark};
 use crate::nodes::{and_or, concat, pipeline, with_bodies, with_body, with_name, with_words};
 use crate::shape::{ArgShape, CmdShape, FrontShape, RedirShape, SubjectShape};
-use rc_lexemes::{
+use rc_model::{ImageFault, InputError, Logic, Mode};
+use rc_nodes::{
     assigned, back, defined, empty, for_all, for_each, matching, opening, paren, push_arg,
     push_branch, push_item, push_link, push_pair, push_redir, push_stage, redirected, seq,
     subscripted, switched,
 };
-use rc_model::{ImageFault, InputError, Logic, Mode};
 use rc_tree::{Arg, Branch, Cmd, Item, Redir, Stage};
 use std::alloc::Global;
 
@@ -119,7 +119,7 @@ fn read_front(
     }
 }
 
-/// What follows an argument that was read.
+/// Reads what follows an argument that was read.
 #[cycle(read)]
 #[tactic(auto, using(std::proofs::lemmas::Grind::common_steps), unfolding(crate::specs::Reading::subject_by))]
 fn read_subject(
@@ -226,7 +226,7 @@ fn read_redir(alloc: Global, left: usize, bytes: &[u8]) -> Result<(Box<Redir>, &
     }
 }
 
-/// Arguments, this many at least.
+/// Reads arguments, at least this many.
 #[cycle(read)]
 #[tactic(auto, using(crate::proofs::Turns::lists), unfolding(crate::specs::Steps::args_by))]
 fn read_args(
@@ -298,7 +298,7 @@ fn read_redirs(alloc: Global, left: usize, bytes: &[u8]) -> Result<(Vec<Redir>, 
     Ok((redirs, rest))
 }
 
-/// The stages before the last one.
+/// Reads the stages before the last one.
 #[cycle(read)]
 #[tactic(auto, using(crate::proofs::Turns::stages))]
 fn read_stages(alloc: Global, left: usize, bytes: &[u8]) -> Result<(Vec<Stage>, &[u8]), ImageError>
@@ -315,7 +315,7 @@ fn read_stages(alloc: Global, left: usize, bytes: &[u8]) -> Result<(Vec<Stage>, 
     Ok((stages, rest))
 }
 
-/// The operands after the first one.
+/// Reads the operands after the first one.
 #[cycle(read)]
 #[tactic(auto, using(crate::proofs::Turns::links))]
 fn read_links(

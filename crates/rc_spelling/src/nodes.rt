@@ -1,4 +1,4 @@
-//! Nodes by their shape, and nodes that only an image spells as they are.
+//! Nodes by their shape, and nodes with a spelling of their own in images.
 
 ghost use Rattle.std.specs.Prelude.{◌≡◌, IfOk};
 ghost use Rattle.rc_model.specs.Syntax.Tree as t;
@@ -6,15 +6,15 @@ ghost use Rattle.rc_tree.specs.View.{cmd_tree, arg_tree, args_tree, stages_tree,
 ghost use Rattle.rc_spelling.specs.Nodes.{body_node, bodies_node, words_node, name_node};
 
 use crate::shape::{BodiesShape, BodyShape, NameShape, WordsShape};
-use rc_lexemes::{
+use rc_model::Logic;
+use rc_nodes::{
     block, boxed_arg, boxed_cmd, conditional, count, flat, if_not, not, repeated, simple, subshell,
     undefined, variable,
 };
-use rc_model::Logic;
 use rc_tree::{Arg, Cmd, Stage};
 use std::alloc::{AllocError, Global};
 
-/// The node of one command.
+/// A node that has one command.
 #[tactic(auto, unfolding(crate::specs::Nodes::body_node))]
 pub(crate) fn with_body(
     alloc: Global,
@@ -31,7 +31,7 @@ pub(crate) fn with_body(
     }
 }
 
-/// The node of two commands.
+/// A node that has two commands.
 #[tactic(auto, unfolding(crate::specs::Nodes::bodies_node))]
 pub(crate) fn with_bodies(
     alloc: Global,
@@ -47,7 +47,7 @@ pub(crate) fn with_bodies(
     }
 }
 
-/// The node of arguments.
+/// A node that has arguments.
 #[tactic(auto, unfolding(crate::specs::Nodes::words_node))]
 pub(crate) fn with_words(
     alloc: Global,
@@ -62,7 +62,7 @@ pub(crate) fn with_words(
     }
 }
 
-/// The node of the name of a variable.
+/// A node that has the name of a variable.
 #[tactic(auto, unfolding(crate::specs::Nodes::name_node))]
 pub(crate) fn with_name(
     alloc: Global,

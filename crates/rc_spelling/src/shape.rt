@@ -15,7 +15,7 @@ pub(crate) enum CmdShape {
     Body(BodyShape),
     /// Two commands.
     Bodies(BodiesShape),
-    /// Arguments, one at least.
+    /// Arguments, at least one.
     Words(WordsShape),
     /// A list and a command.
     Front(FrontShape),
@@ -23,7 +23,7 @@ pub(crate) enum CmdShape {
     Subject(SubjectShape),
 }
 
-/// A node that is made of one command.
+/// A node that has one command.
 #[derive(Clone, Copy)]
 pub(crate) enum BodyShape {
     Not,
@@ -32,21 +32,21 @@ pub(crate) enum BodyShape {
     Brace,
 }
 
-/// A node that is made of two commands.
+/// A node that has two commands.
 #[derive(Clone, Copy)]
 pub(crate) enum BodiesShape {
     If,
     While,
 }
 
-/// A node that is made of arguments.
+/// A node that has arguments.
 #[derive(Clone, Copy)]
 pub(crate) enum WordsShape {
     Simple,
     Undefine,
 }
 
-/// A node that is made of a list and a command.
+/// A node that has a list and a command.
 #[derive(Clone, Copy)]
 pub(crate) enum FrontShape {
     Assign,
@@ -71,7 +71,7 @@ pub(crate) enum ArgShape {
     Word,
     /// The text of a quoted word.
     Quoted,
-    /// Two parts at least.
+    /// Parts, at least two.
     Concat,
     /// Arguments.
     Paren,
@@ -83,7 +83,7 @@ pub(crate) enum ArgShape {
     Back,
 }
 
-/// A node that is made of the name of a variable.
+/// A node that has the name of a variable.
 #[derive(Clone, Copy)]
 pub(crate) enum NameShape {
     Var,

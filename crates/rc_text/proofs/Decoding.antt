@@ -6,7 +6,7 @@ use Rattle.std.specs.List.{list_any}
 use Rattle.std.specs.Str.{IsUtf8}
 use Rattle.std.specs.Str.Lossy.{utf8_lossy}
 use Rattle.std.proofs.lemmas.Str.{utf8_lossy-IsUtf8}
-use Rattle.rc_model.specs.Run.Acts.{text_of}
+use Rattle.rc_model.specs.Run.Acts.{output_text}
 use Rattle.bstr.proofs.lemmas.LossyLemmas.{lossy_chars-utf8_lossy}
 
 pub ruleset decoding = (lossy_chars-utf8_lossy, common_steps)
@@ -26,5 +26,5 @@ all_kept [] h = refl
 all_kept (b ∷ bs) h = kept_by b bs (filter (λ c. not (c == 0)) bs) (b == 0) (list_any (λ c. c == 0) bs) (all_kept bs) h
 
 -- bytes that are a text without a byte 0 are that text
-pub whole_text : (bytes : List ℕ) → list_any (λ b. b == 0) bytes ≡ false → IsUtf8 bytes → bytes ≡ text_of bytes
+pub whole_text : (bytes : List ℕ) → list_any (λ b. b == 0) bytes ≡ false → IsUtf8 bytes → bytes ≡ output_text bytes
 whole_text bytes none text = sym (ap utf8_lossy (all_kept bytes none) ∙ utf8_lossy-IsUtf8 bytes text)

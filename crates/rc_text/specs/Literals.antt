@@ -13,7 +13,7 @@ mark_of ch = (ch.c, ch.pat)
 abbrev pub marks : List Ch → List (ℕ × Bool)
 marks chs = map mark_of chs
 
--- the characters of a text are kept where a pattern character is among them
+-- the characters of a text are kept if there is a pattern character among them
 abbrev pub KeepsPatterns : (text : List ℕ) (quoted : Bool) → Option (Vec Ch Global) → Type 0
 KeepsPatterns text quoted None = has_pattern (written text quoted) ≡ false
 KeepsPatterns text quoted (Some chars) =

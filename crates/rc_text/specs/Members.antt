@@ -15,7 +15,7 @@ pub record IsCut (separators text front back : List ℕ) : Type 0 where
   pub is : among separators c ≡ true
   pub split : text ≡ front ++ (encode_utf8 c ++ back)
 
--- the longest runs of characters that are no separators
+-- the longest runs of characters that aren't separators
 abbrev pub members_in : (separators text : List ℕ) → List (List ℕ)
 members_in separators text =
     map encode_utf8_all (filter (λ run. not (length run == 0)) (slice_split (among separators) (chars text)))

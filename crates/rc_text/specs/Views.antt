@@ -13,8 +13,8 @@ word_of (Marked text) = written (string_bytes text) false
 word_of (Mixed mixed) = marks mixed.value.chars.items
 word_of (Literal literal) = written literal.value.0 literal.value.1
 
--- The letters are marked as they say: where all are marked, none is a pattern character;
--- characters with marks of their own are those of the text.
+-- The letters are marked as their variant tells: if all are marked, none is a pattern character; characters with marks
+-- of their own are those of the text.
 abbrev pub AreMarked : Letters → Type 0
 AreMarked (Plain text) = Unit {0}
 AreMarked (Marked text) = has_pattern (written (string_bytes text) false) ≡ false

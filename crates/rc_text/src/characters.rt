@@ -4,7 +4,7 @@ ghost use Rattle.std.specs.Char.{encode_utf8};
 ghost use Rattle.std.specs.Str.{IsUtf8, chars};
 ghost use Rattle.rc_model.specs.Syntax.Tokens.{is_name_char};
 
-/// The first character of the text, and what follows it.
+/// Splits off the first character of the text.
 pub fn first_char(text: &str) -> Option<(char, &str)>
     ensures chars { MatchOption result (chars text.now ≡ []) (λ x. chars text.now ≡ x.0 ∷ chars x.1.now) }
     ensures bytes { MatchOption result (text.now ≡ []) (λ x. text.now ≡ encode_utf8 x.0 ++ x.1.now) }
@@ -16,7 +16,7 @@ pub fn first_char(text: &str) -> Option<(char, &str)>
     Some((first, rest.as_str()))
 }
 
-/// Whether the character may stand in an unquoted name.
+/// Whether the character is allowed in an unquoted name.
 pub fn is_name_char(c: char) -> bool
     ensures { result ≡ is_name_char c }
 {

@@ -8,7 +8,7 @@ use crate::words::Word;
 use rc_model::{InputError, ListFault};
 use std::alloc::{AllocError, Global};
 
-/// Lists of equal length are joined pairwise. Otherwise the one word of a list goes to each word of the other.
+/// Joins lists of equal length pairwise. Otherwise the one word of a list is joined to each word of the other.
 pub fn concat(alloc: Global, left: &List, right: &List) -> Result<List, InputError<ListFault>>
     ensures { MatchResult result (λ list. concatenated left.now right.now ≡ Ok list)
         (λ error. Fails error (concatenated left.now right.now)) }
@@ -16,7 +16,7 @@ pub fn concat(alloc: Global, left: &List, right: &List) -> Result<List, InputErr
     concat_words(alloc, left.words(), right.words())
 }
 
-/// Words of equal number are joined pairwise. Otherwise the one word of a side goes to each word of the other.
+/// Joins equally many words pairwise. Otherwise the one word of a side is joined to each word of the other.
 pub fn concat_words(
     alloc: Global,
     left: &[Word],

@@ -42,7 +42,7 @@ impl List {
         self.0.as_slice()
     }
 
-    /// The words by themselves.
+    /// Returns the words by themselves.
     pub fn into_words(self) -> Result<Vec<Word>, AllocError>
         ensures { IfOk result (λ words. words.items ≡ self) }
     {

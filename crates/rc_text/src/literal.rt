@@ -1,4 +1,4 @@
-//! Literal words: those that stand in a script. All evaluations of a word share its literal.
+//! Literal words: those that a script has. All evaluations of a word share its literal.
 
 ghost use Rattle.std.specs.Prelude.{◌≡◌, ◌++◌, false, true, map, IfOk, MatchOption, OnOk};
 ghost use Rattle.std.specs.List.{list_any};
@@ -9,19 +9,19 @@ ghost use Rattle.rc_text.specs.Literals.{mark_of, marks, KeepsPatterns};
 use std::alloc::{AllocError, Global};
 use std::marker::Model;
 
-/// A character of a word. Where `pat` marks it, it may be a pattern character.
+/// A character of a word. If `pat` marks it, it may be a pattern character.
 #[derive(Clone, Copy)]
 pub struct Ch {
     pub c: char,
     pub pat: bool,
 }
 
-/// A word as it is written: a text, and whether it is quoted.
+/// A word of a script: a text, and whether it is quoted.
 #[derive(Drop)]
 pub struct Literal {
     text: String,
     quoted: bool,
-    /// The characters, where a pattern character is among them.
+    /// The characters, if there is a pattern character among them.
     chars: Option<Vec<Ch>>,
 }
 
@@ -55,7 +55,7 @@ fn is_pattern(ch: Ch) -> bool
     ch.pat && is_pattern_char(ch.c)
 }
 
-/// Whether a marked `*`, `?` or `[` is among the characters.
+/// Whether there is a marked `*`, `?` or `[` among the characters.
 pub fn any_pattern(chars: &[Ch]) -> bool
     ensures { result ≡ has_pattern (marks chars.now) }
 {
@@ -78,7 +78,7 @@ fn all_marked(alloc: Global, text: &str) -> Result<Vec<Ch>, AllocError>
     Ok(all)
 }
 
-/// The characters of a word, where a pattern character is among them.
+/// The characters of a word, if there is a pattern character among them.
 #[tactic(auto, using(crate::proofs::LiteralMarks::patterns_of))]
 fn pattern_chars(alloc: Global, text: &str, quoted: bool) -> Result<Option<Vec<Ch>>, AllocError>
     ensures { IfOk result (λ chars. KeepsPatterns text.now quoted chars) }
@@ -116,7 +116,7 @@ impl Literal {
         self.quoted
     }
 
-    /// The characters, where a pattern character is among them.
+    /// The characters, if there is a pattern character among them.
     pub fn pattern(&self) -> Option<&[Ch]>
         ensures { MatchOption result (has_pattern (written self.now.0 self.now.1) ≡ false)
             (λ chars. (marks chars.now ≡ written self.now.0 self.now.1)

@@ -1,4 +1,4 @@
-//! The members of a text, cut off one after the other.
+//! The members of a text, one after the other.
 ghost use Rattle.std.specs.Prelude.{◌≡◌, [], ◌∷◌, string_bytes, IfOk, MatchOption};
 ghost use Rattle.std.specs.Str.{IsUtf8, NoCharPasses};
 ghost use Rattle.rc_model.specs.Run.Lists.{split};
@@ -8,7 +8,7 @@ use crate::separators::Separators;
 use std::alloc::{AllocError, Global};
 use std::marker::Model;
 
-/// The members of a text that are still to come: the longest runs of characters that are not among the separators.
+/// An iterator over the members of a text: the longest runs of characters that are not separators.
 #[derive(Drop)]
 pub struct Members<'a> {
     rest: &'a str,
@@ -28,7 +28,7 @@ impl<'a> Model for Members<'a> {
 }
 
 impl<'a> Members<'a> {
-    /// The members of a text between the characters of another one.
+    /// The members of a text, separated by the characters of another.
     pub fn new(alloc: Global, text: &'a str, separators: &str) -> Result<Members<'a>, AllocError>
         ensures { IfOk result (λ members. members ≡ split text.now separators.now) }
     {
@@ -39,7 +39,7 @@ impl<'a> Members<'a> {
         })
     }
 
-    /// The next member, which is taken out.
+    /// Returns the next member, and removes it.
     pub fn next(&mut self) -> Option<&'a str>
         ensures { MatchOption result ((self.old ≡ []) × (self.new ≡ [])) (λ member. self.old ≡ member.now ∷ self.new) }
     {
@@ -49,7 +49,7 @@ impl<'a> Members<'a> {
     }
 }
 
-/// The first member of the text, and what follows it.
+/// Splits off the first member of the text.
 fn first_member<'a>(text: &'a str, separators: &Separators) -> Option<(&'a str, &'a str)>
     requires { IsUtf8 text.now }
     ensures { MatchOption result (members_in separators.now text.now ≡ [])
@@ -69,7 +69,7 @@ fn first_member<'a>(text: &'a str, separators: &Separators) -> Option<(&'a str, 
     Some((rest, ""))
 }
 
-/// The text before the first separator, and what follows it.
+/// Splits the text at the first separator.
 fn cut<'a>(text: &'a str, separators: &Separators) -> Option<(&'a str, &'a str)>
     ensures { MatchOption result (NoCharPasses (among separators.now) text.now)
         (λ parts. IsCut separators.now text.now parts.0.now parts.1.now) }
@@ -102,7 +102,7 @@ impl Output {
         Output { text, separators }
     }
 
-    /// Output without a member.
+    /// Output with no members.
     #[tactic(auto, using(crate::proofs::Runs::no_members))]
     pub fn empty(alloc: Global) -> Output
         ensures { result ≡ [] }

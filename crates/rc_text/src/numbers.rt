@@ -1,9 +1,9 @@
-//! Numbers as scripts write them.
+//! Numbers in scripts.
 ghost use Rattle.std.specs.Prelude.{◌≡◌};
 ghost use Rattle.std.specs.List.{list_all};
 ghost use Rattle.rc_model.specs.Run.Numbers.{is_digit, number_of};
 
-/// The number that the text writes, in digits alone and not above 4,294,967,295.
+/// Parses a number, of digits alone and not above 4,294,967,295.
 pub fn number_of(text: &str) -> Option<u32>
     ensures { result ≡ number_of text.now }
 {

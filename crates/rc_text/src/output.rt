@@ -1,16 +1,16 @@
-//! What the output of a command becomes.
+//! Output of a command, as text.
 ghost use Rattle.std.specs.Prelude.{◌≡◌, map, string_bytes, IfOk};
-ghost use Rattle.rc_model.specs.Run.Acts.{text_of};
+ghost use Rattle.rc_model.specs.Run.Acts.{output_text};
 ghost use Rattle.rc_model.specs.Run.Lists.{split};
 
 use crate::members::Members;
 use bstr::ByteSlice;
 use std::alloc::{AllocError, Global};
 
-/// The bytes but those that are 0 as text, with U+FFFD for what is no UTF-8.
+/// Decodes UTF-8, without NUL bytes and with U+FFFD for each invalid sequence.
 #[tactic(auto, using(crate::proofs::Decoding::decoding))]
 pub fn lossy(alloc: Global, bytes: &[u8]) -> Result<String, AllocError>
-    ensures { IfOk result (λ text. string_bytes text ≡ text_of bytes.now) }
+    ensures { IfOk result (λ text. string_bytes text ≡ output_text bytes.now) }
 {
     let mut text = String::new(alloc);
     if !bytes.contains(&0) {
@@ -22,11 +22,11 @@ pub fn lossy(alloc: Global, bytes: &[u8]) -> Result<String, AllocError>
     Ok(text)
 }
 
-/// The bytes but those that are 0 as text, with U+FFFD for what is no UTF-8. The bytes are used up: where they are a
-/// text without a byte 0, none is copied.
+/// Decodes UTF-8, without NUL bytes and with U+FFFD for each invalid sequence. If the bytes are a text without NUL,
+/// none is copied.
 #[tactic(auto, using(crate::proofs::Decoding::whole_text))]
 pub fn into_lossy(alloc: Global, bytes: Vec<u8>) -> Result<String, AllocError>
-    ensures { IfOk result (λ text. string_bytes text ≡ text_of bytes.items) }
+    ensures { IfOk result (λ text. string_bytes text ≡ output_text bytes.items) }
 {
     if bytes.contains(&0) {
         return lossy(alloc, &bytes);
@@ -37,7 +37,7 @@ pub fn into_lossy(alloc: Global, bytes: Vec<u8>) -> Result<String, AllocError>
     }
 }
 
-/// The longest runs of characters that are not among the separators.
+/// Returns the longest runs of characters that are not separators.
 pub fn split(alloc: Global, text: &str, separators: &str) -> Result<Vec<String>, AllocError>
     ensures { IfOk result (λ members. map string_bytes members.items ≡ split text.now separators.now) }
 {

@@ -12,7 +12,7 @@ pub fn push_quoted(out: &mut String, text: &str) -> Result<(), AllocError>
     out.push_str(&quote(*out.allocator(), text)?)
 }
 
-/// The text as a quoted word.
+/// Quotes a text.
 #[tactic(auto, using(crate::proofs::Quotes::quoting))]
 pub fn quote(alloc: Global, text: &str) -> Result<String, AllocError>
     ensures { IfOk result (λ quoted. string_bytes quoted ≡ quoted_text text.now) }
@@ -30,7 +30,7 @@ pub fn quote(alloc: Global, text: &str) -> Result<String, AllocError>
     Ok(quoted)
 }
 
-/// What a quoted word says.
+/// Returns the text of a quoted word.
 pub fn unquote(alloc: Global, word: &[u8]) -> Result<Vec<u8>, AllocError>
     ensures { IfOk result (λ v. v.items ≡ unquoted_text word.now) }
 {

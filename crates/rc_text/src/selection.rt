@@ -5,7 +5,7 @@ ghost use Rattle.rc_model.specs.Run.Lists.{from_place, front, member, selected, 
 use crate::numbers::number_of;
 use std::alloc::{AllocError, Global};
 
-/// The members that subscripts `m`, `m-n` and `m-` name, in the order of the subscripts.
+/// Selects the members that subscripts `m`, `m-n` and `m-` name, in the order of the subscripts.
 pub fn select(
     alloc: Global,
     value: &[String],

@@ -55,8 +55,8 @@ impl Separators {
         c <= self.greatest && self.all.iter().any(|separator| *separator == c)
     }
 
-    /// How many bytes at the start of a text are sure to hold no separator, since each is greater than all separators.
-    /// Where one of those is not ASCII, no byte is sure.
+    /// The length of a prefix that has no separator, because each of its bytes is greater than all separators. It is 0
+    /// if one of those is not ASCII.
     pub(crate) fn skipped(&self, text: &str) -> usize
         ensures bound { result ≤ length text.now }
         ensures boundary { IsCharBoundary text.now result }
@@ -69,7 +69,7 @@ impl Separators {
     }
 }
 
-/// How many bytes at the start are greater than the limit.
+/// Counts the leading bytes that are greater than the limit.
 fn bytes_above(bytes: &[u8], limit: u8) -> usize
     ensures bound { result ≤ length bytes.now }
     ensures above { All (λ b. limit < b) (take result bytes.now) }

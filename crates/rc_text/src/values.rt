@@ -5,7 +5,7 @@ ghost use Rattle.rc_model.specs.Syntax.Text.{spaced};
 
 use std::alloc::{AllocError, Global};
 
-/// The members joined by spaces.
+/// Joins the members by spaces.
 pub fn flat(alloc: Global, value: &[String]) -> Result<String, AllocError>
     ensures { IfOk result (λ text. string_bytes text ≡ spaced (map string_bytes value.now)) }
 {

@@ -22,13 +22,13 @@ pub(crate) struct MixedText {
 /// A text, and which of its characters are marked.
 #[derive(Drop)]
 pub(crate) enum Letters {
-    /// None of them.
+    /// No character is marked.
     Plain(String),
-    /// All of them, and none is a pattern character.
+    /// All characters are marked, and none is a pattern character.
     Marked(String),
-    /// Each has a mark of its own. Few words are such, and the box keeps the others small.
+    /// Each character has its own mark. Few words are mixed, and the box keeps the others small.
     Mixed(Box<MixedText>),
-    /// A word as a script has it, which is shared with all its evaluations.
+    /// A word of a script, shared by all its evaluations.
     Literal(Rc<Literal>),
 }
 
@@ -57,7 +57,7 @@ impl MadeWith<Global> for Word {
     }
 }
 
-/// One text after the other.
+/// Joins two texts.
 pub fn joined_text(alloc: Global, left: &str, right: &str) -> Result<String, AllocError>
     ensures { IfOk result (λ text. string_bytes text ≡ left.now ++ right.now) }
 {
@@ -92,7 +92,7 @@ impl Word {
         Ok(Word(Letters::Mixed(mixed)))
     }
 
-    /// A text as it is written. Each character of an unquoted one is marked, and none of a quoted one.
+    /// A word of a script. Each character of an unquoted one is marked, and none of a quoted one.
     pub fn written(alloc: Global, text: &str, quoted: bool) -> Result<Word, AllocError>
         ensures { IfOk result (λ word. word ≡ written text.now quoted) }
     {
@@ -100,14 +100,14 @@ impl Word {
         Ok(Word(Letters::Literal(Rc::new(alloc, literal)?)))
     }
 
-    /// A word of a script, which is not copied. It fails only where the literal has too many owners.
+    /// A word that shares its literal. It fails only if the literal has too many owners.
     pub fn literal(literal: &Rc<Literal>) -> Result<Word, AllocError>
         ensures { IfOk result (λ word. word ≡ written literal.now.value.0 literal.now.value.1) }
     {
         Ok(Word(Letters::Literal(literal.clone()?)))
     }
 
-    /// Two words in one.
+    /// Joins two words.
     pub(crate) fn joined(alloc: Global, left: &Word, right: &Word) -> Result<Word, AllocError>
         ensures { IfOk result (λ word. word ≡ left.now ++ right.now) }
     {
@@ -118,8 +118,7 @@ impl Word {
         }
     }
 
-    /// The word with the characters of another behind its own. If all of them have one mark, the text of the first grows
-    /// in place.
+    /// Appends the characters of another word. If all of them have the same mark, the text of the first grows in place.
     pub fn followed_by(self, alloc: Global, next: &Word) -> Result<Word, AllocError>
         ensures { IfOk result (λ word. word ≡ self ++ next.now) }
     {
@@ -148,7 +147,7 @@ impl Word {
         }
     }
 
-    /// The mark of all its characters, where none of them is a pattern character.
+    /// The mark of all its characters, if none of them is a pattern character.
     fn common_mark(&self) -> Option<bool>
         ensures { IfSome result (λ mark. HaveMark mark self.now × (has_pattern self.now ≡ false)) }
     {
@@ -198,7 +197,7 @@ impl Word {
         }
     }
 
-    /// The characters without their marks. Only those of a literal are copied.
+    /// Returns the characters without their marks. Only those of a literal are copied.
     pub fn into_text(self, alloc: Global) -> Result<String, AllocError>
         ensures { IfOk result (λ text. string_bytes text ≡ word_text self) }
     {
@@ -210,7 +209,7 @@ impl Word {
         }
     }
 
-    /// The same characters with no marks. Only those of a literal that is not quoted are copied.
+    /// Removes the marks. Only the characters of a literal that is not quoted are copied.
     pub fn unmarked(self, alloc: Global) -> Result<Word, AllocError>
         ensures { IfOk result (λ word. word ≡ unmarked self) }
     {
@@ -225,7 +224,7 @@ impl Word {
         }
     }
 
-    /// The characters, where a pattern character is among them.
+    /// The characters, if there is a pattern character among them.
     pub fn pattern(&self) -> Option<&[Ch]>
         ensures { MatchOption result (has_pattern self.now ≡ false)
             (λ chars. (marks chars.now ≡ self.now) × (has_pattern self.now ≡ true)) }
@@ -239,14 +238,14 @@ impl Word {
         }
     }
 
-    /// Whether a marked `*`, `?` or `[` is among the characters.
+    /// Whether there is a marked `*`, `?` or `[` among the characters.
     pub fn has_pattern(&self) -> bool
         ensures { result ≡ has_pattern self.now }
     {
         self.pattern().is_some()
     }
 
-    /// The same characters with the same marks.
+    /// Copies the characters and their marks.
     pub fn copy(&self) -> Result<Word, AllocError>
         ensures { IfOk result (λ copy. copy ≡ self.now) }
     {

@@ -1,4 +1,4 @@
--- The tree that a command stands for: what it holds, without where it lies in memory.
+-- The tree that a command represents: its content, without its layout in memory.
 use Rattle.std.specs.Prelude.{◌≡◌, refl, ℕ, Bool, List, [], ◌∷◌, ◌++◌, string_bytes}
 use Rattle.std.specs.declared.alloc.Global.{Global}
 use Rattle.std.specs.declared.vec.Vec.{Vec}
@@ -79,7 +79,7 @@ unfoldable mutual
   redir_tree (r.Copy x y) = t.Copy x y
   redir_tree (r.Here ps) = t.Here (pieces_tree ps.items)
 
-  -- arguments, in the order in which they lie in memory
+  -- arguments, in the order in which they are in memory
   arg_row : {m : _} → Row_of-Arg m → Many t.arg
   arg_row end_of-Arg = none
   arg_row (more_of-Arg x k) = more (arg_tree x) (arg_row k)
@@ -114,7 +114,7 @@ unfoldable mutual
   branch_row end_of-Branch = none
   branch_row (more_of-Branch s j p x k) = more (t.Branch (arg_row j) (cmd_tree x)) (branch_row k)
 
--- a list of arguments, as loops meet it; so are the lists of other things below
+-- a list of arguments, as loops see it; so are the lists below
 abbrev pub args_tree : List Arg → Many t.arg
 args_tree = nodes arg_tree
 
@@ -393,8 +393,8 @@ pub nodes_push : {X : Type 0} {s : Sort} (f : X → Node s) (xs : List X) (x : X
 nodes_push f [] x = refl
 nodes_push f (y ∷ ys) x = ap (more (f y)) (nodes_push f ys x)
 
--- what a loop needs that goes along a list and makes another
+-- the rules for a loop over a list that makes another
 pub ruleset tree_lists = (nodes_push, common_steps)
 
--- what a walk along the tree needs
+-- the rules for a walk over the tree
 pub ruleset tree_walks = (tree_nodes, common_steps)

@@ -11,7 +11,7 @@ use crate::types::{Arg, Branch, Cmd, Item, Piece, Redir, Stage};
 use rc_model::Logic;
 use std::alloc::{AllocError, Global};
 
-/// An equal tree, on its own memory.
+/// Clones the tree, in memory of its own.
 #[cycle(clone)]
 #[tactic(auto, using(crate::specs::View::tree_nodes))]
 pub fn clone_tree(alloc: Global, cmd: &Cmd) -> Result<Cmd, AllocError>

@@ -1,4 +1,4 @@
-//! How many levels a tree has.
+//! The depth of a tree.
 
 ghost use Rattle.std.specs.Prelude.{◌≡◌, nat_le};
 ghost use Rattle.rc_model.specs.Syntax.WellFormed.{depth};

@@ -1,4 +1,4 @@
-//! The tree of a script: its types, copies, depth and well-formedness.
+//! The abstract syntax tree of a script: its types, copies, depth and well-formedness.
 #![tactic(auto)]
 
 mod clone;

@@ -1,4 +1,4 @@
-//! The tree of a script: its types.
+//! The types of the abstract syntax tree.
 
 use rc_model::{Logic, Mode};
 
@@ -9,10 +9,10 @@ pub enum Cmd {
     Empty,
     Seq(Vec<Item>),
     Simple(Vec<Arg>),
-    /// With `Empty` inside it is a plain assignment, else the assignments are local to the command.
+    /// With an `Empty` command they are plain assignments, else they are local to the command.
     Assign(Vec<(Arg, Arg)>, Box<Cmd>),
     Redirect(Vec<Redir>, Box<Cmd>),
-    /// The last stage stands apart.
+    /// The last stage is separate.
     Pipeline(Vec<Stage>, Box<Cmd>),
     AndOr(Box<Cmd>, Vec<(Logic, Cmd)>),
     Not(Box<Cmd>),
@@ -20,7 +20,7 @@ pub enum Cmd {
     If(Box<Cmd>, Box<Cmd>),
     IfNot(Box<Cmd>),
     While(Box<Cmd>, Box<Cmd>),
-    /// Over `$*`.
+    /// A `for` over `$*`.
     ForAll(Arg, Box<Cmd>),
     For(Arg, Vec<Arg>, Box<Cmd>),
     Switch(Arg, Vec<Branch>),
@@ -77,7 +77,7 @@ pub enum Redir {
     Here(Vec<Piece>),
 }
 
-/// A piece of a here document: a text as it stands, or the name of a variable.
+/// A piece of a here document: a literal text, or the name of a variable.
 #[derive(Drop)]
 pub enum Piece {
     Text(String),

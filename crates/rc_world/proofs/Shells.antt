@@ -4,7 +4,7 @@ use Rattle.std.specs.Prelude.{Result as Outcome}
 use Rattle.rc_model.specs.Run.Calls.{Event}
 use Rattle.rc_model.specs.Run.Plans.{Plan, done_with, Ran}
 use Rattle.rc_model.specs.Run.State.{State}
-use Rattle.rc_model.specs.Run.Shell.{Result, Next, Exit, Shell, under, leaves, ◌>>=◌}
+use Rattle.rc_model.specs.Run.Shell.{ShellResult, Next, Exit, Shell, under, leaves, ◌>>=◌}
 use Rattle.law_plans.proofs.Runs.{ran_under, halted_under, ran_next}
 use Rattle.rc_world.specs.Comes.{Left, for_memory, by_halt, Comes}
 use Rattle.rc_world.specs.declared.starts.Stop.{Stop}
@@ -12,25 +12,25 @@ use Rattle.rc_world.specs.declared.starts.Stop.TheVariants.{NoMemory, Halt}
 use Rattle.rc_world.proofs.Joins.{left_join}
 
 -- the piece was left
-pub left_under : {A X : Type 0} (a b : Option (List Event)) (stop : Stop) (p : Plan (Result A)) (go : A → State → Plan X) (leave : State → List ℕ → Plan X) →
+pub left_under : {A X : Type 0} (a b : Option (List Event)) (stop : Stop) (p : Plan (ShellResult A)) (go : A → State → Plan X) (leave : State → List ℕ → Plan X) →
     Left a b p stop → Left a b (under p go leave) stop
 left_under a b NoMemory p go leave (for_memory q f) = for_memory (under q go leave) (ran_under a b p q go leave f)
 left_under a b Halt p go leave (by_halt f) = by_halt (halted_under a b p go leave f)
 
 -- the piece came to a next state, and what follows was left
-pub left_next : {A X : Type 0} (a b c : Option (List Event)) (stop : Stop) (p : Plan (Result A)) (x : A) (s : State)
+pub left_next : {A X : Type 0} (a b c : Option (List Event)) (stop : Stop) (p : Plan (ShellResult A)) (x : A) (s : State)
     (go : A → State → Plan X) (leave : State → List ℕ → Plan X) →
     Ran a b p (done_with (Next x s)) → Left b c (go x s) stop → Left a c (under p go leave) stop
 left_next a b c stop p x s go leave f g = left_join a b c stop (under p go leave) (go x s) (ran_under a b p (done_with (Next x s)) go leave f) g
 
 -- the piece ended the shell, and what follows its end was left
-pub left_exit : {A X : Type 0} (a b c : Option (List Event)) (stop : Stop) (p : Plan (Result A)) (s : State) (owed : List ℕ)
+pub left_exit : {A X : Type 0} (a b c : Option (List Event)) (stop : Stop) (p : Plan (ShellResult A)) (s : State) (owed : List ℕ)
     (go : A → State → Plan X) (leave : State → List ℕ → Plan X) →
     Ran a b p (done_with (Exit s owed)) → Left b c (leave s owed) stop → Left a c (under p go leave) stop
 left_exit a b c stop p s owed go leave f g = left_join a b c stop (under p go leave) (leave s owed) (ran_under a b p (done_with (Exit s owed)) go leave f) g
 
 -- the piece came to a next state, and what follows came to its value or was left
-pub comes_next : {A X T : Type 0} (a b c : Option (List Event)) (p : Plan (Result A)) (x : A) (s : State)
+pub comes_next : {A X T : Type 0} (a b c : Option (List Event)) (p : Plan (ShellResult A)) (x : A) (s : State)
     (go : A → State → Plan X) (leave : State → List ℕ → Plan X) (view : T → X) (result : Outcome T Stop) →
     Ran a b p (done_with (Next x s)) → Comes b c (go x s) view result → Comes a c (under p go leave) view result
 comes_next a b c p x s go leave view (Ok v) f g = ran_next a b c p x s go leave (done_with (view v)) f g
@@ -38,7 +38,7 @@ comes_next a b c p x s go leave view (Err stop) f g = left_next a b c stop p x s
 
 -- ** the same for `m >>= f`, where both are written out and the rest is known
 
-pub ran_do : {A B : Type 0} {a b c : Option (List Event)} {s t : State} {x : A} {q : Plan (Result B)} (m : Shell A) (f : A → Shell B) →
+pub ran_do : {A B : Type 0} {a b c : Option (List Event)} {s t : State} {x : A} {q : Plan (ShellResult B)} (m : Shell A) (f : A → Shell B) →
     Ran a b (m s) (done_with (Next x t)) → Ran b c (f x t) q → Ran a c ((m >>= f) s) q
 ran_do {a = a} {b} {c} {s} {t} {x} {q} m f g h = ran_next a b c (m s) x t f leaves q g h
 
@@ -56,6 +56,6 @@ pub left_done : {A B : Type 0} {a b c : Option (List Event)} {stop : Stop} {s t 
 left_done {a = a} {b} {c} {stop} {s} {t} {x} m f g h = left_next a b c stop (m s) x t f leaves g h
 
 pub comes_do : {A B T : Type 0} {a b : Option (List Event)} {s t : State} {x : A} (m : Shell A) (f : A → Shell B)
-    (c : Option (List Event)) (view : T → Result B) (result : Outcome T Stop) →
+    (c : Option (List Event)) (view : T → ShellResult B) (result : Outcome T Stop) →
     Ran a b (m s) (done_with (Next x t)) → Comes b c (f x t) view result → Comes a c ((m >>= f) s) view result
 comes_do {a = a} {b} {s} {t} {x} m f c view result g h = comes_next a b c (m s) x t f leaves view result g h

@@ -1,4 +1,4 @@
--- What an error of the system is to a world.
+-- How an error of the system maps to a fault.
 use Rattle.std.specs.IoError.{error_kind, raw_os_error}
 use Rattle.std.specs.Prelude.{ℤ, Option, None}
 use Rattle.std.specs.declared.io.Error.{Error}
@@ -7,7 +7,7 @@ use Rattle.std.specs.declared.io.ErrorKind.TheVariants as kind
 use Rattle.rc_model.specs.declared.call.Fault.{Fault}
 use Rattle.rc_model.specs.declared.call.Fault.TheVariants.{NotFound, Denied, Exists, Broken, Full, Other, NoMemory}
 
--- by its kind and Linux's number of it: out of memory without a number was met before Linux was asked
+-- by its kind and Linux's number for it: out of memory without a number occurred before Linux was asked
 abbrev pub fault_of : ErrorKind → Option ℤ → Fault
 fault_of kind.NotFound number = NotFound
 fault_of kind.PermissionDenied number = Denied
@@ -17,6 +17,6 @@ fault_of kind.StorageFull number = Full
 fault_of kind.OutOfMemory None = NoMemory
 fault_of _ number = Other
 
--- the fault that an error stands for
+-- the fault for an error
 abbrev pub fault_at : Error → Fault
 fault_at error = fault_of (error_kind error) (raw_os_error error)

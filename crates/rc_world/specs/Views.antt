@@ -1,4 +1,4 @@
--- How the values of a program stand for launches, calls and answers.
+-- The launches, calls and answers that the values of a program represent.
 use Rattle.std.specs.Prelude.{ℕ, List, String, Option, Some, None, Result, Ok, Err, map, string_bytes}
 use Rattle.std.specs.declared.alloc.Global.{Global}
 use Rattle.std.specs.Global.{Vec}
@@ -21,7 +21,7 @@ abbrev pub program_of : Program → Option (List ℕ)
 program_of program.Shell = None
 program_of (program.Path path) = Some (string_bytes path)
 
--- what is started
+-- the launch that a value represents
 abbrev pub launch_of : Launch → calls.Launch
 launch_of launch = record {
   program = program_of launch.program;
@@ -30,7 +30,7 @@ launch_of launch = record {
   slots = launch.slots;
 }
 
--- the call that a value stands for
+-- the call that a value represents
 abbrev pub call_of : Call → calls.Call
 call_of (call.Open path mode) = calls.open_file (string_bytes path) mode
 call_of (call.Here text) = calls.here (string_bytes text)
@@ -44,7 +44,7 @@ call_of (call.List path) = calls.list_names (string_bytes path)
 call_of (call.Probe path) = calls.probe (string_bytes path)
 call_of (call.Chdir path) = calls.change_dir (string_bytes path)
 
--- the answer that a value stands for
+-- the answer that a value represents
 abbrev pub answer_of : Answer → calls.Answer
 answer_of (answer.File handle) = calls.file handle.0
 answer_of (answer.Pair r w) = calls.pair r.0 w.0
@@ -56,39 +56,39 @@ answer_of (answer.Names names) = calls.names (map string_bytes names.items)
 answer_of (answer.Found kind) = calls.found kind
 answer_of (answer.Refused fault) = calls.refused fault
 
--- what the result of a call says as an answer
+-- the result of a call as an answer
 abbrev pub answer_or_refused : {T : Type 0} → (T → calls.Answer) → Result T Fault → calls.Answer
 answer_or_refused good (Ok x) = good x
 answer_or_refused good (Err fault) = calls.refused fault
 
--- the answer of a call that gives an open file
+-- the answer of a call that returns an open file
 abbrev pub file_answer : Result Handle Fault → calls.Answer
 file_answer result = answer_or_refused (λ handle. calls.file handle.0) result
 
--- the answer of a call that gives the two ends of a pipe
+-- the answer of a call that returns the two ends of a pipe
 abbrev pub pair_answer : Result (Handle × Handle) Fault → calls.Answer
 pair_answer result = answer_or_refused (λ ends. calls.pair ends.0.0 ends.1.0) result
 
--- the answer of a call that gives nothing
+-- the answer of a call that returns nothing
 abbrev pub done_answer : Result (Unit {0}) Fault → calls.Answer
 done_answer result = answer_or_refused (λ x. calls.done) result
 
--- the answer of a call that gives bytes
+-- the answer of a call that returns bytes
 abbrev pub bytes_answer : Result (Vec ℕ) Fault → calls.Answer
 bytes_answer result = answer_or_refused (λ bytes. calls.bytes bytes.items) result
 
--- the answer of a call that gives a child
+-- the answer of a call that returns a child
 abbrev pub child_answer : Result ChildNo Fault → calls.Answer
 child_answer result = answer_or_refused (λ child. calls.child child.0) result
 
--- the answer of a call that gives how a child ended
+-- the answer of a call that returns how a child ended
 abbrev pub ending_answer : Result Ending Fault → calls.Answer
 ending_answer result = answer_or_refused calls.ended result
 
--- the answer of a call that gives the names in a directory
+-- the answer of a call that returns the names in a directory
 abbrev pub names_answer : Result (Vec (String Global)) Fault → calls.Answer
 names_answer result = answer_or_refused (λ names. calls.names (map string_bytes names.items)) result
 
--- the answer of a call that gives what stands at a path
+-- the answer of a call that returns the kind of a path
 abbrev pub kind_answer : Result Kind Fault → calls.Answer
 kind_answer result = answer_or_refused calls.found result

@@ -25,7 +25,7 @@ pub enum Call {
 }
 
 impl Call {
-    /// The same call once more.
+    /// Copies the call.
     pub fn copy(&self) -> Result<Call, AllocError>
         ensures { IfOk result (λ copy. call_of copy ≡ call_of self.now) }
     {
@@ -45,7 +45,7 @@ impl Call {
     }
 }
 
-/// What a call is answered.
+/// An answer to a call.
 #[derive(Drop)]
 pub enum Answer {
     File(Handle),
@@ -61,7 +61,7 @@ pub enum Answer {
 }
 
 impl Answer {
-    /// The same answer once more.
+    /// Copies the answer.
     #[tactic(auto, using(crate::proofs::Copies::same_texts))]
     pub fn copy(&self) -> Result<Answer, AllocError>
         ensures { IfOk result (λ copy. answer_of copy ≡ answer_of self.now) }
@@ -85,7 +85,7 @@ impl Answer {
         matches!(self, Answer::Refused(Fault::Halt))
     }
 
-    /// The fault that this answer stands for where another kind was wanted.
+    /// The fault that replaces this answer when another kind was wanted.
     pub(crate) fn fault(&self) -> Fault
         ensures { refused result ≡ refusal (answer_of self.now) }
     {

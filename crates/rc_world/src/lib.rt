@@ -1,4 +1,4 @@
-//! The world of a shell: the calls that it makes, and a tape that plays answers.
+//! The world of a shell: the calls that it makes, and a tape that replays answers.
 #![tactic(auto)]
 
 pub mod calls;

@@ -1,4 +1,4 @@
-//! What is started, and why work over a world is given up.
+//! Launches of children, and why work over a world stops.
 
 ghost use Rattle.std.specs.Prelude.{◌≡◌, IfOk};
 ghost use Rattle.rc_world.specs.Views.{launch_of};
@@ -7,15 +7,14 @@ ghost use Rattle.rc_world.specs.declared.starts.Stop.TheVariants.{NoMemory};
 use rc_model::Slots;
 use std::alloc::{AllocError, AllocFailed};
 
-/// What is started: this shell, or the program of a path.
+/// The program of a launch: this shell, or the one at a path.
 #[derive(Drop)]
 pub enum Program {
     Shell,
     Path(String),
 }
 
-/// A child to be started. Its arguments come without its name, and each entry of its environment
-/// is a `NAME=VALUE`.
+/// A child to be started. Its arguments don't include its name, and each entry of its environment is a `NAME=VALUE`.
 #[derive(Drop)]
 pub struct Launch {
     pub program: Program,
@@ -25,7 +24,7 @@ pub struct Launch {
 }
 
 impl Launch {
-    /// The same launch once more.
+    /// Copies the launch.
     #[tactic(auto, using(crate::proofs::Copies::same_texts))]
     pub fn copy(&self) -> Result<Launch, AllocError>
         ensures { IfOk result (λ copy. launch_of copy ≡ launch_of self.now) }
@@ -43,12 +42,12 @@ impl Launch {
     }
 }
 
-/// Why work over a world was given up: nothing is called after it.
+/// Why work over a world stopped: no call is made after it.
 #[derive(Clone, Copy, PartialEq)]
 pub enum Stop {
-    /// A call was not answered, since the world is over.
+    /// A call was not answered, since the world has stopped.
     Halt,
-    /// Memory was refused.
+    /// Memory ran out.
     NoMemory,
 }
 

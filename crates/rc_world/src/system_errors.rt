@@ -1,4 +1,4 @@
-//! What an error of the system is to a world.
+//! How an `io::Error` maps to a `Fault`.
 ghost use Rattle.std.specs.Prelude.{◌≡◌, ◌≢◌};
 ghost use Rattle.rc_model.specs.declared.call.Fault.TheVariants.{Halt};
 ghost use Rattle.rc_world.specs.Faults.{fault_at};
@@ -7,7 +7,7 @@ use rc_model::Fault;
 use std::io;
 use std::io::ErrorKind;
 
-/// The fault that an error of the system stands for.
+/// Returns the fault for an error of the system.
 pub fn fault_of(error: &io::Error) -> Fault
     ensures meant { result ≡ fault_at error.now }
     ensures answered { result ≢ Halt }

@@ -1,4 +1,4 @@
-//! A world that plays answers and keeps its calls.
+//! A world that replays answers and records its calls.
 
 ghost use Rattle.std.specs.Prelude.{◌≡◌, ◌≤◌, ◌++◌, ◌∷◌, [], Some, IfOk, IfErr, OnErr};
 ghost use Rattle.std.specs.Prelude.{map, string_bytes, vec_len};
@@ -15,16 +15,15 @@ ghost use Rattle.rc_world.specs.Tapes.{next_answer, tape_answers, tape_events, P
 use crate::{Answer, Call, ChildNo, Ending, Fault, Handle, Kind, Launch, Mode, Slot, World};
 use rc_model::limits::LONGEST_READ;
 
-/// A world that plays answers in order, each to the next call, and then answers `Halt` to every
-/// further call. An answer of the wrong kind, one of over 4096 bytes and `NoMemory` count as a
-/// refusal by `Other`.
+/// A world that replays answers in order, one for each call, and then answers `Halt` to every further call. An answer
+/// of the wrong kind, one of over 4096 bytes and `NoMemory` count as a refusal by `Other`.
 #[derive(Drop)]
 pub struct Tape {
     answers: Vec<Answer>,
     calls: Vec<Call>,
 }
 
-/// How many answers come before the first halt.
+/// Counts the answers before the first halt.
 fn before_halt(answers: &[Answer]) -> usize
     ensures { result ≡ position_or_len (λ answer. is_halt (answer_of answer)) answers.now }
 {
@@ -35,7 +34,7 @@ fn before_halt(answers: &[Answer]) -> usize
 }
 
 impl Tape {
-    /// A tape of these answers that was asked nothing. What follows a halt is never played.
+    /// A tape of these answers, before its first call. The answers after a halt are never replayed.
     #[tactic(auto, using(crate::proofs::Tapes::cut_at_halt))]
     pub fn new(mut answers: Vec<Answer>) -> Tape
         ensures answers { tape_answers result ≡ before_first is_halt (map answer_of answers.items) }
@@ -77,7 +76,7 @@ impl Tape {
         }
     }
 
-    /// The answer to the next call, whose event has what fits the call of it.
+    /// Answers the next call; its event has the answer as the call takes it.
     #[tactic(auto, using(crate::proofs::Tapes::played_push))]
     fn play(&mut self, call: Call) -> Result<Answer, Fault>
         ensures ok { IfOk result (λ answer. let taken = fitting (call_of call) (answer_of answer) in

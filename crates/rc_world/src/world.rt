@@ -11,21 +11,20 @@ ghost use Rattle.rc_world.specs.Views.{child_answer, ending_answer, names_answer
 
 use crate::{ChildNo, Ending, Fault, Handle, Kind, Launch, Mode, Slot};
 
-/// A world of calls. Each call adds its own event to what the world records, and none where it was
-/// not made since memory was refused.
+/// A world of calls. Each call adds its own event to the world's record, unless it was not made because memory ran out.
 pub trait World {
-    /// The events so far, where the world records them.
+    /// The events so far, if the world records them.
     ghost events: { Self → Option (List Event) };
 
     /// Opens a file.
     fn open(&mut self, path: &str, mode: Mode) -> Result<Handle, Fault>
         ensures { Records events self.old self.new (open_file path.now mode) (file_answer result) };
 
-    /// A file for reading that holds this text.
+    /// Returns a file for reading that holds this text.
     fn here(&mut self, text: &str) -> Result<Handle, Fault>
         ensures { Records events self.old self.new (here text.now) (file_answer result) };
 
-    /// A pipe: its read end and its write end.
+    /// Makes a pipe, and returns its read end and its write end.
     fn pipe(&mut self) -> Result<(Handle, Handle), Fault>
         ensures { Records events self.old self.new make_pipe (pair_answer result) };
 
@@ -33,7 +32,7 @@ pub trait World {
     fn close(&mut self, handle: Handle) -> Result<(), Fault>
         ensures { Records events self.old self.new (close handle.0) (done_answer result) };
 
-    /// The next bytes, at least one but at the end.
+    /// Reads the next bytes: at least one, except at the end.
     fn read(&mut self, handle: Handle) -> Result<Vec<u8>, Fault>
         ensures recorded { Records events self.old self.new (read handle.0) (bytes_answer result) }
         ensures bound { IfOk result (λ bytes. vec_len bytes ≤ LONGEST_READ) };
@@ -46,19 +45,19 @@ pub trait World {
     fn start(&mut self, launch: &Launch) -> Result<ChildNo, Fault>
         ensures { Records events self.old self.new (start (launch_of launch.now)) (child_answer result) };
 
-    /// Waits until the child has ended.
+    /// Waits for the end of a child.
     fn wait(&mut self, child: ChildNo) -> Result<Ending, Fault>
         ensures { Records events self.old self.new (wait child.0) (ending_answer result) };
 
-    /// The names in a directory, in any order.
+    /// Lists the names in a directory, in any order.
     fn list(&mut self, path: &str) -> Result<Vec<String>, Fault>
         ensures { Records events self.old self.new (list_names path.now) (names_answer result) };
 
-    /// What a path names.
+    /// Returns the kind of a path.
     fn probe(&mut self, path: &str) -> Result<Kind, Fault>
         ensures { Records events self.old self.new (probe path.now) (kind_answer result) };
 
-    /// Changes the directory that paths are taken from.
+    /// Changes the current directory.
     fn chdir(&mut self, path: &str) -> Result<(), Fault>
         ensures { Records events self.old self.new (change_dir path.now) (done_answer result) };
 }

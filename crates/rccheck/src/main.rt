@@ -1,4 +1,4 @@
-//! Looks at scripts without running them: `rccheck [-p] FILE ..`.
+//! Checks scripts without running them: `rccheck [-p] FILE ..`.
 #![tactic(auto)]
 
 use rc_check::{Canonical, Report, canonical_of, report_of};
@@ -7,17 +7,17 @@ use std::io::Read;
 use std::process::ExitCode;
 use std::{env, fs, io};
 
-/// One byte more than a script may have: no more are read of a file.
+/// One byte more than a script may have: no more are read from a file.
 const MOST_BYTES: u64 = LONGEST_SCRIPT as u64 + 1;
 
-/// What is done with each file.
+/// The task for each file.
 #[derive(Clone, Copy)]
 enum Task {
     Check,
     Print,
 }
 
-/// The task and the files that the arguments ask for; `None` for a wrong use.
+/// The task and the files that the arguments ask for, or `None` for wrong usage.
 fn asked(arguments: &[String]) -> Option<(Task, &[String])> {
     let (task, files) = match arguments {
         [first, files @ ..] if first.as_str() == "-p" => (Task::Print, files),
@@ -39,15 +39,15 @@ fn read(rt: &HostRuntime, name: &str) -> io::Result<Vec<u8>> {
     Ok(script)
 }
 
-/// Writes what is found in a script, and says whether it is accepted.
+/// Writes the findings for a script, and returns whether it is accepted.
 fn check(rt: &HostRuntime, name: &str, script: &[u8]) -> io::Result<bool> {
     let Report { text, is_accepted } = report_of(rt.alloc(), name, script)?;
     rt.print(text)?;
     Ok(is_accepted)
 }
 
-/// Writes the canonical form of a script and a newline, or on descriptor 2 why there is none, and says whether there is
-/// one.
+/// Writes the canonical form of a script and a newline, or on descriptor 2 why there is none, and returns whether there
+/// is one.
 fn print(rt: &HostRuntime, name: &str, script: &[u8]) -> io::Result<bool> {
     match canonical_of(rt.alloc(), script)? {
         Canonical::Text(text) => {
@@ -61,7 +61,7 @@ fn print(rt: &HostRuntime, name: &str, script: &[u8]) -> io::Result<bool> {
     Ok(false)
 }
 
-/// Does the task with a file, and says whether that is as it should be.
+/// Does the task for a file, and returns whether it succeeded.
 fn look(rt: &HostRuntime, task: Task, name: &str) -> io::Result<bool> {
     let Ok(script) = read(rt, name) else {
         eprintln!(rt; "rccheck: cannot read {name}")?;
@@ -73,7 +73,7 @@ fn look(rt: &HostRuntime, task: Task, name: &str) -> io::Result<bool> {
     }
 }
 
-/// Does what the arguments ask for, and says whether all is as it should be.
+/// Does what the arguments ask for, and returns whether all of it succeeded.
 fn run(rt: &HostRuntime) -> io::Result<bool> {
     let arguments: Vec<String> = env::args(rt)?.skip(1).collect(rt.alloc())?;
     let Some((task, files)) = asked(&arguments) else {

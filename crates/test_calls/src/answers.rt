@@ -1,13 +1,13 @@
-//! How the answers of calls are written.
+//! The notation for the answers of calls.
 
 use rc_world::{Answer, ChildNo, Ending, Fault, Handle, Kind};
 use std::alloc::{AllocError, AllocFailed, Global};
 use std::num::ParseIntError;
 
-/// Why nothing is an answer.
+/// Why a text is not an answer.
 #[derive(Clone, Copy)]
 pub enum AnswerError {
-    /// It is not written as an answer is.
+    /// It is not the notation of an answer.
     NoAnswer,
     NoMemory,
 }
@@ -30,7 +30,7 @@ impl From<ParseIntError> for AnswerError {
     }
 }
 
-/// The answer that is written so.
+/// Parses an answer.
 pub fn answer(alloc: Global, written: &str) -> Result<Answer, AnswerError> {
     let (kind, rest) = written.split_once(' ').unwrap_or((written, ""));
     match kind {
@@ -40,7 +40,7 @@ pub fn answer(alloc: Global, written: &str) -> Result<Answer, AnswerError> {
     }
 }
 
-/// The answer of this kind, which has nothing with it.
+/// The answer of this kind without values.
 fn plain(kind: &str) -> Result<Answer, AnswerError> {
     Ok(match kind {
         "done" => Answer::Done,
@@ -78,7 +78,7 @@ fn listed(alloc: Global, kind: &str, rest: &str) -> Result<Answer, AnswerError> 
     })
 }
 
-/// The names that stand in a text.
+/// The names in a text.
 fn names(alloc: Global, text: &str) -> Result<Vec<String>, AllocError> {
     let mut names = Vec::new(alloc);
     for name in text.split_whitespace() {
@@ -87,7 +87,7 @@ fn names(alloc: Global, text: &str) -> Result<Vec<String>, AllocError> {
     Ok(names)
 }
 
-/// The bytes whose numbers stand in a text.
+/// The bytes with the numbers in a text.
 fn bytes(alloc: Global, numbers: &str) -> Result<Vec<u8>, AnswerError> {
     let mut bytes = Vec::new(alloc);
     for number in numbers.split_whitespace() {
@@ -96,7 +96,7 @@ fn bytes(alloc: Global, numbers: &str) -> Result<Vec<u8>, AnswerError> {
     Ok(bytes)
 }
 
-/// As many bytes 0 as a text says.
+/// As many bytes 0 as the text says.
 fn zeros(alloc: Global, count: &str) -> Result<Vec<u8>, AnswerError> {
     let count = count.parse::<usize>()?;
     Ok(vec![in alloc; 0; count]?)

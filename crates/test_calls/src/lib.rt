@@ -1,4 +1,4 @@
-//! How calls and their answers are written in the rows of files.
+//! The notation for calls and their answers in the rows of files.
 #![tactic(auto)]
 
 mod answers;

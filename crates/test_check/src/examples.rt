@@ -1,4 +1,4 @@
-//! Names each example in which something is found.
+//! Names each example with a finding.
 
 use crate::shown::findings;
 use anyhow::Result;
@@ -14,7 +14,7 @@ fn read(rt: &HostRuntime, name: &str) -> Result<()> {
     Ok(())
 }
 
-/// Reads each example that lies here.
+/// Reads each example in this folder.
 pub fn read_all(rt: &HostRuntime) -> Result<()> {
     for entry in fs::read_dir(rt, ".")? {
         let entry = entry?;

@@ -1,4 +1,4 @@
-//! Names each of the one-line scripts of `tests/lines` that writes something and has a fault: what a shell has run is
+//! Names each of the one-line scripts of `tests/lines` that writes something and has a fault: a script that has run is
 //! accepted. A row is `SCRIPT => OUTPUT => STATUS`, with `-` for no output; in a script `\n` is a newline, `\\` a
 //! backslash and `\0` with three digits the byte of that octal number.
 
@@ -7,10 +7,10 @@ use rc_check::first_fault;
 use std::alloc::{AllocError, Global};
 use std::fs;
 
-/// What stands between the parts of a row.
+/// The separator between the parts of a row.
 const ARROW: &str = " => ";
 
-/// The script that is written so.
+/// Parses the script of a row.
 fn script(alloc: Global, written: &str) -> Result<Vec<u8>, AllocError> {
     let mut bytes = Vec::new(alloc);
     let mut parts = written.split('\\');
@@ -24,8 +24,8 @@ fn script(alloc: Global, written: &str) -> Result<Vec<u8>, AllocError> {
     Ok(bytes)
 }
 
-/// Adds what follows a backslash, which is no escape itself where an empty part was one before, and says whether the
-/// next one is none.
+/// Adds what follows a backslash, which is plain text if an empty part was an escape before, and returns whether the
+/// next one is plain.
 fn add_escaped(bytes: &mut Vec<u8>, part: &str, is_plain: bool) -> Result<bool, AllocError> {
     if is_plain {
         bytes.extend_from_slice(part.as_bytes())?;
@@ -84,7 +84,7 @@ fn read(rt: &HostRuntime, name: &str) -> Result<()> {
     Ok(())
 }
 
-/// Reads each file of rows that lies here.
+/// Reads each file of rows in this folder.
 pub fn read_all(rt: &HostRuntime) -> Result<()> {
     for entry in fs::read_dir(rt, ".")? {
         let entry = entry?;

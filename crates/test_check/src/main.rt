@@ -1,5 +1,5 @@
-//! Compares what is found in scripts with what is wanted, row by row: faults with their places and advice, warnings,
-//! and canonical forms. The examples that lie here have no fault and no warning, and the rows of one-line scripts that
+//! Compares the findings in scripts with what is expected, row by row: faults with their places and advice, warnings,
+//! and canonical forms. The examples in this folder have no fault and no warning, and the rows of one-line scripts that
 //! write something have no fault.
 #![tactic(auto)]
 

@@ -1,13 +1,13 @@
-//! Rows of scripts: a script, an arrow and what is wanted.
+//! Rows of scripts: a script, an arrow and the expected result.
 
 use crate::shown::Layer;
 use std::alloc::{AllocError, Global};
 use test_rows::{Tally, bytes};
 
-/// What stands between a script and what is wanted.
+/// The separator between a script and the expected result.
 const ARROW: &str = "  ==>  ";
 
-/// What comes of the script that is written so.
+/// The result for the script of a row.
 fn shown(alloc: Global, layer: Layer, written: &str) -> Result<String, AllocError> {
     match bytes(alloc, written)? {
         Some(script) => layer.show(alloc, script.as_slice()),
@@ -15,7 +15,7 @@ fn shown(alloc: Global, layer: Layer, written: &str) -> Result<String, AllocErro
     }
 }
 
-/// Compares a row, and writes what comes of it where that is not wanted.
+/// Compares a row, and writes the result if it differs.
 fn compare_row(
     alloc: Global,
     out: &mut String,

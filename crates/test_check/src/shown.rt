@@ -1,9 +1,9 @@
-//! What is shown of a script.
+//! The result for a script.
 
 use rc_check::{Canonical, Finding, Position, canonical_of, first_fault, position_of, warnings_of};
 use std::alloc::{AllocError, Global};
 
-/// What is shown of a script.
+/// The kind of result for a script.
 #[derive(Clone, Copy)]
 pub enum Layer {
     /// `LINE:COLUMN FAULT ADVICE`, or `LINE:COLUMN NAME` of each warning, or `nothing`.
@@ -13,7 +13,7 @@ pub enum Layer {
 }
 
 impl Layer {
-    /// What comes of the script.
+    /// The result for the script.
     pub fn show(self, alloc: Global, script: &[u8]) -> Result<String, AllocError> {
         match self {
             Layer::Findings => findings(alloc, script),
@@ -30,7 +30,7 @@ pub fn findings(alloc: Global, script: &[u8]) -> Result<String, AllocError> {
     }
 }
 
-/// A fault with its place, which is on the line that the parser gives.
+/// A fault with its place, which is on the parser's line.
 fn fault(alloc: Global, script: &[u8], finding: Finding) -> Result<String, AllocError> {
     let mut out = String::new(alloc);
     match finding.place {

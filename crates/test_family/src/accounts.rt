@@ -1,4 +1,4 @@
-//! What the processes of a family hold, and how their calls are answered.
+//! The accounts of the processes of a family, and the answers to their calls.
 
 use crate::fault::RunError;
 use rc_shell::Family;
@@ -6,7 +6,7 @@ use rc_world::{Answer, Call, ChildNo, Ending, Handle, Kind, Launch, Program, Slo
 use std::alloc::{AllocError, Global};
 use test_calls::write_call;
 
-/// What an open file is: an end of the pipe of this number, or anything else.
+/// The kind of an open file: an end of the pipe of this number, or anything else.
 #[derive(Clone, Copy, PartialEq)]
 enum Thing {
     Other,
@@ -21,17 +21,17 @@ struct Held {
     thing: Thing,
 }
 
-/// A child, and its process, where it is a shell.
+/// A child, and its process if it is a shell.
 #[derive(Clone, Copy)]
 struct Child {
     number: ChildNo,
     process: Option<usize>,
 }
 
-/// What a process holds.
+/// The account of a process.
 #[derive(Drop)]
 struct Account {
-    /// What its descriptors 0, 1 and 2 stand for.
+    /// The files of its descriptors 0, 1 and 2.
     own: [Thing; 3],
     held: Vec<Held>,
     children: Vec<Child>,
@@ -42,7 +42,7 @@ struct Account {
 }
 
 impl Account {
-    /// The account of a process whose descriptors stand for these things.
+    /// The account of a process with these files as its descriptors.
     fn new(alloc: Global, own: [Thing; 3]) -> Account {
         Account {
             own,
@@ -54,7 +54,7 @@ impl Account {
         }
     }
 
-    /// What an open file is.
+    /// The kind of an open file.
     fn thing(&self, handle: Handle) -> Thing {
         for held in self.held.iter() {
             if held.handle == handle {
@@ -64,7 +64,7 @@ impl Account {
         Thing::Other
     }
 
-    /// What a slot of a launch stands for.
+    /// The kind of the file in a slot of a launch.
     fn stands(&self, slot: Slot) -> Thing {
         match slot {
             Slot::To(handle) => self.thing(handle),
@@ -97,7 +97,7 @@ impl Account {
         Ok(number)
     }
 
-    /// The process of a child, where it is a shell.
+    /// The process of a child, if it is a shell.
     fn process_of(&self, number: ChildNo) -> Option<usize> {
         for child in self.children.iter() {
             if child.number == number {
@@ -112,12 +112,12 @@ impl Account {
 #[derive(Drop)]
 pub struct Accounts {
     accounts: Vec<Account>,
-    /// How many pipes there were.
+    /// The number of pipes so far.
     pipes: usize,
 }
 
 impl Accounts {
-    /// Of one process, before its first call.
+    /// The accounts of one process, before its first call.
     pub fn new(alloc: Global) -> Result<Accounts, AllocError> {
         let first = Account::new(alloc, [Thing::Other; 3]);
         Ok(Accounts {
@@ -201,7 +201,7 @@ impl Accounts {
         })
     }
 
-    /// The answer to a start: a shell is a process from then on, and a program has ended.
+    /// Answers a start: a shell is a process from then on, and a program has ended.
     fn start(
         &mut self,
         alloc: Global,

@@ -1,4 +1,4 @@
-//! Why nothing comes of a row or of a run.
+//! Why a row or a run has no result.
 
 use rc_model::InputError;
 use rc_parser::ScriptError;
@@ -8,7 +8,7 @@ use std::num::ParseIntError;
 use test_calls::AnswerError;
 use thiserror::Error;
 
-/// Why nothing comes of a row or of a run.
+/// Why a row or a run has no result.
 #[derive(Clone, Copy, Debug, Drop, Error)]
 pub enum RunError {
     #[error("the row is not written as it must be")]

@@ -1,5 +1,5 @@
-//! Makes the steps of each row of `families.rows`, which lies here, and names it, or says what differs. Then it runs
-//! families to their ends, in orders that must not matter.
+//! Makes the steps of each row of `families.rows` in this folder, and runs families to their ends, in orders that must
+//! not matter. It prints what differs, and for the rows and for each kind of run whether they are as wanted.
 #![tactic(auto)]
 
 mod accounts;
@@ -16,35 +16,39 @@ use scripts::SCRIPTS;
 use std::fs;
 use std::process::ExitCode;
 
-/// Checks the rows, and prints the name of each.
+/// Prints whether something is as wanted.
+fn report(rt: HostRuntime, what: &str, are_well: bool) -> Result<()> {
+    let result = if are_well {
+        "as wanted"
+    } else {
+        "not as wanted"
+    };
+    println!(rt; "{what}: {result}")?;
+    Ok(())
+}
+
+/// Checks the rows, and prints what differs.
 fn check_rows(rt: HostRuntime) -> Result<bool> {
     let text = fs::read_to_string(&rt, "families.rows")?;
     let begun = format!(in rt.alloc(); "\n{text}")?;
-    let mut are_well = true;
+    let mut are_well = begun.contains("\n## ");
     for row in begun.split("\n## ").skip(1) {
         let (name, written) = row.split_once('\n').unwrap_or((row, ""));
-        match difference(rt.alloc(), written)? {
-            None => println!(rt; "{name}")?,
-            Some(difference) => {
-                are_well = false;
-                println!(rt; "{name} differs:\n{difference}")?;
-            }
+        if let Some(difference) = difference(rt.alloc(), written)? {
+            are_well = false;
+            println!(rt; "{name} differs:\n{difference}")?;
         }
     }
     Ok(are_well)
 }
 
-/// Checks the orders of each script, and prints its name.
+/// Checks the orders of each script, and prints each script of which one leaves all processes waiting.
 fn check_scripts(rt: HostRuntime) -> Result<bool> {
     let mut are_well = true;
     for script in SCRIPTS {
-        let name = script.name;
-        match check_orders(rt.alloc(), script.text)? {
-            None => println!(rt; "{name}: no order leaves all waiting")?,
-            Some(seed) => {
-                are_well = false;
-                println!(rt; "{name} differs: order {seed} leaves all waiting")?;
-            }
+        if let Some(seed) = check_orders(rt.alloc(), script.text)? {
+            are_well = false;
+            println!(rt; "{} differs: order {seed} leaves all waiting", script.name)?;
         }
     }
     Ok(are_well)
@@ -52,10 +56,11 @@ fn check_scripts(rt: HostRuntime) -> Result<bool> {
 
 fn main(rt: HostRuntime) -> Result<ExitCode> {
     let rows = check_rows(rt)?;
+    report(rt, "families.rows", rows)?;
     let both = check_both_orders(rt.alloc())?;
-    let said = if both { "the same calls" } else { "differs" };
-    println!(rt; "the_greatest_first_and_the_least_first: {said}")?;
+    report(rt, "the greatest first and the least first", both)?;
     let scripts = check_scripts(rt)?;
+    report(rt, "the scripts in many orders", scripts)?;
     Ok(if rows && both && scripts {
         ExitCode::SUCCESS
     } else {

@@ -1,4 +1,4 @@
-//! The orders in which the processes of a family may go on.
+//! The orders in which the processes of a family can go on.
 
 use crate::fault::RunError;
 use crate::runs::{Order, Run};
@@ -7,7 +7,7 @@ use std::alloc::Global;
 /// Enough instructions for each process.
 const LIMIT: u64 = 100_000;
 
-/// How many orders of a script are tried.
+/// The number of orders that are tried for a script.
 const ORDERS: u64 = 40;
 
 /// A pipeline into a subshell that runs another pipeline, and the processes whose calls are answered first.
@@ -27,7 +27,7 @@ pub fn check_orders(alloc: Global, script: &str) -> Result<Option<u64>, RunError
     Ok(None)
 }
 
-/// The pipelines to their end, in this order after their beginning.
+/// Runs the pipelines to their end, in this order after their beginning.
 fn run_pipelines(alloc: Global, order: Order) -> Result<Run, RunError> {
     let mut run = Run::begin(alloc, PIPELINES, LIMIT)?;
     for process in BEGINNING {
@@ -50,7 +50,7 @@ fn are_alike(one: &Run, other: &Run) -> bool {
     true
 }
 
-/// Whether each process makes the same calls where the greatest goes first and where the least does.
+/// Whether each process makes the same calls if the greatest goes first and if the least does.
 pub fn check_both_orders(alloc: Global) -> Result<bool, RunError> {
     let greatest = run_pipelines(alloc, Order::Greatest)?;
     let least = run_pipelines(alloc, Order::Least)?;

@@ -12,9 +12,9 @@
 //! count 1
 //! ```
 //!
-//! The limit may be left out. A step is the number of a process, the call that it answers or why it is refused, and the
-//! answer. Of a family that is not begun the only line says why. Lines that begin with `#`, and empty ones, say
-//! nothing.
+//! The limit can be left out. A step is the number of a process, the call that it answers or why it is refused, and the
+//! answer. For a family that is not begun the only line says why. Lines that begin with `#`, and empty ones, are
+//! ignored.
 
 use crate::fault::RunError;
 use crate::runs::begin;
@@ -25,10 +25,10 @@ use test_calls::{answer, write_call};
 /// Enough instructions for each script that ends.
 const LIMIT: u64 = 100_000;
 
-/// What stands between a call and its answer.
+/// The separator between a call and its answer.
 const ARROW: &str = " > ";
 
-/// What differs in the row that is written so: the lines that come of it.
+/// Returns what differs in a row: its actual lines.
 pub fn difference(alloc: Global, written: &str) -> Result<Option<String>, RunError> {
     let (options, rest) = written.split_once("script:\n").ok_or(RunError::BadRow)?;
     let (script, rest) = rest.split_once("steps:\n").ok_or(RunError::BadRow)?;
@@ -37,7 +37,7 @@ pub fn difference(alloc: Global, written: &str) -> Result<Option<String>, RunErr
     Ok(if came == steps { None } else { Some(came) })
 }
 
-/// The limit that stands among the options.
+/// The limit in the options.
 fn limit(options: &str) -> Result<u64, RunError> {
     for option in options.lines() {
         if let Some(number) = option.strip_prefix("limit ") {
@@ -47,7 +47,7 @@ fn limit(options: &str) -> Result<u64, RunError> {
     Ok(LIMIT)
 }
 
-/// The lines that say something.
+/// The lines that are not ignored.
 fn lines(alloc: Global, written: &str) -> Result<String, AllocError> {
     let mut lines = String::new(alloc);
     for line in written.lines() {
@@ -59,7 +59,7 @@ fn lines(alloc: Global, written: &str) -> Result<String, AllocError> {
     Ok(lines)
 }
 
-/// The lines that come of the steps of a family.
+/// The actual lines for the steps of a family.
 fn transcript(alloc: Global, limit: u64, script: &str, steps: &str) -> Result<String, RunError> {
     let mut out = String::new(alloc);
     match begin(alloc, script, limit)? {
@@ -73,7 +73,7 @@ fn transcript(alloc: Global, limit: u64, script: &str, steps: &str) -> Result<St
     Ok(out)
 }
 
-/// Adds what comes of a line.
+/// Adds the actual line for a line.
 fn push_line(
     alloc: Global,
     out: &mut String,
@@ -104,7 +104,7 @@ fn push_pending(out: &mut String, family: &Family, process: usize) -> Result<(),
     out.push('\n')
 }
 
-/// Makes a step of a process, and adds what comes of it.
+/// Makes a step of a process, and adds the result.
 fn push_step(
     alloc: Global,
     out: &mut String,

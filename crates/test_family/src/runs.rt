@@ -43,17 +43,17 @@ pub fn begin(
     Ok(Family::new(alloc, &tree, state(alloc)?, limit))
 }
 
-/// Which of the processes that can go on is to go first.
+/// Which of the processes that can go on goes first.
 #[derive(Clone, Copy)]
 pub enum Order {
     Greatest,
     Least,
-    /// By numbers that look random, which begin with this one.
+    /// By pseudorandom numbers, which begin with this one.
     Random(u64),
 }
 
 impl Order {
-    /// One of so many, and the order from then on.
+    /// The index of the next one of so many, and the order from then on.
     fn choose(self, count: usize) -> (usize, Order) {
         match self {
             Order::Greatest => (count.saturating_sub(1), self),
@@ -73,7 +73,7 @@ impl Order {
     }
 }
 
-/// A family with what its processes hold, over a world in which every call is done.
+/// A family with the accounts of its processes, over a world in which every call is done.
 #[derive(Drop)]
 pub struct Run {
     pub accounts: Accounts,
@@ -81,7 +81,7 @@ pub struct Run {
 }
 
 impl Run {
-    /// Before the first step of a script.
+    /// A run before the first step of its script.
     pub fn begin(alloc: Global, script: &str, limit: u64) -> Result<Run, RunError> {
         let family = begin(alloc, script, limit)??;
         Ok(Run {
@@ -90,7 +90,7 @@ impl Run {
         })
     }
 
-    /// How many shells there are.
+    /// The number of shells.
     pub fn count(&self) -> usize {
         self.family.count()
     }

@@ -1,4 +1,4 @@
-//! Calls where memory is refused.
+//! Calls when memory runs out.
 use crate::host::{granted, host, launch, read_all};
 use rc_world::{Ending, Kind, Mode, PLAIN_SLOTS, Slot, World};
 use std::test::Fail;
@@ -40,7 +40,7 @@ fn out_of_memory_starts_nothing(rt: HostRuntime) -> Result<(), Fail> {
     child.slots.output = Slot::To(writer);
     let started = host.start(&child);
     granted(host.close(writer))?;
-    // What is in the pipe is what a child has written.
+    // The pipe has what a child has written.
     let wanted = if started.is_ok() { "started\n" } else { "" };
     assert_eq!(rt; read_all(alloc, &mut host, reader)?.as_str(), wanted);
     assert!(rt; granted(host.wait(granted(started)?))? == Ending::Code(0));

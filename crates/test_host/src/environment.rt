@@ -1,4 +1,4 @@
-//! An environment whose entries are taken by their places.
+//! An environment whose entries are taken by index.
 use rc_host::entries_by_place;
 use std::env::{Env, FillError};
 use std::test::Fail;

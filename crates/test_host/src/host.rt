@@ -1,4 +1,4 @@
-//! A host, and what is launched on it.
+//! A host, and launches on it.
 use rc_host::{HostWorld, entries, own_path};
 use rc_world::{Ending, Fault, Handle, Launch, Mode, PLAIN_SLOTS, Program, Slots, World};
 use std::alloc::{AllocError, Global};
@@ -6,7 +6,7 @@ use std::rt::HostRuntime;
 use std::test::Fail;
 use std::{env, process};
 
-/// The entry that says that this process was started by its own test.
+/// The entry that marks a process that was started by its own test.
 const AGAIN: &str = "RC_HOST_TEST=again";
 
 /// A host that has opened and started nothing.
@@ -20,7 +20,7 @@ pub fn this_program(rt: HostRuntime) -> Result<String, AllocError> {
     own_path(rt.alloc(), env::current_exe(&rt), process::id(rt.process()))
 }
 
-/// What a call gave. A refusal fails the test; one out of memory does so by its own error.
+/// Returns the value of a call. A refusal fails the test; out of memory does so by its own error.
 pub fn granted<T: Drop>(answer: Result<T, Fault>) -> Result<T, Fail> {
     match answer {
         Ok(value) => Ok(value),
@@ -52,7 +52,7 @@ pub fn launch(
     })
 }
 
-/// A script of `/bin/sh`, whose `$0` is this word.
+/// A script of `/bin/sh`, with this word as its `$0`.
 pub fn script(alloc: Global, text: &str, word: &str, slots: Slots) -> Result<Launch, AllocError> {
     launch(
         alloc,
@@ -63,18 +63,18 @@ pub fn script(alloc: Global, text: &str, word: &str, slots: Slots) -> Result<Lau
     )
 }
 
-/// How a launch ends.
+/// Runs a launch, and returns how it ended.
 pub fn run(host: &mut HostWorld, launch: &Launch) -> Result<Ending, Fail> {
     let child = granted(host.start(launch))?;
     granted(host.wait(child))
 }
 
-/// How a script of `/bin/sh` ends, with the descriptors of this process.
+/// Runs a script of `/bin/sh` with the descriptors of this process, and returns how it ended.
 pub fn run_script(alloc: Global, host: &mut HostWorld, text: &str) -> Result<Ending, Fail> {
     run(host, &script(alloc, text, "sh", PLAIN_SLOTS)?)
 }
 
-/// What is left to read of a file or a pipe, which is closed.
+/// Reads the rest of a file or a pipe, and closes it.
 pub fn read_all(alloc: Global, host: &mut HostWorld, file: Handle) -> Result<String, Fail> {
     let mut all = Vec::new(alloc);
     for _ in 0..u64::MAX {
@@ -97,7 +97,7 @@ pub fn contents(alloc: Global, host: &mut HostWorld, path: &str) -> Result<Strin
     read_all(alloc, host, file)
 }
 
-/// Makes a fresh directory, and goes there.
+/// Makes a fresh directory, and enters it.
 pub fn enter_fresh_directory(rt: HostRuntime, host: &mut HostWorld) -> Result<String, Fail> {
     let process = process::id(rt.process());
     let path = format!(in rt.alloc(); "/tmp/rc_host.{process}")?;
@@ -106,7 +106,7 @@ pub fn enter_fresh_directory(rt: HostRuntime, host: &mut HostWorld) -> Result<St
     Ok(path)
 }
 
-/// Leaves the directory, and removes it with all that is there.
+/// Leaves the directory, and removes it with all its files.
 pub fn leave_directory(rt: HostRuntime, host: &mut HostWorld, path: &str) -> Result<(), Fail> {
     granted(host.chdir("/"))?;
     std::fs::remove_dir_all(&rt, path)?;
@@ -118,8 +118,7 @@ pub fn is_started_again(rt: HostRuntime) -> Result<bool, Fail> {
     Ok(entries(&rt)?.iter().any(|entry| entry.as_str() == AGAIN))
 }
 
-/// The program of this test with its arguments, after these words of another program, and with the
-/// entry that says so.
+/// The program of this test with its arguments, after these words of another program, and with the entry that marks it.
 pub fn again(
     alloc: Global,
     host: &mut HostWorld,

@@ -1,5 +1,5 @@
-//! Tests of Linux as a world, where memory is refused and where a test needs descriptors of its own, for which it
-//! starts its program again. The calls of `test_linux` show the rest.
+//! Tests of Linux as a world, for calls when memory runs out and for tests that need descriptors of their own, which
+//! start their program again. The calls of `test_linux` show the rest.
 #![tactic(auto)]
 
 #[cfg(test)]

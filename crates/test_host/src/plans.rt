@@ -1,7 +1,7 @@
-//! What is asked of Linux for a launch.
+//! The plans of launches.
 use crate::host::{granted, launch};
-use rc_host::{Plan, plan};
-use rc_world::{Fault, Handle, PLAIN_SLOTS, Slot, Slots};
+use rc_host::plan;
+use rc_world::{Fault, Handle, Launch, PLAIN_SLOTS, Slot, Slots};
 use std::alloc::Global;
 use std::test::Fail;
 
@@ -17,33 +17,25 @@ fn slots(output: Slot, errors: Slot) -> Slots {
     }
 }
 
-/// The plan of a program with the argument `x` and the entry `status=`.
-fn planned(alloc: Global, path: &str, slots: Slots) -> Result<Plan, Fault> {
-    match launch(alloc, path, &["x"], &["status="], slots) {
-        Ok(launch) => plan(alloc, &launch, SHELL),
-        Err(_) => Err(Fault::NoMemory),
+/// A launch of a program with the argument `x` and the entry `status=`.
+fn launched(alloc: Global, path: &str, slots: Slots) -> Result<Launch, Fault> {
+    launch(alloc, path, &["x"], &["status="], slots).map_err(|_| Fault::NoMemory)
+}
+
+/// Whether there is no plan of a launch since its descriptors can't be had.
+fn is_other(alloc: Global, path: &str, slots: Slots) -> bool {
+    match launched(alloc, path, slots) {
+        Ok(launch) => matches!(plan(alloc, &launch, SHELL), Err(Fault::Other)),
+        Err(_) => false,
     }
 }
 
-/// Whether texts are these.
-fn are(texts: &[String], wanted: &[&str]) -> bool {
-    texts.len() == wanted.len()
-        && texts
-            .iter()
-            .zip(wanted.iter())
-            .all(|(text, wanted)| text.as_str() == *wanted)
-}
-
-/// Whether there is no plan since the descriptors can't be had.
-fn is_other(answer: Result<Plan, Fault>) -> bool {
-    matches!(answer, Err(Fault::Other))
-}
-
-/// To be run with each allocation refused in turn. An `Err` says that one was.
+/// Run with each allocation refused in turn. An `Err` means that one was.
 #[test]
 fn out_of_memory_leaves_no_plan(rt: HostRuntime) -> Result<(), Fail> {
     let copying = slots(Slot::Own(2), Slot::Own(2));
-    let plan = granted(planned(rt.alloc(), "/bin/c", copying))?;
+    let launch = granted(launched(rt.alloc(), "/bin/c", copying))?;
+    let plan = granted(plan(rt.alloc(), &launch, SHELL))?;
     let args = [
         "-c",
         "exec \"$@\" 1>&2",
@@ -54,8 +46,8 @@ fn out_of_memory_leaves_no_plan(rt: HostRuntime) -> Result<(), Fail> {
         "/bin/c",
         "x",
     ];
-    assert_eq!(rt; plan.program.as_str(), "/bin/sh");
-    assert!(rt; are(&plan.args, &args));
+    assert_eq!(rt; plan.program, "/bin/sh");
+    assert!(rt; plan.args.as_slice() == args.as_slice());
     assert!(rt; plan.env.is_empty());
     assert!(rt; plan.slots == PLAIN_SLOTS);
     Ok(())
@@ -64,10 +56,11 @@ fn out_of_memory_leaves_no_plan(rt: HostRuntime) -> Result<(), Fail> {
 #[test]
 fn descriptors_in_their_places_need_no_copy(rt: HostRuntime) -> Result<(), Fail> {
     let to_file = slots(Slot::To(Handle(7)), Slot::Own(2));
-    let plan = granted(planned(rt.alloc(), "/a=b", to_file))?;
-    assert_eq!(rt; plan.program.as_str(), "/a=b");
-    assert!(rt; are(&plan.args, &["x"]));
-    assert!(rt; are(&plan.env, &["status="]));
+    let launch = granted(launched(rt.alloc(), "/a=b", to_file))?;
+    let plan = granted(plan(rt.alloc(), &launch, SHELL))?;
+    assert_eq!(rt; plan.program, "/a=b");
+    assert!(rt; plan.args.as_slice() == ["x"].as_slice());
+    assert!(rt; plan.env.len() == 1 && plan.env[0].as_str() == "status=");
     assert!(rt; plan.slots == to_file);
     Ok(())
 }
@@ -76,7 +69,7 @@ fn descriptors_in_their_places_need_no_copy(rt: HostRuntime) -> Result<(), Fail>
 fn some_launches_have_no_plan(rt: HostRuntime) {
     let alloc = rt.alloc();
     let copying = slots(Slot::Own(2), Slot::Own(2));
-    assert!(rt; is_other(planned(alloc, "/a=b", copying)));
+    assert!(rt; is_other(alloc, "/a=b", copying));
     let exchanged = slots(Slot::Own(2), Slot::Own(1));
-    assert!(rt; is_other(planned(alloc, "/bin/c", exchanged)));
+    assert!(rt; is_other(alloc, "/bin/c", exchanged));
 }

@@ -1,10 +1,10 @@
-//! What a program takes from its process: the test starts itself again, by way of `/bin/sh`.
+//! What a program gets from its process: the test starts itself again, by way of `/bin/sh`.
 use crate::host::{again, granted, host, is_started_again, run, run_script, this_program};
 use rc_host::{ArgumentsFault, InputError, arguments, entries, open_standard};
 use rc_world::{Ending, Mode, PLAIN_SLOTS, World};
 use std::test::Fail;
 
-/// Descriptors 0 and 2 are closed, an argument and an entry are not UTF-8.
+/// The command that starts it: descriptors 0 and 2 are closed, an argument and an entry are not UTF-8.
 const START: &str =
     "exec /usr/bin/env \"BAD=$(printf 'a\\377')\" \"$0\" \"$@\" \"$(printf '\\377')\" <&- 2>&-";
 

@@ -1,4 +1,4 @@
-//! How answers are written.
+//! The notation for answers.
 
 use rc_world::{ChildNo, Ending, Fault, Handle, Kind};
 use std::alloc::{AllocError, Global};
@@ -62,7 +62,7 @@ pub fn kind(alloc: Global, answer: Result<Kind, Fault>) -> Result<String, AllocE
     }
 }
 
-/// How many bytes were read.
+/// The number of bytes that were read.
 pub fn count(alloc: Global, answer: Result<Vec<u8>, Fault>) -> Result<String, AllocError> {
     match answer {
         Ok(bytes) => format!(in alloc; "{} bytes", bytes.len()),
@@ -81,7 +81,7 @@ pub fn names(alloc: Global, answer: Result<Vec<String>, Fault>) -> Result<String
     }
 }
 
-/// How many names there are.
+/// The number of names.
 pub fn tally(alloc: Global, answer: Result<Vec<String>, Fault>) -> Result<String, AllocError> {
     match answer {
         Ok(names) => format!(in alloc; "{} names", names.len()),

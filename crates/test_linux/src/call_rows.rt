@@ -1,6 +1,6 @@
-//! The rows of the files `*.calls` that lie here: calls on Linux, each with the answer that is wanted after ` > `. A
-//! line `## its_name` begins a row, which has a world of its own; `#` begins a comment.
-//! The lines after `100 times:`, up to an empty one, are made a hundred times.
+//! The rows of the files `*.calls` in this folder: calls on Linux, each with the expected answer after ` > `. A line
+//! `## its_name` begins a row, which has a world of its own; `#` begins a comment. The lines after `100 times:`, up to
+//! an empty one, are made a hundred times.
 
 use crate::calls::answer;
 use anyhow::Result;
@@ -8,10 +8,10 @@ use rc_host::HostWorld;
 use std::alloc::Global;
 use std::fs;
 
-/// What stands between a call and its answer.
+/// The separator between a call and its answer.
 const ARROW: &str = " > ";
 
-/// Makes the calls of some lines, prints those that are answered otherwise, and says whether there is none.
+/// Makes the calls of some lines, prints those whose answers differ, and returns whether there is none.
 fn check_lines(rt: HostRuntime, alloc: Global, host: &mut HostWorld, lines: &str) -> Result<bool> {
     let mut are_well = true;
     for line in lines.lines() {
@@ -39,7 +39,7 @@ fn check_part(rt: HostRuntime, alloc: Global, host: &mut HostWorld, part: &str) 
     Ok(are_well)
 }
 
-/// Makes the calls of a row, part by part: an empty line stands between two parts.
+/// Makes the calls of a row, part by part; an empty line separates parts.
 fn check_row(rt: HostRuntime, alloc: Global, row: &str) -> Result<bool> {
     let shell = String::from_str(alloc, "/bin/false")?;
     let mut host = HostWorld::new(rt, shell);
@@ -50,7 +50,7 @@ fn check_row(rt: HostRuntime, alloc: Global, row: &str) -> Result<bool> {
     Ok(are_well)
 }
 
-/// Makes the calls of the rows of a file, prints those that are answered otherwise, and says whether there is none.
+/// Makes the calls of the rows of a file, prints those whose answers differ, and returns whether there is none.
 pub fn check_file(rt: HostRuntime, alloc: Global, file: &str) -> Result<bool> {
     let text = fs::read_to_string(&rt, file)?;
     let mut are_well = true;

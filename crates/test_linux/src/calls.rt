@@ -1,7 +1,7 @@
-//! How calls are written: the name of the call, and what it is given, with blanks between. After a backslash stand `s`
-//! for a blank, `n` for a newline and `0` for a byte 0. `fill 1 20` writes 20 bytes to the file 1, `count 1` says how
-//! many bytes one read of it gives, and `text 1` reads it to its end and closes it. `tally d`
-//! says how many names the directory has.
+//! The notation for calls: the name of the call and its arguments, separated by blanks. After a backslash `s` is a
+//! blank, `n` a newline and `0` a byte 0. `fill 1 20` writes 20 bytes to the file 1, `count 1` tells how many bytes one
+//! read of it returns, and `text 1` reads it to its end and closes it. `tally d` tells how many names the directory
+//! has.
 
 use crate::answers::{child, count, done, ending, fault, file, kind, names, pipe, tally};
 use crate::launches::{launch, slot};
@@ -10,7 +10,7 @@ use rc_host::HostWorld;
 use rc_world::{ChildNo, Fault, Handle, Mode, World};
 use std::alloc::{AllocError, Global};
 
-/// What is written so.
+/// Undoes the escapes of an argument.
 pub fn unescaped(alloc: Global, written: &str) -> Result<String, AllocError> {
     let mut text = String::new(alloc);
     let mut is_escaped = false;
@@ -44,7 +44,7 @@ pub fn answer(alloc: Global, host: &mut HostWorld, call: &str) -> Result<String>
     }
 }
 
-/// The first word of what a call is given, and the rest.
+/// Splits off the first argument of a call.
 fn parted(given: &str) -> (&str, &str) {
     given.split_once(' ').unwrap_or((given, ""))
 }
@@ -93,7 +93,7 @@ fn read_or_write(alloc: Global, host: &mut HostWorld, kind: &str, given: &str) -
     })
 }
 
-/// What is left to read of a file, which is closed.
+/// Reads the rest of a file, and closes it.
 fn read_all(alloc: Global, host: &mut HostWorld, file: Handle) -> Result<String, AllocError> {
     let mut all = Vec::new(alloc);
     for _ in 0..u64::MAX {

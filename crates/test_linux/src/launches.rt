@@ -1,12 +1,12 @@
-//! How launches are written: three descriptors, `1` for an own one and `f1` for the file 1; the entries of the
-//! environment, each after `+`; the program, which is `shell` where the shell starts itself; and its arguments.
+//! The notation for launches: three descriptors, `1` for an own one and `f1` for the file 1; the entries of the
+//! environment, each after `+`; the program, which is `shell` if the shell starts itself; and its arguments.
 
 use crate::calls::unescaped;
 use anyhow::{Result, anyhow};
 use rc_world::{Handle, Launch, Program, Slot, Slots};
 use std::alloc::Global;
 
-/// The descriptor that is written so.
+/// Parses a descriptor.
 pub fn slot(written: &str) -> Result<Slot> {
     Ok(match written.strip_prefix('f') {
         Some(number) => Slot::To(Handle(number.parse::<u32>()?)),
@@ -22,7 +22,7 @@ fn program(path: String) -> Program {
     }
 }
 
-/// The launch that is written so.
+/// Parses a launch.
 pub fn launch(alloc: Global, written: &str) -> Result<Launch> {
     let mut words = written.split(' ');
     let (Some(input), Some(output), Some(errors)) = (words.next(), words.next(), words.next())

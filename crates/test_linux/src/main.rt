@@ -1,6 +1,6 @@
-//! Calls of the world on Linux, and runs of the shell as a process of its own: what is answered, how it ends, and what
-//! it writes. With arguments, this program is itself the shell: after a first word `rc` with the others, and else with
-//! all of them, as it is started where a shell starts itself.
+//! Calls of the world on Linux, and runs of the shell as a process of its own: the answers, how it ends, and what it
+//! writes. With arguments, this program is itself the shell: after a first word `rc` with the others, and else with all
+//! of them, as when a shell starts itself.
 #![tactic(auto)]
 
 mod answers;
@@ -16,7 +16,7 @@ use rc_process::{refuse, run};
 use std::process::ExitCode;
 use std::{env, process};
 
-/// Says whether the rows of this file are as wanted.
+/// Prints whether the rows of this file are as expected.
 fn report(rt: &HostRuntime, file: &str, are_well: bool) -> Result<()> {
     let result = if are_well {
         "as wanted"
@@ -27,7 +27,7 @@ fn report(rt: &HostRuntime, file: &str, are_well: bool) -> Result<()> {
     Ok(())
 }
 
-/// Checks the rows of each file, and says of each whether they are as wanted.
+/// Checks the rows of each file, and prints whether they are as expected.
 fn check_all(rt: HostRuntime) -> Result<()> {
     for file in ["files.calls", "children.calls"] {
         report(&rt, file, call_rows::check_file(rt, rt.alloc(), file)?)?;

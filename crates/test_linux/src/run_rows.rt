@@ -3,25 +3,25 @@
 use anyhow::{Result, bail};
 use std::alloc::{AllocError, Global};
 
-/// What stands before the result of a run.
+/// The heading of the result of a run.
 const RESULT: &str = "\nresult: ";
 
-/// A run: what it shows, what the shell is given, and what is to come of it.
+/// A run: what it shows, the input of the shell, and the expected result.
 #[derive(Drop)]
 pub struct Row {
     pub name: String,
     /// The arguments of the shell.
     pub words: Vec<String>,
-    /// The text by which /bin/sh starts the shell, if it does.
+    /// The text with which /bin/sh starts the shell, if it does.
     pub starter: Option<String>,
-    /// The file that the shell reads, if it reads no script.
+    /// The file that the shell reads, if it doesn't read a script.
     pub input: Option<String>,
     pub script: String,
     /// The status, and the lines that the shell writes, each after its descriptor.
     pub result: String,
 }
 
-/// A word, in which `\n` stands for a newline.
+/// A word, in which `\n` is a newline.
 fn word(alloc: Global, written: &str) -> Result<String, AllocError> {
     let mut word = String::new(alloc);
     for (at, part) in written.split("\\n").enumerate() {
@@ -33,7 +33,7 @@ fn word(alloc: Global, written: &str) -> Result<String, AllocError> {
     Ok(word)
 }
 
-/// So many copies of a text.
+/// This many copies of a text.
 fn repeated(alloc: Global, text: &str, times: u32) -> Result<String, AllocError> {
     let mut whole = String::new(alloc);
     for _ in 0..times {
@@ -42,7 +42,7 @@ fn repeated(alloc: Global, text: &str, times: u32) -> Result<String, AllocError>
     Ok(whole)
 }
 
-/// The script of these lines, the last of which has an end, too.
+/// The script of these lines, each of which ends with a newline.
 fn script_of(alloc: Global, lines: &str) -> Result<String, AllocError> {
     let mut script = String::from_str(alloc, lines)?;
     if !lines.is_empty() {
@@ -52,7 +52,7 @@ fn script_of(alloc: Global, lines: &str) -> Result<String, AllocError> {
 }
 
 impl Row {
-    /// The row that is written so.
+    /// Parses a row.
     pub fn read(alloc: Global, written: &str) -> Result<Row> {
         let Some((given, result)) = written.split_once(RESULT) else {
             bail!("a row has no result");
@@ -73,7 +73,7 @@ impl Row {
         Ok(row)
     }
 
-    /// Takes a line of the head.
+    /// Reads a line of the head.
     fn take(&mut self, alloc: Global, option: &str) -> Result<()> {
         let (kind, text) = option.split_once(' ').unwrap_or((option, ""));
         match kind {

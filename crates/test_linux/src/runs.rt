@@ -1,4 +1,4 @@
-//! The runs, and what comes of each.
+//! The runs, and the result of each.
 
 use crate::run_rows::Row;
 use anyhow::Result;
@@ -9,7 +9,7 @@ use std::io::{self, Write};
 use std::process::{Child, Command, Output, Processes, Stdio};
 use std::rt::Files;
 
-/// Makes the run of each row, prints what comes of those that are not as wanted, and says whether there is none.
+/// Makes the run of each row, prints the results that are not as expected, and returns whether there is none.
 pub fn check_all<R: Print + Files<File = File> + Processes + AllocGlobal>(
     rt: &R,
     own_path: &str,
@@ -43,7 +43,7 @@ fn check_run<R: Print + Files<File = File> + Processes + AllocGlobal>(
     Ok(false)
 }
 
-/// The shell as a process without an environment, which a row starts so.
+/// The shell as a process without an environment, which a row starts this way.
 fn shell_of(alloc: Global, row: &Row, own_path: &str) -> Result<Command, AllocError> {
     match &row.starter {
         Some(text) => through_sh(alloc, text, own_path),
@@ -62,7 +62,7 @@ fn with_arguments(alloc: Global, arguments: &[String]) -> Result<Command, AllocE
     Ok(command)
 }
 
-/// The shell as a process that another shell starts by this text.
+/// The shell as a process that another shell starts with this text.
 fn through_sh(alloc: Global, text: &str, own_path: &str) -> Result<Command, AllocError> {
     let mut command = Command::new(alloc, "/bin/sh")?;
     command.env_clear();
@@ -95,7 +95,7 @@ fn with_script<R: Processes + AllocGlobal>(
     Ok(output?)
 }
 
-/// The shell as it runs, with a pipe as each of its descriptors.
+/// The running shell, with a pipe as each of its descriptors.
 fn started<R: Processes + AllocGlobal>(
     rt: &R,
     shell: &mut Command,
@@ -107,7 +107,7 @@ fn started<R: Processes + AllocGlobal>(
         .spawn(rt)
 }
 
-/// Writes this as a child's input, which then ends.
+/// Writes this to a child's input, which then ends.
 fn give<W: Write + Drop>(input: Option<W>, script: &[u8]) -> io::Result<()> {
     if let Some(mut input) = input {
         input.write_all(script)?;
@@ -115,7 +115,7 @@ fn give<W: Write + Drop>(input: Option<W>, script: &[u8]) -> io::Result<()> {
     Ok(())
 }
 
-/// The status, and the lines that were written, as a row has them.
+/// The status, and the lines that were written, in the notation of a row.
 fn result_of(alloc: Global, output: &Output) -> Result<String, AllocError> {
     let status = output.status.code().unwrap_or(-1);
     let mut result = format!(in alloc; "{status}\n")?;

@@ -5,7 +5,7 @@ use rc_world::{Answer, Fault, Kind, Stop, Tape};
 use std::alloc::{AllocError, Global};
 use std::test::Fail;
 
-/// An answer of these names.
+/// An answer with these names.
 fn names(alloc: Global, all: &[&str]) -> Result<Answer, AllocError> {
     let mut names = Vec::new(alloc);
     for name in all {

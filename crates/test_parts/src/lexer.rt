@@ -1,4 +1,4 @@
-//! The tokens of a script where memory is refused.
+//! The tokens of a script when memory runs out.
 
 use rc_lexer::{Lexer, lex};
 use std::alloc::AllocError;

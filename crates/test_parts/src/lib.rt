@@ -1,4 +1,4 @@
-//! Tests of public calls where memory is refused: of scripts, patterns, file names, built-in commands, redirections and
+//! Tests of public calls when memory runs out: of scripts, patterns, file names, built-in commands, redirections and
 //! the state; and of trees that no script has. The rows of `test_tapes` and `test_texts` show what they do.
 #![tactic(auto)]
 

@@ -1,4 +1,4 @@
-//! The tree of a script where memory is refused.
+//! The tree of a script when memory runs out.
 
 use rc_parser::{Reader, ScriptError, parse};
 use rc_print::{PrintFault, print};
@@ -25,7 +25,7 @@ fn text_of(alloc: Global, cmd: &Cmd) -> Result<String, Fail> {
     }
 }
 
-/// The text of the tree of what was read.
+/// The text of the tree of a reader's script.
 fn text_read(alloc: Global, reader: Reader) -> Result<String, Fail> {
     match reader.finish() {
         Ok(cmd) => text_of(alloc, &cmd),

@@ -1,4 +1,4 @@
-//! Redirections: where memory is refused, nothing is opened or ended, and the descriptors stay.
+//! Redirections: when memory runs out, nothing is opened or ended, and the descriptors stay.
 
 use crate::support::list;
 use rc_redir::{RedirError, RedirFault, RedirStack};

@@ -1,4 +1,4 @@
-//! The state of a shell, which stays as it is where memory is refused.
+//! The state of a shell, which stays as it is when memory runs out.
 
 use crate::support::{empty, list, state_with};
 use rc_scope::State;

@@ -1,4 +1,4 @@
-//! What the tests share.
+//! Functions that the tests share.
 
 ghost use Rattle.rc_model.specs.Handed.Proper.{IsProperTree};
 ghost use Rattle.rc_tree.specs.View.{cmd_tree};
@@ -32,7 +32,7 @@ pub fn empty() -> Cmd
     Cmd::Empty
 }
 
-/// Where a command stopped, as the failure of its test.
+/// The stop of a command, as the failure of its test.
 pub fn failure(stop: Stop) -> Fail {
     match stop {
         Stop::NoMemory => Fail::from(AllocError),

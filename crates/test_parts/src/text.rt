@@ -1,4 +1,4 @@
-//! A text in quotes, lists that are joined, and texts that are split, where memory is refused.
+//! A text in quotes, lists that are joined, and texts that are split, when memory runs out.
 
 use rc_text::{InputError, List, Word, concat, count, quote, split};
 use std::alloc::{AllocError, Global};

@@ -1,4 +1,4 @@
-//! The bounds of a well formed tree, and the text of a copy where memory is refused.
+//! The bounds of a well formed tree, and the text of a copy when memory runs out.
 
 use rc_parser::{ScriptError, parse};
 use rc_print::{PrintFault, print};

@@ -1,25 +1,25 @@
-//! What is held and owed after the calls of a run, told from these calls and their answers alone: nothing here knows
-//! of scripts or of a shell.
+//! The files and children that are held and owed after the calls of a run, computed from these calls and their answers
+//! alone: nothing here knows of scripts or of a shell.
 
 use crate::world::Event;
 use rc_world::{Answer, Call, ChildNo, Handle, Slot, Slots};
 use std::alloc::{AllocError, AllocFailed, Global};
 
-/// What is wrong with some calls.
+/// The fault of a sequence of calls.
 #[derive(Clone, Copy, PartialEq)]
 pub enum Wrong {
     /// A call names a file that is not held.
     NotHeld,
     /// A file is still held at the end.
     HeldAtTheEnd,
-    /// After a new pipe comes neither a start with its write end nor the close of that end, or after such a start
+    /// A new pipe is followed by neither a start with its write end nor the close of that end, or such a start by
     /// another call than that close.
     OutOfTurn,
-    /// A child of a pipeline or backquote is waited for while an end of its pipes is held.
+    /// The wait for a child of a pipeline or backquote is called while an end of its pipes is held.
     EndHeldAtAWait,
-    /// A child is waited for that is not owed.
+    /// The wait is for a child that is not owed.
     NotOwed,
-    /// At the end a child is owed that is not in the background list, or one of that list is not owed.
+    /// At the end a child that is not in the background list is owed, or one of that list is not owed.
     OwedAtTheEnd,
     /// A number is given again while it is held or owed.
     NotFresh,
@@ -27,13 +27,13 @@ pub enum Wrong {
 }
 
 impl Wrong {
-    /// What is wrong, in words.
+    /// Returns the fault in words.
     pub fn words(self) -> &'static str {
         match self {
             Wrong::NotHeld => "a call names a file that is not held",
             Wrong::HeldAtTheEnd => "a file is held at the end",
             Wrong::OutOfTurn => "a write end is neither passed on nor closed at once",
-            Wrong::EndHeldAtAWait => "an end of its pipes is held where a child is waited for",
+            Wrong::EndHeldAtAWait => "an end of its pipes is held when a child is waited for",
             Wrong::NotOwed => "a child is waited for that is not owed",
             Wrong::OwedAtTheEnd =>
                 "the children that are owed at the end are not those of the list",
@@ -55,7 +55,7 @@ impl<T: Drop> From<AllocFailed<T>> for Wrong {
     }
 }
 
-/// What an open file is: one that was opened, or an end of the pipe of this number.
+/// The kind of an open file: one that was opened, or an end of the pipe of this number.
 #[derive(Clone, Copy, PartialEq)]
 enum Thing {
     File,
@@ -70,14 +70,14 @@ struct Held {
     thing: Thing,
 }
 
-/// A child that is owed, and the pipe whose write end it was started with, where that was just made.
+/// A child that is owed, and the pipe whose write end it was started with, if that was just made.
 #[derive(Clone, Copy)]
 struct Owed {
     child: ChildNo,
     feeds: Option<usize>,
 }
 
-/// Where the newest pipe stands: it was just made; a child was started with its write end; that end was closed.
+/// The state of the newest pipe: it was just made; a child was started with its write end; that end was closed.
 #[derive(Clone, Copy)]
 enum Newest {
     Free,
@@ -102,11 +102,11 @@ struct Account {
     held: Vec<Held>,
     owed: Vec<Owed>,
     /// For each pipe, in the order in which they were made, the first pipe of its pipeline or backquote.
-    lines: Vec<usize>,
+    first_pipes: Vec<usize>,
     newest: Newest,
 }
 
-/// Checks the calls of a run, and what is held and owed at its end, where there was one, with these children in the
+/// Checks the calls of a run, and what is held and owed at its end, if it has ended, with these children in the
 /// background list.
 pub fn check(alloc: Global, events: &[Event], ended: Option<&[ChildNo]>) -> Result<(), Wrong> {
     let mut account = Account::new(alloc);
@@ -120,17 +120,17 @@ pub fn check(alloc: Global, events: &[Event], ended: Option<&[ChildNo]>) -> Resu
 }
 
 impl Account {
-    /// Before the first call nothing is held or owed.
+    /// An account before the first call: nothing is held or owed.
     fn new(alloc: Global) -> Account {
         Account {
             held: Vec::new(alloc),
             owed: Vec::new(alloc),
-            lines: Vec::new(alloc),
+            first_pipes: Vec::new(alloc),
             newest: Newest::Free,
         }
     }
 
-    /// Goes on by a call and its answer.
+    /// Adds a call and its answer.
     fn add(&mut self, event: &Event) -> Result<(), Wrong> {
         self.check_names(&event.call)?;
         self.check_turn(&event.call)?;
@@ -138,7 +138,7 @@ impl Account {
         self.take_answer(&event.call, &event.answer)
     }
 
-    /// What is held under this number.
+    /// The file that is held at this number.
     fn thing(&self, handle: Handle) -> Option<Thing> {
         for held in self.held.iter() {
             if held.handle == handle {
@@ -148,7 +148,7 @@ impl Account {
         None
     }
 
-    /// The child of this number, where it is owed.
+    /// The child of this number, if it is owed.
     fn owed(&self, child: ChildNo) -> Option<Owed> {
         for owed in self.owed.iter() {
             if owed.child == child {
@@ -159,11 +159,11 @@ impl Account {
     }
 
     /// The first pipe of the pipeline or backquote of a pipe.
-    fn line(&self, pipe: usize) -> usize {
-        self.lines.get(pipe).copied().unwrap_or(pipe)
+    fn first_pipe(&self, pipe: usize) -> usize {
+        self.first_pipes.get(pipe).copied().unwrap_or(pipe)
     }
 
-    /// What a call names is held or owed.
+    /// Checks that the call names only what is held or owed.
     fn check_names(&self, call: &Call) -> Result<(), Wrong> {
         match call {
             Call::Close(handle) | Call::Read(handle) => self.check_slot(Slot::To(*handle)),
@@ -187,7 +187,8 @@ impl Account {
         self.check_slot(slots.errors)
     }
 
-    /// A child is owed, and no end of the pipes of its pipeline or backquote is held, nor of a later one.
+    /// Checks that a child is owed, and that no end is held of the pipes of its pipeline or backquote, nor of a later
+    /// one.
     fn check_wait(&self, child: ChildNo) -> Result<(), Wrong> {
         match self.owed(child) {
             None => Err(Wrong::NotOwed),
@@ -196,15 +197,16 @@ impl Account {
                     feeds: Some(pipe),
                     ..
                 },
-            ) => self.check_apart(self.line(pipe)),
+            ) => self.check_apart(self.first_pipe(pipe)),
             Some(_) => Ok(()),
         }
     }
 
-    fn check_apart(&self, line: usize) -> Result<(), Wrong> {
+    /// Checks that no end is held of the pipeline or backquote with this first pipe, nor of a later one.
+    fn check_apart(&self, first: usize) -> Result<(), Wrong> {
         for held in self.held.iter() {
             match held.thing {
-                Thing::ReadEnd(pipe) | Thing::WriteEnd(pipe) if line <= self.line(pipe) => {
+                Thing::ReadEnd(pipe) | Thing::WriteEnd(pipe) if first <= self.first_pipe(pipe) => {
                     return Err(Wrong::EndHeldAtAWait);
                 }
                 _ => {}
@@ -213,8 +215,8 @@ impl Account {
         Ok(())
     }
 
-    /// After a pipe comes a start with its write end or the close of that end, after such a start that close. So one
-    /// write end is held at a time.
+    /// Checks that a pipe is followed by a start with its write end or the close of that end, and such a start by that
+    /// close. So one write end is held at a time.
     fn check_turn(&self, call: &Call) -> Result<(), Wrong> {
         match (self.newest, call) {
             (Newest::Free | Newest::Passed { .. }, _) => Ok(()),
@@ -227,7 +229,7 @@ impl Account {
         }
     }
 
-    /// What a call changes, whatever its answer is.
+    /// Changes the account by a call, whatever its answer is.
     fn take_call(&mut self, call: &Call) {
         match call {
             Call::Close(handle) => self.close(*handle),
@@ -246,8 +248,8 @@ impl Account {
         self.owed.retain(|owed| owed.child != child);
     }
 
-    /// A pipe goes on with the pipeline of an earlier one where the child that was started for it has the read end of
-    /// that one as its descriptor 0, and that end is closed as soon as the new write end is.
+    /// A pipe continues the pipeline of an earlier one if the child that was started for it has the read end of that
+    /// one as its descriptor 0, and that end is closed as soon as the new write end is.
     fn join(&mut self, closed: Handle) {
         let Newest::Passed { pipe, input } = self.newest else {
             return;
@@ -256,14 +258,14 @@ impl Account {
             return;
         }
         if let Some(Thing::ReadEnd(earlier) | Thing::WriteEnd(earlier)) = self.thing(closed) {
-            let line = self.line(earlier);
-            if let Some(joined) = self.lines.get_mut(pipe) {
-                *joined = line;
+            let first = self.first_pipe(earlier);
+            if let Some(joined) = self.first_pipes.get_mut(pipe) {
+                *joined = first;
             }
         }
     }
 
-    /// Where the newest pipe stands after a call.
+    /// The state of the newest pipe after a call.
     fn newest_after(&self, call: &Call) -> Newest {
         match (self.newest, call) {
             (Newest::Made { pipe, writer }, Call::Start(launch)) => Newest::Used {
@@ -276,7 +278,7 @@ impl Account {
         }
     }
 
-    /// What an answer adds.
+    /// Changes the account by an answer.
     fn take_answer(&mut self, call: &Call, answer: &Answer) -> Result<(), Wrong> {
         match (call, answer) {
             (Call::Open(..) | Call::Here(_), Answer::File(handle)) => {
@@ -297,10 +299,10 @@ impl Account {
     }
 
     fn add_pipe(&mut self, reader: Handle, writer: Handle) -> Result<(), Wrong> {
-        let pipe = self.lines.len();
+        let pipe = self.first_pipes.len();
         self.hold(reader, Thing::ReadEnd(pipe))?;
         self.hold(writer, Thing::WriteEnd(pipe))?;
-        self.lines.push(pipe)?;
+        self.first_pipes.push(pipe)?;
         self.newest = Newest::Made { pipe, writer };
         Ok(())
     }
@@ -317,7 +319,7 @@ impl Account {
         Ok(())
     }
 
-    /// Nothing is held at the end, and the children that are owed are those of the background list.
+    /// Checks that nothing is held at the end, and that the children that are owed are those of the background list.
     fn check_end(&self, background: &[ChildNo]) -> Result<(), Wrong> {
         if !self.held.is_empty() {
             return Err(Wrong::HeldAtTheEnd);
@@ -334,7 +336,7 @@ impl Account {
     }
 }
 
-/// Whether a descriptor stands for this file.
+/// Whether one of the slots is this file.
 fn has(slots: Slots, handle: Handle) -> bool {
     let wanted = Slot::To(handle);
     slots.input == wanted || slots.output == wanted || slots.errors == wanted

@@ -8,7 +8,7 @@ use rc_world::{
 };
 use std::alloc::{AllocError, Global};
 
-/// A call with its answer, as it is written here: the numbers of its file, files or child.
+/// A call with its answer, in short: the numbers of its file, files or child.
 #[derive(Clone, Copy)]
 enum Made {
     Open(u32),
@@ -17,13 +17,13 @@ enum Made {
     CloseRefused(u32),
     Read(u32),
     Write(u32),
-    /// A start with these files as descriptors 0 and 1, where they are not 0, and its child.
+    /// A start with these files as descriptors 0 and 1, if they are not 0, and its child.
     Start(u32, u32, u32),
     Wait(u32),
     List,
 }
 
-/// What a descriptor stands for.
+/// The slot of a descriptor.
 fn slot(own: u8, file: u32) -> Slot {
     if file == 0 {
         Slot::Own(own)

@@ -1,4 +1,4 @@
-//! How calls are printed. Nothing is allocated for it.
+//! Printing calls, without allocating.
 
 use rc_world::{Call, Launch, Mode, Program, Slot, Slots};
 use std::io;

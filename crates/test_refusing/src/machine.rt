@@ -16,8 +16,8 @@ use rc_parser::parse;
 use rc_tree::Cmd;
 use std::alloc::{AllocError, Global};
 
-/// Runs a script, and prints its calls and, unless memory was refused, how it ended. Where memory was refused, an
-/// error, it runs the machine once more, and prints whether that does anything but say that it has halted.
+/// Runs a script, and prints its calls and, unless memory ran out, how it ended. If memory ran out, which is an error,
+/// it runs the machine once more, and prints whether that does anything but return that it has halted.
 pub fn run_on_machine(rt: HostRuntime, script: Script) -> Result<()> {
     let alloc = rt.alloc();
     let mut machine = machine_of(alloc, script)?;
@@ -37,7 +37,7 @@ pub fn run_on_machine(rt: HostRuntime, script: Script) -> Result<()> {
     Ok(())
 }
 
-/// Whether a further run of a machine says that it has halted.
+/// Whether a further run of a machine returns that it has halted.
 fn is_over(alloc: Global, machine: &mut Machine, world: &mut RefusingWorld) -> bool {
     matches!(machine.run(alloc, world, LIMIT), Ok(Progress::Halted))
 }

@@ -1,5 +1,6 @@
-//! Runs scripts over a world that refuses one call, then two, and that is over at a call, and checks what each run
-//! held and owed. With the name of a script it runs that one on a machine, with no call refused, and prints its calls.
+//! Runs scripts over a world that refuses one call, then two, and that stops at a call, and checks what each run held
+//! and owed. It prints the runs that differ and whether all are as wanted, and on descriptor 2 how many there were.
+//! With the name of a script it runs that one on a machine, with no call refused, and prints its calls.
 #![tactic(auto)]
 
 mod accounts;
@@ -29,22 +30,19 @@ fn script_named(name: &str) -> Option<Script> {
     None
 }
 
-/// Makes the trials of every script, and prints how many there were.
+/// Makes the trials of every script.
 fn try_every(rt: HostRuntime) -> Result<ExitCode> {
     let mut all = Counts::none();
     for script in SCRIPTS {
-        let counts = try_all(rt, script)?;
-        let (name, runs, refused) = (script.name, counts.runs, counts.refused);
-        println!(rt; "{name}: {runs} runs, {refused} calls refused")?;
-        all.add(counts);
+        all.add(try_all(rt, script)?);
     }
-    let (runs, refused, wrong) = (all.runs, all.refused, all.wrong);
-    println!(rt; "{runs} runs with {refused} calls refused, {wrong} wrong")?;
-    Ok(if wrong == 0 {
-        ExitCode::SUCCESS
-    } else {
-        ExitCode::FAILURE
-    })
+    eprintln!(rt; "{} runs, {} calls refused", all.runs, all.refused)?;
+    if all.wrong > 0 {
+        println!(rt; "the scripts: not as wanted")?;
+        return Ok(ExitCode::FAILURE);
+    }
+    println!(rt; "the scripts: as wanted")?;
+    Ok(ExitCode::SUCCESS)
 }
 
 fn main(rt: HostRuntime) -> Result<ExitCode> {

@@ -57,12 +57,12 @@ impl Run {
         Ok(Run { world, end })
     }
 
-    /// How many calls were made.
+    /// The number of calls.
     pub fn calls(&self) -> usize {
         self.world.events().len()
     }
 
-    /// How many of them were refused.
+    /// The number of calls that were refused.
     pub fn refused(&self) -> usize {
         self.world
             .events()
@@ -71,7 +71,7 @@ impl Run {
             .count()
     }
 
-    /// Whether the script ended, or the run stopped at the call at which the world was over.
+    /// Whether the script ended, or the run stopped at the call at which the world stopped.
     pub fn has_ended(&self) -> bool {
         let is_over = match self.world.events().last() {
             Some(event) => matches!(event.answer, Answer::Refused(Fault::Halt)),

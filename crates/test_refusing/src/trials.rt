@@ -1,4 +1,4 @@
-//! The trials of a script: its runs with each call refused in turn, with each two calls, and with the world over at
+//! The trials of a script: its runs with each call refused in turn, with each two calls, and with the world stopped at
 //! each call.
 
 use crate::runs::Run;
@@ -10,7 +10,7 @@ use std::alloc::Global;
 /// More calls than any run makes.
 const MOST_CALLS: usize = 1_000;
 
-/// How many runs there were, how many calls were refused in them, and in how many of them something is wrong.
+/// The number of runs, of calls that were refused in them, and of runs with a fault.
 #[derive(Clone, Copy)]
 pub struct Counts {
     pub runs: usize,
@@ -19,7 +19,7 @@ pub struct Counts {
 }
 
 impl Counts {
-    /// Before the first run.
+    /// The counts before the first run.
     pub fn none() -> Counts {
         Counts {
             runs: 0,
@@ -44,7 +44,7 @@ struct Trials {
     counts: Counts,
 }
 
-/// Makes the trials of a script, prints what is wrong in any of them, and counts them.
+/// Makes the trials of a script, prints the faults in any of them, and counts them.
 pub fn try_all(rt: HostRuntime, script: Script) -> Result<Counts> {
     let mut trials = Trials {
         rt,
@@ -58,7 +58,7 @@ pub fn try_all(rt: HostRuntime, script: Script) -> Result<Counts> {
 }
 
 impl Trials {
-    /// Makes one run, and returns how many calls it made.
+    /// Makes one run, and returns the number of its calls.
     fn run(&mut self, refusals: Refusals) -> Result<usize> {
         let alloc = self.rt.alloc();
         let run = Run::of(alloc, self.script, refusals)?;
@@ -96,8 +96,8 @@ impl Trials {
         bail!("too many calls")
     }
 
-    /// Refuses a call and each later one in turn, until a run has no call of the later one's number. Returns how many
-    /// calls that run made.
+    /// Refuses a call and each later one in turn, until a run has no call of the later one's number. Returns the number
+    /// of calls of that run.
     fn refuse_after(&mut self, first: usize) -> Result<usize> {
         for second in first.saturating_add(1)..MOST_CALLS {
             let calls = self.run(Refusals::Two(first, second))?;
@@ -108,7 +108,7 @@ impl Trials {
         bail!("too many calls")
     }
 
-    /// Has the world over at each call in turn, until a run has no call of that number.
+    /// Stops the world at each call in turn, until a run has no call of that number.
     fn halt_at_each(&mut self) -> Result<()> {
         for number in 1..MOST_CALLS {
             if self.run(Refusals::Halt(number))? < number {
@@ -119,7 +119,7 @@ impl Trials {
     }
 }
 
-/// What is wrong with a run, in words.
+/// The fault of a run, in words.
 fn wrong(alloc: Global, run: &Run) -> Option<&'static str> {
     if !run.has_ended() {
         return Some("another end");

@@ -1,4 +1,4 @@
-//! A world that refuses some calls and keeps all of them.
+//! A world that refuses some calls and records all of them.
 
 ghost use Rattle.std.specs.Prelude.{None};
 
@@ -6,13 +6,13 @@ use rc_world::{Answer, Call, ChildNo, Ending, Fault, Handle, Kind, Launch, Mode,
 use std::alloc::{AllocError, Global};
 use std::fmt;
 
-/// The calls that are refused, by their numbers from 1 on.
+/// The calls that are refused, by their numbers, from 1.
 #[derive(Clone, Copy)]
 pub enum Refusals {
     None,
     One(usize),
     Two(usize, usize),
-    /// The world is over at this call.
+    /// The world stops at this call.
     Halt(usize),
 }
 
@@ -41,14 +41,14 @@ impl fmt::Display for Refusals {
     }
 }
 
-/// A call and what it was answered.
+/// A call and its answer.
 #[derive(Drop)]
 pub struct Event {
     pub call: Call,
     pub answer: Answer,
 }
 
-/// A world that refuses some calls. To the others it gives fresh numbers, files from 3 and children from 1 on; every
+/// A world that refuses some calls. To the others it gives fresh numbers, files from 3 and children from 1; every
 /// program is found, and ends with code 0; there is nothing to read; every directory has the names `d1` and `d2`.
 #[derive(Drop)]
 pub struct RefusingWorld {
@@ -76,7 +76,7 @@ impl RefusingWorld {
         self.events.as_slice()
     }
 
-    /// Keeps a call, with this answer unless it is refused.
+    /// Records a call, with this answer unless it is refused.
     fn answer(&mut self, call: Call, granted: Answer) -> Result<(), Fault> {
         let fault = self.refusals.fault_at(self.events.len().saturating_add(1));
         let answer = match fault {

@@ -1,4 +1,4 @@
-//! How the rows of test files are written, and how many of them differ.
+//! The notation of the rows of test files, and the number of rows that differ.
 #![tactic(auto)]
 
 mod tally;

@@ -1,8 +1,8 @@
-//! How many rows of a file there are, and which differ.
+//! The number of rows of a file, and which differ.
 
 use std::alloc::AllocError;
 
-/// How many rows of a file were compared, and how many of them differ.
+/// The number of rows of a file that were compared, and of those that differ.
 #[derive(Clone, Copy)]
 pub struct Tally {
     rows: usize,
@@ -10,7 +10,7 @@ pub struct Tally {
 }
 
 impl Tally {
-    /// Before the first row.
+    /// A tally before the first row.
     pub fn new() -> Tally {
         Tally {
             rows: 0,
@@ -18,12 +18,12 @@ impl Tally {
         }
     }
 
-    /// Counts a row that is as wanted.
+    /// Counts a row that is as expected.
     pub fn add_equal(&mut self) {
         self.rows = self.rows.saturating_add(1);
     }
 
-    /// Counts a row that differs, and writes what came of it in place of what is wanted.
+    /// Counts a row that differs, and writes its result in place of the expected one.
     pub fn add_differing(
         &mut self,
         out: &mut String,
@@ -36,7 +36,7 @@ impl Tally {
         write!(out, "{written}: {came} in place of {wanted}\n")
     }
 
-    /// Writes whether each row of the file is as wanted, or how many of them differ.
+    /// Writes whether each row of the file is as expected, or how many of them differ.
     pub fn report(&self, out: &mut String, file: &str) -> Result<(), AllocError> {
         match (self.rows, self.differing) {
             (0, _) => write!(out, "{file}: no rows\n"),

@@ -1,11 +1,10 @@
-//! How texts are written. After a backslash stand `n` for a newline, `t` for a tab, `s` for a space, `0`, `1` and `2`
-//! for these bytes, `f`, `e` and `c` for the bytes 0xff, 0xe2 and 0xc3, and `\` for itself; and `(20*a\)` after one is
-//! 20 times `a`.
+//! The notation of texts. After a backslash `n` is a newline, `t` a tab, `s` a space, `0`, `1` and `2` are these bytes,
+//! `f`, `e` and `c` the bytes 0xff, 0xe2 and 0xc3, and `\` is itself; and `(20*a\)` after one is 20 times `a`.
 
 use std::alloc::{AllocError, Global};
 use std::str;
 
-/// The byte that a byte after a backslash stands for.
+/// The byte for a byte after a backslash.
 fn escaped(byte: u8) -> u8 {
     match byte {
         b'n' => b'\n',
@@ -21,7 +20,7 @@ fn escaped(byte: u8) -> u8 {
     }
 }
 
-/// Adds what is written without repetitions.
+/// Adds a text without repetitions.
 fn add(bytes: &mut Vec<u8>, written: &str) -> Result<(), AllocError> {
     let mut is_escaped = false;
     for byte in written.bytes() {
@@ -37,7 +36,7 @@ fn add(bytes: &mut Vec<u8>, written: &str) -> Result<(), AllocError> {
     Ok(())
 }
 
-/// How often a text is repeated, from this number on, the text, and what follows it.
+/// The count of a repetition, starting at this number, the text that is repeated, and what follows it.
 fn repetition(written: &str) -> Option<(usize, &str, &str)> {
     let (repetition, after) = written.split_once("\\)")?;
     let (times, once) = repetition.split_once('*')?;
@@ -47,7 +46,7 @@ fn repetition(written: &str) -> Option<(usize, &str, &str)> {
     }
 }
 
-/// Adds what is written, from the number of a repetition on, and says whether it is one.
+/// Adds a text, from the number of a repetition, and returns whether it is a valid one.
 fn add_repeated(bytes: &mut Vec<u8>, written: &str) -> Result<bool, AllocError> {
     let Some((times, once, after)) = repetition(written) else {
         return Ok(false);
@@ -59,7 +58,7 @@ fn add_repeated(bytes: &mut Vec<u8>, written: &str) -> Result<bool, AllocError> 
     Ok(true)
 }
 
-/// Adds what is written, and says whether each repetition is one.
+/// Adds a text, and returns whether each repetition is valid.
 fn add_all(bytes: &mut Vec<u8>, written: &str) -> Result<bool, AllocError> {
     let mut parts = written.split("\\(");
     if let Some(first) = parts.next() {
@@ -73,14 +72,14 @@ fn add_all(bytes: &mut Vec<u8>, written: &str) -> Result<bool, AllocError> {
     Ok(true)
 }
 
-/// The bytes that are written so; `None` where a repetition is none.
+/// Parses bytes; `None` if a repetition is not valid.
 pub fn bytes(alloc: Global, written: &str) -> Result<Option<Vec<u8>>, AllocError> {
     let mut bytes = Vec::new(alloc);
     let is_well = add_all(&mut bytes, written)?;
     Ok(if is_well { Some(bytes) } else { None })
 }
 
-/// The text that is written so; `None` where a repetition is none, or the bytes are no UTF-8.
+/// Parses a text; `None` if a repetition is not valid, or the bytes are not UTF-8.
 pub fn text(alloc: Global, written: &str) -> Result<Option<String>, AllocError> {
     let Some(bytes) = bytes(alloc, written)? else {
         return Ok(None);
@@ -91,7 +90,7 @@ pub fn text(alloc: Global, written: &str) -> Result<Option<String>, AllocError> 
     }
 }
 
-/// The texts that are written so, with spaces between them; `None` where one is none. `''` is an empty one.
+/// Parses texts with spaces between them; `None` if one is not valid. `''` is an empty one.
 pub fn list(alloc: Global, written: &str) -> Result<Option<Vec<String>>, AllocError> {
     let mut list = Vec::new(alloc);
     for word in written.split_whitespace() {

@@ -122,7 +122,7 @@ fn are_same_answers(one: &Answer, other: &Answer) -> bool {
     }
 }
 
-/// To be run with each allocation refused in turn. An `Err` says that one was.
+/// Run with each allocation refused in turn. An `Err` means that one was.
 #[test]
 fn out_of_memory_leaves_no_copy_of_a_call(rt: HostRuntime) -> Result<(), Fail> {
     for (place, call) in calls(rt.alloc())?.iter().enumerate() {
@@ -131,7 +131,7 @@ fn out_of_memory_leaves_no_copy_of_a_call(rt: HostRuntime) -> Result<(), Fail> {
     Ok(())
 }
 
-/// To be run with each allocation refused in turn. An `Err` says that one was.
+/// Run with each allocation refused in turn. An `Err` means that one was.
 #[test]
 fn out_of_memory_leaves_no_copy_of_an_answer(rt: HostRuntime) -> Result<(), Fail> {
     for (place, answer) in answers(rt.alloc())?.iter().enumerate() {

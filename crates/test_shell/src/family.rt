@@ -1,4 +1,4 @@
-//! Families of shells where memory is refused.
+//! Families of shells when memory runs out.
 
 ghost use Rattle.std.specs.Prelude.{IfOk};
 ghost use Rattle.rc_model.specs.Handed.Proper.{IsProperTree};
@@ -21,7 +21,7 @@ fn tree_of(alloc: Global, script: &[u8]) -> Result<Box<Cmd>, ScriptError>
     Ok(Box::new(alloc, parse(alloc, script)?)?)
 }
 
-/// The family of a pipeline of two shells, and an `Err` where memory was refused.
+/// The family of a pipeline of two shells, or an `Err` if memory ran out.
 fn begun(rt: &impl Abort, alloc: Global) -> Result<Family, Fail> {
     let tree = tree_of(alloc, b"a | b".as_slice())?;
     let mut state = State::new(alloc);
@@ -35,7 +35,7 @@ fn begun(rt: &impl Abort, alloc: Global) -> Result<Family, Fail> {
     }
 }
 
-/// Makes a step of process 0. An `Err` says that memory was refused, and then nothing was changed.
+/// Makes a step of process 0. An `Err` means that memory ran out, and then nothing has changed.
 fn step(rt: &impl Abort, alloc: Global, family: &mut Family, answer: Answer) -> Result<Call, Fail> {
     let count = family.count();
     match family.step(alloc, 0, answer) {
@@ -48,7 +48,7 @@ fn step(rt: &impl Abort, alloc: Global, family: &mut Family, answer: Answer) -> 
     }
 }
 
-/// To be run with each allocation refused in turn. An `Err` says that one was.
+/// Run with each allocation refused in turn. An `Err` means that one was.
 #[test]
 fn out_of_memory_makes_no_step(rt: HostRuntime) -> Result<(), Fail> {
     let alloc = rt.alloc();

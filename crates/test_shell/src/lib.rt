@@ -1,4 +1,4 @@
-//! Tests of the public calls that run scripts, where memory is refused. The rows of `test_tapes` show what they do.
+//! Tests of the public calls that run scripts, when memory runs out. The rows of `test_tapes` show what they do.
 #![tactic(auto)]
 
 #[cfg(test)]

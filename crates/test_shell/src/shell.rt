@@ -1,4 +1,4 @@
-//! Runs of a script where memory is refused.
+//! Runs of a script when memory runs out.
 
 use crate::support::one_program;
 use rc_scope::State;
@@ -21,7 +21,7 @@ fn is_of_echo_hello(place: usize, call: &Call) -> bool {
     }
 }
 
-/// What a run comes to where memory may be refused: an `Err` says that it was, and else the script has ended with this
+/// The result of a run in which memory may run out: an `Err` means that it did, and else the script has ended with this
 /// status after this many calls.
 fn ended(
     rt: &impl Abort,
@@ -41,7 +41,7 @@ fn ended(
     }
 }
 
-/// To be run with each allocation refused in turn. An `Err` says that one was.
+/// Run with each allocation refused in turn. An `Err` means that one was.
 #[test]
 fn out_of_memory_is_reported(rt: HostRuntime) -> Result<(), Fail> {
     let alloc = rt.alloc();
@@ -65,7 +65,7 @@ fn texts(alloc: Global, all: &[&str]) -> Result<Vec<String>, AllocError> {
     Ok(copies)
 }
 
-/// To be run with each allocation refused in turn. An `Err` says that one was.
+/// Run with each allocation refused in turn. An `Err` means that one was.
 #[test]
 fn out_of_memory_in_an_image_is_reported(rt: HostRuntime) -> Result<(), Fail> {
     let alloc = rt.alloc();
@@ -79,7 +79,7 @@ fn out_of_memory_in_an_image_is_reported(rt: HostRuntime) -> Result<(), Fail> {
     ended(&rt, ran, &tape, "", 3)
 }
 
-/// To be run with each allocation refused in turn. An `Err` says that one was.
+/// Run with each allocation refused in turn. An `Err` means that one was.
 #[test]
 fn out_of_memory_among_redirections_is_reported(rt: HostRuntime) -> Result<(), Fail> {
     let alloc = rt.alloc();
@@ -96,7 +96,7 @@ fn out_of_memory_among_redirections_is_reported(rt: HostRuntime) -> Result<(), F
     ended(&rt, ran, &tape, "", 6)
 }
 
-/// To be run with each allocation refused in turn. An `Err` says that one was.
+/// Run with each allocation refused in turn. An `Err` means that one was.
 #[test]
 fn out_of_memory_among_lists_is_reported(rt: HostRuntime) -> Result<(), Fail> {
     let alloc = rt.alloc();
@@ -140,7 +140,7 @@ fn answers_to_children(alloc: Global) -> Result<Vec<Answer>, AllocError> {
     Ok(answers)
 }
 
-/// To be run with each allocation refused in turn. An `Err` says that one was.
+/// Run with each allocation refused in turn. An `Err` means that one was.
 #[test]
 fn out_of_memory_among_children_is_reported(rt: HostRuntime) -> Result<(), Fail> {
     let alloc = rt.alloc();
@@ -150,7 +150,7 @@ fn out_of_memory_among_children_is_reported(rt: HostRuntime) -> Result<(), Fail>
     ended(&rt, ran, &tape, "5", 24)
 }
 
-/// To be run with each allocation refused in turn. An `Err` says that one was.
+/// Run with each allocation refused in turn. An `Err` means that one was.
 #[test]
 fn out_of_memory_among_choices_is_reported(rt: HostRuntime) -> Result<(), Fail> {
     let alloc = rt.alloc();
@@ -183,7 +183,7 @@ fn starts_e_with(call: Option<&Call>, first: &str, second: &str) -> bool {
         && matches!(launch.args.as_slice(), [one, two] if one.as_str() == first && two.as_str() == second)
 }
 
-/// To be run with each allocation refused in turn. An `Err` says that one was.
+/// Run with each allocation refused in turn. An `Err` means that one was.
 #[test]
 fn out_of_memory_among_built_in_commands_is_reported(rt: HostRuntime) -> Result<(), Fail> {
     let alloc = rt.alloc();

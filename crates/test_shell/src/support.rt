@@ -1,4 +1,4 @@
-//! What the tests of refused memory share.
+//! Functions that the tests of refused memory share.
 
 use rc_world::{Answer, ChildNo, Ending, Kind, Tape};
 use std::alloc::{AllocError, Global};
@@ -14,7 +14,7 @@ pub fn one_program(alloc: Global) -> Result<Tape, AllocError> {
     ]?))
 }
 
-/// The failure of a test where memory was refused, when this many calls were made.
+/// The failure of a test when memory runs out, after this many calls.
 pub fn refused_after(rt: &impl Abort, tape: &Tape, calls: usize) -> Fail {
     assert_eq!(rt; tape.calls().len(), calls);
     Fail::from(AllocError)

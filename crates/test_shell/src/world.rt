@@ -1,4 +1,4 @@
-//! Calls of a tape, which are not made where memory is refused.
+//! Calls of a tape, which are not made when memory runs out.
 
 use crate::support::refused_after;
 use rc_world::{

@@ -5,8 +5,8 @@ use rc_world::Answer;
 use std::alloc::{AllocError, Global};
 use test_calls::answer;
 
-/// What stands between a call and its answer.
-const ARROW: &str = " > ";
+/// The separator between a call and its answer.
+pub const ARROW: &str = " > ";
 
 /// Calls, each on a line, and their answers.
 #[derive(Drop)]
@@ -16,7 +16,7 @@ pub struct Calls {
 }
 
 impl Calls {
-    /// The calls that are written so. The last may have no answer.
+    /// Parses calls. The last may have no answer.
     pub fn read(alloc: Global, written: &str) -> Result<Calls, RowError> {
         let mut calls = Calls {
             lines: String::new(alloc),
@@ -39,7 +39,7 @@ impl Calls {
         Ok(())
     }
 
-    /// The answers once more.
+    /// Copies the answers.
     pub fn answers(&self, alloc: Global) -> Result<Vec<Answer>, AllocError> {
         let mut answers = Vec::new(alloc);
         for answer in self.answers.iter() {

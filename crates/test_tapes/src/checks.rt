@@ -1,20 +1,20 @@
-//! What has to hold of each row: its calls and its end; and of one that is no run of the program, at each lower limit
-//! the first of these calls, and the same in steps of one instruction.
+//! What has to hold of each row: its calls and its end, also as they are shown; and of one that is no run of the
+//! program, at each lower limit the first of these calls, and the same in steps of one instruction.
 
 use crate::answers::Calls;
 use crate::fault::RowError;
 use crate::rows::Row;
-use crate::runs::{Stepped, run};
+use crate::runs::{Stepped, run, run_shown};
 use crate::story::Story;
 use std::alloc::{AllocError, Global};
 
-/// The most limits that are tried of a row: of a longer run only the first ones.
+/// The greatest number of limits that are tried for a row: for a longer run only the first ones.
 const MOST_LIMITS: u64 = 400;
 
 /// The bytes of a script and its calls, up to which a row is run at each limit.
 const SHORT: usize = 20_000;
 
-/// What is said of a run that is not as it should be.
+/// The complaint about a run that is not as expected.
 fn said(
     alloc: Global,
     how: &str,
@@ -27,7 +27,7 @@ fn said(
     format!(in alloc; "{how}:\n{made}{ended}\nin place of\n{calls}{end}")
 }
 
-/// What is said of a run unless it made the calls of a row and ended as it says.
+/// The complaint about a run, unless it made the calls of a row and ended as the row says.
 fn said_unless_wanted(
     alloc: Global,
     how: &str,
@@ -51,14 +51,19 @@ pub fn difference(alloc: Global, row: &Row<'_>) -> Result<Option<String>, RowErr
     difference_of_parts(alloc, row, &calls)
 }
 
-/// What differs where the row is run as it is.
+/// What differs if the row is run as it is.
 fn difference_of_run(
     alloc: Global,
     row: &Row<'_>,
     calls: &Calls,
 ) -> Result<Option<String>, RowError> {
     let came = run(alloc, row, calls, row.limit)?;
-    Ok(said_unless_wanted(alloc, "run", &came, calls, row)?)
+    let difference = said_unless_wanted(alloc, "run", &came, calls, row)?;
+    if difference.is_some() {
+        return Ok(difference);
+    }
+    let shown = run_shown(alloc, row, calls)?;
+    Ok(said_unless_wanted(alloc, "shown", &shown, calls, row)?)
 }
 
 /// What differs in steps and at lower limits.
@@ -79,7 +84,7 @@ fn is_wanted(came: &Story, calls: &Calls, row: &Row<'_>) -> bool {
     came.calls == calls.lines && came.end.as_str() == row.end
 }
 
-/// What differs where fewer instructions are run than there are: the calls are to be the first ones of the row.
+/// What differs if fewer instructions are run than there are: the calls must be a prefix of those of the row.
 fn difference_at_limits(
     alloc: Global,
     row: &Row<'_>,
@@ -97,18 +102,18 @@ fn difference_at_limits(
     Ok(None)
 }
 
-/// Whether a run came to its limit after the first of these calls.
+/// Whether a run reached its limit after a prefix of these calls.
 fn is_cut(came: &Story, calls: &Calls) -> bool {
     came.end.as_str() == "limit" && calls.lines.starts_with(came.calls.as_str())
 }
 
-/// What is said of a run that does not come so to its limit.
+/// The complaint about a run that does not reach its limit this way.
 fn said_at(alloc: Global, limit: u64, came: &Story, calls: &Calls) -> Result<String, AllocError> {
     let how = format!(in alloc; "with the limit {limit}")?;
     said(alloc, how.as_str(), came, calls.lines.as_str(), "limit")
 }
 
-/// What differs where the machine runs one instruction at a time, and where it is run further then.
+/// What differs if the machine runs one instruction at a time, and if it is then run further.
 fn difference_in_steps(
     alloc: Global,
     row: &Row<'_>,

@@ -1,4 +1,4 @@
-//! Why nothing comes of a row.
+//! Why a row has no result.
 
 use rc_model::{ImageFault, InputError, SyntaxFault};
 use rc_scope::NameFault;
@@ -6,10 +6,10 @@ use std::alloc::{AllocError, AllocFailed};
 use std::num::ParseIntError;
 use test_calls::AnswerError;
 
-/// Why nothing comes of a row.
+/// Why a row has no result.
 #[derive(Clone, Copy)]
 pub enum RowError {
-    /// The row is not written as it must be.
+    /// The notation of the row is wrong.
     BadRow,
     /// The script or the image of the row is refused.
     Refused,

@@ -1,4 +1,4 @@
-//! What a run of the program reads.
+//! The input of a run of the program.
 
 use std::io;
 use std::io::{ErrorKind, Read};

@@ -1,5 +1,5 @@
-//! Runs each row of the files `*.rows` that lie here over a tape, and says of each file whether its rows are as wanted,
-//! and of a row that is not what differs.
+//! Runs each row of the files `*.rows` in this folder over a tape, and prints for each file whether its rows are as
+//! expected, and for a row that isn't what differs.
 #![tactic(auto)]
 
 mod answers;
@@ -32,13 +32,13 @@ fn files(rt: &HostRuntime) -> Result<Vec<String>> {
     Ok(names)
 }
 
-/// What differs in the row that is written so, if it is one.
+/// What differs in a row, if anything.
 fn difference_of(alloc: Global, written: &str) -> Result<Option<String>, RowError> {
     let row = Row::read(alloc, written)?;
     difference(alloc, &row)
 }
 
-/// Adds what differs in a row, and says whether nothing does.
+/// Adds what differs in a row, and returns whether nothing does.
 fn is_well(alloc: Global, out: &mut String, row: &str) -> Result<bool, AllocError> {
     let (name, written) = row.split_once('\n').unwrap_or((row, ""));
     match difference_of(alloc, written) {
@@ -50,7 +50,7 @@ fn is_well(alloc: Global, out: &mut String, row: &str) -> Result<bool, AllocErro
     Ok(false)
 }
 
-/// Adds what differs in the rows of a file, and says whether it has rows and nothing does.
+/// Adds what differs in the rows of a file, and returns whether it has rows and nothing does.
 fn are_well(alloc: Global, out: &mut String, text: &str) -> Result<bool, AllocError> {
     let begun = format!(in alloc; "\n{text}")?;
     let mut are_well = begun.contains("\n## ");

@@ -9,8 +9,8 @@
 //! - `set x a b`: a variable before the run, and `args a b` and `ifs a b`: the variables `*` and `ifs`. `''` is an
 //!   empty member;
 //! - `each 12 word a#`: the 12 options `word a1` to `word a12`, and `each 12 entry x#=a` likewise;
-//! - `repeat MARK 12 ab`: the mark stands in the script, the calls, the words and the entries for 12 times `ab`, where
-//!   each `#` is the number of the turn, from 1 on. Marks are replaced in the order of their lines.
+//! - `repeat MARK 12 ab`: the mark in the script, the calls, the words and the entries is replaced by 12 times `ab`,
+//!   where each `#` is the number of the turn, from 1. Marks are replaced in the order of their lines.
 //!
 //! Members, words, entries and what is repeated are written as the texts of `test_rows`.
 //! Before the options `path` is `/bin`.
@@ -22,7 +22,7 @@ use std::alloc::{AllocError, Global};
 /// Enough instructions for each script that ends.
 const LIMIT: u64 = 100_000;
 
-/// The state that the options give.
+/// The state after the options.
 pub fn set_up(alloc: Global, options: &str) -> Result<State, RowError> {
     let mut state = State::new(alloc);
     set_all(alloc, &mut state, options)?;
@@ -37,7 +37,7 @@ fn set_all(alloc: Global, state: &mut State, options: &str) -> Result<(), RowErr
     Ok(())
 }
 
-/// Does to a state what an option says.
+/// Changes a state by an option.
 fn change(alloc: Global, state: &mut State, option: &str) -> Result<(), RowError> {
     let (kind, rest) = option.split_once(' ').unwrap_or((option, ""));
     match kind {
@@ -56,7 +56,7 @@ fn change(alloc: Global, state: &mut State, option: &str) -> Result<(), RowError
     }
 }
 
-/// Sets a variable to the members that are written so.
+/// Sets a variable to members.
 fn set(alloc: Global, state: &mut State, name: &str, written: &str) -> Result<(), RowError> {
     let members = members(alloc, written)?;
     Ok(state.set(name, members)?)
@@ -72,7 +72,7 @@ pub fn has(options: &str, wanted: &str) -> bool {
     false
 }
 
-/// What the options of this kind give, each a text.
+/// The texts of the options of this kind.
 pub fn texts(alloc: Global, options: &str, wanted: &str) -> Result<Vec<String>, RowError> {
     let mut texts = Vec::new(alloc);
     for option in options.lines() {
@@ -86,7 +86,7 @@ pub fn texts(alloc: Global, options: &str, wanted: &str) -> Result<Vec<String>, 
     Ok(texts)
 }
 
-/// Adds what so many options give, where they are of this kind.
+/// Adds the texts of so many options, if they are of this kind.
 fn push_each(
     alloc: Global,
     texts: &mut Vec<String>,
@@ -121,13 +121,13 @@ fn push_numbered(out: &mut String, text: &str, number: usize) -> Result<(), Allo
     Ok(())
 }
 
-/// The text that is written so.
+/// Parses a text, after its marks are replaced.
 fn text(alloc: Global, options: &str, written: &str) -> Result<String, RowError> {
     let text = unescaped(alloc, written)?;
     repeated(alloc, options, text.as_str())
 }
 
-/// How many instructions a run may have.
+/// The limit of instructions of a run.
 pub fn limit(options: &str) -> Result<u64, RowError> {
     for option in options.lines() {
         if let Some(limit) = option.strip_prefix("limit ") {
@@ -137,7 +137,7 @@ pub fn limit(options: &str) -> Result<u64, RowError> {
     Ok(LIMIT)
 }
 
-/// A text with what its marks stand for.
+/// A text with its marks replaced.
 pub fn repeated(alloc: Global, options: &str, text: &str) -> Result<String, RowError> {
     let mut repeated = String::from_str(alloc, text)?;
     for option in options.lines() {
@@ -148,7 +148,7 @@ pub fn repeated(alloc: Global, options: &str, text: &str) -> Result<String, RowE
     Ok(repeated)
 }
 
-/// A text with what the mark of this repetition stands for.
+/// A text with the mark of this repetition replaced.
 fn replaced(alloc: Global, text: &str, repeat: &str) -> Result<String, RowError> {
     let (mark, repeat) = repeat.split_once(' ').unwrap_or((repeat, ""));
     let (times, once) = repeat.split_once(' ').unwrap_or((repeat, ""));
@@ -167,7 +167,7 @@ fn many_times(alloc: Global, times: usize, written: &str) -> Result<String, RowE
     Ok(many)
 }
 
-/// The members that are written so.
+/// Parses members.
 fn members(alloc: Global, written: &str) -> Result<Vec<String>, RowError> {
     match test_rows::list(alloc, written)? {
         Some(members) => Ok(members),
@@ -175,7 +175,7 @@ fn members(alloc: Global, written: &str) -> Result<Vec<String>, RowError> {
     }
 }
 
-/// What is written so.
+/// Undoes the escapes of a text.
 fn unescaped(alloc: Global, written: &str) -> Result<String, RowError> {
     match test_rows::text(alloc, written)? {
         Some(text) => Ok(text),

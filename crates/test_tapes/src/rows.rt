@@ -1,4 +1,4 @@
-//! How a row is written:
+//! The notation of a row:
 //!
 //! ```text
 //! ## its_name
@@ -10,7 +10,7 @@
 //! end: ended, the status; x=["a member"]
 //! ```
 //!
-//! Lines that begin with `#` may stand before a row, and empty lines after it.
+//! Lines that begin with `#` can come before a row, and empty lines after it.
 
 use crate::fault::RowError;
 use crate::input::Input;
@@ -18,7 +18,7 @@ use crate::options::{has, limit, repeated, set_up, texts};
 use rc_scope::State;
 use std::alloc::{AllocError, Global};
 
-/// A script, and what is wanted of its run.
+/// A script, and the expected run.
 #[derive(Drop)]
 pub struct Row<'a> {
     options: &'a str,
@@ -26,11 +26,11 @@ pub struct Row<'a> {
     /// The calls with their answers.
     pub calls: String,
     pub end: &'a str,
-    /// How many instructions the run may have.
+    /// The limit of instructions of the run.
     pub limit: u64,
 }
 
-/// What a shell is handed.
+/// The words and entries that a shell is handed.
 #[derive(Drop)]
 pub struct Handed {
     pub is_strict: bool,
@@ -38,7 +38,7 @@ pub struct Handed {
     pub entries: Vec<String>,
 }
 
-/// What the program is given.
+/// The arguments and the environment of the program.
 #[derive(Drop)]
 pub struct Given {
     pub words: Vec<String>,
@@ -46,7 +46,7 @@ pub struct Given {
 }
 
 impl<'a> Row<'a> {
-    /// The row that is written so, from the line after its name on.
+    /// Parses a row, from the line after its name.
     pub fn read(alloc: Global, written: &'a str) -> Result<Row<'a>, RowError> {
         let Some((options, script, calls, end)) = parts(written) else {
             return Err(RowError::BadRow);
@@ -68,7 +68,7 @@ impl<'a> Row<'a> {
         set_up(alloc, self.options)
     }
 
-    /// What a shell is handed, where this is no script.
+    /// What a shell is handed, unless this is a script.
     pub fn handed(&self, alloc: Global) -> Result<Option<Handed>, RowError> {
         if !has(self.options, "image") {
             return Ok(None);
@@ -87,14 +87,14 @@ impl<'a> Row<'a> {
         has(self.options, "program")
     }
 
-    /// What the program is given.
+    /// The arguments and the environment of the program.
     pub fn given(&self, alloc: Global) -> Result<Given, RowError> {
         let words = texts(alloc, self.options, "word")?;
         let entries = texts(alloc, self.options, "entry")?;
         Ok(Given { words, entries })
     }
 
-    /// What the program reads, unless it could not be opened.
+    /// The input of the program, unless it could not be opened.
     pub fn input(&self) -> Option<Input<'_>> {
         if has(self.options, "unopened") {
             return None;
@@ -129,7 +129,7 @@ fn parts(written: &str) -> Option<(&str, &str, &str, &str)> {
     Some((options, lines_of(script), lines_of(calls), end))
 }
 
-/// The lines that follow a heading.
+/// The lines after a heading.
 fn lines_of(part: &str) -> &str {
     part.strip_prefix('\n').unwrap_or("")
 }

@@ -7,7 +7,7 @@ ghost use Rattle.rc_tree.specs.View.{cmd_tree};
 use crate::answers::Calls;
 use crate::fault::RowError;
 use crate::rows::{Handed, Row};
-use crate::story::{End, Story};
+use crate::story::{End, Story, ended};
 use rc_cli::run_rc;
 use rc_code::{Code, compile};
 use rc_image::{ImageError, read_image};
@@ -15,65 +15,76 @@ use rc_machine::{Machine, Progress};
 use rc_parser::{ScriptError, parse};
 use rc_scope::State;
 use rc_shell::{Ran, ShellFault, execute, execute_image};
+use rc_trace::{Lines, TraceWorld};
 use rc_tree::Cmd;
-use rc_world::Tape;
+use rc_world::{Tape, World};
 use std::alloc::{AllocError, Global};
 
-/// What comes of a row with at most this many instructions.
+/// Runs a row with at most this many instructions.
 pub fn run(alloc: Global, row: &Row<'_>, calls: &Calls, limit: u64) -> Result<Story, RowError> {
     let mut tape = Tape::new(calls.answers(alloc)?);
-    if row.is_of_the_program() {
-        run_program(alloc, row, &mut tape)
-    } else if let Some(handed) = row.handed(alloc)? {
-        Ok(run_image(alloc, &handed, &mut tape, limit)?)
-    } else {
-        run_script(alloc, row, &mut tape, limit)
-    }
+    let end = end_of(alloc, row, &mut tape, limit)?;
+    Ok(Story::of(alloc, tape.calls(), end)?)
 }
 
-fn run_script(
+/// What comes of a row where its calls are taken from the lines that show them.
+pub fn run_shown(alloc: Global, row: &Row<'_>, calls: &Calls) -> Result<Story, RowError> {
+    let tape = Tape::new(calls.answers(alloc)?);
+    let lines = Lines::new(alloc, String::from_str(alloc, "1")?, Vec::new(alloc));
+    let mut traced = TraceWorld::new(tape, lines);
+    let end = end_of(alloc, row, &mut traced, row.limit)?;
+    let (_, lines) = traced.into_parts();
+    let out: Vec<u8> = lines.into_out();
+    Ok(Story::shown(alloc, &out, end)?)
+}
+
+/// How a row ends over a world, with at most this many instructions.
+fn end_of<W: World>(
     alloc: Global,
     row: &Row<'_>,
-    tape: &mut Tape,
+    world: &mut W,
     limit: u64,
-) -> Result<Story, RowError> {
-    let state = row.state(alloc)?;
-    let ran = execute(alloc, tape, row.script.as_bytes(), state, limit);
-    Ok(story(alloc, tape, &ran)?)
+) -> Result<String, RowError> {
+    if row.is_of_the_program() {
+        return end_of_program(alloc, row, world);
+    }
+    let ran = match row.handed(alloc)? {
+        Some(handed) => {
+            let (words, entries) = (&handed.words, &handed.entries);
+            execute_image(alloc, world, handed.is_strict, words, entries, limit)
+        }
+        None => {
+            let state = row.state(alloc)?;
+            execute(alloc, world, row.script.as_bytes(), state, limit)
+        }
+    };
+    Ok(ended(alloc, end_by(&ran))?)
 }
 
-fn run_image(
-    alloc: Global,
-    handed: &Handed,
-    tape: &mut Tape,
-    limit: u64,
-) -> Result<Story, AllocError> {
-    let (words, entries) = (&handed.words, &handed.entries);
-    let ran = execute_image(alloc, tape, handed.is_strict, words, entries, limit);
-    story(alloc, tape, &ran)
-}
-
-/// What came of a run that ended so.
-fn story(alloc: Global, tape: &Tape, ran: &Result<Ran, ShellFault>) -> Result<Story, AllocError> {
-    let end = match ran {
+/// The end of a run.
+fn end_by(ran: &Result<Ran, ShellFault>) -> End<'_> {
+    match ran {
         Ok(Ran::Ended { state }) => End::Ended(state),
         Ok(Ran::Limit) => End::Limit,
         Ok(Ran::Halted) => End::Halted,
         Err(ShellFault::Syntax(fault)) => End::NoScript(*fault),
         Err(ShellFault::Image(fault)) => End::NoImage(*fault),
         Err(ShellFault::NoMemory) => End::NoMemory,
-    };
-    Story::of(alloc, tape.calls(), end)
+    }
 }
 
-/// What comes of a run of the program.
-fn run_program(alloc: Global, row: &Row<'_>, tape: &mut Tape) -> Result<Story, RowError> {
+/// How a run of the program ends.
+fn end_of_program<W: World>(
+    alloc: Global,
+    row: &Row<'_>,
+    world: &mut W,
+) -> Result<String, RowError> {
     let given = row.given(alloc)?;
-    let end = match run_rc(alloc, tape, &given.words, &given.entries, row.input()) {
+    let end = match run_rc(alloc, world, &given.words, &given.entries, row.input()) {
         Ok(number) => End::Number(number),
         Err(fault) => End::Fault(fault),
     };
-    Ok(Story::of(alloc, tape.calls(), end)?)
+    Ok(ended(alloc, end)?)
 }
 
 /// The tree of a script, in a box: each place that may drop a tree takes long to prove.
@@ -159,6 +170,6 @@ impl Stepped {
             Progress::Limit => End::Limit,
             Progress::Halted => End::Halted,
         };
-        Story::of(alloc, self.tape.calls(), end)
+        Story::of(alloc, self.tape.calls(), ended(alloc, end)?)
     }
 }

@@ -1,5 +1,6 @@
-//! What a run did: its calls, each on a line, and how it ended.
+//! The story of a run: its calls, each on a line, and how it ended.
 
+use crate::answers::ARROW;
 use rc_cli::RunError;
 use rc_image::ImageFault;
 use rc_model::SyntaxFault;
@@ -23,7 +24,7 @@ pub enum End<'a> {
     Fault(RunError<'a>),
 }
 
-/// What a run did.
+/// The story of a run.
 #[derive(Drop)]
 pub struct Story {
     pub calls: String,
@@ -32,18 +33,35 @@ pub struct Story {
 
 impl Story {
     /// The story of a run with these calls and this end.
-    pub fn of(alloc: Global, calls: &[Call], end: End<'_>) -> Result<Story, AllocError> {
+    pub fn of(alloc: Global, calls: &[Call], end: String) -> Result<Story, AllocError> {
         let mut story = Story {
             calls: String::new(alloc),
-            end: String::new(alloc),
+            end,
         };
         for call in calls {
             write_call(&mut story.calls, call)?;
             story.calls.push('\n')?;
         }
-        write_end(&mut story.end, end)?;
         Ok(story)
     }
+
+    /// The story of a run whose calls are shown in these lines of the process `1`, with this end.
+    pub fn shown(alloc: Global, lines: &[u8], end: String) -> Result<Story, AllocError> {
+        let mut calls = String::new(alloc);
+        for line in str::from_utf8(lines).unwrap_or("no text").lines() {
+            let (call, _) = line.split_once(ARROW).unwrap_or((line, ""));
+            calls.push_str(call.strip_prefix("1 ").unwrap_or(line))?;
+            calls.push('\n')?;
+        }
+        Ok(Story { calls, end })
+    }
+}
+
+/// An end as it is written.
+pub fn ended(alloc: Global, end: End<'_>) -> Result<String, AllocError> {
+    let mut written = String::new(alloc);
+    write_end(&mut written, end)?;
+    Ok(written)
 }
 
 /// Writes an end.
@@ -68,7 +86,7 @@ fn write_state(out: &mut String, state: &State) -> Result<(), AllocError> {
     write_variable(out, state, "apid")
 }
 
-/// Writes a variable where it has a member.
+/// Writes a variable, if it has a member.
 fn write_variable(out: &mut String, state: &State, name: &str) -> Result<(), AllocError> {
     match state.get(name) {
         Ok(value) if !value.is_empty() => write!(out, "; {name}={value:?}"),

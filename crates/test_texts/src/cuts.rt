@@ -1,4 +1,4 @@
-//! What comes of a script that is fed in pieces.
+//! The results for a script that comes in pieces.
 
 use crate::dump::dump;
 use crate::tokens::tokens_shown;
@@ -74,7 +74,7 @@ fn has_tokens_of_characters(alloc: Global, script: &[u8]) -> Result<bool, AllocE
     Ok(whole.as_str() == cut.as_str())
 }
 
-/// Adds each place where the script, cut in two, comes to something else than this.
+/// Adds each place at which the script, cut in two, has another result.
 fn add_differing_places(
     alloc: Global,
     out: &mut String,
@@ -90,7 +90,7 @@ fn add_differing_places(
     Ok(())
 }
 
-/// What comes of a script, and which cuts bring something else.
+/// The result for a script, and the cuts that have another result.
 pub fn cut_everywhere(alloc: Global, script: &[u8]) -> Result<String, AllocError> {
     let whole = shown(alloc, tree_of(alloc, script))?;
     let mut out = String::from_str(alloc, whole.as_str())?;

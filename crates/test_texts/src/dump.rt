@@ -1,4 +1,4 @@
-//! A tree as a text. A list of commands stands in brackets, any other form in parentheses after its name.
+//! A tree as a text. A list of commands is in brackets, any other form in parentheses after its name.
 
 use rc_tree::{Arg, Branch, Cmd, Item, Logic, Mode, Piece, Redir, Stage};
 use std::alloc::{AllocError, Global};
@@ -10,7 +10,7 @@ pub fn dump(alloc: Global, cmd: &Cmd) -> Result<String, AllocError> {
     Ok(out)
 }
 
-/// What a form begins with.
+/// The beginning of a form.
 fn opening(cmd: &Cmd) -> &'static str {
     match cmd {
         Cmd::Empty => "(",

@@ -7,7 +7,7 @@ use rc_tree::{Cmd, InputError};
 use std::alloc::{AllocError, Global};
 use std::fs;
 
-/// What is wrong with a script.
+/// The fault of a script.
 fn complaint(alloc: Global, script: &[u8]) -> Result<Option<String>, AllocError> {
     match tree_of(alloc, script) {
         Ok(tree) => complaint_of_text(alloc, &tree),
@@ -15,7 +15,7 @@ fn complaint(alloc: Global, script: &[u8]) -> Result<Option<String>, AllocError>
     }
 }
 
-/// What is wrong with the text of a tree, where it has one.
+/// The fault of the text of a tree, if it has one.
 fn complaint_of_text(alloc: Global, tree: &Cmd) -> Result<Option<String>, AllocError> {
     match print(alloc, tree) {
         Ok(text) if !is_read_back(alloc, text.as_str()) => {
@@ -50,7 +50,7 @@ fn read(rt: &HostRuntime, name: &str) -> Result<()> {
     Ok(())
 }
 
-/// Reads each example that lies here.
+/// Reads each example in this folder.
 pub fn read_all(rt: &HostRuntime) -> Result<()> {
     for entry in fs::read_dir(rt, ".")? {
         let entry = entry?;

@@ -1,4 +1,4 @@
-//! What is shown of the rows of a file, and how they stand there.
+//! The results for the rows of a file, and their notation.
 
 use crate::images::{add_pieces, add_taken, tree};
 use crate::row_error::RowError;
@@ -6,22 +6,22 @@ use crate::row_texts::{list, text};
 use crate::states::begun;
 use std::alloc::{AllocError, Global};
 
-/// What is shown of a row.
+/// The kind of result for a row.
 #[derive(Clone, Copy)]
 pub enum Layer {
     /// Whether an image is read back. The row is the image.
     Trees,
     /// The words in which the tree of an image is handed over. The row is the image.
     Pieces,
-    /// How many words the tree takes that they begin with. The row is a list of words.
+    /// How many of the words the tree at their beginning takes. The row is a list of words.
     Words,
-    /// What a shell begins with, or what it hands over then. The row has an option on each line, and what is wanted has
-    /// several lines too.
+    /// The state that a shell begins with, or what it then hands over. The row has an option on each line, and the
+    /// expected result several lines.
     States,
 }
 
 impl Layer {
-    /// What stands between rows, and between a row and what is wanted.
+    /// The separators between rows, and between a row and the expected result.
     pub fn separators(self) -> (&'static str, &'static str) {
         match self {
             Layer::States => ("\n\n", "\n==>\n"),
@@ -29,7 +29,7 @@ impl Layer {
         }
     }
 
-    /// Adds what comes of a row, unless it is a fault.
+    /// Adds the result for a row, unless it is a fault.
     fn answer(self, alloc: Global, out: &mut String, written: &str) -> Result<(), RowError> {
         match self {
             Layer::Trees => {
@@ -42,7 +42,7 @@ impl Layer {
         }
     }
 
-    /// What comes of a row, or the fault of an image in it.
+    /// The result for a row, or the fault of an image in it.
     pub fn show(self, alloc: Global, written: &str) -> Result<String, AllocError> {
         let mut out = String::new(alloc);
         match self.answer(alloc, &mut out, written) {

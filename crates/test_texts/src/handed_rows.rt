@@ -1,10 +1,10 @@
-//! Rows of images, words and entries: what stands there, an arrow and what is wanted.
+//! Rows of images, words and entries: the input, an arrow and the expected result.
 
 use crate::handed_layers::Layer;
 use std::alloc::{AllocError, Global};
 use test_rows::Tally;
 
-/// Compares a row, and writes what comes of it where that is not wanted.
+/// Compares a row, and writes the result if it differs.
 fn compare_row(
     alloc: Global,
     out: &mut String,
@@ -21,7 +21,8 @@ fn compare_row(
     tally.add_differing(out, written, came.as_str(), wanted)
 }
 
-/// Compares the rows of a file, and writes those that differ and how many there are. What has no arrow is a comment.
+/// Compares the rows of a file, and writes those that differ and how many there are. A row without an arrow is a
+/// comment.
 pub fn compare(
     alloc: Global,
     out: &mut String,

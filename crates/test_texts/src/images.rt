@@ -1,4 +1,4 @@
-//! What comes of images and of words.
+//! The results for images and for words.
 
 use crate::row_error::RowError;
 use rc_image::{
@@ -7,10 +7,10 @@ use rc_image::{
 use rc_tree::Cmd;
 use std::alloc::{AllocError, Global};
 
-/// The most bytes of an image that is cut at each place.
+/// The greatest length of an image that is cut at each place, in bytes.
 const SHORT_IMAGE: usize = 1_000;
 
-/// The most bytes of a word that is shown as it is.
+/// The greatest length of a word that is shown as it is, in bytes.
 const SHORT_WORD: usize = 20;
 
 /// The tree of an image, in a box: each place that may drop a tree takes long to prove.
@@ -70,7 +70,7 @@ fn add_words(out: &mut String, words: &[String]) -> Result<(), AllocError> {
     Ok(())
 }
 
-/// Adds the words in which the tree of an image is handed over, and what comes of them where another word follows.
+/// Adds the words in which the tree of an image is handed over, and their result if another word follows.
 pub fn add_pieces(alloc: Global, out: &mut String, image: &str) -> Result<(), RowError> {
     let mut words = words_of(alloc, image)?;
     add_words(out, &words)?;
@@ -83,7 +83,7 @@ fn taken(alloc: Global, words: &[String]) -> Result<Box<(Cmd, usize)>, ImageErro
     Ok(Box::new(alloc, read_pieces(alloc, words)?)?)
 }
 
-/// Adds a count of words, where the tree is handed over in these.
+/// Adds the number of words, if the tree is handed over in these.
 fn add_count(
     alloc: Global,
     out: &mut String,
@@ -99,7 +99,7 @@ fn add_count(
     }
 }
 
-/// Adds how many of these words the tree takes that they begin with.
+/// Adds how many of these words the tree at their beginning takes.
 pub fn add_taken(alloc: Global, out: &mut String, words: &[String]) -> Result<(), RowError> {
     let taken = taken(alloc, words)?;
     add_count(alloc, out, &taken.0, words.get(..taken.1).unwrap_or(&[]))

@@ -1,5 +1,5 @@
-//! Compares what comes of scripts, and of what a shell is handed, with what is wanted, row by row, and reads the
-//! examples that lie here.
+//! Compares the results for scripts, and for what a shell is handed, with the expected ones, row by row, and reads the
+//! examples in this folder.
 #![tactic(auto)]
 
 mod cuts;

@@ -1,15 +1,15 @@
-//! The options of a row, each on a line: its kind, and after a space what it says.
+//! The options of a row, each on a line: its kind, and after a space its value.
 
 use crate::row_error::RowError;
 use crate::row_texts::text;
 use std::alloc::Global;
 
-/// The kind of an option, and what it says.
+/// The kind of an option, and its value.
 pub fn cut(option: &str) -> (&str, &str) {
     option.split_once(' ').unwrap_or((option, ""))
 }
 
-/// What the first option of this kind says, if there is one.
+/// The value of the first option of this kind, if there is one.
 pub fn first<'a>(options: &'a str, wanted: &str) -> Option<&'a str> {
     for option in options.lines() {
         let (kind, said) = cut(option);
@@ -25,7 +25,7 @@ pub fn has(options: &str, wanted: &str) -> bool {
     first(options, wanted).is_some()
 }
 
-/// What the options of this kind say.
+/// The values of the options of this kind.
 pub fn all(alloc: Global, options: &str, wanted: &str) -> Result<Vec<String>, RowError> {
     let mut texts = Vec::new(alloc);
     for option in options.lines() {

@@ -6,20 +6,20 @@ use crate::trees::tree_of;
 use std::alloc::{AllocError, Global};
 use test_rows::{Tally, bytes};
 
-/// How many pieces are fed before the rest of a script.
+/// The number of pieces that are fed before the rest of a script.
 const PIECES: usize = 16;
 
-/// Where the numbers of each of the two ways begin in which a script is cut.
+/// The seeds of the two ways in which a script is cut.
 const SEEDS: [u64; 2] = [1, 2];
 
-/// The number after this one: those of a linear congruential generator.
+/// The next number of a linear congruential generator.
 fn next_number(number: u64) -> u64 {
     number
         .wrapping_mul(6_364_136_223_846_793_005)
         .wrapping_add(1_442_695_040_888_963_407)
 }
 
-/// Random lengths of pieces of a script that has so many bytes: 0, and up to twice what each would have.
+/// Random lengths of the pieces of a script of this many bytes: between 0 and twice the average.
 fn random_lengths(alloc: Global, seed: u64, bytes: usize) -> Result<Vec<usize>, AllocError> {
     let mut lengths = Vec::new(alloc);
     let mut number = next_number(seed.wrapping_add(bytes as u64));
@@ -31,7 +31,7 @@ fn random_lengths(alloc: Global, seed: u64, bytes: usize) -> Result<Vec<usize>, 
     Ok(lengths)
 }
 
-/// Cuts a script at random places, and counts whether it comes to the same as the whole.
+/// Cuts a script at random places, and counts whether its result is that of the whole.
 fn compare_cut(
     alloc: Global,
     out: &mut String,

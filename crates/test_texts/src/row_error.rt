@@ -1,14 +1,14 @@
-//! Why nothing comes of a row.
+//! Why a row has no result.
 
 use rc_image::{ImageError, ImageFault, InputError};
 use rc_scope::NameFault;
 use std::alloc::{AllocError, AllocFailed};
 
-/// Why nothing comes of a row.
+/// Why a row has no result.
 #[derive(Clone, Copy)]
 pub enum RowError {
     Image(ImageFault),
-    /// The row is not written as it must be.
+    /// The notation of the row is wrong.
     BadRow,
     NoMemory,
 }

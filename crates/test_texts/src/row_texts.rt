@@ -3,7 +3,7 @@
 use crate::row_error::RowError;
 use std::alloc::Global;
 
-/// The text that is written so.
+/// Parses a text.
 pub fn text(alloc: Global, written: &str) -> Result<String, RowError> {
     match test_rows::text(alloc, written)? {
         Some(text) => Ok(text),
@@ -11,7 +11,7 @@ pub fn text(alloc: Global, written: &str) -> Result<String, RowError> {
     }
 }
 
-/// The texts that are written so, with spaces between them. `''` is an empty one.
+/// Parses texts with spaces between them. `''` is an empty one.
 pub fn list(alloc: Global, written: &str) -> Result<Vec<String>, RowError> {
     match test_rows::list(alloc, written)? {
         Some(list) => Ok(list),

@@ -1,4 +1,5 @@
-//! What comes of a script: its tokens, its tree, the text of that, or its fault; and whether that comes of its pieces.
+//! The results for a script: its tokens, its tree, the text of that, or its fault; and whether its pieces have the
+//! same.
 
 use crate::cuts::cut_everywhere;
 use crate::dump::dump;
@@ -11,7 +12,7 @@ use rc_tree::{Cmd, clone_tree};
 use std::alloc::{AllocError, Global};
 use std::str;
 
-/// What is shown of a script.
+/// The kind of result for a script.
 #[derive(Clone, Copy)]
 pub enum Layer {
     Tokens,
@@ -22,7 +23,7 @@ pub enum Layer {
 }
 
 impl Layer {
-    /// What comes of the script.
+    /// The result for the script.
     pub fn show(self, alloc: Global, script: &[u8]) -> Result<String, AllocError> {
         match self {
             Layer::Tokens => tokens(alloc, script),
@@ -75,7 +76,7 @@ fn text_of_copy(alloc: Global, tree: &Cmd) -> Result<String, AllocError> {
     }
 }
 
-/// The tree of a script, which is that of its text too, where it has one.
+/// The tree of a script, which is also that of its text, if it has one.
 fn tree_both_ways(alloc: Global, script: &[u8]) -> Result<String, AllocError> {
     match tree_of(alloc, script) {
         Ok(tree) => shown_both_ways(alloc, &tree),
@@ -94,7 +95,7 @@ fn shown_both_ways(alloc: Global, tree: &Cmd) -> Result<String, AllocError> {
     Ok(shown)
 }
 
-/// Whether the tree of a script is shown as this text.
+/// Whether the tree of a script has this text form.
 fn is_shown_as(alloc: Global, script: &[u8], wanted: &str) -> Result<bool, AllocError> {
     match tree_of(alloc, script) {
         Ok(tree) => Ok(dump(alloc, &tree)?.as_str() == wanted),

@@ -1,16 +1,16 @@
-//! Rows of scripts: a script, an arrow and what is wanted, or one of several things that are.
+//! Rows of scripts: a script, an arrow and the expected result, or one of several.
 
 use crate::script_layers::Layer;
 use std::alloc::{AllocError, Global};
 use test_rows::{Tally, bytes};
 
-/// What stands between a script and what is wanted.
+/// The separator between a script and the expected result.
 pub const ARROW: &str = "  ==>  ";
 
-/// What stands between things one of which is wanted.
+/// The separator between alternatives.
 const OR: &str = "  or  ";
 
-/// Whether what came is one of the things that are wanted.
+/// Whether the result is one of those that are expected.
 fn is_wanted(alloc: Global, came: &str, wanted: &str) -> Result<bool, AllocError> {
     for one in wanted.split(OR) {
         if let Some(one) = bytes(alloc, one)?
@@ -22,7 +22,7 @@ fn is_wanted(alloc: Global, came: &str, wanted: &str) -> Result<bool, AllocError
     Ok(false)
 }
 
-/// What comes of the script that is written so.
+/// The result for the script of a row.
 fn shown(alloc: Global, layer: Layer, written: &str) -> Result<String, AllocError> {
     match bytes(alloc, written)? {
         Some(script) => layer.show(alloc, script.as_slice()),
@@ -30,7 +30,7 @@ fn shown(alloc: Global, layer: Layer, written: &str) -> Result<String, AllocErro
     }
 }
 
-/// Compares a row, and writes what comes of it where that is not wanted.
+/// Compares a row, and writes the result if it differs.
 fn compare_row(
     alloc: Global,
     out: &mut String,

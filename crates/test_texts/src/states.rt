@@ -1,11 +1,11 @@
-//! What a shell begins with, and what it hands over then. The rows have these options, besides `# ` with a comment:
+//! The state that a shell begins with, and what it then hands over. The rows have these options, besides `# ` with a
+//! comment:
 //!
 //! - `entry x=a`: an entry of the environment;
 //! - `image`, each `word rc1;e` that a shell is handed, and `strict`: what is shown is the tree and the state;
-//! - or else each argument `arg a`, and `own` where a shell of the same kind hands over the entries;
-//!   then, in the order of the lines, `set x a b` and `local x a b`, which is undone by `unlocal`, and
-//!   `strict`. What is shown is the state; with `tree rc1;e`, the launch of a shell that is to run
-//!   this; with `entries`, the entries of that state.
+//! - or else each argument `arg a`, and `own` if a shell of the same kind hands over the entries; then, in the order of
+//!   the lines, `set x a b` and `local x a b`, which is undone by `unlocal`, and `strict`. What is shown is the state;
+//!   with `tree rc1;e`, the launch of a shell that is to run this; with `entries`, the entries of that state.
 
 use crate::images::tree_of;
 use crate::options::{all, cut, first, has};
@@ -18,7 +18,7 @@ use rc_scope::State;
 use rc_tree::Cmd;
 use std::alloc::{AllocError, Global};
 
-/// The most bytes of a text that is shown as it is.
+/// The greatest length of a text that is shown as it is, in bytes.
 const SHORT_TEXT: usize = 1_000;
 
 /// Adds the image of a tree after its name.
@@ -57,7 +57,7 @@ fn begun_with(
     Ok(Box::new(alloc, read_image(alloc, is_strict, words, entries)?)?)
 }
 
-/// Adds what a shell begins with that is handed these words, which may be `strict`, and entries.
+/// Adds the beginning of a shell that is handed these words, which may be `strict`, and entries.
 fn begun_by_words(
     alloc: Global,
     out: &mut String,
@@ -70,7 +70,7 @@ fn begun_by_words(
     add_state(alloc, out, &begun.1)
 }
 
-/// Changes a state as an option says.
+/// Changes a state by an option.
 fn change(alloc: Global, state: &mut State, option: &str) -> Result<(), RowError> {
     let (kind, said) = cut(option);
     let (name, members) = cut(said);
@@ -85,7 +85,7 @@ fn change(alloc: Global, state: &mut State, option: &str) -> Result<(), RowError
     Ok(())
 }
 
-/// Adds texts, each on a line. Of a long one the length is shown.
+/// Adds texts, each on a line. For a long one the length is shown.
 fn add_texts(out: &mut String, kind: &str, texts: &[String]) -> Result<(), AllocError> {
     for text in texts {
         let length = text.len();
@@ -98,7 +98,7 @@ fn add_texts(out: &mut String, kind: &str, texts: &[String]) -> Result<(), Alloc
     Ok(())
 }
 
-/// What a shell is handed that is to run the tree of an image.
+/// What is handed to a shell that is to run the tree of an image.
 fn handed_of(alloc: Global, image: &str, state: &State) -> Result<Handover, ImageError> {
     let tree = tree_of(alloc, image)?;
     handed(alloc, &tree, state)
@@ -111,7 +111,7 @@ fn add_launch(alloc: Global, out: &mut String, image: &str, state: &State) -> Re
     Ok(add_texts(out, "entry", &given.entries)?)
 }
 
-/// Adds what comes of a state: the launch of a shell that is to run a `tree`, the `entries`, or the state.
+/// Adds the result for a state: the launch of a shell that is to run a `tree`, the `entries`, or the state.
 fn add_answer(
     alloc: Global,
     out: &mut String,
@@ -127,7 +127,7 @@ fn add_answer(
     add_state(alloc, out, state)
 }
 
-/// Adds what comes of a state after its changes.
+/// Adds the result for a state after its changes.
 fn add_changed(
     alloc: Global,
     out: &mut String,
@@ -140,7 +140,7 @@ fn add_changed(
     add_answer(alloc, out, options, state)
 }
 
-/// Adds what comes of the state of these arguments and entries, which a shell of the same kind may hand over.
+/// Adds the result for the state of these arguments and entries, which a shell of the same kind may hand over.
 fn begun_by_arguments(
     alloc: Global,
     out: &mut String,
@@ -160,7 +160,7 @@ fn begun_by_arguments(
     }
 }
 
-/// Adds what comes of a row.
+/// Adds the result for a row.
 pub fn begun(alloc: Global, out: &mut String, options: &str) -> Result<(), RowError> {
     let entries = all(alloc, options, "entry")?;
     if has(options, "image") {

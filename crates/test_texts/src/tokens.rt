@@ -1,10 +1,10 @@
-//! Tokens as a text: what each is, and its place.
+//! Tokens as a text: the kind of each, and its place.
 
 use rc_lexer::{Token, TokenKind};
 use rc_tree::Mode;
 use std::alloc::{AllocError, Global};
 
-/// What a token of this kind is called.
+/// The name of a kind of tokens.
 fn name_of(kind: TokenKind) -> &'static str {
     match kind {
         TokenKind::Word => "Word",
@@ -38,7 +38,7 @@ fn name_of(kind: TokenKind) -> &'static str {
     }
 }
 
-/// Adds what a token is. The descriptor of an input is left out where it is 0.
+/// Adds the kind of a token. The descriptor of an input is left out if it is 0.
 fn add_kind(out: &mut String, kind: TokenKind) -> Result<(), AllocError> {
     out.push_str(name_of(kind))?;
     match kind {
@@ -50,7 +50,7 @@ fn add_kind(out: &mut String, kind: TokenKind) -> Result<(), AllocError> {
     }
 }
 
-/// Adds a token with its place. A line other than the first stands after a slash.
+/// Adds a token with its place. A line other than the first follows a slash.
 fn add_token(out: &mut String, token: &Token) -> Result<(), AllocError> {
     let span = token.span;
     add_kind(out, token.kind)?;

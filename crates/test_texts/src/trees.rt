@@ -17,7 +17,7 @@ pub fn fault_line(alloc: Global, fault: ScriptError) -> Result<String, AllocErro
     }
 }
 
-/// What is shown of a script that is not accepted, where its fault is not.
+/// The text for a script that is not accepted, unless its fault is shown.
 pub fn refused(alloc: Global, fault: ScriptError) -> Result<String, AllocError> {
     match fault {
         InputError::Fault(_) => String::from_str(alloc, "refused"),

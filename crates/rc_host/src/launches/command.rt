@@ -2,32 +2,31 @@
 ghost use Rattle.std.specs.Prelude.{◌≡◌, [], ◌∷◌, map, IfOk, IfErr, OnOk, string_bytes};
 ghost use Rattle.std.specs.Process.{command_program, command_args, SameProgramAndArgs};
 ghost use Rattle.rc_host.specs.Commands.{AsksFor, HasEnvironment, SetsEntry, IsNotMade};
-ghost use Rattle.rc_host.specs.PlanViews.{plan_view};
+ghost use Rattle.rc_host.specs.PlanViews.{plan_view, texts_lent};
 
 use crate::launches::planned::Plan;
 use rc_world::Fault;
 use std::alloc::{AllocError, Global};
 use std::process::Command;
 
-/// The command that asks for a plan, but for its descriptors. `Other` is an entry without an equals
-/// sign, which cannot be asked for.
+/// Makes the command for a plan, except its descriptors. `Other`: an entry has no equals sign, and cannot be passed on.
 pub(crate) fn command_of(alloc: Global, plan: &Plan) -> Result<Command, Fault>
     ensures asks { IfOk result (λ command. AsksFor command (plan_view plan.now)) }
-    ensures err { IfErr result (IsNotMade (map string_bytes plan.now.env.items)) }
+    ensures err { IfErr result (IsNotMade (map string_bytes plan.now.env.now)) }
 {
-    let Ok(command) = with_args(alloc, &plan.program, &plan.args) else {
+    let Ok(command) = with_args(alloc, plan.program, &plan.args) else {
         return Err(Fault::NoMemory);
     };
-    with_entries(command, &plan.env)
+    with_entries(command, plan.env)
 }
 
-fn with_args(alloc: Global, program: &str, args: &[String]) -> Result<Command, AllocError>
+fn with_args(alloc: Global, program: &str, args: &[&str]) -> Result<Command, AllocError>
     ensures program { IfOk result (λ command. command_program command ≡ program.now) }
-    ensures args { IfOk result (λ command. command_args command ≡ map string_bytes args.now) }
+    ensures args { IfOk result (λ command. command_args command ≡ texts_lent args.now) }
 {
     let mut command = Command::new(alloc, program)?;
     for arg in args {
-        command.arg(arg.as_str())?;
+        command.arg(*arg)?;
     }
     Ok(command)
 }

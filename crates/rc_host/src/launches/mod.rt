@@ -1,4 +1,4 @@
-//! Launches: what is asked of Linux to start a child, and the descriptors that the child gets.
+//! Launches: the request that starts a child, and the descriptors that the child gets.
 
 pub(crate) mod command;
 pub(crate) mod planned;

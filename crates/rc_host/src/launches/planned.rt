@@ -1,12 +1,12 @@
-//! What is asked of Linux to start a child.
+//! The request that starts a child.
 use rc_world::Slots;
 
 /// A program with its arguments, its whole environment and its descriptors, each of which is an
-/// open file or that of this process in its own place.
+/// open file or that of this process in its own place. Its texts are those of the launch.
 #[derive(Drop)]
-pub struct Plan {
-    pub program: String,
-    pub args: Vec<String>,
-    pub env: Vec<String>,
+pub struct Plan<'a> {
+    pub program: &'a str,
+    pub args: Vec<&'a str>,
+    pub env: &'a [String],
     pub slots: Slots,
 }

@@ -4,24 +4,23 @@ ghost use Rattle.std.specs.Prelude.{map, string_bytes, option_map, unwrap_or};
 ghost use Rattle.rc_model.specs.declared.call.Fault.TheVariants.{NoMemory, Other};
 ghost use Rattle.rc_world.specs.Views.{launch_of, program_of};
 ghost use Rattle.rc_host.specs.Plan.{plan_of, plain_plan, copying_plan, copying_of, is_in_place, has_equals};
-ghost use Rattle.rc_host.specs.PlanViews.{plan_view, copying_view};
+ghost use Rattle.rc_host.specs.PlanViews.{plan_view, copying_view, texts_lent};
 
 use crate::launches::planned::Plan;
 use rc_world::{Fault, Launch, Program, Slot, Slots};
 use std::alloc::{AllocError, Global};
 
-/// The text by which `/bin/sh` makes descriptor 2 a copy of descriptor 1, and then becomes the program.
+/// The script with which `/bin/sh` makes descriptor 2 a copy of descriptor 1, and then becomes the program.
 const ERRORS_TO_OUTPUT: &str = "exec \"$@\" 2>&1";
 
-/// The text by which `/bin/sh` makes descriptor 1 a copy of descriptor 2, and then becomes the program.
+/// The script with which `/bin/sh` makes descriptor 1 a copy of descriptor 2, and then becomes the program.
 const OUTPUT_TO_ERRORS: &str = "exec \"$@\" 1>&2";
 
-/// The text by which `/bin/sh` exchanges descriptors 1 and 2, and then becomes the program.
+/// The script with which `/bin/sh` exchanges descriptors 1 and 2, and then becomes the program.
 const EXCHANGED: &str = "exec \"$@\" 3>&1 1>&2 2>&3 3>&-";
 
-/// What a launch asks of Linux, where `shell` is the path of the shell's own program. `Other`: its
-/// descriptors cannot be had.
-pub fn plan(alloc: Global, launch: &Launch, shell: &str) -> Result<Plan, Fault>
+/// Plans a launch, given the path `shell` of the shell's own program. `Other`: the descriptors are not possible.
+pub fn plan<'a>(alloc: Global, launch: &'a Launch, shell: &'a str) -> Result<Plan<'a>, Fault>
     ensures planned { IfOk result (λ plan. plan_of shell.now (launch_of launch.now) ≡ Some (plan_view plan)) }
     ensures unplanned { (result ≡ Err Other) ↔ (plan_of shell.now (launch_of launch.now) ≡ None) }
     ensures err { IfErr result (λ fault. (fault ≡ Other) ⊎ (fault ≡ NoMemory)) }
@@ -66,7 +65,7 @@ fn is_in_place(descriptor: u8, slot: Slot) -> bool
     }
 }
 
-/// How copies of descriptors come about.
+/// The ways of copying descriptors.
 #[derive(Clone, Copy)]
 struct Copying {
     text: &'static str,
@@ -98,35 +97,45 @@ fn has_equals(program: &str) -> bool
     program.as_bytes().contains(&b'=')
 }
 
-#[tactic(auto, using(rc_world::proofs::Copies::same_texts))]
-fn plain_plan(alloc: Global, program: &str, launch: &Launch) -> Result<Plan, AllocError>
+fn plain_plan<'a>(
+    alloc: Global,
+    program: &'a str,
+    launch: &'a Launch,
+) -> Result<Plan<'a>, AllocError>
     ensures { IfOk result (λ plan. plan_view plan ≡ plain_plan program.now (launch_of launch.now)) }
 {
+    let mut args = Vec::with_capacity(alloc, launch.args.len())?;
+    push_texts(&mut args, &launch.args)?;
     Ok(Plan {
-        program: String::from_str(alloc, program)?,
-        args: launch.args.clone()?,
-        env: launch.env.clone()?,
+        program,
+        args,
+        env: &launch.env,
         slots: launch.slots,
     })
 }
 
-fn copying_plan(
+fn copying_plan<'a>(
     alloc: Global,
-    program: &str,
-    launch: &Launch,
+    program: &'a str,
+    launch: &'a Launch,
     copying: Copying,
-) -> Result<Plan, AllocError>
+) -> Result<Plan<'a>, AllocError>
     ensures { IfOk result (λ plan.
         plan_view plan ≡ copying_plan program.now (launch_of launch.now) (copying_view copying)) }
 {
-    let mut args = texts(alloc, &["-c", copying.text, "sh", "/usr/bin/env", "-i"])?;
+    let mut args = Vec::new(alloc);
+    args.push("-c")?;
+    args.push(copying.text)?;
+    args.push("sh")?;
+    args.push("/usr/bin/env")?;
+    args.push("-i")?;
     push_texts(&mut args, &launch.env)?;
-    args.push(String::from_str(alloc, program)?)?;
+    args.push(program)?;
     push_texts(&mut args, &launch.args)?;
     Ok(Plan {
-        program: String::from_str(alloc, "/bin/sh")?,
+        program: "/bin/sh",
         args,
-        env: Vec::new(alloc),
+        env: &[],
         slots: Slots {
             input: launch.slots.input,
             output: copying.output,
@@ -135,22 +144,12 @@ fn copying_plan(
     })
 }
 
-fn texts(alloc: Global, all: &[&str]) -> Result<Vec<String>, AllocError>
-    ensures { IfOk result (λ copies. map string_bytes copies.items ≡ map (λ text. text.now) all.now) }
-{
-    let mut copies = Vec::new(alloc);
-    for text in all {
-        copies.push(String::from_str(alloc, text)?)?;
-    }
-    Ok(copies)
-}
-
-fn push_texts(to: &mut Vec<String>, texts: &[String]) -> Result<(), AllocError>
-    ensures { OnOk result
-        (map string_bytes to.new.items ≡ map string_bytes to.old.items ++ map string_bytes texts.now) }
+/// Adds these texts, which are lent.
+fn push_texts<'a>(to: &mut Vec<&'a str>, texts: &'a [String]) -> Result<(), AllocError>
+    ensures { OnOk result (texts_lent to.new.items ≡ texts_lent to.old.items ++ map string_bytes texts.now) }
 {
     for text in texts {
-        to.push(text.clone()?)?;
+        to.push(text)?;
     }
     Ok(())
 }

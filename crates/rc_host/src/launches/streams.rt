@@ -8,20 +8,20 @@ use std::io;
 use std::os::fd::{AsFd, AsRawFd};
 use std::process::{Command, Stdio};
 
-/// A copy of what a slot names, to be a descriptor of a child. It can't be let go: a command gets it.
+/// A copy of the file of a slot, for a descriptor of a child. It can't be dropped: a command gets it.
 pub(crate) struct Stream {
     pub slot: Slot,
     pub copy: Stdio,
 }
 
-/// A command that has the descriptors of its child, each a copy of what a slot names.
+/// A command that has the descriptors of its child, each a copy of the file of a slot.
 #[derive(Drop)]
 pub(crate) struct Connected {
     pub command: Command,
     pub slots: Slots,
 }
 
-/// A copy of one of this process's own descriptors, the one that the slot names.
+/// Copies the one of this process's own descriptors that the slot names.
 pub(crate) fn own_copy<F: AsFd + AsRawFd>(own: &F, slot: Slot) -> io::Result<Stream>
     requires { IsOwn (F.raw_fd own.now) slot }
     ensures { IfOk result (λ stream. stream.slot ≡ slot) }
@@ -30,7 +30,7 @@ pub(crate) fn own_copy<F: AsFd + AsRawFd>(own: &F, slot: Slot) -> io::Result<Str
     Ok(Stream { slot, copy })
 }
 
-/// Gives a command its descriptor 0.
+/// Sets descriptor 0 of a command.
 pub(crate) fn set_input(command: &mut Command, stream: Stream, _slots: Slots)
     requires { stream.slot ≡ _slots.input }
     ensures call { SameProgramAndArgs command.old command.new }
@@ -40,7 +40,7 @@ pub(crate) fn set_input(command: &mut Command, stream: Stream, _slots: Slots)
     command.stdin(copy);
 }
 
-/// Gives a command its descriptor 1.
+/// Sets descriptor 1 of a command.
 pub(crate) fn set_output(command: &mut Command, stream: Stream, _slots: Slots)
     requires { stream.slot ≡ _slots.output }
     ensures call { SameProgramAndArgs command.old command.new }
@@ -50,7 +50,7 @@ pub(crate) fn set_output(command: &mut Command, stream: Stream, _slots: Slots)
     command.stdout(copy);
 }
 
-/// Gives a command its descriptor 2.
+/// Sets descriptor 2 of a command.
 pub(crate) fn set_errors(command: &mut Command, stream: Stream, _slots: Slots)
     requires { stream.slot ≡ _slots.errors }
     ensures call { SameProgramAndArgs command.old command.new }

@@ -11,12 +11,12 @@ ghost use Rattle.rc_model.specs.Run.Values.{bad_name};
 
 use crate::configuration::parts::Scope;
 use crate::configuration::{Configuration, Move};
-use rc_pipes::fault;
+use rc_pipes::runtime_error;
 use rc_scope::NameFault;
 use rc_world::{ChildNo, Stop, World, calls};
 use std::alloc::Global;
 
-/// One wait for each child. How it ended doesn't matter.
+/// Waits for each child. How it ended doesn't matter.
 fn wait_owed<W: World>(world: &mut W, owed: &[ChildNo]) -> Result<(), Stop>
     ensures { (s : model.State) → Comes (W.events world.old) (W.events world.new)
         (end_waits (child_numbers owed.now) s) (λ x. Over s) result }
@@ -66,7 +66,7 @@ impl Configuration {
         }
     }
 
-    /// The end of the shell: what is open ends, the innermost first.
+    /// Ends the shell: what is open ends, the innermost first.
     pub(crate) fn unwind<W: World>(&mut self, alloc: Global, world: &mut W) -> Result<Move, Stop>
         ensures { Steps (W.events world.old) (W.events world.new)
             (unwind (config_of self.old).scopes (config_of self.old).state []) (config_of self.new) result }
@@ -90,7 +90,7 @@ impl Configuration {
             (failed (config_of self.old) text.now) (config_of self.new) result }
     {
         let slots = self.redirs.slots();
-        fault(alloc, world, &mut self.state, slots, text)?;
+        runtime_error(alloc, world, &mut self.state, slots, text)?;
         self.unwind(alloc, world)
     }
 

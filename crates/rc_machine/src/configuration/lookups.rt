@@ -1,4 +1,4 @@
-//! Names, what they stand for, and texts as words.
+//! Looking up names, and texts as words.
 
 ghost use Rattle.std.specs.Prelude.{◌≡◌, [], ◌∷◌, IfOk, OnOk, map, option_map, string_bytes};
 ghost use Rattle.rc_machine.specs.Names.{read, the_name};
@@ -24,7 +24,7 @@ pub(crate) fn texts(alloc: Global, words: &[Word]) -> Result<Vec<String>, AllocE
     Ok(texts)
 }
 
-/// The texts of the list on top, which is taken off; none where there is no list.
+/// Pops the top list and returns its texts, or none if there is no list.
 pub(crate) fn take_texts(alloc: Global, words: &mut Stack<Word>) -> Result<Vec<String>, AllocError>
     ensures texts { IfOk result (λ texts. map string_bytes texts.items ≡ word_texts (uppermost words.old)) }
     ensures below { OnOk result (words.new ≡ below_top words.old) }
@@ -39,7 +39,7 @@ pub(crate) fn take_texts(alloc: Global, words: &mut Stack<Word>) -> Result<Vec<S
     Ok(texts)
 }
 
-/// Texts as a list of words with no marks, on top of the stack.
+/// Pushes texts as a list of words with no marks.
 #[tactic(auto, using(crate::proofs::Stacks::extends))]
 pub(crate) fn put_texts(words: &mut Stack<Word>, texts: Vec<String>) -> Result<(), AllocError>
     ensures { OnOk result (words.new ≡ plain_words (map string_bytes texts.items) ∷ words.old) }
@@ -52,7 +52,7 @@ pub(crate) fn put_texts(words: &mut Stack<Word>, texts: Vec<String>) -> Result<(
     Ok(())
 }
 
-/// The members of output as a list of words with no marks, on top of the stack.
+/// Pushes the members of output as a list of words with no marks.
 #[tactic(auto, using(crate::proofs::Stacks::extends))]
 pub(crate) fn put_members(
     alloc: Global,
@@ -69,7 +69,7 @@ pub(crate) fn put_members(
     Ok(())
 }
 
-/// A copy of a value as a list of words with no marks, on top of the stack.
+/// Pushes a copy of a value as a list of words with no marks.
 #[tactic(auto, using(crate::proofs::Stacks::extends))]
 pub(crate) fn put_value(words: &mut Stack<Word>, value: &[String]) -> Result<(), AllocError>
     ensures { OnOk result (words.new ≡ plain_words (map string_bytes value.now) ∷ words.old) }
@@ -81,7 +81,7 @@ pub(crate) fn put_value(words: &mut Stack<Word>, value: &[String]) -> Result<(),
     Ok(())
 }
 
-/// A text as a list of one word with no marks, on top of the stack.
+/// Pushes a text as a list of one word with no marks.
 #[tactic(auto, using(crate::proofs::Stacks::extends))]
 pub(crate) fn put_text(words: &mut Stack<Word>, text: String) -> Result<(), AllocError>
     ensures { OnOk result (words.new ≡ plain_words (string_bytes text ∷ []) ∷ words.old) }
@@ -91,7 +91,7 @@ pub(crate) fn put_text(words: &mut Stack<Word>, text: String) -> Result<(), Allo
     words.push(word)
 }
 
-/// The one name that the words are, where it can stand after `$`.
+/// The one name in the words, if it is allowed after a `$`.
 fn readable_name(words: &[Word]) -> Option<&str>
     ensures { option_map (λ name. name.now) result ≡ the_name is_readable (word_texts words.now) }
 {
@@ -102,7 +102,7 @@ fn readable_name(words: &[Word]) -> Option<&str>
     if is_readable(name) { Some(name) } else { None }
 }
 
-/// The one name that the words are, where it is that of a variable.
+/// The one name in the words, if it is that of a variable.
 pub(crate) fn variable_name(words: &[Word]) -> Option<&str>
     ensures { option_map (λ name. name.now) result ≡ the_name is_name (word_texts words.now) }
 {
@@ -113,7 +113,7 @@ pub(crate) fn variable_name(words: &[Word]) -> Option<&str>
     if is_name(name) { Some(name) } else { None }
 }
 
-/// What `$` gives for these words: none where they are no name.
+/// The value of a `$` and these words, or none if they are not a name.
 pub(crate) fn read<'a>(state: &'a State, words: &[Word]) -> Option<&'a [String]>
     ensures { option_map (λ v. map string_bytes v.now) result ≡ read (state_of state.now) (word_texts words.now) }
 {

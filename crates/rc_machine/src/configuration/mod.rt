@@ -1,4 +1,4 @@
-//! What a machine holds between two instructions.
+//! The state of a machine between two instructions.
 
 pub(crate) mod endings;
 pub(crate) mod lookups;
@@ -17,18 +17,18 @@ use rc_text::Word;
 use rc_world::PLAIN_SLOTS;
 use std::alloc::Global;
 
-/// What an instruction led to.
+/// The result of an instruction.
 #[derive(Clone, Copy)]
 pub(crate) enum Move {
     On,
     Ended,
 }
 
-/// What a machine holds between two instructions: the code, the place in it, and what the instructions work on.
+/// The state of a machine between two instructions: the code, the program counter, and what the instructions work on.
 #[derive(Drop)]
 pub(crate) struct Configuration {
     pub code: Code,
-    /// The number of the next instruction.
+    /// The place of the next instruction.
     pub place: usize,
     pub frames: Nest<Frame>,
     pub words: Stack<Word>,
@@ -42,7 +42,7 @@ impl Configuration {
     ghost use Rattle.rc_scope.specs.States.{state_of};
     ghost use Rattle.rc_code.specs.Views.{code_of};
 
-    /// Before the first instruction.
+    /// The configuration before the first instruction.
     pub(crate) fn new(alloc: Global, code: Code, state: State) -> Configuration
         ensures { config_of result ≡ record {
           code = code_of code;

@@ -1,10 +1,10 @@
-//! What a machine holds beside its code: the frames of calls, and what ends later.
+//! Parts of a configuration: the frames of calls, and scopes.
 
 use crate::stack::nest::Nest;
 use rc_code::Code;
 use rc_world::ChildNo;
 
-/// Where a body was called.
+/// The place where a body was called.
 #[derive(Drop)]
 pub(crate) struct Frame {
     pub caller: Code,
@@ -13,7 +13,7 @@ pub(crate) struct Frame {
     pub binds: bool,
 }
 
-/// What ends later.
+/// A scope, which ends later.
 #[derive(Drop)]
 pub(crate) enum Scope {
     Local,

@@ -1,7 +1,6 @@
-//! Functions: their definitions, the calls of their bodies, and the returns.
+//! Functions: definitions, calls and returns.
 
-ghost use Rattle.std.specs.Prelude.{◌≡◌, ◌<◌, ◌^◌, OnOk, IfOk, Some, map, string_bytes};
-ghost use Rattle.rc_model.specs.Code.Machine.{act};
+ghost use Rattle.std.specs.Prelude.{◌≡◌, OnOk, IfOk, map, string_bytes};
 ghost use Rattle.rc_model.specs.Code.Layout as op;
 ghost use Rattle.rc_model.specs.Handed.Proper.{IsProperTree};
 ghost use Rattle.rc_model.specs.Run.State.{undefine};
@@ -10,7 +9,7 @@ ghost use Rattle.rc_scope.specs.States.{state_of};
 ghost use Rattle.rc_tree.specs.View.{cmd_tree};
 ghost use Rattle.rc_machine.specs.Calls.{Defines, called, entered};
 ghost use Rattle.rc_machine.specs.Configurations.{config_of};
-ghost use Rattle.rc_machine.specs.Steps.{Leads, Steps};
+ghost use Rattle.rc_machine.specs.Instructions.{Executes, Moves};
 
 use crate::configuration::lookups::texts;
 use crate::configuration::parts::{Frame, Scope};
@@ -25,7 +24,7 @@ use std::alloc::{AllocError, Global};
 use std::mem::replace;
 use std::rc::Rc;
 
-/// Gives each of these names this body as its function, up to the first that can't be one.
+/// Defines this body under each of these names, up to the first that isn't allowed.
 fn define_each(state: &mut State, names: &[String], body: &Rc<Cmd>) -> Result<bool, AllocError>
     requires { IsProperTree (cmd_tree body.now.value) }
     ensures { IfOk result (λ all.
@@ -41,7 +40,7 @@ fn define_each(state: &mut State, names: &[String], body: &Rc<Cmd>) -> Result<bo
     Ok(true)
 }
 
-/// Takes away the functions of these names.
+/// Removes the functions of these names.
 fn undefine_each(state: &mut State, names: &[String])
     ensures { state_of state.new ≡ undefine (state_of state.old) (map string_bytes names.now) }
 {
@@ -50,28 +49,26 @@ fn undefine_each(state: &mut State, names: &[String])
     }
 }
 
-/// Goes into a body, from which the machine returns to the next instruction.
+/// Enters a body, from which the machine returns to the next instruction.
 pub(crate) fn enter(machine: &mut Configuration, body: Code, binds: bool) -> Result<(), AllocError>
-    requires { machine.old.place < 2 ^ 63 }
     ensures { OnOk result (config_of machine.new ≡ entered (config_of machine.old) binds (code_of body)) }
 {
     let caller = replace(&mut machine.code, body);
     machine.frames.open(Frame {
         caller,
-        place: machine.place + 1,
+        place: machine.place,
         binds,
     })?;
     machine.place = 0;
     Ok(())
 }
 
-/// Goes into a body, for which `$*` are these arguments.
+/// Enters a body, with these arguments as its `$*`.
 pub(crate) fn call(
     machine: &mut Configuration,
     args: Vec<String>,
     body: Code,
 ) -> Result<(), AllocError>
-    requires { machine.old.place < 2 ^ 63 }
     ensures { OnOk result (config_of machine.new
         ≡ called (config_of machine.old) (map string_bytes args.items) (code_of body)) }
 {
@@ -80,9 +77,10 @@ pub(crate) fn call(
     enter(machine, body, true)
 }
 
-/// The end of a body, which in the last frame is that of the script.
+/// Returns from a body; in the last frame that is the end of the script.
+#[inline(never)]
 pub(crate) fn leave(machine: &mut Configuration) -> Move
-    ensures { Leads (act (Some op.Return) (config_of machine.old)) (config_of machine.new) result }
+    ensures { Moves op.Return machine.old machine.new result }
 {
     let Some(
         Frame {
@@ -103,6 +101,7 @@ pub(crate) fn leave(machine: &mut Configuration) -> Move
 }
 
 /// `fn NAME .. {..}`.
+#[inline(never)]
 #[tactic(auto, using(crate::proofs::Left::step_refused))]
 pub(crate) fn define<W: World>(
     machine: &mut Configuration,
@@ -110,9 +109,7 @@ pub(crate) fn define<W: World>(
     world: &mut W,
     number: usize,
 ) -> Result<Move, Stop>
-    requires { machine.old.place < 2 ^ 63 }
-    ensures { Steps (W.events world.old) (W.events world.new)
-        (act (Some (op.Define number)) (config_of machine.old)) (config_of machine.new) result }
+    ensures { Executes (W.events world.old) (W.events world.new) (op.Define number) machine.old machine.new result }
 {
     let Some(words) = machine.words.top() else {
         return Ok(Move::Ended);
@@ -125,15 +122,13 @@ pub(crate) fn define<W: World>(
         return machine.fail_bad_name(alloc, world);
     }
     machine.words.drop_top();
-    machine.place += 1;
     Ok(Move::On)
 }
 
 /// `fn NAME ..`.
+#[inline(never)]
 pub(crate) fn undefine(machine: &mut Configuration, alloc: Global) -> Result<Move, AllocError>
-    requires { machine.old.place < 2 ^ 63 }
-    ensures { IfOk result (λ moved.
-        Leads (act (Some op.Undefine) (config_of machine.old)) (config_of machine.new) moved) }
+    ensures { IfOk result (Moves op.Undefine machine.old machine.new) }
 {
     let Some(words) = machine.words.top() else {
         return Ok(Move::Ended);
@@ -141,6 +136,5 @@ pub(crate) fn undefine(machine: &mut Configuration, alloc: Global) -> Result<Mov
     let names = texts(alloc, words)?;
     undefine_each(&mut machine.state, &names);
     machine.words.drop_top();
-    machine.place += 1;
     Ok(Move::On)
 }

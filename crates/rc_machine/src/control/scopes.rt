@@ -1,11 +1,10 @@
-//! Instructions that begin loops and take their turns, and the ends of locals.
+//! Instructions of loops, and the ends of locals.
 
-ghost use Rattle.std.specs.Prelude.{◌≡◌, ◌<◌, ◌^◌, Some, IfOk, OnOk, string_bytes};
-ghost use Rattle.rc_model.specs.Code.Machine.{act};
+ghost use Rattle.std.specs.Prelude.{◌≡◌, IfOk, OnOk, string_bytes};
 ghost use Rattle.rc_model.specs.Code.Layout as op;
 ghost use Rattle.rc_machine.specs.Configurations.{config_of};
 ghost use Rattle.rc_machine.specs.EndOfLocals.{LocalEnds, LocalsEnd, bound_to};
-ghost use Rattle.rc_machine.specs.Steps.{Leads, Steps};
+ghost use Rattle.rc_machine.specs.Instructions.{Executes, Moves};
 
 use crate::configuration::lookups::{take_texts, variable_name};
 use crate::configuration::parts::Scope;
@@ -14,7 +13,7 @@ use crate::stack::nest::Nest;
 use rc_world::{Stop, World};
 use std::alloc::{AllocError, Global};
 
-/// Ends the innermost scope, where it is a local.
+/// Ends the innermost scope, if it is a local.
 pub(crate) fn end_local(machine: &mut Configuration) -> bool
     ensures { LocalEnds (config_of machine.old).scopes (config_of machine.old) (config_of machine.new) result }
 {
@@ -26,7 +25,7 @@ pub(crate) fn end_local(machine: &mut Configuration) -> bool
     true
 }
 
-/// Ends this many locals, up to the first scope that is none.
+/// Ends this many locals; stops at any other scope.
 fn end_locals(machine: &mut Configuration, count: usize)
     ensures { LocalsEnd count (config_of machine.old) (config_of machine.new) }
 {
@@ -38,25 +37,23 @@ fn end_locals(machine: &mut Configuration, count: usize)
 }
 
 /// Ends the locals of a command.
+#[inline(never)]
 pub(crate) fn unlocal(machine: &mut Configuration, count: usize) -> Move
-    requires { machine.old.place < 2 ^ 63 }
-    ensures { Leads (act (Some (op.Unlocal count)) (config_of machine.old)) (config_of machine.new) result }
+    ensures { Moves (op.Unlocal count) machine.old machine.new result }
 {
     end_locals(machine, count);
-    machine.place += 1;
     Move::On
 }
 
-/// `for(x in ..)`: the loop is open, and its first turn is still to come.
+/// `for(x in ..)`: opens the loop, whose first turn is still to come.
+#[inline(never)]
 #[tactic(auto, using(crate::proofs::Left::step_refused))]
 pub(crate) fn begin_loop<W: World>(
     machine: &mut Configuration,
     alloc: Global,
     world: &mut W,
 ) -> Result<Move, Stop>
-    requires { machine.old.place < 2 ^ 63 }
-    ensures { Steps (W.events world.old) (W.events world.new)
-        (act (Some op.For) (config_of machine.old)) (config_of machine.new) result }
+    ensures { Executes (W.events world.old) (W.events world.new) op.For machine.old machine.new result }
 {
     let Some((_, words)) = machine.words.top_two() else {
         return Ok(Move::Ended);
@@ -72,7 +69,6 @@ pub(crate) fn begin_loop<W: World>(
         rest,
         bound: false,
     })?;
-    machine.place += 1;
     Ok(Move::On)
 }
 
@@ -87,25 +83,24 @@ fn bind(
     ensures { OnOk result
         (config_of machine.new ≡ bound_to (config_of machine.old) name.now (string_bytes member) bound) }
 {
-    let mut value = Vec::with_capacity(alloc, 1)?;
-    value.push(member)?;
     let set = if bound {
-        machine.state.set(name, value)
+        machine.state.set_one(name, member)
     } else {
+        let mut value = Vec::with_capacity(alloc, 1)?;
+        value.push(member)?;
         machine.state.push_local(name, value)
     };
     set.map_err(|_| AllocError)
 }
 
-/// The next turn of the innermost loop, or its end and a jump to the place.
+/// Takes the next turn of the innermost loop, or ends it and jumps to the place.
+#[inline(never)]
 pub(crate) fn next_turn(
     machine: &mut Configuration,
     alloc: Global,
     place: usize,
 ) -> Result<Move, AllocError>
-    requires { machine.old.place < 2 ^ 63 }
-    ensures { IfOk result (λ moved.
-        Leads (act (Some (op.Next place)) (config_of machine.old)) (config_of machine.new) moved) }
+    ensures { IfOk result (Moves (op.Next place) machine.old machine.new) }
 {
     let Some(
         Scope::Loop {
@@ -130,6 +125,5 @@ pub(crate) fn next_turn(
         rest,
         bound: true,
     })?;
-    machine.place += 1;
     Ok(Move::On)
 }

@@ -1,10 +1,7 @@
 //! Simple commands.
 
-ghost use Rattle.std.specs.Prelude.{◌<◌, ◌^◌, Some};
-ghost use Rattle.rc_model.specs.Code.Machine.{act};
 ghost use Rattle.rc_model.specs.Code.Layout as op;
-ghost use Rattle.rc_machine.specs.Configurations.{config_of};
-ghost use Rattle.rc_machine.specs.Steps.{Steps};
+ghost use Rattle.rc_machine.specs.Instructions.{Executes};
 
 use crate::configuration::lookups::take_texts;
 use crate::configuration::{Configuration, Move};
@@ -15,14 +12,13 @@ use rc_world::{Stop, World};
 use std::alloc::Global;
 
 /// Runs a simple command.
+#[inline(never)]
 pub(crate) fn run_command<W: World>(
     machine: &mut Configuration,
     alloc: Global,
     world: &mut W,
 ) -> Result<Move, Stop>
-    requires { machine.old.place < 2 ^ 63 }
-    ensures { Steps (W.events world.old) (W.events world.new)
-        (act (Some op.Run) (config_of machine.old)) (config_of machine.new) result }
+    ensures { Executes (W.events world.old) (W.events world.new) op.Run machine.old machine.new result }
 {
     if machine.words.top().is_none() {
         return Ok(Move::Ended);
@@ -35,10 +31,7 @@ pub(crate) fn run_command<W: World>(
         machine.redirs.slots(),
         texts,
     )? {
-        Outcome::Finished => {
-            machine.place += 1;
-            Ok(Move::On)
-        }
+        Outcome::Finished => Ok(Move::On),
         Outcome::Body(body) => {
             enter(machine, body, false)?;
             Ok(Move::On)
@@ -51,19 +44,16 @@ pub(crate) fn run_command<W: World>(
     }
 }
 
-/// Ends a strict shell where the status is not true.
+/// Ends a strict shell if the status is not true.
 pub(crate) fn check<W: World>(
     machine: &mut Configuration,
     alloc: Global,
     world: &mut W,
 ) -> Result<Move, Stop>
-    requires { machine.old.place < 2 ^ 63 }
-    ensures { Steps (W.events world.old) (W.events world.new)
-        (act (Some op.Check) (config_of machine.old)) (config_of machine.new) result }
+    ensures { Executes (W.events world.old) (W.events world.new) op.Check machine.old machine.new result }
 {
     if machine.state.strict() && !is_true(machine.state.status()) {
         return machine.unwind(alloc, world);
     }
-    machine.place += 1;
     Ok(Move::On)
 }

@@ -1,7 +1,6 @@
-//! Redirections: how they open and how they end, and the texts of here documents.
+//! Redirections: opening and ending them, and the texts of here documents.
 
-ghost use Rattle.std.specs.Prelude.{◌≡◌, ◌<◌, ◌^◌, ◌++◌, Some, IfOk, OnOk, string_bytes};
-ghost use Rattle.rc_model.specs.Code.Machine.{act};
+ghost use Rattle.std.specs.Prelude.{◌≡◌, ◌++◌, IfOk, OnOk, string_bytes};
 ghost use Rattle.rc_model.specs.Code.Layout as op;
 ghost use Rattle.rc_model.specs.Run.Acts.{here_text};
 ghost use Rattle.rc_model.specs.Syntax.Tree.{more, none};
@@ -9,7 +8,7 @@ ghost use Rattle.rc_tree.specs.View.{piece_tree, pieces_tree};
 ghost use Rattle.rc_scope.specs.States.{state_of};
 ghost use Rattle.rc_machine.specs.Configurations.{config_of};
 ghost use Rattle.rc_machine.specs.EndOfRedirections.{RedirectionEnds, RedirectionsEnd, Refused};
-ghost use Rattle.rc_machine.specs.Steps.{Leads, Steps};
+ghost use Rattle.rc_machine.specs.Instructions.{Executes, Moves};
 
 use crate::configuration::lookups::texts;
 use crate::configuration::parts::Scope;
@@ -53,7 +52,7 @@ fn here_text(alloc: Global, state: &State, pieces: &[Piece]) -> Result<String, A
     Ok(text)
 }
 
-/// A redirection that was refused ends the shell.
+/// Ends the shell after a redirection that was refused.
 fn refuse<W: World>(
     machine: &mut Configuration,
     alloc: Global,
@@ -72,7 +71,8 @@ fn refuse<W: World>(
     }
 }
 
-/// `>`, `>>` and `<`: the file takes the place of a descriptor.
+/// `>`, `>>` and `<`: opens the file in place of a descriptor.
+#[inline(never)]
 #[tactic(auto, using(crate::proofs::Left::step_refused))]
 pub(crate) fn open<W: World>(
     machine: &mut Configuration,
@@ -81,9 +81,7 @@ pub(crate) fn open<W: World>(
     mode: Mode,
     slot: u8,
 ) -> Result<Move, Stop>
-    requires { machine.old.place < 2 ^ 63 }
-    ensures { Steps (W.events world.old) (W.events world.new)
-        (act (Some (op.Open mode slot)) (config_of machine.old)) (config_of machine.new) result }
+    ensures { Executes (W.events world.old) (W.events world.new) (op.Open mode slot) machine.old machine.new result }
 {
     let Some(words) = machine.words.top() else {
         return Ok(Move::Ended);
@@ -94,23 +92,21 @@ pub(crate) fn open<W: World>(
     }
     machine.scopes.open(Scope::Redirection)?;
     machine.words.drop_top();
-    machine.place += 1;
     Ok(Move::On)
 }
 
-/// `>[2=1]` and `>[1=2]`: one descriptor becomes what another is now.
+/// `>[2=1]` and `>[1=2]`: makes one descriptor what another is now.
+#[inline(never)]
 pub(crate) fn copy(machine: &mut Configuration, to: u8, from: u8) -> Result<Move, AllocError>
-    requires { machine.old.place < 2 ^ 63 }
-    ensures { IfOk result (λ moved.
-        Leads (act (Some (op.Copy to from)) (config_of machine.old)) (config_of machine.new) moved) }
+    ensures { IfOk result (Moves (op.Copy to from) machine.old machine.new) }
 {
     machine.redirs.push_copy(to, from)?;
     machine.scopes.open(Scope::Redirection)?;
-    machine.place += 1;
     Ok(Move::On)
 }
 
-/// `<<`: the here document of this number takes the place of descriptor 0.
+/// `<<`: opens the here document at this index in place of descriptor 0.
+#[inline(never)]
 #[tactic(auto, using(crate::proofs::Left::step_refused))]
 pub(crate) fn here<W: World>(
     machine: &mut Configuration,
@@ -118,9 +114,7 @@ pub(crate) fn here<W: World>(
     world: &mut W,
     number: usize,
 ) -> Result<Move, Stop>
-    requires { machine.old.place < 2 ^ 63 }
-    ensures { Steps (W.events world.old) (W.events world.new)
-        (act (Some (op.Here number)) (config_of machine.old)) (config_of machine.new) result }
+    ensures { Executes (W.events world.old) (W.events world.new) (op.Here number) machine.old machine.new result }
 {
     let Some(pieces) = machine.code.pieces(number) else {
         return Ok(Move::Ended);
@@ -130,11 +124,10 @@ pub(crate) fn here<W: World>(
         return refuse(machine, alloc, world, error);
     }
     machine.scopes.open(Scope::Redirection)?;
-    machine.place += 1;
     Ok(Move::On)
 }
 
-/// Ends the innermost scope, where it is a redirection.
+/// Ends the innermost scope, if it is a redirection.
 fn end_redirection<W: World>(machine: &mut Configuration, world: &mut W) -> Result<bool, Stop>
     ensures { RedirectionEnds (W.events world.old) (W.events world.new)
         (config_of machine.old) (config_of machine.new) result }
@@ -147,7 +140,7 @@ fn end_redirection<W: World>(machine: &mut Configuration, world: &mut W) -> Resu
     Ok(true)
 }
 
-/// Ends this many redirections, up to the first scope that is none.
+/// Ends this many redirections; stops at any other scope.
 fn end_redirections<W: World>(
     machine: &mut Configuration,
     world: &mut W,
@@ -165,17 +158,15 @@ fn end_redirections<W: World>(
 }
 
 /// Ends the redirections of a command.
+#[inline(never)]
 #[tactic(auto, using(crate::proofs::Left::step_refused))]
 pub(crate) fn unredir<W: World>(
     machine: &mut Configuration,
     world: &mut W,
     count: usize,
 ) -> Result<Move, Stop>
-    requires { machine.old.place < 2 ^ 63 }
-    ensures { Steps (W.events world.old) (W.events world.new)
-        (act (Some (op.Unredir count)) (config_of machine.old)) (config_of machine.new) result }
+    ensures { Executes (W.events world.old) (W.events world.new) (op.Unredir count) machine.old machine.new result }
 {
     end_redirections(machine, world, count)?;
-    machine.place += 1;
     Ok(Move::On)
 }

@@ -1,11 +1,10 @@
 //! Instructions that read and assign variables.
 
-ghost use Rattle.std.specs.Prelude.{◌≡◌, ◌<◌, ◌^◌, Some, option_map};
-ghost use Rattle.rc_model.specs.Code.Machine.{act};
+ghost use Rattle.std.specs.Prelude.{◌≡◌, IfOk, MatchOption, option_map};
 ghost use Rattle.rc_model.specs.Code.Layout as op;
 ghost use Rattle.rc_machine.specs.Configurations.{config_of};
+ghost use Rattle.rc_machine.specs.Instructions.{Executes, Moves};
 ghost use Rattle.rc_machine.specs.Names.{the_name};
-ghost use Rattle.rc_machine.specs.Steps.{Steps};
 ghost use Rattle.rc_machine.specs.Tops.{uppermost};
 ghost use Rattle.rc_model.specs.Run.State.{is_name};
 ghost use Rattle.rc_model.specs.Syntax.Words.{word_texts};
@@ -18,18 +17,17 @@ use crate::configuration::{Configuration, Move};
 use crate::stack::Stack;
 use rc_text::Word;
 use rc_world::{Stop, World};
-use std::alloc::Global;
+use std::alloc::{AllocError, Global};
 
 /// `$x`.
+#[inline(never)]
 #[tactic(auto, using(crate::proofs::Left::step_refused))]
 pub(crate) fn value<W: World>(
     machine: &mut Configuration,
     alloc: Global,
     world: &mut W,
 ) -> Result<Move, Stop>
-    requires { machine.old.place < 2 ^ 63 }
-    ensures { Steps (W.events world.old) (W.events world.new)
-        (act (Some op.Value) (config_of machine.old)) (config_of machine.new) result }
+    ensures { Executes (W.events world.old) (W.events world.new) op.Value machine.old machine.new result }
 {
     let Some(words) = machine.words.top() else {
         return Ok(Move::Ended);
@@ -39,20 +37,18 @@ pub(crate) fn value<W: World>(
     };
     machine.words.drop_top();
     put_value(&mut machine.words, value)?;
-    machine.place += 1;
     Ok(Move::On)
 }
 
 /// `$#x`.
+#[inline(never)]
 #[tactic(auto, using(crate::proofs::Left::step_refused))]
 pub(crate) fn count<W: World>(
     machine: &mut Configuration,
     alloc: Global,
     world: &mut W,
 ) -> Result<Move, Stop>
-    requires { machine.old.place < 2 ^ 63 }
-    ensures { Steps (W.events world.old) (W.events world.new)
-        (act (Some op.Count) (config_of machine.old)) (config_of machine.new) result }
+    ensures { Executes (W.events world.old) (W.events world.new) op.Count machine.old machine.new result }
 {
     let Some(words) = machine.words.top() else {
         return Ok(Move::Ended);
@@ -63,20 +59,18 @@ pub(crate) fn count<W: World>(
     let count = value.len().to_string(alloc)?;
     machine.words.drop_top();
     put_text(&mut machine.words, count)?;
-    machine.place += 1;
     Ok(Move::On)
 }
 
 /// `$"x`.
+#[inline(never)]
 #[tactic(auto, using(crate::proofs::Left::step_refused))]
 pub(crate) fn flat<W: World>(
     machine: &mut Configuration,
     alloc: Global,
     world: &mut W,
 ) -> Result<Move, Stop>
-    requires { machine.old.place < 2 ^ 63 }
-    ensures { Steps (W.events world.old) (W.events world.new)
-        (act (Some op.Flat) (config_of machine.old)) (config_of machine.new) result }
+    ensures { Executes (W.events world.old) (W.events world.new) op.Flat machine.old machine.new result }
 {
     let Some(words) = machine.words.top() else {
         return Ok(Move::Ended);
@@ -87,20 +81,18 @@ pub(crate) fn flat<W: World>(
     let text = rc_text::flat(alloc, value)?;
     machine.words.drop_top();
     put_text(&mut machine.words, text)?;
-    machine.place += 1;
     Ok(Move::On)
 }
 
 /// `$x(s ...)`.
+#[inline(never)]
 #[tactic(auto, using(crate::proofs::Left::step_refused))]
 pub(crate) fn select<W: World>(
     machine: &mut Configuration,
     alloc: Global,
     world: &mut W,
 ) -> Result<Move, Stop>
-    requires { machine.old.place < 2 ^ 63 }
-    ensures { Steps (W.events world.old) (W.events world.new)
-        (act (Some op.Select) (config_of machine.old)) (config_of machine.new) result }
+    ensures { Executes (W.events world.old) (W.events world.new) op.Select machine.old machine.new result }
 {
     let Some((words, _)) = machine.words.top_two() else {
         return Ok(Move::Ended);
@@ -112,27 +104,45 @@ pub(crate) fn select<W: World>(
     let members = rc_text::select(alloc, value, &subscripts)?;
     machine.words.drop_top();
     put_texts(&mut machine.words, members)?;
-    machine.place += 1;
     Ok(Move::On)
 }
 
-/// The name of a variable that the list on top is.
+/// The name of a variable in the top list.
 fn name_on_top(words: &Stack<Word>) -> Option<&str>
     ensures { option_map (λ name. name.now) result ≡ the_name is_name (word_texts (uppermost words.now)) }
 {
     variable_name(words.top()?)
 }
 
-/// `x=..`.
+/// Assigns if the two lists on top are the name of a variable and one text, which are taken off then.
+fn assign_one(machine: &mut Configuration, alloc: Global) -> Result<Option<Move>, AllocError>
+    ensures { IfOk result (λ assigned. MatchOption assigned (config_of machine.new ≡ config_of machine.old)
+        (Moves op.Assign machine.old machine.new)) }
+{
+    let Some((words, [_])) = machine.words.top_two() else {
+        return Ok(None);
+    };
+    let Some(_) = variable_name(words) else {
+        return Ok(None);
+    };
+    let Some((name, word)) = machine.words.take_pair() else {
+        return Ok(None);
+    };
+    let text = word.into_text(alloc)?;
+    let Ok(()) = machine.state.set_one(name.text(), text) else {
+        return Err(AllocError);
+    };
+    Ok(Some(Move::On))
+}
+
+/// Assigns whatever the two lists on top are.
 #[tactic(auto, using(crate::proofs::Left::step_refused))]
-pub(crate) fn assign<W: World>(
+fn assign_list<W: World>(
     machine: &mut Configuration,
     alloc: Global,
     world: &mut W,
 ) -> Result<Move, Stop>
-    requires { machine.old.place < 2 ^ 63 }
-    ensures { Steps (W.events world.old) (W.events world.new)
-        (act (Some op.Assign) (config_of machine.old)) (config_of machine.new) result }
+    ensures { Executes (W.events world.old) (W.events world.new) op.Assign machine.old machine.new result }
 {
     let Some((words, _)) = machine.words.top_two() else {
         return Ok(Move::Ended);
@@ -146,20 +156,34 @@ pub(crate) fn assign<W: World>(
     };
     machine.state.set(name, value).map_err(|_| Stop::NoMemory)?;
     machine.words.drop_top();
-    machine.place += 1;
     Ok(Move::On)
 }
 
+/// `x=..`.
+#[inline(never)]
+#[tactic(auto, using(crate::proofs::Left::step_refused))]
+pub(crate) fn assign<W: World>(
+    machine: &mut Configuration,
+    alloc: Global,
+    world: &mut W,
+) -> Result<Move, Stop>
+    ensures { Executes (W.events world.old) (W.events world.new) op.Assign machine.old machine.new result }
+{
+    if let Some(moved) = assign_one(machine, alloc)? {
+        return Ok(moved);
+    }
+    assign_list(machine, alloc, world)
+}
+
 /// `x=.. command`.
+#[inline(never)]
 #[tactic(auto, using(crate::proofs::Left::step_refused))]
 pub(crate) fn local<W: World>(
     machine: &mut Configuration,
     alloc: Global,
     world: &mut W,
 ) -> Result<Move, Stop>
-    requires { machine.old.place < 2 ^ 63 }
-    ensures { Steps (W.events world.old) (W.events world.new)
-        (act (Some op.Local) (config_of machine.old)) (config_of machine.new) result }
+    ensures { Executes (W.events world.old) (W.events world.new) op.Local machine.old machine.new result }
 {
     let Some((words, _)) = machine.words.top_two() else {
         return Ok(Move::Ended);
@@ -177,6 +201,5 @@ pub(crate) fn local<W: World>(
         .map_err(|_| Stop::NoMemory)?;
     machine.scopes.open(Scope::Local)?;
     machine.words.drop_top();
-    machine.place += 1;
     Ok(Move::On)
 }

@@ -1,10 +1,8 @@
-//! Instructions that hold a list against patterns.
+//! Instructions that match a list against patterns.
 
-ghost use Rattle.std.specs.Prelude.{◌<◌, ◌^◌, Some, IfOk};
-ghost use Rattle.rc_model.specs.Code.Machine.{act};
+ghost use Rattle.std.specs.Prelude.{IfOk};
 ghost use Rattle.rc_model.specs.Code.Layout as op;
-ghost use Rattle.rc_machine.specs.Configurations.{config_of};
-ghost use Rattle.rc_machine.specs.Steps.{Leads};
+ghost use Rattle.rc_machine.specs.Instructions.{Moves};
 ghost use Rattle.rc_machine.specs.Subjects.{TakesSubject};
 
 use crate::configuration::{Configuration, Move};
@@ -13,7 +11,7 @@ use rc_glob::matched;
 use rc_text::{Word, spaced_unmarked};
 use std::alloc::{AllocError, Global};
 
-/// Takes the list on top off, as one word with no marks, its words joined by spaces. A word that stands alone is moved.
+/// Pops the top list as one word with no marks, its words joined by spaces. A single word is moved.
 #[tactic(auto, using(crate::proofs::Subjects::one_taken, crate::proofs::Subjects::all_taken))]
 fn take_subject(alloc: Global, words: &mut Stack<Word>) -> Result<Option<Word>, AllocError>
     ensures { IfOk result (λ subject. TakesSubject words.old words.new subject) }
@@ -30,44 +28,39 @@ fn take_subject(alloc: Global, words: &mut Stack<Word>) -> Result<Option<Word>, 
     Ok(Some(subject))
 }
 
-/// The list on top becomes what patterns are held against.
+/// Makes the top list the subject that patterns are matched against.
+#[inline(never)]
 pub(crate) fn make_subject(machine: &mut Configuration, alloc: Global) -> Result<Move, AllocError>
-    requires { machine.old.place < 2 ^ 63 }
-    ensures { IfOk result (λ moved.
-        Leads (act (Some op.Subject) (config_of machine.old)) (config_of machine.new) moved) }
+    ensures { IfOk result (Moves op.Subject machine.old machine.new) }
 {
     let Some(subject) = take_subject(alloc, &mut machine.words)? else {
         return Ok(Move::Ended);
     };
     machine.words.begin()?;
     machine.words.push(subject)?;
-    machine.place += 1;
     Ok(Move::On)
 }
 
-/// Goes to the place where the patterns don't match; the subject stays on top.
+/// Jumps to the place if the patterns don't match; the subject stays on top.
+#[inline(never)]
 pub(crate) fn run_case(machine: &mut Configuration, place: usize) -> Move
-    requires { machine.old.place < 2 ^ 63 }
-    ensures { Leads (act (Some (op.Case place)) (config_of machine.old)) (config_of machine.new) result }
+    ensures { Moves (op.Case place) machine.old machine.new result }
 {
     let Some((subject, patterns)) = machine.words.top_two() else {
         return Move::Ended;
     };
     let is_match = matched(subject, patterns);
     machine.words.drop_top();
-    if is_match {
-        machine.place += 1;
-    } else {
+    if !is_match {
         machine.place = place;
     }
     Move::On
 }
 
 /// `~`.
+#[inline(never)]
 pub(crate) fn run_match(machine: &mut Configuration) -> Result<Move, AllocError>
-    requires { machine.old.place < 2 ^ 63 }
-    ensures { IfOk result (λ moved.
-        Leads (act (Some op.Match) (config_of machine.old)) (config_of machine.new) moved) }
+    ensures { IfOk result (Moves op.Match machine.old machine.new) }
 {
     let Some((subject, patterns)) = machine.words.top_two() else {
         return Ok(Move::Ended);
@@ -79,6 +72,5 @@ pub(crate) fn run_match(machine: &mut Configuration) -> Result<Move, AllocError>
     };
     machine.state.set_status(status)?;
     machine.words.drop_two();
-    machine.place += 1;
     Ok(Move::On)
 }

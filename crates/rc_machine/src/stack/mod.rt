@@ -1,4 +1,4 @@
-//! A stack of lists, over one buffer of elements.
+//! A stack of lists, in one buffer of elements.
 
 pub(crate) mod nest;
 
@@ -8,8 +8,8 @@ ghost use Rattle.rc_machine.specs.Lists.{Joins, Extends, IsDropped, TakesLast, T
 use std::alloc::{AllocError, Global};
 use std::marker::Model;
 
-/// Lists, each on top of those before it. The elements of all lists stand in one buffer, and the
-/// places where the lists begin in another.
+/// Lists, each on top of those before it. The elements of all lists are in one buffer, and the places where the lists
+/// begin in another.
 #[derive(Drop)]
 pub(crate) struct Stack<T> {
     items: Vec<T>,
@@ -28,7 +28,7 @@ impl<T> Model for Stack<T> {
 }
 
 impl<T: Drop> Stack<T> {
-    /// No lists.
+    /// A stack without lists.
     pub(crate) fn new(alloc: Global) -> Stack<T>
         ensures { result ≡ [] }
     {
@@ -38,7 +38,7 @@ impl<T: Drop> Stack<T> {
         }
     }
 
-    /// The empty list comes on top.
+    /// Pushes an empty list.
     pub(crate) fn begin(&mut self) -> Result<(), AllocError>
         ensures ok { OnOk result (self.new ≡ [] ∷ self.old) }
         ensures err { OnErr result (self.new ≡ self.old) }
@@ -47,7 +47,7 @@ impl<T: Drop> Stack<T> {
         Ok(())
     }
 
-    /// Adds an element to the list on top, where there is one.
+    /// Adds an element to the top list, if there is one.
     pub(crate) fn push(&mut self, item: T) -> Result<(), AllocError>
         ensures ok { OnOk result (Extends self.old self.new (item ∷ [])) }
         ensures err { OnErr result (self.new ≡ self.old) }
@@ -56,27 +56,27 @@ impl<T: Drop> Stack<T> {
         Ok(())
     }
 
-    /// Makes room for this many more elements.
+    /// Reserves room for this many more elements.
     pub(crate) fn reserve(&mut self, count: usize) -> Result<(), AllocError>
         ensures { self.new ≡ self.old }
     {
         self.items.reserve(count)
     }
 
-    /// A list comes on top.
+    /// Pushes a list.
     pub(crate) fn put(&mut self, mut list: Vec<T>) -> Result<(), AllocError>
         ensures ok { OnOk result (self.new ≡ list.items ∷ self.old) }
         ensures err { OnErr result (self.new ≡ self.old) }
     {
         let start = self.items.len();
-        // Room comes first, so that the stack is unchanged where memory is refused.
+        // Room comes first, so that the stack is unchanged if memory runs out.
         self.starts.reserve(1)?;
         self.items.append(&mut list)?;
         self.starts.push(start)?;
         Ok(())
     }
 
-    /// Adds the two lists on top to one, and says whether there were two.
+    /// Joins the two top lists, and returns whether there were two.
     pub(crate) fn join(&mut self) -> bool
         ensures { Joins self.old self.new result }
     {
@@ -87,7 +87,7 @@ impl<T: Drop> Stack<T> {
         true
     }
 
-    /// The list on top.
+    /// The top list.
     pub(crate) fn top(&self) -> Option<&[T]>
         ensures { option_map (λ list. list.now) result ≡ top_of self.now }
     {
@@ -95,7 +95,7 @@ impl<T: Drop> Stack<T> {
         Some(&self.items[start..])
     }
 
-    /// The two lists on top, the lower one first.
+    /// The two top lists, the lower one first.
     pub(crate) fn top_two(&self) -> Option<(&[T], &[T])>
         ensures { option_map (λ two. (two.0.now, two.1.now)) result ≡ two_of self.now }
     {
@@ -105,7 +105,7 @@ impl<T: Drop> Stack<T> {
         Some((&self.items[*lower..*upper], &self.items[*upper..]))
     }
 
-    /// Takes the last element of the list on top, if it has one.
+    /// Removes and returns the last element of the top list, if it has one.
     pub(crate) fn take_last(&mut self) -> Option<T>
         ensures { TakesLast self.old self.new result }
     {
@@ -116,7 +116,7 @@ impl<T: Drop> Stack<T> {
         self.items.pop()
     }
 
-    /// Takes the two lists on top off if each has one element, and returns these, that of the lower list first.
+    /// Pops the two top lists if each has one element, and returns these, that of the lower list first.
     pub(crate) fn take_pair(&mut self) -> Option<(T, T)>
         ensures { TakesPair self.old self.new result }
     {
@@ -130,7 +130,7 @@ impl<T: Drop> Stack<T> {
         Some((first, second))
     }
 
-    /// Takes the list on top off.
+    /// Pops the top list.
     pub(crate) fn drop_top(&mut self) -> bool
         ensures { IsDropped self.old self.new result }
     {
@@ -143,7 +143,7 @@ impl<T: Drop> Stack<T> {
         }
     }
 
-    /// Takes the two lists on top off.
+    /// Pops the two top lists.
     pub(crate) fn drop_two(&mut self)
         ensures { self.new ≡ below_two self.old }
     {

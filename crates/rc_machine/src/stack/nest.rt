@@ -1,11 +1,11 @@
-//! Stacks: of what is open, each within the one before it, and of the members that a loop has still to take.
+//! Stacks of open things, each within the one before it, and of the members that a loop has left.
 
 ghost use Rattle.std.specs.Prelude.{◌≡◌, [], ◌∷◌, drop, OnOk, MatchOption};
 
 use std::alloc::{AllocError, Global};
 use std::marker::Model;
 
-/// A stack, its top first: what is open, the innermost first, or the members that a loop has still to take.
+/// A stack, its top first: open things, the innermost first, or the members that a loop has left.
 #[derive(Drop)]
 pub(crate) struct Nest<T> {
     items: Vec<T>,
@@ -20,7 +20,7 @@ impl<T> Model for Nest<T> {
 }
 
 impl<T: Drop> Nest<T> {
-    /// Nothing is open.
+    /// An empty stack.
     pub(crate) fn new(alloc: Global) -> Nest<T>
         ensures { result ≡ [] }
     {
@@ -29,7 +29,7 @@ impl<T: Drop> Nest<T> {
         }
     }
 
-    /// Opens one more.
+    /// Pushes an item.
     pub(crate) fn open(&mut self, item: T) -> Result<(), AllocError>
         ensures { OnOk result (self.new ≡ item ∷ self.old) }
     {
@@ -37,14 +37,14 @@ impl<T: Drop> Nest<T> {
         Ok(())
     }
 
-    /// Takes out the innermost.
+    /// Pops the innermost item.
     pub(crate) fn close(&mut self) -> Option<T>
         ensures { MatchOption result (self.old ≡ []) (λ item. self.old ≡ item ∷ self.new) }
     {
         self.items.pop()
     }
 
-    /// These are open, the first innermost.
+    /// A stack of these items, the first innermost.
     #[tactic(auto, using(crate::proofs::ScopeEnds::turned_twice))]
     pub(crate) fn of(mut items: Vec<T>) -> Nest<T>
         ensures { result ≡ items.items }
@@ -53,7 +53,7 @@ impl<T: Drop> Nest<T> {
         Nest { items }
     }
 
-    /// The innermost.
+    /// The innermost item.
     pub(crate) fn innermost(&self) -> Option<&T>
         ensures { MatchOption result (self.now ≡ []) (λ item. self.now ≡ item.now ∷ drop 1 self.now) }
     {

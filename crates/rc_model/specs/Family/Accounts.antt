@@ -9,13 +9,13 @@ use Rattle.rc_model.specs.Run.State.{State}
 use Rattle.rc_model.specs.Run.Script.{whole}
 use Rattle.rc_model.specs.Handed.Handed.{HandsOver}
 
--- what an open file is: one that was opened, or an end of the pipe that was made at this place of the trace
+-- the kind of an open file: one that was opened, or an end of the pipe that was made at this place of the trace
 pub data Thing : Type 0 where
   a_file : Thing
   read_end : (pipe : ℕ) → Thing
   write_end : (pipe : ℕ) → Thing
 
--- where a shell stands with its newest pipe: it was just made; a shell was started with its write end; that end was
+-- the progress of a shell with its newest pipe: it was just made; a shell was started with its write end; that end was
 -- closed
 pub data Due : Type 0 where
   free : Due
@@ -25,60 +25,59 @@ pub data Due : Type 0 where
 
 -- the account of a trace
 pub record Account : Type 0 where
-  -- how many events there were
+  -- the number of events so far
   pub place : ℕ
-  -- how often a file is held, and what it is
+  -- how often a file is held, and its kind
   pub files : ℕ → ℕ
   pub things : ℕ → Thing
   -- how often a child is owed, and the pipe whose write end it was started for
   pub owed : ℕ → ℕ
   pub feeds : ℕ → Option ℕ
-  -- the pipeline or backquote of a pipe, by the place of its first pipe
-  pub line : ℕ → ℕ
+  -- the pipeline or backquote that a pipe is part of, by the place of its first pipe
+  pub pipeline : ℕ → ℕ
   pub due : Due
 
 -- the counts of one number: 1 at h, and 0 elsewhere
 unfoldable pub one : ℕ → ℕ → ℕ
 one h k = if nat_eq h k then 1 else 0
 
--- a function with x at h, and unchanged elsewhere
+-- a function with x at h, and otherwise unchanged
 unfoldable pub put : {X : Type 0} → (ℕ → X) → ℕ → X → ℕ → X
 put f h x k = if nat_eq h k then x else f k
 
--- how often a number stands in a list
+-- how often a number occurs in a list
 abbrev pub counts : List ℕ → ℕ → ℕ
 counts [] k = 0
 counts (c ∷ cs) k = one c k + counts cs k
 
--- where a shell stands with its newest pipe after a call
+-- the progress of a shell with its newest pipe after a call
 abbrev pub next_due : Due → Call → Due
 next_due (made p w) (start l) = used p w l.slots.input
 next_due (used p w i) (close h) = passed p i
 next_due d c = free
 
--- a new pipe joins the pipeline of the pipe whose end this is
+-- a new pipe joins the pipeline of the pipe with this end
 abbrev pub joins : ℕ → Thing → (ℕ → ℕ) → ℕ → ℕ
-joins p a_file line = line
-joins p (read_end q) line = put line p (line q)
-joins p (write_end q) line = put line p (line q)
+joins p a_file pipeline = pipeline
+joins p (read_end q) pipeline = put pipeline p (pipeline q)
+joins p (write_end q) pipeline = put pipeline p (pipeline q)
 
--- A pipe goes on with the pipeline of an earlier one where the child that was started for it has that one's read end as
--- its descriptor 0,
--- and that end is closed as soon as the new write end is.
-abbrev pub line_after : Due → ℕ → (ℕ → Thing) → (ℕ → ℕ) → ℕ → ℕ
-line_after (passed p (To k)) h things line = if nat_eq k.0 h then joins p (things h) line else line
-line_after _ h things line = line
+-- A pipe continues the pipeline of an earlier one if the child that was started for it has the read end of that one as
+-- its descriptor 0, and that end is closed as soon as the new write end is.
+abbrev pub pipeline_after : Due → ℕ → (ℕ → Thing) → (ℕ → ℕ) → ℕ → ℕ
+pipeline_after (passed p (To k)) h things pipeline = if nat_eq k.0 h then joins p (things h) pipeline else pipeline
+pipeline_after _ h things pipeline = pipeline
 
--- a close ends a holding, and a wait what is owed, answered or refused
-abbrev pub called : Call → Account → Account
-called (close h) a =
+-- a close ends the holding of a file, and a wait what is owed for a child, answered or refused
+abbrev pub with_call : Call → Account → Account
+with_call (close h) a =
     record a {
       files = λ k. a.files k - one h k;
-      line = line_after a.due h a.things a.line;
+      pipeline = pipeline_after a.due h a.things a.pipeline;
       due = next_due a.due (close h);
     }
-called (wait c) a = record a { owed = λ k. a.owed k - one c k; due = next_due a.due (wait c) }
-called c a = record a { due = next_due a.due c }
+with_call (wait c) a = record a { owed = λ k. a.owed k - one c k; due = next_due a.due (wait c) }
+with_call c a = record a { due = next_due a.due c }
 
 -- a file that was opened is held once more
 abbrev pub add_file : Option ℕ → Account → Account
@@ -90,7 +89,7 @@ abbrev pub add_pair : Option (ℕ × ℕ) → Account → Account
 add_pair (Some (r, w)) a = record a {
   files = λ k. a.files k + (one r k + one w k);
   things = put (put a.things r (read_end a.place)) w (write_end a.place);
-  line = put a.line a.place a.place;
+  pipeline = put a.pipeline a.place a.place;
   due = made a.place w;
 }
 add_pair None a = a
@@ -100,7 +99,7 @@ abbrev pub fed : Due → Option ℕ
 fed (used p w i) = Some p
 fed _ = None
 
--- a child that was started is owed once more, for the newest pipe where that was just made
+-- a child that was started is owed once more, for the newest pipe if that was just made
 abbrev pub add_child : Option ℕ → Account → Account
 add_child (Some c) a = record a { owed = λ k. a.owed k + one c k; feeds = put a.feeds c (fed a.due) }
 add_child None a = a
@@ -113,15 +112,15 @@ answered make_pipe x a = add_pair (as_pair x) a
 answered (start l) x a = add_child (as_child x) a
 answered _ x a = a
 
--- one event more
+-- the account after one more event
 abbrev pub past : Account → Account
 past a = record a { place = suc a.place }
 
 -- the account after one more event, by its call and then by its answer
 abbrev pub after : Account → Call → Answer → Account
-after a c x = past (answered c x (called c a))
+after a c x = past (answered c x (with_call c a))
 
--- at the start nothing is held, and what stands in the background list is owed
+-- at the start nothing is held, and the children in the background list are owed
 abbrev pub at_start : State → Account
 at_start s =
     record {
@@ -130,7 +129,7 @@ at_start s =
       things = λ k. a_file;
       owed = counts s.background;
       feeds = λ k. None;
-      line = λ k.
+      pipeline = λ k.
           0;
       due = free;
     }
@@ -155,7 +154,7 @@ abbrev pub NewChild : Option ℕ → Account → Type 0
 NewChild (Some c) a = a.owed c ≡ 0
 NewChild None a = Unit {0}
 
--- no number is given while it is held or owed, and the two of a pair differ
+-- no number is given while it is held or owed, and the two of a pair are distinct
 abbrev pub Fresh : Account → Call → Answer → Type 0
 Fresh a (open_file p m) x = NewFile (as_file x) a
 Fresh a (here t) x = NewFile (as_file x) a
@@ -163,12 +162,12 @@ Fresh a make_pipe x = NewPair (as_pair x) a
 Fresh a (start l) x = NewChild (as_child x) a
 Fresh a _ x = Unit {0}
 
--- that holds of each of these events
+-- the answers of these events are fresh
 abbrev pub FreshFrom : Account → List Event → Type 0
 FreshFrom a [] = Unit {0}
 FreshFrom a (e ∷ es) = Fresh a e.call e.answer × FreshFrom (after a e.call e.answer) es
 
--- the members of a list differ
+-- the members of a list are distinct
 abbrev pub Differ : List ℕ → Type 0
 Differ l = (k : ℕ) → counts l k ≤ 1
 
@@ -177,12 +176,12 @@ pub record IsFresh (s : State) (trace : List Event) : Type 0 where
   pub differ : Differ s.background
   pub fresh : FreshFrom (at_start s) trace
 
--- what a descriptor stands for is held
+-- the file in this slot is held, if it is one
 abbrev pub HoldsSlot : Account → Slot → Type 0
 HoldsSlot a (Own n) = Unit {0}
 HoldsSlot a (To h) = 1 ≤ a.files h.0
 
--- what each of the three descriptors stands for is held
+-- the files in all three slots are held
 pub record HoldsSlots (a : Account) (slots : Slots) : Type 0 where
   pub input : HoldsSlot a slots.input
   pub output : HoldsSlot a slots.output
@@ -197,16 +196,16 @@ Names a (start l) = HoldsSlots a l.slots
 Names a (wait c) = 1 ≤ a.owed c
 Names a _ = Unit {0}
 
--- a descriptor stands for this open file
+-- the slot is this open file
 abbrev pub IsTo : ℕ → Slot → Type 0
 IsTo h (Own n) = ⊥
 IsTo h (To k) = k.0 ≡ h
 
--- it is one of the descriptors
+-- this open file is in one of the slots
 abbrev pub InSlots : ℕ → Slots → Type 0
 InSlots h slots = (IsTo h slots.input ⊎ IsTo h slots.output) ⊎ IsTo h slots.errors
 
--- a new write end comes first: a start that has it in a slot, or its close; after that start, its close
+-- a new write end comes first: the next call is a start with it in a slot, or its close; after that start, its close
 abbrev pub InTurn : Due → Call → Type 0
 InTurn (made p w) (close h) = h ≡ w
 InTurn (made p w) (start l) = InSlots w l.slots
@@ -215,40 +214,40 @@ InTurn (used p w i) (close h) = h ≡ w
 InTurn (used p w i) _ = ⊥
 InTurn _ c = Unit {0}
 
--- what is held is no end of a pipe of this pipeline or backquote, nor of a later one
+-- this isn't an end of a pipe of this pipeline or backquote, nor of a later one
 abbrev pub Elsewhere : Account → ℕ → Thing → Type 0
 Elsewhere a l a_file = Unit {0}
-Elsewhere a l (read_end q) = a.line q < l
-Elsewhere a l (write_end q) = a.line q < l
+Elsewhere a l (read_end q) = a.pipeline q < l
+Elsewhere a l (write_end q) = a.pipeline q < l
 
--- no end of the pipes is held of the pipeline or backquote that a child was started for
+-- no end is held of the pipes of the pipeline or backquote that a child was started for
 abbrev pub NoneHeld : Account → Option ℕ → Type 0
 NoneHeld a None = Unit {0}
-NoneHeld a (Some p) = (h : ℕ) → 1 ≤ a.files h → Elsewhere a (a.line p) (a.things h)
+NoneHeld a (Some p) = (h : ℕ) → 1 ≤ a.files h → Elsewhere a (a.pipeline p) (a.things h)
 
 -- a child is waited for when no end is held of the pipes of its pipeline or backquote
 abbrev pub Apart : Account → Call → Type 0
 Apart a (wait c) = NoneHeld a (a.feeds c)
 Apart a _ = Unit {0}
 
--- what holds of a call at its account
+-- the conditions on a call after a trace
 pub record Allowed (a : Account) (c : Call) : Type 0 where
   pub names : Names a c
   pub in_turn : InTurn a.due c
   pub apart : Apart a c
   pub handed : HandsOver c
 
--- it holds of each call of a trace
+-- they hold of each call of a trace
 abbrev pub AllAllowed : Account → List Event → Type 0
 AllAllowed a [] = Unit {0}
 AllAllowed a (e ∷ es) = Allowed a e.call × AllAllowed (after a e.call e.answer) es
 
--- at the end no file is held, and each child that is owed stands in the background list
+-- at the end no file is held, and each child that is owed is in the background list
 pub record Settled (a : Account) (s : State) : Type 0 where
   pub files : (k : ℕ) → a.files k ≡ 0
   pub owed : (k : ℕ) → a.owed k ≡ counts s.background k
 
--- the newest pipe's write end, where one is held
+-- this is the write end of the newest pipe, which is held
 abbrev pub IsDue : ℕ → ℕ → Due → Type 0
 IsDue p h (made q w) = (q ≡ p) × (w ≡ h)
 IsDue p h (used q w i) = (q ≡ p) × (w ≡ h)
@@ -259,7 +258,7 @@ pub record OneWriteEnd (a : Account) : Type 0 where
   pub only : (h p : ℕ) → 1 ≤ a.files h → a.things h ≡ write_end p → IsDue p h a.due
   pub once : (h : ℕ) → a.files h ≤ 1
 
--- that holds before each event of a trace, and at its end
+-- this holds before each event of a trace, and at its end
 abbrev pub AllOneWriteEnd : Account → List Event → Type 0
 AllOneWriteEnd a [] = OneWriteEnd a
 AllOneWriteEnd a (e ∷ es) = OneWriteEnd a × AllOneWriteEnd (after a e.call e.answer) es
@@ -272,23 +271,23 @@ pub record NothingLost (s : State) (trace : List Event) : Type 0 where
   -- so at most one write end is held at any moment
   pub one_write_end : AllOneWriteEnd (at_start s) trace
 
--- where the shell has ended, in a state
+-- nothing is left by a shell that has ended in a state
 abbrev pub NothingLeft : State → List Event → State → Type 0
 NothingLeft s trace t = Settled (account (at_start s) trace) t
 
--- a condition that is asked only where the test is false
+-- a condition that applies only if the test is false
 abbrev pub Unless : Bool → Type 0 → Type 0
 Unless true X = Unit {0}
 Unless false X = X
 
--- a list of answers is fresh for a plan where no number is given while it is held or owed, and the two of a pair
--- differ
+-- a list of answers is fresh for a plan if no number is given while it is held or owed, and the two of a pair are
+-- distinct
 abbrev pub FreshAnswers : {X : Type 0} → Account → Plan X → List Answer → Type 0
 FreshAnswers a (ask c go) (x ∷ given) =
     Unless (is_halt x) (Fresh a c x × FreshAnswers (after a c x) (go (fitting c x)) given)
 FreshAnswers a _ _ = Unit {0}
 
--- for the meaning of a script, with n turns
+-- such answers for the meaning of a script, with n turns
 pub record AreFreshAnswers (n : ℕ) (c : Node cmd) (s : State) (given : List Answer) : Type 0 where
   pub differ : Differ s.background
   pub fresh : FreshAnswers (at_start s) (whole n c s) given

@@ -1,4 +1,4 @@
--- What a shell hands over to another in the arguments and entries of a launch, and how that one reads it.
+-- What a shell hands over to another in the arguments and entries of a launch, and how the other reads it.
 use Rattle.std.specs.Prelude.{ℕ, List, [], ◌∷◌, drop, Bool, true, false, if◌then◌else◌, codes, Option, Some, None}
 use Rattle.std.specs.Prelude.{Result, Ok, Err}
 use Rattle.std.specs.Str.{bytes_eq}
@@ -12,20 +12,20 @@ use Rattle.rc_model.specs.Handed.Environment.{Variables, fresh_state, read_state
 
 -- ** handing over
 
--- the arguments and entries of a launch that can be made
+-- the arguments and entries of a launch, if it is within the limits
 abbrev pub fit : Launch → Option (List (List ℕ) × List (List ℕ))
 fit l = if is_fit l then Some (l.args, l.entries) else None
 
--- the arguments and entries by which a command and a state are handed over, where they fit
+-- the arguments and entries that hand over a command and a state, if they fit
 abbrev pub handed : Node cmd → State → Option (List (List ℕ) × List (List ℕ))
 handed c s = fit (shell_launch plain c s)
 
--- a name with its visible value, where that isn't empty, before the others
+-- a name with its visible value, unless that is empty, before the others
 abbrev pub with_top : List ℕ → List (List ℕ) → Variables → Variables
 with_top name [] others = others
 with_top name (m ∷ ms) others = (name, (m ∷ ms) ∷ []) ∷ others
 
--- each name with its visible value alone, where that isn't empty
+-- each name with its visible value alone, unless that is empty
 abbrev pub flat : Variables → Variables
 flat [] = []
 flat (b ∷ bs) = with_top b.0 (visible b.1) (flat bs)
@@ -36,7 +36,7 @@ entry_state s = record (fresh_state (flat s.variables) s.functions s.status) { s
 
 -- ** reading
 
--- the tree and the state that words and entries denote: what the image leaves of the words is `$*`
+-- the tree and the state that words and entries denote: the words after the image are `$*`
 abbrev pub read_image : (strict : Bool) → List (List ℕ) → List (List ℕ) → Result (Node cmd × State) ImageFault
 read_image strict words entries =
     read_pieces words >>= λ image.
@@ -48,17 +48,17 @@ abbrev pub after_mark : (strict : Bool) → List (List ℕ) → Option (Bool × 
 after_mark strict [] = None
 after_mark strict (word ∷ words) = if bytes_eq word (codes "-S") then Some (strict, words) else None
 
--- `-e` may stand before `-S`, and the words of the image follow
+-- an optional `-e`, then `-S`, and the words of the image
 abbrev pub options : List (List ℕ) → Option (Bool × List (List ℕ))
 options [] = None
 options (word ∷ words) = if bytes_eq word (codes "-e") then after_mark true words else after_mark false (word ∷ words)
 
--- what was read, where there was no fault
+-- the value that was read, if there was no fault
 abbrev pub as_option : {A : Type 0} → Result A ImageFault → Option A
 as_option (Ok x) = Some x
 as_option (Err e) = None
 
--- the tree and the state by these options, if there are any, and entries
+-- the tree and the state in these words, if there are any, and in entries
 abbrev pub reads_by : Option (Bool × List (List ℕ)) → List (List ℕ) → Option (Node cmd × State)
 reads_by None entries = None
 reads_by (Some o) entries = as_option (read_image o.0 o.1 entries)

@@ -1,4 +1,4 @@
--- What arguments and the entries of an environment denote.
+-- The state that arguments and the entries of an environment denote.
 use Rattle.std.specs.Prelude.{◌≡◌, ◌≢◌, ◌↔◌, ℕ, List, [], ◌∷◌, ◌++◌, Bool, true, false, not, ◌||◌, ◌==◌, codes}
 use Rattle.std.specs.Prelude.{Some, Ok, IsTrue}
 use Rattle.std.specs.List.{list_all}
@@ -12,12 +12,12 @@ use Rattle.rc_model.specs.Handed.TreeSpelling.{SpellsImage}
 use Rattle.rc_model.specs.Handed.Environment.{is_variable, fresh_state, read_state}
 use Rattle.rc_model.specs.Handed.Proper.{Ordered}
 
--- an entry is NAME=TEXT, where the name has no `=`
+-- an entry is NAME=TEXT, whose name has no `=`
 pub record IsEntryOf (name text entry : List ℕ) : Type 0 where
   pub is : entry ≡ name ++ 61 ∷ text
   pub whole : list_all (λ b. not (b == 61)) name ≡ true
 
--- the first of these entries that is one of this name has this text
+-- of these entries, the first of this name has this text
 pub data FirstOf (name text : List ℕ) : List (List ℕ) → Type 0 where
   here : (e : List ℕ) (es : List (List ℕ)) → IsEntryOf name text e → FirstOf name text (e ∷ es)
   later : (e : List ℕ) (es : List (List ℕ)) → ((other : List ℕ) → IsEntryOf name other e → ⊥) →
@@ -37,17 +37,17 @@ pub data IsWritten : List ℕ → List ℕ → Type 0 where
   alone : (m bytes : List ℕ) → begins_letter bytes ≡ false → IsWritten m bytes → IsWritten (2 ∷ m) (2 ∷ bytes)
   itself : (b : ℕ) (m bytes : List ℕ) → (b == 2) ≡ false → IsWritten m bytes → IsWritten (b ∷ m) (b ∷ bytes)
 
--- no byte 1 is among these
+-- there is no byte 1 in the text
 abbrev pub is_part : List ℕ → Bool
 is_part bytes = list_all (λ b. not (b == 1)) bytes
 
--- how members are written: at least one, and bytes 1 between them
+-- how members are written: at least one, separated by byte 1
 pub data AreWritten : List (List ℕ) → List ℕ → Type 0 where
   last : (m part : List ℕ) → is_part part ≡ true → IsWritten m part → AreWritten (m ∷ []) part
   next : (m part : List ℕ) (ms : List (List ℕ)) (rest text : List ℕ) → text ≡ part ++ 1 ∷ rest →
       is_part part ≡ true → IsWritten m part → AreWritten ms rest → AreWritten (m ∷ ms) text
 
--- A variable has these members: those of the first entry of its name. `$*` has the arguments, where there are any.
+-- A variable has these members: those of the first entry of its name. `$*` has the arguments, if there are any.
 pub data HasMembers (args entries : List (List ℕ)) (name : List ℕ) (members : List (List ℕ)) : Type 0 where
   from_args : name ≡ codes "*" → members ≡ args → args ≢ [] → HasMembers args entries name members
   from_entry : (text : List ℕ) → is_variable name ≡ true → FirstOf name text entries → AreWritten members text →
@@ -63,8 +63,8 @@ pub record HasBody (own : Bool) (entries : List (List ℕ)) (name : List ℕ) (b
   pub spelled : SpellsImage body text
   pub sound : IsTrue (well_formed body)
 
--- the status is that of its first entry, whose members are joined by spaces; it is null where a shell of the same kind
--- hands over none
+-- the status is that of its first entry, whose members are joined by spaces; it is null if no shell of the same kind
+-- hands one over
 pub data HasStatus (own : Bool) (entries : List (List ℕ)) (status : List ℕ) : Type 0 where
   handed : (text : List ℕ) (members : List (List ℕ)) → own ≡ true → FirstOf status_name text entries →
       AreWritten members text → status ≡ spaced members → HasStatus own entries status
@@ -84,7 +84,7 @@ pub record Denotes (own : Bool) (args entries : List (List ℕ)) (s : State) : T
   pub status : HasStatus own entries s.status
   pub fresh : s ≡ fresh_state s.variables s.functions s.status
 
--- what is read of arguments and entries is the state that they denote
+-- the state that is read from arguments and entries is the one that they denote
 abbrev pub ReadsWhatIsDenoted : Type 0
 ReadsWhatIsDenoted = (own : Bool) (args entries : List (List ℕ)) (s : State) →
     (read_state own args entries ≡ Ok s) ↔ Denotes own args entries s

@@ -1,4 +1,4 @@
--- What the entries of an environment denote: variables, functions and the status.
+-- The variables, functions and status that the entries of an environment denote.
 use Rattle.std.specs.Prelude.{ℕ, List, [], ◌∷◌, drop, map, Bool, true, false, not, ◌&&◌, ◌==◌, if◌then◌else◌, codes}
 use Rattle.std.specs.Prelude.{Option, Some, None}
 use Rattle.std.specs.Prelude.{Result, Ok}
@@ -8,7 +8,7 @@ use Rattle.std.specs.BTreeMap.{insert_entry}
 use Rattle.rc_model.specs.Syntax.Text.{text_cmp, begins_with, spaced}
 use Rattle.rc_model.specs.Syntax.Tree.{Node, cmd}
 use Rattle.rc_model.specs.Run.State.{State, status_name, is_name, is_function_name}
-use Rattle.rc_model.specs.Handed.Image.{is_kept}
+use Rattle.rc_model.specs.Handed.Image.{stays_behind}
 use Rattle.rc_model.specs.Handed.TreeReading.{ImageFault, ◌>>=◌, read_tree}
 
 -- names with texts
@@ -23,7 +23,7 @@ Variables = List (List ℕ × List (List (List ℕ)))
 abbrev pub Functions : Type 0
 Functions = List (List ℕ × Node cmd)
 
--- byte 2 and `A` are byte 1, byte 2 and `B` are byte 2; before another byte, or at the end, byte 2 stands for itself
+-- byte 2 and `A` become byte 1, byte 2 and `B` byte 2; before another byte, or at the end, byte 2 stands for itself
 abbrev pub unescaped : List ℕ → List ℕ
 unescaped [] = []
 unescaped (b ∷ []) = b ∷ []
@@ -32,11 +32,11 @@ unescaped (b ∷ c ∷ rest) =
     then (if c == 65 then 1 ∷ unescaped rest else (if c == 66 then 2 ∷ unescaped rest else 2 ∷ unescaped (c ∷ rest)))
     else b ∷ unescaped (c ∷ rest)
 
--- the members of a value stand between bytes 1
-abbrev pub members_of : List ℕ → List (List ℕ)
-members_of text = map unescaped (slice_split (λ b. b == 1) text)
+-- the members of a value, which byte 1 separates
+abbrev pub entry_members : List ℕ → List (List ℕ)
+entry_members text = map unescaped (slice_split (λ b. b == 1) text)
 
--- a cut entry whose name has one more byte in front
+-- a cut entry whose name begins with one more byte
 abbrev pub with_first : ℕ → Option (List ℕ × List ℕ) → Option (List ℕ × List ℕ)
 with_first b None = None
 with_first b (Some x) = Some (b ∷ x.0, x.1)
@@ -46,7 +46,7 @@ abbrev pub cut_entry : List ℕ → Option (List ℕ × List ℕ)
 cut_entry [] = None
 cut_entry (b ∷ bs) = if b == 61 then Some ([], bs) else with_first b (cut_entry bs)
 
--- an entry that could be cut comes before the others
+-- an entry that could be cut, before the others
 abbrev pub with_cut : Option (List ℕ × List ℕ) → Bindings → Bindings
 with_cut None others = others
 with_cut (Some b) others = b ∷ others
@@ -56,31 +56,31 @@ abbrev pub bindings : List (List ℕ) → Bindings
 bindings [] = []
 bindings (e ∷ es) = with_cut (cut_entry e) (bindings es)
 
--- what is read as a variable: neither `*` nor the status
+-- the name of an entry that is read as a variable: neither `*` nor the status
 abbrev pub is_variable : List ℕ → Bool
-is_variable name = is_name name && not (is_kept name)
+is_variable name = is_name name && not (stays_behind name)
 
 -- the variables, each with one value; the first entry of a name counts
 abbrev pub variables_in : Bindings → Variables
 variables_in [] = []
 variables_in (b ∷ bs) =
-    if is_variable b.0 then insert_entry text_cmp (variables_in bs) b.0 (members_of b.1 ∷ []) else variables_in bs
+    if is_variable b.0 then insert_entry text_cmp (variables_in bs) b.0 (entry_members b.1 ∷ []) else variables_in bs
 
--- the status, which is null where none is handed over
+-- the status, which is null if none is handed over
 abbrev pub status_in : Bindings → List ℕ
 status_in [] = []
-status_in (b ∷ bs) = if bytes_eq b.0 status_name then spaced (members_of b.1) else status_in bs
+status_in (b ∷ bs) = if bytes_eq b.0 status_name then spaced (entry_members b.1) else status_in bs
 
 -- `fn#` and the name of a function
 abbrev pub is_function : List ℕ → Bool
 is_function name = begins_with (codes "fn#") name && is_function_name (drop 3 name)
 
--- a function that was read, among the others
+-- the functions with one more that was read
 abbrev pub with_function : List ℕ → Result (Node cmd) ImageFault → Result Functions ImageFault →
     Result Functions ImageFault
 with_function name body others = body >>= λ c. others >>= λ fs. Ok (insert_entry text_cmp fs (drop 3 name) c)
 
--- the functions, read one after the other; the first entry of a name counts, and those seen before are given
+-- the functions, read one after the other; the first entry of a name counts, and `seen` are the names before these
 abbrev pub functions_in : List (List ℕ) → Bindings → Result Functions ImageFault
 functions_in seen [] = Ok []
 functions_in seen (b ∷ bs) =
@@ -88,7 +88,7 @@ functions_in seen (b ∷ bs) =
     then with_function b.0 (read_tree b.1) (functions_in (b.0 ∷ seen) bs)
     else functions_in seen bs
 
--- `$*` is what is given as arguments, where there are any
+-- `$*` has the arguments, if there are any
 abbrev pub with_args : List (List ℕ) → Variables → Variables
 with_args [] variables = variables
 with_args (a ∷ args) variables = insert_entry text_cmp variables (codes "*") ((a ∷ args) ∷ [])
@@ -103,7 +103,7 @@ abbrev pub own_status : Bool → Bindings → List ℕ
 own_status true bs = status_in bs
 own_status false bs = []
 
--- the state that these variables, functions and this status make, where nothing else is set
+-- the state with these variables, functions and this status, and nothing else set
 abbrev pub fresh_state : Variables → Functions → List ℕ → State
 fresh_state variables functions status = record {
   variables = variables;

@@ -1,4 +1,4 @@
--- What a shell is handed where it is started.
+-- What a shell is handed when it is started.
 use Rattle.std.specs.Prelude.{◌≡◌, ℕ, List, true, Option, Some, None}
 use Rattle.rc_model.specs.Run.Calls.{Launch, Call, start}
 use Rattle.rc_model.specs.Syntax.Tree.{Node, cmd}
@@ -12,7 +12,7 @@ pub record IsHanded (l : Launch) : Type 0 where
   pub is : l ≡ shell_launch l.slots tree state
   pub fits : is_fit l ≡ true
 
--- a shell is handed such an image; nothing is said of a program
+-- a shell is handed such an image; for a program nothing is required
 abbrev pub HandedTo : Option (List ℕ) → Launch → Type 0
 HandedTo None l = IsHanded l
 HandedTo (Some path) l = Unit {0}

@@ -20,7 +20,7 @@ HandedReadsBack = (c : Node cmd) (s : State) (h : List (List ℕ) × List (List 
 abbrev pub ReadsProper : Type 0
 ReadsProper = (own : Bool) (args entries : List (List ℕ)) (s : State) → read_state own args entries ≡ Ok s → IsProper s
 
--- and whatever words are read with them, the tree is one that a shell holds, and the state is proper
+-- and whatever words are read with them, the tree is proper, and so is the state
 abbrev pub ReadsScripts : Type 0
 ReadsScripts =
     (strict : Bool) (words entries : List (List ℕ)) (x : Node cmd × State) → read_image strict words entries ≡ Ok x →
@@ -28,15 +28,15 @@ ReadsScripts =
 
 -- ** the shells that a script starts
 
--- a launch hands over a tree that a shell holds and a proper state, and reads back as that tree and the state in which
--- a subshell begins
+-- a launch hands over a proper tree and a proper state, and reads back as that tree and the state in which a subshell
+-- begins
 pub record IsReadBack (l : Launch) : Type 0 where
   pub handed : IsHanded l
   pub tree : IsProperTree handed.tree
   pub state : IsProper handed.state
   pub back : reads l.args l.entries ≡ Some (handed.tree, entry_state handed.state)
 
--- the launch of a shell reads back so; nothing is said of that of a program
+-- the launch of a shell reads back this way; for a program nothing is required
 abbrev pub ReadBackBy : Option (List ℕ) → Launch → Type 0
 ReadBackBy None l = IsReadBack l
 ReadBackBy (Some path) l = Unit {0}
@@ -51,7 +51,7 @@ abbrev pub AllReadBack : List Call → Type 0
 AllReadBack [] = Unit {0}
 AllReadBack (c ∷ cs) = ReadsBack c × AllReadBack cs
 
--- the tree of an accepted text is one that a shell holds
+-- the tree of an accepted text is proper
 abbrev pub AcceptedAreProper : Type 0
 AcceptedAreProper = (text : List ℕ) (c : Node cmd) → IsAccepted text c → IsProperTree c
 
@@ -73,7 +73,7 @@ TracesReadBack =
     (c : Node cmd) (s : State) (trace : List Event) → IsProperTree c → IsProper s → IsBegunAsMeant c s trace →
     AllReadBack (calls trace)
 
--- where a trace ends as the script means, the state at its end is proper
+-- if a trace ends as the script means, the state at its end is proper
 abbrev pub TracesEndProper : Type 0
 TracesEndProper =
     (c : Node cmd) (s t : State) (trace : List Event) → IsProperTree c → IsProper s → EndsAsMeant c s trace t →

@@ -12,11 +12,11 @@ use Rattle.rc_model.specs.Syntax.Tree as t
 use Rattle.rc_model.specs.Handed.Pieces.{longest_word, one_word, words_of}
 use Rattle.rc_model.specs.Run.State.{State, visible, value_of, status_name}
 
--- a text with its length
+-- a text, after its length
 abbrev pub text_image : List ℕ → List ℕ
 text_image text = decimal (length text) ++ 58 ∷ text
 
--- several of them with their number
+-- the spellings of several things, after their number
 abbrev pub list_image : ℕ → List ℕ → List ℕ
 list_image n items = decimal n ++ 44 ∷ items
 
@@ -112,21 +112,21 @@ value_text value = join_with_byte 1 (map escaped value)
 abbrev pub entry : List ℕ × List ℕ → List ℕ
 entry binding = binding.0 ++ 61 ∷ binding.1
 
--- what is not handed over: `*`, and the status, which is no variable
-abbrev pub is_kept : List ℕ → Bool
-is_kept name = bytes_eq name (codes "*") || bytes_eq name status_name
+-- the names that aren't handed over as variables: `*`, and the status, which isn't one
+abbrev pub stays_behind : List ℕ → Bool
+stays_behind name = bytes_eq name (codes "*") || bytes_eq name status_name
 
--- an empty value is not handed over
+-- the binding of a name before the others, unless its value isn't handed over
 abbrev pub with_binding : List ℕ → List (List ℕ) → List (List ℕ × List ℕ) → List (List ℕ × List ℕ)
 with_binding name [] others = others
-with_binding name (m ∷ ms) others = if is_kept name then others else (name, value_text (m ∷ ms)) ∷ others
+with_binding name (m ∷ ms) others = if stays_behind name then others else (name, value_text (m ∷ ms)) ∷ others
 
 -- the visible values that are handed over
 abbrev pub handed_values : List (List ℕ × List (List (List ℕ))) → List (List ℕ × List ℕ)
 handed_values [] = []
 handed_values (b ∷ bs) = with_binding b.0 (visible b.1) (handed_values bs)
 
--- the functions, among these others
+-- the entries of the functions, among these others
 abbrev pub with_functions : List (List ℕ × Node cmd) → List (List ℕ × List ℕ) → List (List ℕ × List ℕ)
 with_functions [] others = others
 with_functions (f ∷ fs) others = insert_entry text_cmp (with_functions fs others) (codes "fn#" ++ f.0) (image f.1)
@@ -137,35 +137,35 @@ entries s =
     map entry (with_functions s.functions
     (insert_entry text_cmp (handed_values s.variables) status_name (value_text (s.status ∷ []))))
 
--- an argument or an entry is at most so long
+-- an argument or an entry isn't too long
 abbrev pub is_short : List ℕ → Bool
 is_short text = nat_le (length text) longest_word
 
--- a launch that can be made
+-- a launch is within the limits
 abbrev pub is_fit : Launch → Bool
 is_fit l = list_all is_short l.args && list_all is_short l.entries
 
--- what is asked for a program
+-- the launch of a program
 abbrev pub program_launch : Slots → List ℕ → List (List ℕ) → State → Launch
 program_launch slots path args s = record { program = Some path; args = args; entries = entries s; slots = slots }
 
--- the words of a tree's image; none where it takes too many pieces
+-- the words of a tree's image, unless it takes too many pieces
 abbrev pub image_words : Node cmd → Option (List (List ℕ))
 image_words body = words_of longest_word (node_image body)
 
--- the words that a shell is handed; an image that takes too many pieces stays in one word, which is too long
+-- the words that a shell is handed; an image of too many pieces stays in one word, which is too long
 abbrev pub handed_words : Node cmd → List (List ℕ)
 handed_words body = unwrap_or (image_words body) (one_word (node_image body))
 
--- `-e`, where a command that fails ends the shell
+-- `-e`, if a command that fails ends the shell
 abbrev pub strict_option : Bool → List (List ℕ)
 strict_option true = codes "-e" ∷ []
 strict_option false = []
 
--- the arguments of a shell: its options, what it is to run, and `$*`
+-- the arguments of a shell: its options, the words of its image, and `$*`
 abbrev pub shell_args : Node cmd → State → List (List ℕ)
 shell_args body s = strict_option s.strict ++ (codes "-S" ∷ (handed_words body ++ value_of s (codes "*")))
 
--- what is asked for a shell of the same kind
+-- the launch of a subshell
 abbrev pub shell_launch : Slots → Node cmd → State → Launch
 shell_launch slots body s = record { program = None; args = shell_args body s; entries = entries s; slots = slots }

@@ -1,21 +1,21 @@
--- The words in which a spelling is handed over: one, or, where it is too long, a number and pieces.
+-- The words in which a spelling is handed over: one or, if it is too long, a number and pieces.
 use Rattle.std.specs.Prelude.{◌≢◌, ℕ, zero, suc, ◌≤◌, ◌<◌, nat_le, nat_lt, List, [], ◌∷◌, ◌++◌, length, take, drop}
 use Rattle.std.specs.Prelude.{◌≡◌, Bool, true, ◌&&◌, ◌||◌, if◌then◌else◌, codes, Option, Some, None, option_map}
 use Rattle.std.specs.Str.{IsCharBoundary}
 use Rattle.std.specs.Fmt.{decimal}
 use Rattle.rc_model.specs.declared.limits.TheConstants.{LONGEST_ARGUMENT, MOST_PIECES}
 
--- the most bytes that a word of a launch has
+-- the greatest length of a word of a launch, in bytes
 abbrev pub longest_word : ℕ
 longest_word = LONGEST_ARGUMENT
 
--- the most pieces that an image has
+-- the greatest number of pieces of an image
 abbrev pub most_pieces : ℕ
 most_pieces = MOST_PIECES
 
 -- ** the rule
 
--- the longest piece with which a text begins
+-- the longest piece at the start of a text
 pub record IsLongest (limit : ℕ) (text piece : List ℕ) : Type 0 where
   pub short : length piece ≤ limit
   pub between : IsCharBoundary text (length piece)
@@ -36,7 +36,7 @@ one_word text = (codes "rc1;" ++ text) ∷ []
 abbrev pub several_words : List (List ℕ) → List (List ℕ)
 several_words pieces = (codes "rc2;" ++ decimal (length pieces)) ∷ pieces
 
--- the words of a spelling: one where it is short enough, else its pieces, which are not too many
+-- the words of a spelling: one if it is short enough, else its pieces, if they are not too many
 pub data AreWords (limit : ℕ) (text : List ℕ) : List (List ℕ) → Type 0 where
   in_one : length (codes "rc1;" ++ text) ≤ limit → AreWords limit text (one_word text)
   in_pieces : (pieces : List (List ℕ)) → limit < length (codes "rc1;" ++ text) → ArePieces limit text pieces →
@@ -54,12 +54,12 @@ begins_whole (b ∷ bs) = nat_lt b 128 || nat_le 192 b
 abbrev pub can_cut : ℕ → List ℕ → Bool
 can_cut n text = nat_le n (length text) && begins_whole (drop n text)
 
--- the last place up to this one where it can be cut
+-- the last place up to this one at which it can be cut
 unfoldable pub last_cut : ℕ → List ℕ → ℕ
 last_cut zero text = 0
 last_cut (suc n) text = if can_cut (suc n) text then suc n else last_cut n text
 
--- at most a given number of pieces, where they are enough
+-- the pieces of a text, if no more than a given number are needed
 unfoldable pub pieces : (most limit : ℕ) → List ℕ → Option (List (List ℕ))
 pieces most limit [] = Some []
 pieces zero limit (b ∷ bs) = None
@@ -67,7 +67,7 @@ pieces (suc most) limit (b ∷ bs) =
     option_map (λ rest. take (last_cut limit (b ∷ bs)) (b ∷ bs)
     ∷ rest) (pieces most limit (drop (last_cut limit (b ∷ bs)) (b ∷ bs)))
 
--- the words of a spelling; none where it takes too many pieces
+-- the words of a spelling, unless it takes too many pieces
 abbrev pub words_of : (limit : ℕ) → List ℕ → Option (List (List ℕ))
 words_of limit text =
     if nat_le (length (codes "rc1;" ++ text)) limit then Some (one_word text)

@@ -1,4 +1,4 @@
--- What holds of every tree and of every state of a shell.
+-- Properties of every tree and every state of a shell.
 use Rattle.std.specs.Prelude.{◌≡◌, ℕ, List, [], ◌∷◌, Bool, not, ◌&&◌, IsTrue}
 use Rattle.std.specs.List.{list_all}
 use Rattle.std.specs.Str.{bytes_eq}
@@ -9,12 +9,12 @@ use Rattle.rc_model.specs.Syntax.WellFormed.{well_formed}
 use Rattle.rc_model.specs.Run.State.{State, status_name, is_name, is_function_name}
 use Rattle.rc_model.specs.Handed.TreeSpelling.{has_characters}
 
--- a name comes before all these names in byte order
+-- a name is before all these names in byte order
 abbrev pub Above : {X : Type 0} → List ℕ → List (List ℕ × X) → Type 0
 Above k [] = Unit {0}
 Above k (e ∷ es) = (text_cmp k e.0 ≡ Less) × Above k es
 
--- the names of a map are in byte order, and differ
+-- the names of a map are distinct and in byte order
 abbrev pub Ordered : {X : Type 0} → List (List ℕ × X) → Type 0
 Ordered [] = Unit {0}
 Ordered (e ∷ es) = Above e.0 es × Ordered es
@@ -24,7 +24,7 @@ pub record IsProperTree (c : Node cmd) : Type 0 where
   pub sound : IsTrue (well_formed c)
   pub characters : IsTrue (has_characters c)
 
--- the bodies of all functions are trees that a shell holds
+-- the bodies of all functions are such trees
 abbrev pub AllProperTrees : List (List ℕ × Node cmd) → Type 0
 AllProperTrees [] = Unit {0}
 AllProperTrees (f ∷ fs) = IsProperTree f.1 × AllProperTrees fs
@@ -33,7 +33,7 @@ AllProperTrees (f ∷ fs) = IsProperTree f.1 × AllProperTrees fs
 abbrev pub is_own_name : List ℕ → Bool
 is_own_name name = is_name name && not (bytes_eq name status_name)
 
--- what holds of every state of a shell
+-- the properties of every state of a shell
 pub record IsProper (s : State) : Type 0 where
   pub names : IsTrue (list_all (λ b. is_own_name b.0) s.variables)
   pub ordered : Ordered s.variables

@@ -1,4 +1,4 @@
--- Reading a tree from left to right, with the first fault that is met.
+-- Reading a tree from left to right, up to the first fault.
 use Rattle.std.specs.Prelude.{ℕ, zero, suc, nat_lt, nat_le, length, take, drop, List, [], ◌∷◌, Bool, true, false, ◌&&◌}
 use Rattle.std.specs.Prelude.{◌==◌, if◌then◌else◌, Result, Ok, Err, codes}
 use Rattle.rc_model.specs.Run.Numbers.{is_digit, digits_value, greatest_number}
@@ -14,11 +14,11 @@ pub use Rattle.rc_model.specs.declared.fault.ImageFault.{ImageFault}
 pub use Rattle.rc_model.specs.declared.fault.ImageFault.TheVariants.{BadTag, BadLength, Trailing, TooDeep, Version}
 use Rattle.rc_model.specs.declared.limits.TheConstants.{MOST_LEVELS, MOST_STAGES}
 
--- what stands at the front of a text, and what stands after it
+-- a reader returns what it reads at the start of a text, and the rest of the text
 abbrev pub Reader : Type 0 → Type 0
 Reader X = List ℕ → Result (X × List ℕ) ImageFault
 
--- what is made of the thing that was read
+-- what is read, passed to a function
 abbrev pub made : {X Y : Type 0} → (X → Y) → Reader X → Reader Y
 made f r bytes = r bytes >>= λ x. Ok (f x.0, x.1)
 
@@ -30,17 +30,17 @@ both r q bytes = r bytes >>= λ x. q x.1 >>= λ y. Ok ((x.0, y.0), y.1)
 abbrev pub tested : {X : Type 0} → (X → Bool) → Reader X → Reader X
 tested test r bytes = r bytes >>= λ x. if test x.0 then Ok x else Err BadLength
 
--- the reader that belongs to a byte
+-- the reader for a byte
 abbrev pub chosen : {X : Type 0} → List (ℕ × Reader X) → ℕ → Reader X
 chosen [] b rest = Err BadTag
 chosen (row ∷ rows) b rest = if b == row.0 then row.1 rest else chosen rows b rest
 
--- a byte, and what belongs to it
+-- a byte, and what its reader reads
 abbrev pub tagged : {X : Type 0} → List (ℕ × Reader X) → Reader X
 tagged rows [] = Err BadTag
 tagged rows (b ∷ rest) = chosen rows b rest
 
--- nothing is read
+-- a value, without reading anything
 abbrev pub given : {X : Type 0} → X → Reader X
 given x bytes = Ok (x, bytes)
 
@@ -49,16 +49,16 @@ abbrev pub digit_run : List ℕ → List ℕ
 digit_run [] = []
 digit_run (b ∷ bs) = if is_digit b then b ∷ digit_run bs else []
 
--- what stands after the digits at the front
+-- the text after its leading digits
 abbrev pub past_digits : List ℕ → List ℕ
 past_digits [] = []
 past_digits (b ∷ bs) = if is_digit b then past_digits bs else b ∷ bs
 
--- whether digits are a number of the right size
+-- whether digits are a number in range
 abbrev pub is_count : List ℕ → Bool
 is_count digits = is_numeral digits && nat_le (digits_value 0 digits) greatest_number
 
--- what follows a number: this mark
+-- a number, if the next byte is this mark
 abbrev pub marked : ℕ → ℕ → Reader ℕ
 marked mark n [] = Err BadLength
 marked mark n (b ∷ rest) = if b == mark then Ok (n, rest) else Err BadLength
@@ -103,7 +103,7 @@ crossing_rows = (49, tagged ((50, given (1, 2)) ∷ [])) ∷ (50, tagged ((49, g
 abbrev pub crossing_at : Reader (ℕ × ℕ)
 crossing_at = tagged crossing_rows
 
--- a test that is made where trees must be well formed
+-- a test that applies only if trees must be well formed
 abbrev pub need : Bool → Bool → Bool
 need true test = test
 need false test = true
@@ -112,11 +112,11 @@ need false test = true
 abbrev pub any : ℕ → Bool
 any n = true
 
--- a list has one node at least
+-- a list has at least one node
 abbrev pub some : Bool → ℕ → Bool
 some k n = need k (nat_lt 0 n)
 
--- a list has two nodes at least
+-- a list has at least two nodes
 abbrev pub several : Bool → ℕ → Bool
 several k n = need k (nat_lt 1 n)
 
@@ -224,7 +224,7 @@ unfoldable mutual
   arg_at k zero bytes = Err TooDeep
   arg_at k (suc d) bytes = tagged (arg_rows k (cmd_at k d) (arg_at k d)) bytes
 
--- nothing stands after it
+-- nothing follows the tree
 abbrev pub whole : {X : Type 0} → Result (X × List ℕ) ImageFault → Result X ImageFault
 whole (Ok x) = if length x.1 == 0 then Ok x.0 else Err Trailing
 whole (Err e) = Err e
@@ -234,7 +234,7 @@ abbrev pub other_version : List ℕ → Bool
 other_version [] = false
 other_version (b ∷ bs) = b == 59
 
--- the fault of another beginning than `rc1;`: `rc`, another number and `;` are another version
+-- the fault of a text that doesn't begin with `rc1;`: `rc`, another number and `;` are another version
 abbrev pub beginning_fault : List ℕ → ImageFault
 beginning_fault text =
     if begins_with (codes "rc") text &&

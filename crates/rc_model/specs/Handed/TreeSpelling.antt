@@ -1,4 +1,4 @@
--- How a tree is spelled: which texts are spellings of which trees.
+-- How a tree is spelled: which texts spell which trees.
 use Rattle.std.specs.Prelude.{◌≡◌, ℕ, ◌+◌, ◌≤◌, Bool, true, false, not, ◌&&◌, ◌==◌, List, [], ◌∷◌, ◌++◌, length, codes}
 use Rattle.std.specs.Prelude.{IsTrue, nat_le}
 use Rattle.std.specs.List.{list_all}
@@ -28,7 +28,7 @@ abbrev pub ◌⨾◌ : (List ℕ → Type 0) → (List ℕ → Type 0) → List 
 abbrev pub Is : List ℕ → List ℕ → Type 0
 Is x text = text ≡ x
 
--- `0`, or digits of which the first isn't `0`
+-- `0`, or digits that don't begin with `0`
 abbrev pub is_numeral : List ℕ → Bool
 is_numeral [] = false
 is_numeral (d ∷ []) = true
@@ -55,21 +55,21 @@ pub record Crossing (to from : ℕ) (text : List ℕ) : Type 0 where
 abbrev pub is_text : List ℕ → Bool
 is_text text = is_utf8 text && without_zero text
 
--- a text with its length
+-- a text, after its length
 pub record Texted (x text : List ℕ) : Type 0 where
   pub characters : IsTrue (is_text x)
   pub spelled : ((Number (length x) ⨾ Is (codes ":")) ⨾ Is x) text
 
--- several things with their number
+-- several things, after their number
 abbrev pub Listed : ℕ → (List ℕ → Type 0) → List ℕ → Type 0
 Listed n items = (Number n ⨾ Is (codes ",")) ⨾ items
 
--- a file is opened for reading at 0, which isn't written
+-- a file opened for reading at 0, which isn't written
 pub record Plainly (slot : ℕ) (path : List ℕ → Type 0) (text : List ℕ) : Type 0 where
   pub input : slot ≡ 0
   pub rest : path text
 
--- a file that is opened so, at a descriptor
+-- a file opened in this mode at a descriptor
 abbrev pub Opened : Mode → ℕ → (List ℕ → Type 0) → List ℕ → Type 0
 Opened Read slot path = Is (codes "<") ⨾ Plainly slot path
 Opened Write slot path = Is (codes ">") ⨾ Output slot ⨾ path
@@ -117,7 +117,7 @@ abbrev mutual
   Spells (t.Text text) = Is (codes "t") ⨾ Texted text
   Spells (t.Name text) = Is (codes "v") ⨾ Texted text
 
-  -- those of several nodes, one after the other
+  -- the spellings of several nodes, one after the other
   pub SpellsAll : {s : Sort} → Many s → List ℕ → Type 0
   SpellsAll none = Is []
   SpellsAll (more n ns) = Spells n ⨾ SpellsAll ns
@@ -126,7 +126,7 @@ abbrev mutual
 abbrev pub SpellsImage : Node cmd → List ℕ → Type 0
 SpellsImage c = Is (codes "rc1;") ⨾ Spells c
 
--- whether each text of a tree passes one test, and the count of each list another
+-- whether each text of a tree passes one test, and the length of each list another
 abbrev mutual
   -- the texts and lists of a node pass these tests
   pub all_in : (List ℕ → Bool) → (ℕ → Bool) → {s : Sort} → Node s → Bool
@@ -175,12 +175,12 @@ abbrev mutual
   all_in word size (t.Text text) = word text
   all_in word size (t.Name text) = word text
 
-  -- those of several nodes do
+  -- those of several nodes pass them
   pub all_in_many : (List ℕ → Bool) → (ℕ → Bool) → {s : Sort} → Many s → Bool
   all_in_many word size none = true
   all_in_many word size (more n ns) = all_in word size n && all_in_many word size ns
 
--- each text of a tree is of whole characters
+-- each text of a tree consists of whole characters
 abbrev pub has_characters : {s : Sort} → Node s → Bool
 has_characters x = all_in is_utf8 (λ n. true) x
 

@@ -1,4 +1,4 @@
--- What holds between trees and the words in which they are handed over.
+-- The laws of trees and the words in which they are handed over.
 use Rattle.std.specs.Prelude.{◌≡◌, ℕ, ◌≤◌, List, length, take, ◌++◌, Some, Ok, IsTrue, ◌↔◌, IsUtf8}
 use Rattle.rc_model.specs.Syntax.Tree.{Node, cmd}
 use Rattle.rc_model.specs.Syntax.WellFormed.{well_formed}
@@ -8,7 +8,7 @@ use Rattle.rc_model.specs.Handed.TreeSpelling.{Spells}
 use Rattle.rc_model.specs.Handed.WordsReading.{read_pieces}
 use Rattle.rc_model.specs.Handed.Proper.{IsProperTree}
 
--- the pieces of a text are those of the rule, where they are not too many
+-- the pieces of a text are those of the rule, if they are not too many
 abbrev pub PiecesByRule : Type 0
 PiecesByRule = (most limit : ℕ) (text : List ℕ) (words : List (List ℕ)) → IsUtf8 text →
     (pieces most limit text ≡ Some words) ↔ (ArePieces limit text words × (length words ≤ most))
@@ -24,19 +24,19 @@ pub record SpellsWords (c : Node cmd) (words : List (List ℕ)) : Type 0 where
   pub spelled : Spells c text
   pub cut : AreWords longest_word text words
 
--- a tree has no words but those in which it is written
+-- a tree has no words but those of its image
 abbrev pub OneListOfWords : Type 0
 OneListOfWords = (c : Node cmd) (words : List (List ℕ)) → SpellsWords c words → image_words c ≡ Some words
 
--- and has those where they are enough
+-- and has those, if there are any
 abbrev pub HasWords : Type 0
 HasWords = (c : Node cmd) (words : List (List ℕ)) → IsProperTree c → image_words c ≡ Some words → SpellsWords c words
 
--- words spell no more than one tree
+-- words spell at most one tree
 abbrev pub OneTreeOfWords : Type 0
 OneTreeOfWords = (c d : Node cmd) (words : List (List ℕ)) → SpellsWords c words → SpellsWords d words → c ≡ d
 
--- the first words are read where they spell a well formed tree
+-- the first words are read exactly if they spell a well formed tree
 abbrev pub ReadsWords : Type 0
 ReadsWords = (words : List (List ℕ)) (c : Node cmd) (n : ℕ) →
     (read_pieces words ≡ Ok (c, n)) ↔ ((n ≤ length words) × SpellsWords c (take n words) × IsTrue (well_formed c))

@@ -1,4 +1,4 @@
--- Reading an image from its words, with the first fault that is met.
+-- Reading an image from its words, up to the first fault.
 use Rattle.std.specs.Prelude.{ℕ, suc, nat_le, List, [], ◌∷◌, length, take, drop, Bool, false, if◌then◌else◌, codes}
 use Rattle.std.specs.Prelude.{Option, Some, None}
 use Rattle.std.specs.Prelude.{Result, Ok, Err}
@@ -16,7 +16,7 @@ use Rattle.rc_model.specs.Handed.TreeReading.{beginning_fault}
 abbrev pub Taken : Type 0
 Taken = Result (Node cmd × ℕ) ImageFault
 
--- a tree that was read from a given number of words
+-- a tree with the number of words that it was read from
 abbrev pub counted : ℕ → Result (Node cmd) ImageFault → Taken
 counted n tree = tree >>= λ c. Ok (c, n)
 
@@ -29,14 +29,14 @@ abbrev pub are_these : Option (List (List ℕ)) → List (List ℕ) → Bool
 are_these None words = false
 are_these (Some written) words = pointwise bytes_eq written words
 
--- the tree in pieces: its words must be those in which the joined pieces are written
+-- the tree in pieces: its words must be those in which the joined pieces would be written
 abbrev pub from_pieces : (limit : ℕ) → List ℕ → List (List ℕ) → Taken
 from_pieces limit first pieces =
     if are_these (words_of limit (concat pieces)) (first ∷ pieces)
     then counted (suc (length pieces)) (read_spelling (concat pieces))
     else Err BadLength
 
--- the first word says in how many pieces the tree follows
+-- the first word tells in how many pieces the tree follows
 abbrev pub read_words : (limit : ℕ) → List (List ℕ) → Taken
 read_words limit [] = Err BadTag
 read_words limit (first ∷ rest) =
@@ -44,6 +44,6 @@ read_words limit (first ∷ rest) =
     else if begins_with (codes "rc2;") first then from_pieces limit first (take (digits_value 0 (drop 4 first)) rest)
     else Err (beginning_fault first)
 
--- the tree in words that are no longer than those of a launch
+-- the tree in words that are no longer than a launch allows
 abbrev pub read_pieces : List (List ℕ) → Taken
 read_pieces words = read_words longest_word words

@@ -1,4 +1,4 @@
--- The descent: a script is read token by token, with one token in sight and at most a given number of levels.
+-- Recursive descent: a script is read token by token, with one token of lookahead and at most a given number of levels.
 use Rattle.std.specs.Prelude.{ℕ, zero, suc, nat_le, nat_lt, Bool, true, false, not, ◌&&◌, if◌then◌else◌, List, [], ◌∷◌}
 use Rattle.std.specs.Prelude.{length, Result, Ok, Err}
 use Rattle.rc_model.specs.Syntax.Tokens.{Lexeme, Word, Semicolon, Ampersand, Newline, AndAnd, OrOr, Bar, Equals}
@@ -69,13 +69,13 @@ body_by deeper ts =
 unfoldable pub optional_operand_by : Readers → Reader (Node t.cmd)
 optional_operand_by deeper ts = if begins_command ts then deeper an_operand ts else Ok (t.Empty, ts)
 
--- what follows `if` where that is a word: it is `not`, and an `if` comes before
+-- what follows `if`, if that is a word: it is `not`, and an `if` comes before
 abbrev pub if_not_by : Readers → (after_if : Bool) → Keyword → Reader (Node t.cmd)
 if_not_by deeper true NotWord ts = body_by deeper (past_caret ts) >>= λ d. Ok (t.IfNot d.0, d.1)
 if_not_by deeper false NotWord ts = Err IfNot
 if_not_by deeper after_if _ ts = Err Unexpected
 
--- what follows `if` where that is a condition: it, and a body
+-- what follows `if`, if that is a condition: it, and a body
 abbrev pub condition_by : Readers → Reader (Node t.cmd)
 condition_by deeper ts = do
   c ← paren_by deeper ts
@@ -94,7 +94,7 @@ while_by deeper ts = do
   d ← body_by deeper c.1
   Ok (t.While c.0 d.0, d.1)
 
--- what follows the name of a `for` where that is a word: `in`, a list and the body
+-- what follows the name of a `for`, if that is a word: `in`, a list and the body
 abbrev pub for_each_by : Readers → Node t.arg → Keyword → Reader (Node t.cmd)
 for_each_by deeper a InWord ts = do
   as' ← members_by (deeper (a_part true)) (past_caret ts)
@@ -150,12 +150,12 @@ unfoldable pub leading_by : Readers → (after_if : Bool) → Reader (Node t.cmd
 leading_by deeper after_if (Word text ∷ ts) = control_by deeper after_if (keyword text) ts
 leading_by deeper after_if ts = redirected_by deeper ts
 
--- a pipeline of these stages and a last one, which stands alone where there are no others
+-- a pipeline of these stages and a last one, or that one alone if there are no others
 abbrev pub pipeline_of : Many t.stage → Node t.cmd → Node t.cmd
 pipeline_of none last = last
 pipeline_of (more s ss) last = t.Pipeline (more s ss) last
 
--- a bar reads what follows it, and goes on after a stage
+-- reads what follows a bar, and goes on if that is a stage
 abbrev pub pipe_turn : Readers → (Many t.stage → Node t.cmd → Reader (Node t.cmd)) → Many t.stage → Node t.cmd →
     Reader (Node t.cmd)
 pipe_turn deeper go_on stages last (Bar slot ∷ ts) =
@@ -174,7 +174,7 @@ pipe_from deeper (suc turns) stages last ts = pipe_turn deeper (λ ss c u. pipe_
 unfoldable pub pipe_by : Readers → Node t.cmd → Reader (Node t.cmd)
 pipe_by deeper first ts = pipe_from deeper (length ts) none first ts
 
--- a further assignment goes on after its value, and a stage begins the command that the assignments are for
+-- reads the value of a further assignment and goes on, or the command that begins with this stage
 abbrev pub value_turn : Readers → (Many t.pair → Reader (Node t.cmd)) → Many t.pair → Opening → Reader (Node t.cmd)
 value_turn deeper go_on pairs (Named a) ts =
     arg_by (deeper (a_part false)) false ts >>= λ v. go_on (snoc pairs (t.Pair a v.0)) v.1
@@ -209,7 +209,7 @@ operand_by deeper after_if ts =
     if begins_leading ts then leading_by deeper after_if ts
     else (opening_by deeper ts >>= λ o. opened_by deeper o.0 o.1)
 
--- what ends a pipeline because it is no stage
+-- what ends a pipeline because it isn't a stage
 abbrev pub last_stage : Read (Node t.cmd) → Read (Node t.cmd × Bool)
 last_stage read = read >>= λ c. Ok ((c.0, false), c.1)
 
@@ -224,7 +224,7 @@ piped_by deeper ts =
     if begins_leading ts then last_stage (leading_by deeper false ts)
     else (opening_by deeper ts >>= λ o. piped_open deeper o.0 o.1)
 
--- a `&&` or `||` reads what follows it, and goes on
+-- reads what follows a `&&` or `||`, and goes on
 abbrev pub links_turn : Readers → (Many t.link → Reader (Many t.link)) → Many t.link → Reader (Many t.link)
 links_turn deeper go_on front (AndAnd ∷ ts) =
     operand_by deeper false (past_newlines ts) >>= λ c. go_on (snoc front (t.Link t.And c.0)) c.1
@@ -255,7 +255,7 @@ item_end (Newline ∷ ts) = Ok (false, ts)
 item_end (Ampersand ∷ ts) = Ok (true, ts)
 item_end ts = if closes ts then Ok (false, ts) else Err Unexpected
 
--- a separator is passed over, and a command is an item, after which it goes on
+-- skips a separator, or reads a command as an item, and goes on
 abbrev pub item_turn : Readers → (Bool → Many t.item → Reader (Many t.item)) → Bool → Many t.item → Reader (Many t.item)
 item_turn deeper go_on after_if front (Semicolon ∷ ts) = go_on after_if front ts
 item_turn deeper go_on after_if front (Newline ∷ ts) = go_on after_if front ts
@@ -275,7 +275,7 @@ items_from deeper in_switch (suc turns) after_if front ts =
 unfoldable pub items_by : Readers → (in_switch : Bool) → Reader (Many t.item)
 items_by deeper in_switch ts = items_from deeper in_switch (length ts) false none ts
 
--- each kind of thing, given how one level deeper is read
+-- the reader of each sort, given the readers one level deeper
 unfoldable pub read_by : Readers → Readers
 read_by deeper a_name ts = name_by deeper ts
 read_by deeper (a_part inside) ts = part_by deeper inside ts
@@ -289,7 +289,7 @@ unfoldable pub read : ℕ → Readers
 read zero n ts = Err TooDeep
 read (suc left) n ts = read_by (λ m u. read left m u) n ts
 
--- a list is a script where no token is left and it isn't too deep
+-- a list is a script if no token is left and it isn't too deep
 abbrev pub whole : Read (Many t.item) → Result (Node t.cmd) DescentFault
 whole (Ok (is, [])) = if nat_le (depth (t.Seq is)) MOST_LEVELS then Ok (t.Seq is) else Err TooDeep
 whole (Ok _) = Err Unexpected

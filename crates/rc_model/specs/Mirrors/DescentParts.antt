@@ -1,4 +1,5 @@
--- The descent into the parts of a command: arguments, redirections, lists in braces, and the forms that are words.
+-- The descent into the parts of a command: arguments, redirections, lists in braces, and the forms that begin with a
+-- keyword.
 use Rattle.std.specs.Prelude.{ℕ, zero, suc, Bool, true, false, if◌then◌else◌, List, ◌∷◌}
 use Rattle.std.specs.Prelude.{length, Option, Some, None, Result, Ok, Err}
 pub use Rattle.rc_model.specs.Syntax.Results.{◌>>=◌}
@@ -24,8 +25,8 @@ Read A = Result (A × List Lexeme) DescentFault
 abbrev pub Reader : Type 0 → Type 0
 Reader A = List Lexeme → Read A
 
--- what is read one level deeper: a name, a part of an argument, an operand, what follows a bar, a command, the commands
--- of a list
+-- what is read one level deeper: a name, a part of an argument, an operand, the right side of a bar, a command, the
+-- commands of a list
 pub data Nested : Type 0 where
   a_name : Nested
   a_part : (inside : Bool) → Nested
@@ -43,7 +44,7 @@ Inner a_piped = Node t.cmd × Bool
 Inner (a_command after_if) = Node t.cmd
 Inner (a_list in_switch) = Many t.item
 
--- how each of these is read
+-- the reader of each of these
 abbrev pub Readers : Type 0
 Readers = (n : Nested) → Reader (Inner n)
 
@@ -54,7 +55,7 @@ name_by deeper (Quoted text ∷ ts) = Ok (t.Lit text true, ts)
 name_by deeper (Dollar ∷ ts) = deeper a_name ts >>= λ n. Ok (t.Var n.0, n.1)
 name_by deeper _ = Err Unexpected
 
--- the parts after carets, after those that were read before
+-- reads a part after a caret, and goes on after those that were read before
 abbrev pub parts_turn : Reader (Node t.arg) → (inside : Bool) → (Many t.arg → Reader (Many t.arg)) → Many t.arg →
     List Lexeme → Option (List Lexeme) → Read (Many t.arg)
 parts_turn part inside go_on front ts None = Ok (front, ts)
@@ -77,7 +78,7 @@ arg_by part inside ts = do
   as' ← parts_by part inside a.1
   Ok (concat_of a.0 as'.0, as'.1)
 
--- a `)` ends the arguments, a newline is passed over, and an argument goes on
+-- ends the arguments at a `)`, skips a newline, or reads an argument and goes on
 abbrev pub members_turn : Reader (Node t.arg) → (Many t.arg → Reader (Many t.arg)) → Many t.arg → Reader (Many t.arg)
 members_turn part go_on front (RightParen ∷ ts) = Ok (front, ts)
 members_turn part go_on front (Newline ∷ ts) = go_on front ts
@@ -180,7 +181,7 @@ branch_by deeper ts = do
   is ← (if ends_case as'.1 then deeper (a_list true) as'.1 else Err Unexpected)
   Ok (t.Branch as'.0 (t.Seq is.0), is.1)
 
--- a case line reads its branch and goes on, a separator is passed over, and a `}` ends the branches
+-- reads the branch of a case line, or skips a separator, and goes on; a `}` ends the branches
 abbrev pub branches_turn : Readers → (Many t.branch → Reader (Many t.branch)) → Many t.branch → Reader (Many t.branch)
 branches_turn deeper go_on front (RightBrace ∷ ts) = Ok (front, ts)
 branches_turn deeper go_on front (Semicolon ∷ ts) = go_on front ts
@@ -214,7 +215,7 @@ match_by deeper ts = do
   as' ← words_by (deeper (a_part false)) a.1
   Ok (t.Match a.0 as'.0, as'.1)
 
--- what follows the names of `fn`: the body that they get, or nothing where they are removed
+-- what follows the names of `fn`: the body that they get, or nothing if they are removed
 abbrev pub defined_by : Readers → Many t.arg → Reader (Node t.cmd)
 defined_by deeper names ts =
     if begins_brace ts then (brace_by deeper ts >>= λ c. Ok (t.Define names c.0, c.1)) else Ok (t.Undefine names, ts)

@@ -1,9 +1,9 @@
--- Matching from left to right with one place to go back to, move by move.
+-- Greedy matching: from left to right with one place to go back to, move by move.
 use Rattle.std.specs.Prelude.{ℕ, zero, suc, ◌*◌, ◌==◌, Bool, true, false, not, if◌then◌else◌, ◌&&◌, List, [], ◌∷◌}
 use Rattle.std.specs.Prelude.{length, Option, Some, None}
 use Rattle.rc_model.specs.Syntax.Words.{Word, has_pattern}
 use Rattle.rc_model.specs.Run.Patterns.{is_marked, stands_for, is_dots, holds}
-use Rattle.rc_model.specs.Run.Matching.{Kind, Star, Question, Open, Plain, kind, is_close}
+use Rattle.rc_model.specs.Run.Matching.{Role, Star, Question, Open, Plain, role, is_close}
 
 -- whether the class with these characters between its brackets holds c
 abbrev pub class_holds : Word → ℕ → Bool
@@ -20,34 +20,34 @@ abbrev pub class_end : Word → Option (Word × Word)
 class_end [] = None
 class_end (m ∷ w) = if is_close m then Some ([], w) else class_with m (class_end w)
 
--- what follows a class that is closed and stands for c
+-- the rest of a word after a class that is closed and stands for c
 abbrev pub class_after : Bool → Option (Word × Word) → ℕ → Option Word
 class_after e None c = None
 class_after e (Some p) c = if class_holds p.0 c then (if stands_for e c then Some p.1 else None) else None
 
--- what is left of a word, by the kind of its first character and by what follows that
-abbrev pub one_by : Bool → Kind → ℕ → Word → ℕ → Option Word
+-- the rest of a word, by the role of its first character and by what follows that
+abbrev pub one_by : Bool → Role → ℕ → Word → ℕ → Option Word
 one_by e Star x w c = None
 one_by e Question x w c = if stands_for e c then Some w else None
 one_by e Open x w c = class_after e (class_end w) c
 one_by e Plain x w c = if x == c then Some w else None
 
--- what is left of a word after its first character or class, if that is no star and stands for c
+-- the rest of a word after its first character or class, if that isn't a star and stands for c
 abbrev pub after_one : Bool → Word → ℕ → Option Word
 after_one e [] c = None
-after_one e (m ∷ w) c = one_by e (kind m) m.0 w c
+after_one e (m ∷ w) c = one_by e (role m) m.0 w c
 
--- what follows a first character, if that is a star
-abbrev pub star_by : Kind → Word → Option Word
+-- the rest of a word after its first character, if that is a star
+abbrev pub star_by : Role → Word → Option Word
 star_by Star w = Some w
 star_by _ w = None
 
--- what follows the star with which a word begins, if it does
+-- the rest of a word after the star that it begins with, if it does
 abbrev pub after_star : Word → Option Word
 after_star [] = None
-after_star (m ∷ w) = star_by (kind m) w
+after_star (m ∷ w) = star_by (role m) w
 
--- what comes next: a star, one character, the end of both, or a mismatch
+-- the next move: past a star, past one character, the end of both, or a mismatch
 pub data Move : Type 0 where
   PastStar : (word : Word) → Move
   PastOne : (c : ℕ) (word : Word) (text : List ℕ) → Move
@@ -59,23 +59,23 @@ abbrev pub past_one : ℕ → List ℕ → Option Word → Move
 past_one c t None = Miss
 past_one c t (Some v) = PastOne c v t
 
--- what comes next where no star stands in front
+-- the next move if there is no star in front
 abbrev pub one_move : Bool → Word → List ℕ → Move
 one_move e [] [] = AtEnd
 one_move e (m ∷ w) [] = Miss
 one_move e w (c ∷ t) = past_one c t (after_one e w c)
 
--- what comes next: a star in front is passed, or else one character
+-- the next move: past a star in front, or else past one character
 abbrev pub move_by : Bool → Option Word → Word → List ℕ → Move
 move_by e None w t = one_move e w t
 move_by e (Some v) w t = PastStar v
 
--- what comes next of a word and a text
+-- the next move for a word and a text
 abbrev pub move : Bool → Word → List ℕ → Move
 move e w t = move_by e (after_star w) w t
 
--- what a match does next, where it has come to in the word and in the text, whether there is a star to go back to, and
--- what follows that star in both
+-- what a match does next, given its places in the word and in the text, whether there is a star to go back to, and the
+-- places after that star in both
 abbrev pub Matcher : Type 0
 Matcher = Word → List ℕ → Bool → Word → List ℕ → Option Bool
 
@@ -92,12 +92,12 @@ after_move go e (PastOne c v u) t s bw bt = go v u (s && stands_for e c) bw bt
 after_move go e AtEnd t s bw bt = Some true
 after_move go e Miss t s bw bt = goes_back go e s bw bt
 
--- the match within n moves; None where they don't suffice
+-- the match within n moves; None if they don't suffice
 abbrev pub greedy_from : ℕ → Bool → Matcher
 greedy_from zero e w t s bw bt = None
 greedy_from (suc n) e w t s bw bt = after_move (greedy_from n e) e (move e w t) t s bw bt
 
--- as many moves as pattern times text
+-- the match in as many moves as the product of both lengths
 abbrev pub greedy : Bool → Word → List ℕ → Option Bool
 greedy e w t =
     if e && (has_pattern w && is_dots t) then Some false

@@ -1,4 +1,4 @@
--- The laws of parsing: the grammar and the descent, the round trip, and that each script is accepted or refused.
+-- The laws of parsing: the grammar and the descent, the round trip, and that each script is either accepted or refused.
 use Rattle.std.specs.Prelude.{◌≡◌, ℕ, ◌<◌, ◌≤◌, ◌⊎◌, true, false, List, length, Ok, Err, IsUtf8}
 use Rattle.rc_model.specs.Syntax.Tokens.{Lexeme, Token, Lexes}
 use Rattle.rc_model.specs.Mirrors.Spelling.{AreSpelled}
@@ -28,19 +28,19 @@ FindsEachTree =
 abbrev pub HasOneTree : Type 0
 HasOneTree = (ts : List Lexeme) (tree other : Node t.cmd) → HaveAcceptedTree ts tree → HaveTree ts other → other ≡ tree
 
--- where a token is unexpected, or an `if not` is misplaced, there is no tree of any size
+-- if a token is unexpected, or an `if not` is misplaced, there is no tree of any size
 abbrev pub HasNoTree : Type 0
 HasNoTree =
     (levels : ℕ) (ts : List Lexeme) (tree : Node t.cmd) → (script_tree levels ts ≡ Err Unexpected) ⊎
     (script_tree levels ts ≡ Err IfNot) → HaveTree ts tree → ⊥
 
--- too many stages are found only where a pipeline has them
+-- too many stages are found only if a pipeline has them
 abbrev pub HasTooManyStages : Type 0
 HasTooManyStages =
     (levels : ℕ) (ts : List Lexeme) (tree : Node t.cmd) → script_tree levels ts ≡ Err TooManyStages → HaveTree ts tree →
     MOST_STAGES < most_stages tree
 
--- and too many levels only where the tree has them
+-- and too many levels only if the tree has them
 abbrev pub IsTooDeep : Type 0
 IsTooDeep =
     (levels : ℕ) (ts : List Lexeme) (tree : Node t.cmd) → MOST_LEVELS ≤ levels → script_tree levels ts ≡ Err TooDeep →
@@ -52,7 +52,7 @@ HasSoundTrees =
     (ts : List Lexeme) (tree : Node t.cmd) → AreSpelled ts → HaveTree ts tree → most_stages tree ≤ MOST_STAGES →
     is_sound tree ≡ true
 
--- each tree of a text that is well formed and has no here document is that of its print, where that isn't too long
+-- each tree of a text that is well formed and has no here document is that of its print, if that isn't too long
 abbrev pub RoundTrip : Type 0
 RoundTrip =
     (text : List ℕ) (tokens : List Token) (tree : Node t.cmd) → IsUtf8 text → Lexes text (Ok tokens) →

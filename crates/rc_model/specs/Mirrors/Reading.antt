@@ -1,4 +1,4 @@
--- Reading a text character by character: the machine beside the cut of a text into tokens.
+-- Reading a text character by character: the machine for the cut of a text into tokens.
 use Rattle.std.specs.Prelude.{ℕ, suc, if◌then◌else◌, ◌==◌, ◌||◌, List, [], ◌∷◌, ◌++◌, map}
 use Rattle.std.specs.Prelude.{Option, Some, None, Result, Ok, Err}
 use Rattle.std.specs.Char.{encode_utf8}
@@ -12,9 +12,9 @@ use Rattle.rc_model.specs.declared.syntax.Class.{Class}
 use Rattle.rc_model.specs.declared.syntax.Previous.TheVariants as previous
 use Rattle.rc_model.specs.declared.syntax.Class.TheVariants as class
 
--- what has begun and has not ended
+-- what is being read
 pub data State : Type 0 where
-  -- nothing, after this
+  -- nothing, in this context
   Between : Previous → State
   Comment : State
   -- a backslash at this place, alone and after a word: with a newline it is a blank
@@ -31,36 +31,36 @@ pub data State : Type 0 where
   -- the body of a here document: its whole lines, and the last line so far
   Body : PendingHereDoc → (body line : List ℕ) → State
 
--- a character ends tokens and bodies, and leaves a state with the here documents that are due, or it is a fault
-abbrev pub Step : Type 0
-Step = Result (List Token × List (List ℕ) × State × List PendingHereDoc) SyntaxFault
+-- a step: the tokens and bodies that a character ends, the state and the here documents due after it; or a fault
+abbrev pub AfterCharacter : Type 0
+AfterCharacter = Result (List Token × List (List ℕ) × State × List PendingHereDoc) SyntaxFault
 
 -- these tokens have ended, and reading goes on in this state
-abbrev pub goes : List Token → State → List PendingHereDoc → Step
+abbrev pub goes : List Token → State → List PendingHereDoc → AfterCharacter
 goes ts s due = Ok (ts, [], s, due)
 
--- these tokens come before
-abbrev pub emit : List Token → Step → Step
+-- the step with these tokens before its own
+abbrev pub emit : List Token → AfterCharacter → AfterCharacter
 emit ts (Ok x) = Ok (ts ++ x.0, x.1, x.2, x.3)
 emit ts (Err f) = Err f
 
--- a `<<` whose mark does not come
+-- a `<<` without a mark
 abbrev pub bare_here : Previous → List Token
 bare_here (previous.Here begin end) = t.token t.BareHere begin end ∷ []
 bare_here _ = []
 
--- what stands before, once the mark is given up
+-- the context, once the mark is given up
 abbrev pub without_here : Previous → Previous
 without_here (previous.Here begin end) = previous.Apart
 without_here prev = prev
 
 -- after a newline token, or after a body
-abbrev pub begin_line : List Token → List (List ℕ) → List PendingHereDoc → Step
+abbrev pub begin_line : List Token → List (List ℕ) → List PendingHereDoc → AfterCharacter
 begin_line ts bodies [] = Ok (ts, bodies, Between previous.Apart, [])
 begin_line ts bodies (d ∷ due) = Ok (ts, bodies, Body d [] [], due)
 
--- what a character begins
-abbrev pub begin : Previous → List PendingHereDoc → Place → ℕ → Class → Step
+-- what a character begins, in each class
+abbrev pub begin : Previous → List PendingHereDoc → Place → ℕ → Class → AfterCharacter
 begin prev due p c class.Operates = goes (bare_here prev) (Operator (without_here prev) [] p (c ∷ [])) due
 begin prev due p c class.Blank = goes [] (Between (t.after_blank prev)) due
 begin prev due p c class.LineEnd = begin_line (bare_here prev ++ t.token t.Newline p (t.after_char p c) ∷ []) [] due
@@ -71,12 +71,12 @@ begin prev due p c class.Ordinary =
     goes [] (if t.begins_name prev c then Name p (encode_utf8 c) else Word prev p (encode_utf8 c)) due
 
 -- the character ends a lexeme
-abbrev pub ends : Previous → Lexeme → Place → List PendingHereDoc → Place → ℕ → Class → Step
+abbrev pub ends : Previous → Lexeme → Place → List PendingHereDoc → Place → ℕ → Class → AfterCharacter
 ends prev l q due p c k =
     emit (t.tokens_of prev l q p) (begin (t.after_token prev l) (t.pending_after prev l due) p c k)
 
 -- one character of a word, or the first after it
-abbrev pub in_word : Previous → Place → List ℕ → List PendingHereDoc → Place → ℕ → Class → Step
+abbrev pub in_word : Previous → Place → List ℕ → List PendingHereDoc → Place → ℕ → Class → AfterCharacter
 in_word prev q text due p c class.Ordinary = goes [] (Word prev q (text ++ encode_utf8 c)) due
 in_word prev q text due p c class.Backslash = goes [] (WordBackslash prev q text p) due
 in_word prev q text due p c k = ends prev (t.Word text) q due p c k
@@ -86,14 +86,15 @@ abbrev pub bare : List Token → List Token
 bare dollars = map (λ d. record { lexeme = t.BareDollar; start = d.start; stop = d.stop; line = d.line }) dollars
 
 -- after `$`s: a name begins, a further `$`, or they are bare
-abbrev pub after_dollars : List Token → List PendingHereDoc → Place → ℕ → Class → Step
+abbrev pub after_dollars : List Token → List PendingHereDoc → Place → ℕ → Class → AfterCharacter
 after_dollars dollars due p c k =
     if t.is_name_char c || (c == 39) then emit dollars (begin previous.Dollar due p c k)
     else (if c == 36 then goes [] (Operator previous.Dollar dollars p (c ∷ [])) due
     else emit (bare dollars) (begin previous.Apart due p c k))
 
 -- the character ends an operator
-abbrev pub end_operator : Previous → List Token → Place → Option Lexeme → List PendingHereDoc → Place → ℕ → Class → Step
+abbrev pub end_operator : Previous → List Token → Place → Option Lexeme → List PendingHereDoc → Place → ℕ → Class →
+    AfterCharacter
 end_operator prev dollars q None due p c k = Err (t.fault t.BadDescriptor q.line)
 end_operator prev dollars q (Some t.BareHere) due p c k = begin (previous.Here q p) due p c k
 end_operator prev dollars q (Some t.Dollar) due p c k =
@@ -105,7 +106,7 @@ end_operator prev dollars q (Some t.DollarFlat) due p c k =
 end_operator prev dollars q (Some l) due p c k = ends prev (t.meant prev [] l) q due p c k
 
 -- one character
-abbrev pub step : State → List PendingHereDoc → Place → ℕ → Class → Step
+abbrev pub step : State → List PendingHereDoc → Place → ℕ → Class → AfterCharacter
 step (Between prev) due p c k = begin prev due p c k
 step Comment due p c class.LineEnd = begin previous.Apart due p c class.LineEnd
 step Comment due p c k = goes [] Comment due
@@ -130,7 +131,7 @@ step (Body d body line) due p c class.LineEnd =
     else goes [] (Body d (body ++ line ++ encode_utf8 c) []) due
 step (Body d body line) due p c k = goes [] (Body d body (line ++ encode_utf8 c)) due
 
--- the end, with these last tokens
+-- the outcome at the end, with these last tokens
 abbrev pub closed : List Token → List (List ℕ) → List PendingHereDoc → Outcome
 closed ts bodies [] = Ok (ts, bodies)
 closed ts bodies (d ∷ due) = Err (t.fault t.OpenHere d.line)
@@ -159,12 +160,12 @@ finish (Body d body []) due p = Err (t.fault t.OpenHere d.line)
 finish (Body d body (b ∷ line)) due p =
     if bytes_eq (b ∷ line) d.mark then closed [] (body ∷ []) due else Err (t.fault t.OpenHere d.line)
 
--- what follows a step
-abbrev pub follow : Step → (State → List PendingHereDoc → Outcome) → Outcome
+-- goes on after a step, unless it is a fault
+abbrev pub follow : AfterCharacter → (State → List PendingHereDoc → Outcome) → Outcome
 follow (Ok x) then' = t.join x.0 x.1 (then' x.2 x.3)
 follow (Err f) then' = Err f
 
--- the rest of a text
+-- the outcome of the rest of a text
 abbrev pub run : State → List PendingHereDoc → Place → List ℕ → Outcome
 run s due p [] = finish s due p
 run s due p (c ∷ cs) = follow (step s due p c (t.class_of c)) (λ s' due'. run s' due' (t.after_char p c) cs)
@@ -174,7 +175,7 @@ abbrev pub zero_line : ℕ → List ℕ → Option ℕ
 zero_line line [] = None
 zero_line line (c ∷ cs) = if c == 0 then Some line else zero_line (if c == 10 then suc line else line) cs
 
--- a byte 0 comes before all else
+-- a byte 0 takes precedence
 abbrev pub unless_zero : Option ℕ → Outcome → Result (List Token) SyntaxFault
 unless_zero None o = t.result_of o
 unless_zero (Some line) o = Err (t.fault t.ZeroByte line)
@@ -183,6 +184,6 @@ unless_zero (Some line) o = Err (t.fault t.ZeroByte line)
 abbrev pub lexed : List ℕ → Result (List Token) SyntaxFault
 lexed text = unless_zero (zero_line 1 (chars text)) (run (Between previous.Apart) [] t.first_place (chars text))
 
--- the machine finds what the text is cut into, or its first fault, and nothing else comes of the text
+-- the machine finds the tokens of a text, or its first fault, and the text has no other outcome
 abbrev pub ReadingLaw : Type 0
 ReadingLaw = (text : List ℕ) → t.IsCut text (lexed text)

@@ -1,10 +1,10 @@
--- What a text spells: the texts and descriptors that the lexemes of a script can have.
+-- The texts and descriptors that the lexemes of a script can have.
 use Rattle.std.specs.Prelude.{◌≡◌, ◌≢◌, ℕ, true, List, [], ◌∷◌, map, Ok, IsUtf8}
 use Rattle.std.specs.List.{list_all}
 use Rattle.std.specs.Str.{chars}
 use Rattle.rc_model.specs.Syntax.Text.{without_zero}
 use Rattle.rc_model.specs.Syntax.Tokens.{Lexeme, Token, Lexes, Word, Quoted, Bar, Redirection, CopyTo, HereDoc, Name}
-use Rattle.rc_model.specs.Syntax.Tokens.{Run, word_goes_on, is_name_char}
+use Rattle.rc_model.specs.Syntax.Tokens.{IsLongestRun, word_goes_on, is_name_char}
 use Rattle.rc_model.specs.Syntax.WellFormed.{is_output, opens, copies}
 
 -- text without byte 0
@@ -13,7 +13,7 @@ IsText text = IsUtf8 text × (without_zero (chars text) ≡ true)
 
 -- an unquoted word: its characters are a longest run, none of them an operator, a blank or a quote
 abbrev pub IsWord : List ℕ → Type 0
-IsWord text = IsText text × ((text ≢ []) × Run word_goes_on (chars text) [])
+IsWord text = IsText text × ((text ≢ []) × IsLongestRun word_goes_on (chars text) [])
 
 -- a name that is not quoted
 abbrev pub IsName : List ℕ → Type 0
@@ -30,12 +30,12 @@ IsSpelled (Redirection mode slot) = opens mode slot ≡ true
 IsSpelled (CopyTo to from) = copies to from ≡ true
 IsSpelled _ = Unit {0}
 
--- so are all of them
+-- so do all of them
 abbrev pub AreSpelled : List Lexeme → Type 0
 AreSpelled [] = Unit {0}
 AreSpelled (l ∷ ls) = IsSpelled l × AreSpelled ls
 
--- the lexemes of a text are spelled so
+-- the lexemes of a text follow these rules
 abbrev pub SpellingLaw : Type 0
 SpellingLaw =
     (text : List ℕ) (tokens : List Token) → IsUtf8 text → Lexes text (Ok tokens) →

@@ -1,4 +1,4 @@
--- The built-in commands, and what the words of a simple command run.
+-- The built-in commands, and what the words of a simple command do.
 use Rattle.std.specs.Prelude.{ℕ, length, ◌==◌, not, List, [], ◌∷◌, ◌++◌, Bool, ◌||◌, ◌&&◌, if◌then◌else◌, Option, Some}
 use Rattle.std.specs.Prelude.{None, codes, drop, nat_le, map}
 use Rattle.std.specs.List.{list_any, list_all}
@@ -40,17 +40,17 @@ pub data Called : Type 0 where
   Body : Node cmd → Called
   BodyWith : (args : List (List ℕ)) → Node cmd → Called
 
--- a command that is over once this is done
+-- a command that is finished after this
 abbrev pub finished : Shell (Unit {0}) → Shell Called
 finished m = do
   m
   pure Finished
 
--- a built-in command with the wrong words sets the status, and does nothing else
+-- a built-in command with wrong arguments sets the status, and does nothing else
 abbrev pub usage : Shell Called
 usage = finished (set_status (codes "usage"))
 
--- the tree of a text is run so, unless the text is no script
+-- the tree of a text is run this way, unless the text isn't a script
 abbrev pub unless_no_script : (Node cmd → Called) → Option (Node cmd) → Shell Called
 unless_no_script called (Some c) = pure (called c)
 unless_no_script called None = finished (set_status (codes "syntax error"))
@@ -63,7 +63,7 @@ as_body c = unless_no_script Body c
 abbrev pub as_body_with : List (List ℕ) → Option (Node cmd) → Shell Called
 as_body_with args c = unless_no_script (BodyWith args) c
 
--- a file that was opened, or else one of the others
+-- a file that was opened, or else the first of the others that opens
 abbrev pub opened_or : Shell (Option ℕ) → Option ℕ → Shell (Option ℕ)
 opened_or others (Some h) = pure (Some h)
 opened_or others None = others
@@ -75,12 +75,12 @@ open_first (path ∷ paths) = do
   a ← call (open_file path Read)
   opened_or (open_first paths) (as_file a)
 
--- a text that was read from a file is run, or the status says why it was not read to the end
+-- runs a text that was read from a file, or sets the status to why it was not read to the end
 abbrev pub whole_file : List (List ℕ) → List ℕ → Option (List ℕ) → Shell Called
 whole_file args text None = as_body_with args (tree_of text)
 whole_file args text (Some why) = finished (set_status why)
 
--- a file that was opened is read, closed and run
+-- reads, closes and runs a file that was opened
 abbrev pub run_file : List (List ℕ) → Option ℕ → Shell Called
 run_file args None = finished (set_status (codes "cannot open"))
 run_file args (Some h) = do
@@ -96,14 +96,14 @@ dot (file ∷ args) = do
   h ← open_first (candidates s file)
   run_file args h
 
--- the first of these directories that can be changed to becomes the current one
+-- makes the first of these directories that can be entered the current one
 abbrev pub first_dir : List (List ℕ) → Shell (Unit {0})
 first_dir [] = set_status (codes "cannot cd")
 first_dir (d ∷ ds) = do
   a ← call (change_dir d)
   if as_done a then set_status [] else first_dir ds
 
--- a directory that is tried as it is
+-- whether a directory is tried without `$cdpath`
 abbrev pub is_own_dir : List ℕ → Bool
 is_own_dir dir = is_path dir || is_dots dir
 
@@ -141,7 +141,7 @@ abbrev pub exit_status : List (List ℕ) → Shell (Unit {0})
 exit_status [] = skip
 exit_status (w ∷ ws) = set_status (spaced (w ∷ ws))
 
--- the first n members of `$*` are dropped
+-- drops the first n members of `$*`
 abbrev pub shifted : Option ℕ → Shell Called
 shifted None = usage
 shifted (Some n) =
@@ -153,25 +153,25 @@ shift [] = shifted (Some 1)
 shift (n ∷ []) = shifted (number_of n)
 shift (n ∷ m ∷ ms) = usage
 
--- a child is waited for, and is taken out of the list as its wait is called
+-- takes a child out of the list, and then waits for it
 abbrev pub wait_child : ℕ → Shell (Unit {0})
 wait_child n = do
   change (λ s. drop_child s n)
   status ← waited n
   set_status status
 
--- all these children are waited for, in order
+-- waits for all these children, in order
 abbrev pub wait_all : List ℕ → Shell (Unit {0})
 wait_all [] = skip
 wait_all (n ∷ ns) = do
   wait_child n
   wait_all ns
 
--- a child of this number is waited for, where the list has one
+-- waits for the child of this number, if the list has one
 abbrev pub wait_one : ℕ → State → Shell (Unit {0})
 wait_one n s = if list_any (λ m. m == n) s.background then wait_child n else set_status (codes "no such child")
 
--- the same where the word is a number
+-- the same, if the word is a number
 abbrev pub wait_numbered : Option ℕ → Shell Called
 wait_numbered None = usage
 wait_numbered (Some n) = do
@@ -187,25 +187,25 @@ wait_for [] = do
 wait_for (n ∷ []) = wait_numbered (number_of n)
 wait_for (n ∷ m ∷ ms) = usage
 
--- a character of a member that needs no quotes
+-- a character that needs no quotes
 abbrev pub is_plain_char : ℕ → Bool
 is_plain_char c =
     is_digit c || (nat_le 65 c && nat_le c 90) || (nat_le 97 c && nat_le c 122) || list_any (λ d.
     d == c) (codes "_./-+,:%")
 
--- a member is quoted unless it is plain, not empty and no keyword
+-- a member as `whatis` prints it: quoted unless it is plain, not empty and not a keyword
 abbrev pub shown : List ℕ → List ℕ
 shown text =
     if not (length text == 0) && (list_all is_plain_char text && is_plain (keyword text)) then text
     else quoted_text text
 
--- a value as it is shown: its one member, or its members in parentheses
+-- a value as `whatis` prints it: its one member, or its members in parentheses
 abbrev pub shown_value : List (List ℕ) → List ℕ
 shown_value [] = codes "()"
 shown_value (m ∷ []) = shown m
 shown_value (m ∷ n ∷ ms) = codes "(" ++ (spaced (map shown (m ∷ n ∷ ms)) ++ codes ")")
 
--- what is known of a name: its lines, and a status where something is missing
+-- what is known of a name: its lines, and a status if something is missing
 abbrev pub Known : Type 0
 Known = List ℕ × Option (List ℕ)
 
@@ -224,12 +224,12 @@ function_line name body =
     if has_here body then ([], Some (codes "here document"))
     else (line (codes "fn " ++ (name ++ (codes " {" ++ (printed body ++ codes "}")))), None)
 
--- the line of a program: its path, where it was found
+-- the line of a program: its path, if it was found
 abbrev pub program_line : Option (List ℕ) → Known
 program_line None = ([], Some (codes "not found"))
 program_line (Some path) = (line path, None)
 
--- a program is looked for where no variable is shown
+-- looks for a program if no variable is printed
 abbrev pub other_line : List ℕ → List ℕ → Shell Known
 other_line name [] = do
   path ← find_program name
@@ -249,7 +249,7 @@ known_of name = do
   k ← command_line name (value_line name (value_of s name)) (function_of s name) (builtin_named name)
   pure (value_line name (value_of s name) ++ k.0, k.1)
 
--- the last status that was met
+-- the later of two statuses, if there is one
 abbrev pub later : Option (List ℕ) → Option (List ℕ) → Option (List ℕ)
 later before None = before
 later before (Some status) = Some status
@@ -262,12 +262,12 @@ known_each (name ∷ names) = do
   others ← known_each names
   pure (first.0 ++ others.0, later first.1 others.1)
 
--- a status that was met, else null
+-- the status of the last name that has one, else null
 abbrev pub met : Option (List ℕ) → List ℕ
 met None = []
 met (Some status) = status
 
--- any lines go out in one call
+-- writes the lines in one call, if there are any
 abbrev pub write_lines : Slots → List ℕ → Option (List ℕ) → Shell (Unit {0})
 write_lines slots [] status = set_status (met status)
 write_lines slots (b ∷ bs) status = do
@@ -287,7 +287,7 @@ exec slots (name ∷ args) = do
   run_program slots name args
   exits
 
--- a built-in command with these words; those after `builtin` are run by the first argument
+-- runs a built-in command with these words; those after `builtin` are run by the first argument
 abbrev pub run_builtin : Shell Called → Slots → Builtin → List (List ℕ) → Shell Called
 run_builtin again slots Dot args = dot args
 run_builtin again slots BuiltinWord args = again
@@ -301,22 +301,22 @@ run_builtin again slots Shift args = shift args
 run_builtin again slots Wait args = wait_for args
 run_builtin again slots Whatis args = whatis slots args
 
--- a built-in command, else a program
+-- runs a built-in command, else a program
 abbrev pub run_command : Shell Called → Slots → List ℕ → List (List ℕ) → Option Builtin → Shell Called
 run_command again slots name args (Some b) = run_builtin again slots b args
 run_command again slots name args None = finished (run_program slots name args)
 
--- the words after `builtin`, for which functions are ignored
+-- runs the words after `builtin`, for which functions are ignored
 abbrev pub without_functions : Slots → List (List ℕ) → Shell Called
 without_functions slots [] = usage
 without_functions slots (name ∷ args) = run_command (without_functions slots args) slots name args (builtin_named name)
 
--- a function of this name is called, else the words are run as if there were none
+-- calls the function of this name, else runs the words as if there were none
 abbrev pub run_named : Slots → List ℕ → List (List ℕ) → Option (Node cmd) → Shell Called
 run_named slots name args (Some body) = pure (BodyWith args body)
 run_named slots name args None = without_functions slots (name ∷ args)
 
--- the words of a simple command
+-- runs the words of a simple command
 abbrev pub run_words : Slots → List (List ℕ) → Shell Called
 run_words slots [] = fails slots (codes "empty argument list")
 run_words slots (name ∷ args) = do

@@ -1,4 +1,4 @@
--- What a shell asks of its world, and what the world answers.
+-- The calls that a shell makes on its world, and the world's answers.
 use Rattle.std.specs.Prelude.{ℕ, zero, suc, nat_le, List, [], ◌∷◌, ◌++◌, length, map, Option, Some, None, option_map}
 use Rattle.std.specs.Prelude.{Bool, true, false, if◌then◌else◌}
 pub use Rattle.rc_model.specs.declared.call.Mode.{Mode}
@@ -17,7 +17,7 @@ pub use Rattle.rc_model.specs.declared.call.Fault.TheVariants.{NoMemory}
 use Rattle.rc_model.specs.declared.limits.TheConstants.{LONGEST_READ}
 use Rattle.rc_model.specs.declared.call.TheConstants.{PLAIN_SLOTS}
 
--- an open file in the place of a descriptor
+-- an open file in place of a descriptor
 abbrev pub to_file : ℕ → Slot
 to_file h = To (record { 0 = h })
 
@@ -25,13 +25,13 @@ to_file h = To (record { 0 = h })
 abbrev pub plain : Slots
 plain = PLAIN_SLOTS
 
--- what a descriptor stands for
+-- the slot of a descriptor
 abbrev pub slot_of : Slots → ℕ → Slot
 slot_of slots zero = slots.input
 slot_of slots (suc zero) = slots.output
 slot_of slots (suc (suc n)) = slots.errors
 
--- another thing in the place of this descriptor
+-- the slots with another one for this descriptor
 abbrev pub with_slot : Slots → ℕ → Slot → Slots
 with_slot slots zero s = record slots { input = s }
 with_slot slots (suc zero) s = record slots { output = s }
@@ -58,7 +58,7 @@ pub data Call : Type 0 where
   probe : (path : List ℕ) → Call
   change_dir : (path : List ℕ) → Call
 
--- what the world answers
+-- the answers of the world
 pub data Answer : Type 0 where
   file : ℕ → Answer
   pair : (read_end write_end : ℕ) → Answer
@@ -79,7 +79,7 @@ pub record Event : Type 0 where
 abbrev pub event : Call → Answer → Event
 event call answer = record { call = call; answer = answer }
 
--- an answer seen as what its call wants, and as nothing where it is another: a file
+-- an answer as the kind that its call wants, or nothing if it is another: a file
 abbrev pub as_file : Answer → Option ℕ
 as_file (file h) = Some h
 as_file _ = None
@@ -89,7 +89,7 @@ abbrev pub as_pair : Answer → Option (ℕ × ℕ)
 as_pair (pair r w) = Some (r, w)
 as_pair _ = None
 
--- whether it was done
+-- whether the call was done
 abbrev pub as_done : Answer → Bool
 as_done done = true
 as_done _ = false
@@ -114,7 +114,7 @@ abbrev pub as_names : Answer → Option (List (List ℕ))
 as_names (names ns) = Some ns
 as_names _ = None
 
--- what stands at a path
+-- the kind of what is at a path
 abbrev pub as_kind : Answer → Option Kind
 as_kind (found k) = Some k
 as_kind _ = None
@@ -144,7 +144,7 @@ want (list_names path) = WantsNames
 want (probe path) = WantsKind
 want (change_dir path) = WantsDone
 
--- what a call gives as its answer: one of another kind, a read of over 4096 bytes and out of memory count as another
+-- an answer as a call takes it: one of another kind, a read of over 4096 bytes and out of memory count as another
 -- refusal
 abbrev pub taken_as : Want → Answer → Answer
 taken_as WantsFile (file h) = file h

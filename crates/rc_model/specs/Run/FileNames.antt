@@ -1,4 +1,4 @@
--- File names: what the words of a command stand for, and the calls by which that is found.
+-- File names: what the words of a command expand to, and the calls that find it.
 use Rattle.std.specs.Prelude.{ℕ, Bool, true, not, ◌&&◌, ◌||◌, ◌==◌, if◌then◌else◌, List, [], ◌∷◌, ◌++◌, length, codes}
 use Rattle.std.specs.Prelude.{map, filter, Option, unwrap_or, is_some}
 use Rattle.std.specs.List.{list_any, slice_split, join_with_byte}
@@ -14,11 +14,11 @@ use Rattle.rc_model.specs.Run.Shell.{Shell, ◌>>=◌, pure, call}
 abbrev pub components : Word → List Word
 components w = slice_split (λ m. m.0 == 47) w
 
--- a name that can't stand in a directory
+-- a name that can't be in a directory
 abbrev pub is_no_name : List ℕ → Bool
 is_no_name name = (length name == 0) || (is_dots name || list_any (λ c. (c == 47) || (c == 0)) name)
 
--- texts as the names of a map, which are in byte order and differ
+-- texts as the names of a map, which are distinct and in byte order
 abbrev pub in_order : List (List ℕ) → List (List ℕ × Unit {0})
 in_order [] = []
 in_order (n ∷ ns) = insert_entry text_cmp (in_order ns) n tt
@@ -35,7 +35,7 @@ fitting_names c names = ordered (filter (λ n. not (is_no_name n) && matches c (
 abbrev pub directory : List ℕ → List ℕ
 directory path = if length path == 0 then codes "." else path
 
--- each name, with what follows it
+-- the results for each name, joined
 abbrev pub each_name : (List ℕ → Shell (List (List ℕ))) → List ℕ → List (List ℕ) → Shell (List (List ℕ))
 each_name walk path [] = pure []
 each_name walk path (n ∷ ns) = do
@@ -43,7 +43,7 @@ each_name walk path (n ∷ ns) = do
   others ← each_name walk path ns
   pure (first ++ others)
 
--- a path that is there
+-- the path, if something is there
 abbrev pub if_there : List ℕ → Shell (List (List ℕ))
 if_there path = do
   a ← call (probe path)
@@ -55,7 +55,7 @@ listed c next path = do
   a ← call (list_names (directory path))
   each_name next path (fitting_names c (as_names a))
 
--- one component after this path: the directory is listed only where it has a pattern character
+-- one component after this path: the directory is listed only if the component has a pattern character
 abbrev pub step : Word → (List ℕ → Shell (List (List ℕ))) → List ℕ → Shell (List (List ℕ))
 step c next path = if has_pattern c then listed c next path else next (path ++ word_text c)
 
@@ -71,7 +71,7 @@ abbrev pub paths_of : List Word → Shell (List (List ℕ))
 paths_of [] = pure []
 paths_of (c ∷ cs) = step c (walk cs) []
 
--- where there are none, the word stands for itself
+-- if there are no paths, the word stands for itself
 abbrev pub or_itself : Word → List (List ℕ) → List Word
 or_itself w [] = w ∷ []
 or_itself w (p ∷ ps) = plain_words (ordered (p ∷ ps))

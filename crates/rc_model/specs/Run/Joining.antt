@@ -3,12 +3,12 @@ use Rattle.std.specs.Prelude.{◌≡◌, ◌≢◌, List, [], ◌∷◌, ◌++�
 use Rattle.rc_model.specs.Syntax.Words.{Word}
 use Rattle.rc_model.specs.Run.Lists.{ListFault, EmptyConcat, CountMismatch}
 
--- each word with the one in its place
+-- each word with the one at the same index
 pub data Pairs : List Word → List Word → List Word → Type 0 where
   none : Pairs [] [] []
   pair : (a b : Word) (as' bs cs : List Word) → Pairs as' bs cs → Pairs (a ∷ as') (b ∷ bs) ((a ++ b) ∷ cs)
 
--- two lists and what they give when joined
+-- two lists and the result of joining them
 pub data Joins (xs ys : List Word) : Result (List Word) ListFault → Type 0 where
   -- equal counts join pairwise
   pairs : (zs : List Word) → Pairs xs ys zs → Joins xs ys (Ok zs)

@@ -13,7 +13,7 @@ abbrev pub list_words : ListFault → List ℕ
 list_words EmptyConcat = codes "empty list in concatenation"
 list_words CountMismatch = codes "list lengths differ in concatenation"
 
--- each word with the one in its place
+-- each word with the one at the same index
 abbrev pub pairwise : List Word → List Word → List Word
 pairwise [] bs = []
 pairwise (a ∷ as') [] = []
@@ -48,7 +48,7 @@ from_place value None = []
 from_place value (Some zero) = []
 from_place value (Some (suc i)) = drop i value
 
--- `m-` and `m-n`, by what stands after the dash
+-- `m-` and `m-n`, by what follows the dash
 abbrev pub front : List (List ℕ) → List ℕ → List (List ℕ)
 front value [] = value
 front value (d ∷ ds) = up_to value (number_of (d ∷ ds))
@@ -64,7 +64,7 @@ selected_by value text =
 abbrev pub selected : List (List ℕ) → List (List ℕ) → List (List ℕ)
 selected value subscripts = flat_map (selected_by value) subscripts
 
--- the longest runs of characters that are no separators
+-- the longest runs of characters that aren't separators
 abbrev pub split : List ℕ → List ℕ → List (List ℕ)
 split text separators =
     map encode_utf8_all (filter (λ run.

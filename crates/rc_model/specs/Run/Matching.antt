@@ -4,16 +4,16 @@ use Rattle.std.specs.List.{list_all}
 use Rattle.rc_model.specs.Syntax.Words.{Word, has_pattern}
 use Rattle.rc_model.specs.Run.Patterns.{is_marked, stands_for, is_dots}
 
--- what a character of a word is for
-pub data Kind : Type 0 where
-  Star : Kind
-  Question : Kind
-  Open : Kind
-  Plain : Kind
+-- the role of a character in a word
+pub data Role : Type 0 where
+  Star : Role
+  Question : Role
+  Open : Role
+  Plain : Role
 
 -- marked `*`, `?` and `[` are pattern characters
-abbrev pub kind : ℕ × Bool → Kind
-kind m =
+abbrev pub role : ℕ × Bool → Role
+role m =
     if is_marked 42 m then Star else (if is_marked 63 m then Question else (if is_marked 91 m then Open else Plain))
 
 -- a marked `]`
@@ -27,7 +27,7 @@ begins_range (m ∷ []) = false
 begins_range (m ∷ d ∷ []) = false
 begins_range (m ∷ d ∷ n ∷ ms) = is_marked 45 d
 
--- The character is a member of these, or lies in one of their ranges, which are read from the left.
+-- The character is one of these members, or is in one of their ranges, which are read from the left.
 pub data IsMember (c : ℕ) : Word → Type 0 where
   single : (m : ℕ × Bool) (ms : Word) → begins_range (m ∷ ms) ≡ false → m.0 ≡ c → IsMember c (m ∷ ms)
   after_single : (m : ℕ × Bool) (ms : Word) → begins_range (m ∷ ms) ≡ false → IsMember c ms → IsMember c (m ∷ ms)
@@ -44,22 +44,22 @@ pub data IsHeld (c : ℕ) : Word → Type 0 where
 pub data Fits (explicit : Bool) : Word → List ℕ → Type 0 where
   -- nothing is left of both
   end : Fits explicit [] []
-  -- a character that is no pattern character stands for itself
-  itself : (m : ℕ × Bool) (word : Word) (c : ℕ) (text : List ℕ) → kind m ≡ Plain → m.0 ≡ c → Fits explicit word text →
+  -- a character that isn't a pattern character stands for itself
+  itself : (m : ℕ × Bool) (word : Word) (c : ℕ) (text : List ℕ) → role m ≡ Plain → m.0 ≡ c → Fits explicit word text →
       Fits explicit (m ∷ word) (c ∷ text)
   -- `?` stands for one character
-  question : (m : ℕ × Bool) (word : Word) (c : ℕ) (text : List ℕ) → kind m ≡ Question → stands_for explicit c ≡ true →
+  question : (m : ℕ × Bool) (word : Word) (c : ℕ) (text : List ℕ) → role m ≡ Question → stands_for explicit c ≡ true →
       Fits explicit word text → Fits explicit (m ∷ word) (c ∷ text)
-  -- `*` stands for any front of the text
-  star : (m : ℕ × Bool) (word : Word) (all front text : List ℕ) → kind m ≡ Star → list_all (stands_for explicit) front
+  -- `*` stands for any prefix of the text
+  star : (m : ℕ × Bool) (word : Word) (all front text : List ℕ) → role m ≡ Star → list_all (stands_for explicit) front
       ≡ true → all ≡ front ++ text → Fits explicit word text → Fits explicit (m ∷ word) all
   -- a class, up to the next marked `]`, stands for one character that it holds
-  class : (m : ℕ × Bool) (rest members : Word) (close : ℕ × Bool) (word : Word) (c : ℕ) (text : List ℕ) → kind m
+  class : (m : ℕ × Bool) (rest members : Word) (close : ℕ × Bool) (word : Word) (c : ℕ) (text : List ℕ) → role m
       ≡ Open → rest ≡ members ++ close ∷ word →
       list_all (λ x. not (is_close x)) members ≡ true → is_close close ≡ true → IsHeld c members → stands_for explicit c
       ≡ true → Fits explicit word text → Fits explicit (m ∷ rest) (c ∷ text)
 
--- The word matches the text, given by its characters: in explicit form `.` and `..` only where it holds no pattern
+-- The word matches the text, given by its characters. In path mode it matches `.` and `..` only if it has no pattern
 -- character.
 pub record Matches (explicit : Bool) (word : Word) (text : List ℕ) : Type 0 where
   pub fits : Fits explicit word text

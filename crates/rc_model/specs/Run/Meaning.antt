@@ -1,4 +1,4 @@
--- What a command does, by its tree alone.
+-- The semantics of a command, by its tree alone.
 use Rattle.std.specs.Prelude.{ℕ, zero, suc, List, [], ◌∷◌, ◌++◌, Bool, true, false, if◌then◌else◌, Option, codes}
 use Rattle.rc_model.specs.Syntax.Words.{Word, written, word_texts, subject}
 use Rattle.rc_model.specs.Run.Patterns.{matched}
@@ -22,11 +22,11 @@ use Rattle.rc_model.specs.Run.Builtins.{Called, Finished, Body, BodyWith, run_wo
 abbrev pub Runner : Type 0
 Runner = Shell (Unit {0})
 
--- how a called body is run
+-- how the body of a call is run
 abbrev pub Caller : Type 0
 Caller = Slots → Node cmd → Runner
 
--- ** scopes: each ends with its command, also where that ends the shell
+-- ** scopes: each ends with its command, also if the command ends the shell
 
 -- a local
 abbrev pub local_end : Runner → Runner
@@ -44,30 +44,30 @@ pipe_end read_end children m =
     λ s. under (m s) (λ a. end_stages read_end children) (λ s owed.
     closing read_end (done_with (Exit s (owed ++ children))))
 
--- ** what the forms do with the meanings of their parts
+-- ** the semantics of the forms, given those of their parts
 
--- what a simple command runs
-abbrev pub called : Caller → Slots → Called → Runner
-called call slots Finished = skip
-called call slots (Body c) = call slots c
-called call slots (BodyWith args c) = do
+-- runs what the words of a simple command call
+abbrev pub called_means : Caller → Slots → Called → Runner
+called_means call slots Finished = skip
+called_means call slots (Body c) = call slots c
+called_means call slots (BodyWith args c) = do
   change (λ s. push_local s (codes "*") args)
   local_end (call slots c)
 
--- the first where the status is true, and the second where it isn't
+-- the first if the status is true, else the second
 abbrev pub if_true : {A : Type 0} → Shell A → Shell A → Shell A
 if_true m o = λ s. if is_true s.status then m s else o s
 
--- what follows `&&` runs where the status is true, and what follows `||` where it isn't
+-- the command after `&&` runs if the status is true, that after `||` if it isn't
 abbrev pub linked : Logic → Runner → Runner
 linked And m = if_true m skip
 linked Or m = if_true skip m
 
--- a condition sets the flag that `if not` looks at
+-- a condition sets the flag for `if not`
 abbrev pub if_means : Runner → Runner
 if_means body = if_true (do body; change (λ s. with_flag s false)) (change (λ s. with_flag s true))
 
--- the body of `if not` runs where the flag is set
+-- the body of `if not` runs if the flag is set
 abbrev pub if_not_means : Runner → Runner
 if_not_means body = λ s. if s.flag then body s else skip s
 
@@ -98,7 +98,7 @@ each x (v ∷ vs) body = do
   change (λ s. push_local s x (v ∷ []))
   local_end (do body; each_more x vs body)
 
--- an assignment, and what follows it: it is a local of what follows unless it is bare
+-- an assignment and the rest: it is a local of the rest unless it is bare
 abbrev pub bound : (bare : Bool) → List ℕ → List (List ℕ) → Runner → Runner
 bound true x v rest = do
   change (λ s. set_value s x v)
@@ -107,12 +107,12 @@ bound false x v rest = do
   change (λ s. push_local s x v)
   local_end rest
 
--- one of two
+-- one of two, by a condition
 abbrev pub if_so : Bool → Runner → Runner → Runner
 if_so true m o = m
 if_so false m o = o
 
--- the last stage, where the others were started
+-- the last stage, if the others were started
 abbrev pub piped : Slots → (Slots → Runner) → StartedStages → Runner
 piped slots last (Running read_end children) = pipe_end read_end children (last (from_pipe read_end slots))
 piped slots last Refused = skip
@@ -126,7 +126,7 @@ checked false m = do
   m
   check
 
--- what each form does, in guarded places or others, with these descriptors
+-- the semantics of each form, in guarded places or others, with these descriptors
 abbrev mutual
   -- a command, each of whose loops makes at most n turns
   pub cmd_means : Node cmd → (guarded : Bool) → Caller → ℕ → Slots → Runner
@@ -135,7 +135,7 @@ abbrev mutual
   cmd_means (Simple words) g call n slots = do
     v ← args_mean words call n slots []
     w ← expanded v
-    checked g (run_words slots (word_texts w) >>= called call slots)
+    checked g (run_words slots (word_texts w) >>= called_means call slots)
   cmd_means (Assign pairs body) g call n slots =
       pairs_mean pairs (is_empty body) (cmd_means body g call n slots) call n slots
   cmd_means (Redirect redirs body) g call n slots = redirs_mean redirs (cmd_means body g call n) call n slots
@@ -181,7 +181,7 @@ abbrev mutual
     change (λ s. undefine s (word_texts v))
   cmd_means (Brace body) g call n slots = cmd_means body g call n slots
 
-  -- an argument, which gives words
+  -- an argument, which evaluates to words
   pub arg_means : Node arg → Caller → ℕ → Slots → Shell (List Word)
   arg_means (Lit text quoted) call n slots = pure (written text quoted ∷ [])
   arg_means (Concat parts) call n slots = parts_mean parts call n slots
@@ -201,14 +201,14 @@ abbrev mutual
     selected_words slots x v
   arg_means (Back body) call n slots = back_words slots body
 
-  -- the words so far, and these after them
+  -- the words so far, and those of these arguments after them
   pub args_mean : Many arg → Caller → ℕ → Slots → List Word → Shell (List Word)
   args_mean none call n slots before = pure before
   args_mean (more a rest) call n slots before = do
     v ← arg_means a call n slots
     args_mean rest call n slots (before ++ v)
 
-  -- parts are joined from the left
+  -- the parts, joined from the left
   pub parts_mean : Many arg → Caller → ℕ → Slots → Shell (List Word)
   parts_mean none call n slots = pure []
   parts_mean (more a rest) call n slots = do
@@ -271,7 +271,7 @@ abbrev mutual
     ps ← args_mean patterns call n slots []
     if_so (matched subject ps) (cmd_means body g call n slots) (branches_mean rest g subject call n slots)
 
--- a command, where each loop makes at most n turns and a called body has n - 1
+-- a command, if each loop makes at most n turns and the body of a call n - 1
 abbrev pub meaning : ℕ → Slots → Node cmd → Runner
 meaning zero slots c = cmd_means c false (λ slots d. stops) zero slots
 meaning (suc n) slots c = cmd_means c false (meaning n) (suc n) slots

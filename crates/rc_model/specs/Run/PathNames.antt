@@ -11,13 +11,13 @@ use Rattle.rc_model.specs.Run.Plans.{Plan, done_with, ask, cut}
 use Rattle.rc_model.specs.Run.Matching.{Matches}
 use Rattle.rc_model.specs.Run.FileNames.{components, is_no_name, directory}
 
--- what comes of a plan where each call has this answer
-abbrev pub follow : {X : Type 0} → (Call → Answer) → Plan X → Option X
-follow answers (done_with x) = Some x
-follow answers (ask c go) = follow answers (go (answers c))
-follow answers cut = None
+-- the value of a plan if each call has this answer
+abbrev pub answered_by : {X : Type 0} → (Call → Answer) → Plan X → Option X
+answered_by answers (done_with x) = Some x
+answered_by answers (ask c go) = answered_by answers (go (answers c))
+answered_by answers cut = None
 
--- each call of a trace has the answer that it has there
+-- each call of the trace has the answer that it has in the trace
 abbrev pub Agreeing : (Call → Answer) → List Event → Type 0
 Agreeing answers trace = AllByRecursion (λ e. answers e.call ≡ e.answer) trace
 
@@ -26,11 +26,11 @@ abbrev pub IsIn : {X : Type 0} → X → List X → Type 0
 IsIn x [] = ⊥
 IsIn x (y ∷ ys) = (y ≡ x) ⊎ IsIn x ys
 
--- the names in a directory, none where they are refused
+-- the names in a directory, or none if the call is refused
 abbrev pub names_in : (Call → Answer) → List ℕ → List (List ℕ)
 names_in answers path = unwrap_or (as_names (answers (list_names (directory path)))) []
 
--- whether something stands at a path
+-- whether something is at a path
 abbrev pub is_there : (Call → Answer) → List ℕ → Bool
 is_there answers path = is_some (as_kind (answers (probe path)))
 
@@ -40,7 +40,7 @@ pub record StandsFor (answers : Call → Answer) (path : List ℕ) (c : Word) (n
   pub a_name : is_no_name name ≡ false
   pub matches : Matches true c (chars name)
 
--- a component stands for this text: one with no pattern character for itself
+-- a component stands for this text: for itself, if it has no pattern character
 pub record IsChosen (answers : Call → Answer) (path : List ℕ) (c : Word) (t : List ℕ) : Type 0 where
   pub itself : has_pattern c ≡ false → t ≡ word_text c
   pub pattern : has_pattern c ≡ true → StandsFor answers path c t
@@ -58,16 +58,16 @@ ends_plain [] = false
 ends_plain (c ∷ []) = not (has_pattern c)
 ends_plain (c ∷ d ∷ cs) = ends_plain (d ∷ cs)
 
--- The word stands for this path: its components for texts that are joined by slashes, and where the last has no pattern
--- character the path is there.
+-- The word stands for this path: its components for texts that are joined by slashes; if the last has no pattern
+-- character, the path is there.
 pub record Named (answers : Call → Answer) (w : Word) (path : List ℕ) : Type 0 where
   pub texts : List (List ℕ)
   pub chosen : Chosen answers [] (components w) texts
   pub joined : path ≡ join_with_byte 47 texts
   pub checked : ends_plain (components w) ≡ true → is_there answers path ≡ true
 
--- what a word with a pattern character becomes: the paths that it stands for, in byte order and each once, or itself
--- where there are none
+-- what a word with a pattern character becomes: the paths that it stands for, in byte order and each once, or itself if
+-- there are none
 pub data Expands (answers : Call → Answer) (w : Word) : List Word → Type 0 where
   found : (paths : List (List ℕ)) → ((p : List ℕ) → IsIn p paths ↔ Named answers w p) →
       IsStrictlySortedBy text_cmp paths → paths ≢ [] → Expands answers w (plain_words paths)
@@ -80,7 +80,7 @@ pub record ExpandsAlways (w : Word) (trace : List Event) (vs : List Word) : Type
   pub agrees : Agreeing some trace
   pub all : (answers : Call → Answer) → Agreeing answers trace → Expands answers w vs
 
--- what one word becomes by the events of its calls: itself without any, where it has no pattern character
+-- what one word becomes by the events of its calls: itself without any, if it has no pattern character
 pub data ExpandsBy (w : Word) : List Event → List Word → Type 0 where
   plain : has_pattern w ≡ false → ExpandsBy w [] (w ∷ [])
   names : (trace : List Event) (vs : List Word) → has_pattern w ≡ true → ExpandsAlways w trace vs →

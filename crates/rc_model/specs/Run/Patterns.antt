@@ -37,10 +37,10 @@ abbrev pub class_of : Word → Pattern
 class_of [] = OneOf [] false
 class_of (m ∷ ms) = if is_marked 126 m then OneOf ms true else OneOf (m ∷ ms) false
 
--- what is read: nothing as yet, or a class with these characters
-pub data Begun : Type 0 where
-  Outside : Begun
-  Inside : (members : Word) → Begun
+-- the class read so far: none yet, or one with these characters
+pub data ClassSoFar : Type 0 where
+  Outside : ClassSoFar
+  Inside : (members : Word) → ClassSoFar
 
 -- what one character outside of classes stands for
 abbrev pub outside : ℕ × Bool → List Pattern
@@ -49,25 +49,25 @@ outside m =
     else (if is_marked 63 m then AnyOne ∷ [] else (if is_marked 91 m then [] else This m.0 ∷ []))
 
 -- whether it begins a class
-abbrev pub begun_by : ℕ × Bool → Begun
-begun_by m = if is_marked 91 m then Inside [] else Outside
+abbrev pub class_begun_by : ℕ × Bool → ClassSoFar
+class_begun_by m = if is_marked 91 m then Inside [] else Outside
 
 -- the class that one character inside of it ends, if it does
 abbrev pub inside : Word → ℕ × Bool → List Pattern
 inside members m = if is_marked 93 m then class_of members ∷ [] else []
 
 -- whether the class goes on after it
-abbrev pub goes_on : Word → ℕ × Bool → Begun
+abbrev pub goes_on : Word → ℕ × Bool → ClassSoFar
 goes_on members m = if is_marked 93 m then Outside else Inside (members ++ m ∷ [])
 
 -- the parts of a word
-abbrev pub parts_from : Begun → Word → List Pattern
+abbrev pub parts_from : ClassSoFar → Word → List Pattern
 parts_from Outside [] = []
 parts_from (Inside members) [] = Nothing ∷ []
-parts_from Outside (m ∷ ms) = outside m ++ parts_from (begun_by m) ms
+parts_from Outside (m ∷ ms) = outside m ++ parts_from (class_begun_by m) ms
 parts_from (Inside members) (m ∷ ms) = inside members m ++ parts_from (goes_on members m) ms
 
--- in explicit form no pattern character stands for `/`
+-- in path mode no pattern character stands for `/`
 abbrev pub stands_for : (explicit : Bool) → ℕ → Bool
 stands_for explicit c = not (explicit && (c == 47))
 
@@ -76,7 +76,7 @@ abbrev pub any_run : (explicit : Bool) → (List ℕ → Bool) → List ℕ → 
 any_run explicit go [] = go []
 any_run explicit go (c ∷ cs) = go (c ∷ cs) || (stands_for explicit c && any_run explicit go cs)
 
--- one character that is so, and what follows it
+-- one character that satisfies this, and what follows it
 abbrev pub one : (ℕ → Bool) → (List ℕ → Bool) → List ℕ → Bool
 one test go [] = false
 one test go (c ∷ cs) = test c && go cs

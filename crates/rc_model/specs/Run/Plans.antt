@@ -1,32 +1,32 @@
--- Plans: trees of calls. A plan is done with a value, or it makes a call and goes on by the answer, or it is cut: its
--- turns or instructions are used up.
+-- Plans: trees of calls. A plan is done with a value, or it makes a call and goes on with the answer, or it is cut when
+-- its turns or instructions are used up.
 use Rattle.std.specs.Prelude.{◌≡◌, List, [], ◌∷◌, ◌++◌, Option, if◌then◌else◌, false}
 use Rattle.rc_model.specs.Run.Calls.{Call, Answer, refused, Halt, fitting, is_halt, Event, event, extend}
 
--- what is to be done: a value, or a call and what follows each answer, or it was cut
+-- a plan: a value, or a call and the plan after each answer, or a cut
 pub data Plan (X : Type 0) : Type 0 where
   done_with : X → Plan X
   ask : Call → (Answer → Plan X) → Plan X
   cut : Plan X
 
--- one plan and then another, by the value of the first
+-- one plan and then another, given the value of the first
 abbrev pub and_then : {X Y : Type 0} → Plan X → (X → Plan Y) → Plan Y
 and_then (done_with x) next = next x
 and_then (ask c go) next = ask c (λ a. and_then (go a) next)
 and_then cut next = cut
 
--- one call, with what is made of its answer
+-- one call, and a value made of its answer
 abbrev pub asks : {X : Type 0} → Call → (Answer → X) → Plan X
 asks c view = ask c (λ a. done_with (view a))
 
--- what comes of a plan over a list of answers: the calls made, and
--- a value with the answers that are left, or the last call waits for its answer, or the plan was cut
+-- the outcome of a plan over a list of answers: the calls made, and a value with the answers left, or the last call
+-- waits for its answer, or the plan was cut
 pub data Played (X : Type 0) : Type 0 where
   Ends : (calls : List Call) → X → (left : List Answer) → Played X
   Waits : (calls : List Call) → Played X
   Cut : (calls : List Call) → Played X
 
--- the same, after one more call
+-- the same outcome, after one more call
 abbrev pub after_call : {X : Type 0} → Call → Played X → Played X
 after_call c (Ends calls x left) = Ends (c ∷ calls) x left
 after_call c (Waits calls) = Waits (c ∷ calls)
@@ -45,12 +45,12 @@ calls_made (Ends calls x left) = calls
 calls_made (Waits calls) = calls
 calls_made (Cut calls) = calls
 
--- a call was answered, by an answer that fits it
+-- the call was answered, by an answer that fits it
 pub record IsAnswered (c : Call) (a : Answer) : Type 0 where
   pub came : is_halt a ≡ false
   pub fits : fitting c a ≡ a
 
--- by these events the plan goes on to another
+-- the plan goes on to another by these events
 abbrev pub Goes : {X : Type 0} → Plan X → List Event → Plan X → Type 0
 Goes p [] q = p ≡ q
 Goes (ask c go) (e ∷ es) q = (e.call ≡ c) × IsAnswered c e.answer × Goes (go e.answer) es q

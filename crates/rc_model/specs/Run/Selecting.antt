@@ -1,4 +1,4 @@
--- What a subscript selects, by places.
+-- What a subscript selects, as a relation.
 use Rattle.std.specs.Prelude.{◌≡◌, ℕ, suc, nat_le, ◌&&◌, if◌then◌else◌, List, [], ◌∷◌, ◌++◌, length, Some}
 use Rattle.rc_model.specs.Run.Numbers.{number_of}
 
@@ -12,7 +12,7 @@ pub data Names (count : ℕ) (text : List ℕ) : ℕ → ℕ → Type 0 where
   -- `m-`
   onward : (a : List ℕ) (m : ℕ) → text ≡ a ++ 45 ∷ [] → number_of a ≡ Some m → Names count text m count
 
--- those of the members, of which the first has this place, whose places lie between two
+-- the members whose places are between two, given the place of the first member
 abbrev pub members_between : (first last place : ℕ) → List (List ℕ) → List (List ℕ)
 members_between first last place [] = []
 members_between first last place (x ∷ xs) =

@@ -19,11 +19,11 @@ pub record State : Type 0 where
   pub locals : List (List ℕ)
   pub functions : List (List ℕ × Node cmd)
   pub status : List ℕ
-  -- what `if not` looks at
+  -- the flag for `if not`
   pub flag : Bool
   -- a simple command that fails ends the shell
   pub strict : Bool
-  -- the children that run in the background, in the order of their starts
+  -- the children in the background, in the order of their starts
   pub background : List ℕ
 
 -- nothing is set, and the status is null
@@ -39,7 +39,7 @@ status_name = codes "status"
 abbrev pub values_of : State → List ℕ → List (List (List ℕ))
 values_of s name = unwrap_or (lookup (bytes_eq name) s.variables) []
 
--- the top value, which is empty where there is none
+-- the top value, or the empty one if there is none
 abbrev pub visible : List (List (List ℕ)) → List (List ℕ)
 visible [] = []
 visible (v ∷ vs) = v
@@ -49,7 +49,7 @@ abbrev pub covered : List (List (List ℕ)) → List (List (List ℕ))
 covered [] = []
 covered (v ∷ vs) = vs
 
--- what a name stands for: the status has one member
+-- the value of a name: the status has one member
 abbrev pub value_of : State → List ℕ → List (List ℕ)
 value_of s name = if bytes_eq name status_name then s.status ∷ [] else visible (values_of s name)
 
@@ -57,7 +57,7 @@ value_of s name = if bytes_eq name status_name then s.status ∷ [] else visible
 abbrev pub is_name : List ℕ → Bool
 is_name name = list_all is_name_char name && not (list_all is_digit name)
 
--- what stands after `$` can be all digits, too
+-- the name of a variable that is read: it can be all digits, too
 abbrev pub is_readable : List ℕ → Bool
 is_readable name = list_all is_name_char name && not (length name == 0)
 
@@ -82,7 +82,7 @@ set_value s name value =
     then with_status s (spaced value)
     else record s { variables = put_values s.variables name (value ∷ covered (values_of s name)) }
 
--- the newest of these locals ends; one of the status has no value to uncover
+-- ends the newest of these locals; a local of the status has no value to uncover
 abbrev pub end_local : State → List (List ℕ) → State
 end_local s [] = s
 end_local s (name ∷ names) =
@@ -90,7 +90,7 @@ end_local s (name ∷ names) =
     then record s { locals = names }
     else record s { locals = names; variables = put_values s.variables name (covered (values_of s name)) }
 
--- the newest local ends
+-- ends the newest local
 abbrev pub pop_local : State → State
 pop_local s = end_local s s.locals
 
@@ -98,7 +98,7 @@ pop_local s = end_local s s.locals
 abbrev pub is_true : List ℕ → Bool
 is_true status = list_all (λ c. (c == 48) || (c == 124)) status
 
--- what `$` and a name give: for digits a member of `$*`
+-- the value of `$` and a name: for digits a member of `$*`
 abbrev pub got : State → List ℕ → List (List ℕ)
 got s name =
     if list_all is_digit name && not (length name == 0)
@@ -111,7 +111,7 @@ push_local s name value =
     then record s { locals = name ∷ s.locals; status = spaced value }
     else record s { locals = name ∷ s.locals; variables = put_values s.variables name (value ∷ values_of s name) }
 
--- the state with this flag, which `if not` looks at
+-- the state with this flag for `if not`
 abbrev pub with_flag : State → Bool → State
 with_flag s flag = record s { flag = flag }
 
@@ -123,16 +123,16 @@ inverted s = with_status s (if is_true s.status then codes "false" else [])
 abbrev pub function_of : State → List ℕ → Option (Node cmd)
 function_of s name = lookup (bytes_eq name) s.functions
 
--- a function is defined
+-- the state with this function defined
 abbrev pub define : State → List ℕ → Node cmd → State
 define s name body = record s { functions = insert_entry text_cmp s.functions name body }
 
--- these functions are removed
+-- the state without these functions
 abbrev pub undefine : State → List (List ℕ) → State
 undefine s [] = s
 undefine s (name ∷ names) = undefine (record s { functions = remove_entry (bytes_eq name) s.functions }) names
 
--- a child that runs in the background
+-- the state with this child in the background
 abbrev pub add_child : State → ℕ → State
 add_child s n = record s { background = s.background ++ n ∷ [] }
 
@@ -141,6 +141,6 @@ abbrev pub without_child : ℕ → List ℕ → List ℕ
 without_child n [] = []
 without_child n (m ∷ ms) = if m == n then ms else m ∷ without_child n ms
 
--- the first child of this number leaves the background list
+-- the state without the first child of this number in the background
 abbrev pub drop_child : State → ℕ → State
 drop_child s n = record s { background = without_child n s.background }

@@ -14,61 +14,61 @@ use Rattle.rc_model.specs.Run.State.{is_true, got, is_name, is_readable, is_func
 use Rattle.rc_model.specs.Run.State.{with_status, define}
 use Rattle.rc_model.specs.Run.Shell.{Shell, Next, ◌>>=◌, ◌>>◌, pure, skip, say, get, change, exits}
 
--- the status becomes this
+-- sets the status
 abbrev pub set_status : List ℕ → Shell (Unit {0})
 set_status text = change (λ s. with_status s text)
 
--- a report goes to descriptor 2 in one call
+-- writes a report to descriptor 2 in one call
 abbrev pub report : Slots → List ℕ → Shell (Unit {0})
 report slots text = say (write slots.errors (codes "rc: " ++ text ++ 10 ∷ []))
 
--- what a runtime error leaves: a report, and the status `error`
-abbrev pub fault : Slots → List ℕ → Shell (Unit {0})
-fault slots text = do
+-- the effect of a runtime error: a report, and the status `error`
+abbrev pub runtime_error : Slots → List ℕ → Shell (Unit {0})
+runtime_error slots text = do
   report slots text
   set_status (codes "error")
 
 -- a runtime error ends the shell
 abbrev pub fails : {A : Type 0} → Slots → List ℕ → Shell A
 fails slots text = do
-  fault slots text
+  runtime_error slots text
   exits
 
 -- the words of the runtime error that a name is bad
 abbrev pub bad_name : List ℕ
 bad_name = codes "bad name"
 
--- an open file that may be held is closed first
+-- closes an open file first, if there is one
 abbrev pub closing : {X : Type 0} → Option ℕ → Plan X → Plan X
 closing None p = p
 closing (Some h) p = ask (close h) (λ a. p)
 
--- one wait for each child that is owed comes first
+-- waits for each child that is owed a wait first
 abbrev pub waiting : {X : Type 0} → List ℕ → Plan X → Plan X
 waiting [] p = p
 waiting (n ∷ ns) p = ask (wait n) (λ a. waiting ns p)
 
--- the end of a pipe that may be held is closed
+-- closes the end of a pipe, if there is one
 abbrev pub close_end : Option ℕ → Shell (Unit {0})
 close_end h s = closing h (done_with (Next tt s))
 
--- a strict shell ends where the status isn't true
+-- ends a strict shell if the status isn't true
 abbrev pub check : Shell (Unit {0})
 check = λ s. if s.strict && not (is_true s.status) then exits s else skip s
 
 -- ** names and values
 
--- the one name that a list of words is, if it is one
+-- the one name in a list of words, if there is exactly one
 abbrev pub one_name : Slots → (List ℕ → Bool) → List (List ℕ) → Shell (List ℕ)
 one_name slots fits [] = fails slots bad_name
 one_name slots fits (x ∷ []) = if fits x then pure x else fails slots bad_name
 one_name slots fits (x ∷ y ∷ ys) = fails slots bad_name
 
--- a name that can be given a value
+-- a name that can be assigned
 abbrev pub variable : Slots → List Word → Shell (List ℕ)
 variable slots words = one_name slots is_name (word_texts words)
 
--- what stands after `$`, with what it gives
+-- the name after a `$`, with its value
 abbrev pub value : Slots → List Word → Shell (List (List ℕ))
 value slots words = do
   x ← one_name slots is_readable (word_texts words)
@@ -99,10 +99,10 @@ selected_words slots words subscripts = do
   v ← value slots words
   pure (plain_words (selected v (word_texts subscripts)))
 
--- the words of a concatenation, or the runtime error that it is
+-- the words of a concatenation, or its runtime error
 abbrev pub joined_lists : Slots → Result (List Word) ListFault → Shell (List Word)
 joined_lists slots (Ok ws) = pure ws
-joined_lists slots (Err fault) = fails slots (list_words fault)
+joined_lists slots (Err runtime_error) = fails slots (list_words runtime_error)
 
 -- `a^b`
 abbrev pub concat_words : Slots → List Word → List Word → Shell (List Word)
@@ -112,7 +112,7 @@ concat_words slots a b = joined_lists slots (concatenated a b)
 abbrev pub match_status : List Word → List Word → List ℕ
 match_status subject patterns = if matched subject patterns then [] else codes "no match"
 
--- each name becomes a function with this body
+-- defines a function with this body under each name
 abbrev pub define_each : Slots → List (List ℕ) → Node cmd → Shell (Unit {0})
 define_each slots [] body = skip
 define_each slots (x ∷ xs) body = do

@@ -1,4 +1,4 @@
--- Which scripts are accepted, and why another is refused.
+-- Which scripts are accepted, and why the others are refused.
 use Rattle.std.specs.Prelude.{◌≡◌, ℕ, suc, ◌≤◌, ◌<◌, ◌⊎◌, true, false, ◌==◌, List, map, length, take, Ok, Err}
 use Rattle.std.specs.List.{count_by, list_any}
 use Rattle.std.specs.Str.{is_utf8}
@@ -12,7 +12,7 @@ use Rattle.rc_model.specs.Syntax.Grammar.{HaveTree}
 use Rattle.rc_model.specs.Syntax.Grammar as g
 use Rattle.rc_model.specs.declared.limits.TheConstants.{LONGEST_SCRIPT, MOST_LEVELS, MOST_STAGES}
 
--- the most bytes that a script has
+-- the greatest length of a script, in bytes
 abbrev pub longest_script : ℕ
 longest_script = LONGEST_SCRIPT
 
@@ -40,19 +40,19 @@ line_of script place = suc (count_by (λ b. b == 10) (take place script))
 abbrev pub IsLineOf : List ℕ → List Token → ℕ → Type 0
 IsLineOf script tokens line = (list_any (λ t. t.line == line) tokens ≡ true) ⊎ (line ≡ line_of script (length script))
 
--- Why a script is refused: the first of these that is so. A tree past both limits may give either fault.
+-- Why a script is refused: the first of these that holds. A tree past both limits may give either fault.
 pub data IsRefused (script : List ℕ) : SyntaxFault → Type 0 where
   too_long : longest_script < length script → IsRefused script (fault TooLong 0)
   not_text : length script ≤ longest_script → is_utf8 script ≡ false →
       IsRefused script (fault NotText (line_of script (utf8_valid_len script)))
   no_tokens : (f : SyntaxFault) → length script ≤ longest_script → is_utf8 script ≡ true → Lexes script (Err f) →
       IsRefused script f
-  -- no tree of any size
+  -- there is no tree of any size
   unexpected : (tokens : List Token) (line : ℕ) → HasTokens script tokens → IsLineOf script tokens line →
       ((tree : Node cmd) → HaveTree (lexemes tokens) tree → ⊥) → IsRefused script (fault Unexpected line)
   if_not : (tokens : List Token) (line : ℕ) → HasTokens script tokens → IsLineOf script tokens line →
       ((tree : Node cmd) → HaveTree (lexemes tokens) tree → ⊥) → IsRefused script (fault IfNot line)
-  -- no tree but one that is too deep, and none but one with a pipeline of too many stages
+  -- each tree is too deep; each has a pipeline of too many stages
   too_deep : (tokens : List Token) → HasTokens script tokens →
       ((tree : Node cmd) → HaveTree (lexemes tokens) tree → MOST_LEVELS < depth tree) →
       IsRefused script (fault TooDeep 0)

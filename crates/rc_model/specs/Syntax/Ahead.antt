@@ -1,4 +1,4 @@
--- What the grammar asks of the lexemes ahead, and how it puts trees together.
+-- What the grammar asks of the lexemes ahead, and how it builds trees.
 use Rattle.std.specs.Prelude.{ℕ, Bool, true, false, ◌||◌, if◌then◌else◌, List, [], ◌∷◌, Option, Some, None}
 use Rattle.std.specs.Prelude.{bytes_eq, codes}
 use Rattle.rc_model.specs.Syntax.Tokens.{Lexeme, Word, Quoted, Semicolon, Newline, AndAnd, OrOr, Bar, Caret}
@@ -29,7 +29,7 @@ keyword text =
     else if bytes_eq text (codes "@") then AtWord
     else NoKeyword
 
--- a word that is no keyword
+-- a word that isn't a keyword
 abbrev pub is_plain : Keyword → Bool
 is_plain NoKeyword = true
 is_plain _ = false
@@ -49,7 +49,7 @@ begins_arg (DollarCount ∷ ts) = true
 begins_arg (DollarFlat ∷ ts) = true
 begins_arg _ = false
 
--- whether it begins an argument that is no keyword
+-- whether it begins an argument that isn't a keyword
 abbrev pub begins_first : List Lexeme → Bool
 begins_first (Word text ∷ ts) = is_plain (keyword text)
 begins_first ts = begins_arg ts
@@ -98,7 +98,7 @@ closes (RightParen ∷ ts) = true
 closes (RightBrace ∷ ts) = true
 closes _ = false
 
--- the same, but in a switch a list ends also where a case line begins
+-- the same, but in a switch a list also ends before a case line
 abbrev pub ends : (in_switch : Bool) → List Lexeme → Bool
 ends true (Word text ∷ ts) = is_case text
 ends _ ts = closes ts
@@ -110,28 +110,28 @@ ends_case (Newline ∷ ts) = true
 ends_case (RightBrace ∷ ts) = true
 ends_case _ = false
 
--- newlines are passed over
+-- skips newlines
 abbrev pub past_newlines : List Lexeme → List Lexeme
 past_newlines (Newline ∷ ts) = past_newlines ts
 past_newlines ts = ts
 
--- inside parentheses newlines are blanks, which are passed over
+-- skips newlines inside parentheses, where they are blanks
 abbrev pub past_blanks : (inside : Bool) → List Lexeme → List Lexeme
 past_blanks true ts = past_newlines ts
 past_blanks false ts = ts
 
--- a caret that was inserted after a keyword is dropped
+-- skips a caret that was inserted after a keyword
 abbrev pub past_caret : List Lexeme → List Lexeme
 past_caret (FreeCaret ∷ ts) = ts
 past_caret ts = ts
 
--- what follows a caret, written or inserted
+-- the lexemes after a caret, written or inserted
 abbrev pub after_caret : List Lexeme → Option (List Lexeme)
 after_caret (Caret ∷ ts) = Some ts
 after_caret (FreeCaret ∷ ts) = Some ts
 after_caret _ = None
 
--- one part stands alone, and several are joined
+-- one part by itself, or the concatenation of several
 abbrev pub concat_of : Node t.arg → Many t.arg → Node t.arg
 concat_of first none = first
 concat_of first (more part parts) = t.Concat (more first (more part parts))
@@ -141,7 +141,7 @@ abbrev pub redirect : Many t.redir → Node t.cmd → Node t.cmd
 redirect none body = body
 redirect (more r rs) body = t.Redirect (more r rs) body
 
--- the stages but the last, each with the bar after it, of a first stage and of those that follow, each with the bar
+-- the stages but the last, each with the bar after it, of a first stage and the following ones, each with the bar
 -- before it
 abbrev pub stages_of : Node t.cmd → Many t.stage → Many t.stage
 stages_of first none = none
@@ -152,17 +152,17 @@ abbrev pub last_of : Node t.cmd → Many t.stage → Node t.cmd
 last_of first none = first
 last_of first (more (t.Stage second slot) rest) = last_of second rest
 
--- one stage stands alone
+-- one stage by itself, or a pipeline of several
 abbrev pub pipeline : Node t.cmd → Many t.stage → Node t.cmd
 pipeline first none = first
 pipeline first (more s ss) = t.Pipeline (stages_of first (more s ss)) (last_of first (more s ss))
 
--- so does one operand of `&&` and `||`
+-- one operand by itself, or several with `&&` and `||`
 abbrev pub and_or : Node t.cmd → Many t.link → Node t.cmd
 and_or first none = first
 and_or first (more l ls) = t.AndOr first (more l ls)
 
--- after an `if` or an `if not` there may be an `if not`
+-- an `if` or an `if not`, after which there may be an `if not`
 abbrev pub is_if : Node t.cmd → Bool
 is_if (t.If condition body) = true
 is_if (t.IfNot body) = true

@@ -1,4 +1,4 @@
--- Why a script is not accepted, and what is answered for an input that has a fault.
+-- Why a script is not accepted, and what is returned for an input that has a fault.
 use Rattle.std.specs.Prelude.{◌≡◌, ℕ, List, ◌++◌, codes, Option, Some, Result, Ok, Err}
 use Rattle.std.specs.Fmt.{decimal}
 pub use Rattle.rc_model.specs.declared.fault.FaultKind.{FaultKind}
@@ -30,17 +30,17 @@ kind_words TooManyStages = codes "too many stages"
 abbrev pub fault_words : SyntaxFault → List ℕ
 fault_words f = codes "line " ++ (decimal f.line ++ (codes ": " ++ kind_words f.kind))
 
--- why there is no answer in words, by the words of a fault
+-- an error in words, given the words for a fault
 abbrev pub error_words : {F : Type 0} → (F → Option (List ℕ)) → InputError F → Option (List ℕ)
 error_words words (Fault fault) = words fault
 error_words words NoMemory = Some (codes "out of memory")
 
--- the fault is the one that is met, unless memory ran out
+-- the fault is the one that was read, unless memory ran out
 abbrev pub Fails : {F Y : Type 0} → InputError F → Result Y F → Type 0
 Fails (Fault fault) read = read ≡ Err fault
 Fails NoMemory read = Unit {0}
 
--- what a function returned, seen by view, is what is read, unless memory ran out
+-- what a function returned, seen by `view`, is what was read, unless memory ran out
 abbrev pub Gives : {F X Y : Type 0} → (X → Y) → Result X (InputError F) → Result Y F → Type 0
 Gives view (Ok x) read = read ≡ Ok (view x)
 Gives view (Err error) read = Fails error read

@@ -305,7 +305,7 @@ pub data Phrase : (l : Level) → List Lexeme → Out l → List Lexeme → Type
 abbrev pub HaveTree : List Lexeme → Node t.cmd → Type 0
 HaveTree ts tree = (is : Many t.item) × Phrase (items false false) ts is [] × (tree ≡ t.Seq is)
 
--- A script is accepted where it has a tree of at most 200 levels, with at most 64 stages in each pipeline.
+-- A script is accepted if it has a tree of at most 200 levels, with at most 64 stages in each pipeline.
 pub record HaveAcceptedTree (ts : List Lexeme) (tree : Node t.cmd) : Type 0 where
   pub script : HaveTree ts tree
   pub shallow : depth tree ≤ MOST_LEVELS

@@ -27,7 +27,7 @@ abbrev pub past_caret : List ℕ → List ℕ
 past_caret [] = []
 past_caret (c ∷ cs) = if c == 94 then cs else c ∷ cs
 
--- The characters before the rest stand for this text: each for itself, `$$` for one `$`, and a `$` for itself where
+-- The characters before the rest stand for this text: each for itself, `$$` for one `$`, and a `$` for itself if
 -- neither a name nor another `$` follows it.
 pub data StandFor (rest : List ℕ) : List ℕ → List ℕ → Type 0 where
   ended : StandFor rest rest []
@@ -46,7 +46,7 @@ pub data HavePieces : List ℕ → Many t.piece → Type 0 where
       list_all is_name_char (c ∷ name) ≡ true → goes_on_name rest ≡ false → HavePieces (past_caret rest) ps →
       HavePieces cs (more (t.Name (encode_utf8_all (c ∷ name))) ps)
 
--- a body has these pieces: after a quoted mark its text as it stands, if it has any
+-- a body has these pieces: after a quoted mark the text as it is, if it has any
 abbrev pub HasPieces : (quoted : Bool) → List ℕ → Many t.piece → Type 0
 HasPieces true [] ps = ps ≡ none
 HasPieces true (b ∷ bs) ps = ps ≡ more (t.Text (b ∷ bs)) none

@@ -1,4 +1,4 @@
--- Lexemes, tokens and places, and which characters go on with a piece of a text.
+-- Lexemes, tokens and places, and which characters continue a piece of a text.
 use Rattle.std.specs.Prelude.{ℕ, suc, ◌+◌, Bool, true, false, not, if◌then◌else◌, ◌==◌, ◌||◌, ◌&&◌, nat_le}
 use Rattle.std.specs.Prelude.{List, [], ◌∷◌, ◌++◌, find, codes}
 use Rattle.std.specs.Prelude.{Option, option_map}
@@ -74,7 +74,7 @@ after_chars p (c ∷ cs) = after_chars (after_char p c) cs
 abbrev pub token : Lexeme → Place → Place → Token
 token l p q = record { lexeme = l; start = p.byte; stop = q.byte; line = p.line }
 
--- how each operator is written. No `<<` has a mark yet, and each `$` is taken to have a name
+-- how each operator is spelled: no `<<` has a mark yet, and each `$` is taken to have a name
 abbrev pub operators : List (List ℕ × Lexeme)
 operators =
     (codes ";", Semicolon) ∷ (codes "&", Ampersand) ∷ (codes "&&", AndAnd) ∷ (codes "||", OrOr)
@@ -88,15 +88,15 @@ operators =
     ∷ (codes "<<", BareHere) ∷ (codes "<<[0]", BareHere)
     ∷ (codes "$", Dollar) ∷ (codes "$#", DollarCount) ∷ (36 ∷ 34 ∷ [], DollarFlat) ∷ []
 
--- the operator that is written so
+-- the operator with this spelling
 abbrev pub operator : List ℕ → Option Lexeme
 operator cs = option_map (λ o. o.1) (find (λ o. bytes_eq o.0 cs) operators)
 
--- an operator begins so
+-- some operator begins with these characters
 abbrev pub begins_operator : List ℕ → Bool
 begins_operator cs = list_any (λ o. begins_with cs o.0) operators
 
--- an operator begins with these characters and the next one of the text
+-- some operator begins with these characters and the next one of the text
 abbrev pub goes_on : List ℕ → List ℕ → Bool
 goes_on cs [] = false
 goes_on cs (c ∷ rest) = begins_operator (cs ++ c ∷ [])
@@ -114,7 +114,7 @@ abbrev pub at_newline : List ℕ → Bool
 at_newline [] = false
 at_newline (c ∷ cs) = c == 10
 
--- a backslash belongs to a word where no newline follows it
+-- a backslash is part of a word unless a newline follows it
 abbrev pub is_in_word : Class → List ℕ → Bool
 is_in_word Ordinary rest = true
 is_in_word Backslash rest = not (at_newline rest)
@@ -141,7 +141,7 @@ abbrev pub line_goes_on : List ℕ → Bool
 line_goes_on [] = false
 line_goes_on (c ∷ cs) = not (c == 10)
 
--- a name stands here: a name character, a quote, or a `$` with a name after it
+-- a name is next: a name character, a quote, or a `$` with a name after it
 abbrev pub names : List ℕ → Bool
 names [] = false
 names (c ∷ cs) = if is_name_char c || (c == 39) then true else (if c == 36 then names cs else false)

@@ -1,4 +1,4 @@
--- The text of a tree, and the trees that have none, since a here document is inside.
+-- The text of a tree. A tree with a here document inside has none.
 use Rattle.std.specs.Prelude.{ℕ, Bool, true, false, not, ◌&&◌, ◌||◌, ◌==◌, if◌then◌else◌, List, [], ◌∷◌, ◌++◌, codes}
 use Rattle.std.specs.List.{flat_map}
 use Rattle.rc_model.specs.Run.Calls.{Mode, Read, Write, Append}
@@ -16,7 +16,7 @@ Line = List ℕ × Bool
 abbrev pub ended : Line → List ℕ
 ended line = if line.1 then line.0 ++ codes " &" else line.0
 
--- what stands between a line and the next one
+-- what separates a line from the next one
 abbrev pub parting : Line → List ℕ
 parting line = if line.1 then codes " " else codes "; "
 
@@ -26,20 +26,20 @@ listed [] = []
 listed (line ∷ []) = ended line
 listed (line ∷ next ∷ lines) = ended line ++ (parting line ++ listed (next ∷ lines))
 
--- a word as it is written
+-- a word as the script spells it
 abbrev pub literal : List ℕ → (quoted : Bool) → List ℕ
 literal text quoted = if quoted then quoted_text text else text
 
--- the bar after a stage, with the descriptor that goes into the pipe where that isn't 1
+-- the bar after a stage, with the descriptor that goes into the pipe if that isn't 1
 abbrev pub bar : (slot : ℕ) → List ℕ
 bar slot = if slot == 2 then codes " |[2] " else codes " | "
 
--- how `&&` and `||` are written
+-- how `&&` and `||` are spelled
 abbrev pub sign : Logic → List ℕ
 sign And = codes " && "
 sign Or = codes " || "
 
--- what stands before the name of a file
+-- the operator before the name of a file
 abbrev pub opening : Mode → (slot : ℕ) → List ℕ
 opening Read slot = codes "< "
 opening Write slot = if slot == 2 then codes ">[2] " else codes "> "
@@ -62,8 +62,8 @@ abbrev mutual
   begin_with_case none = false
   begin_with_case (more word words) = begins_with_case word
 
--- Whether redirections follow this command. They precede every other one, and a simple command that would read as a
--- case line where an item begins with it.
+-- Whether redirections follow this command. They precede every other command, and a simple command that would read as a
+-- case line at the start of an item.
 abbrev pub stands_first : Node t.cmd → (begins : Bool) → Bool
 stands_first (t.Simple words) begins = not (begins && begin_with_case words)
 stands_first (t.Brace body) begins = true
@@ -87,7 +87,7 @@ abbrev pub body_lines : Node t.cmd → (items : List Line) → (text : List ℕ)
 body_lines (t.Seq _) items text = items
 body_lines _ items text = (text, false) ∷ []
 
--- The text of each form. `begins` says of a command that an item of a branch begins with it.
+-- The text of each form. `begins` means that an item of a branch begins with the command.
 unfoldable mutual
   -- a command
   pub cmd_text : Node t.cmd → (begins : Bool) → List ℕ
@@ -161,7 +161,7 @@ unfoldable mutual
   links_text none = []
   links_text (more (t.Link logic body) links) = sign logic ++ (cmd_text body false ++ links_text links)
 
-  -- the first item begins as said, and the others as said after it
+  -- `begins` is for the first item, `others` for those after it
   pub item_lines : Many t.item → (begins others : Bool) → List Line
   item_lines none begins others = []
   item_lines (more (t.Item body background) items) begins others =
@@ -174,7 +174,7 @@ unfoldable mutual
       (spaced (codes "case" ∷ arg_texts patterns), false)
       ∷ (body_lines body (branch_items body) (cmd_text body true) ++ branch_lines branches)
 
-  -- the lines of a branch's body, where that is a list
+  -- the lines of a branch's body, if that is a list
   pub branch_items : Node t.cmd → List Line
   branch_items (t.Seq items) = item_lines items true true
   branch_items _ = []

@@ -1,4 +1,4 @@
--- What goes on with a result, as long as there was no fault.
+-- Sequencing of results: a computation goes on as long as there is no fault.
 use Rattle.std.specs.Prelude.{Result, Ok, Err}
 
 -- one step after another: the second is given what the first made

@@ -1,4 +1,4 @@
--- Tokens: the pieces of a script that the grammar speaks of, and how a text is cut into them.
+-- Tokens: the pieces of a script that the grammar is about, and how a text is cut into them.
 use Rattle.std.specs.Prelude.{◌≡◌, ◌≢◌, ℕ, Bool, true, false, if◌then◌else◌, ◌==◌, ◌||◌}
 use Rattle.std.specs.Prelude.{List, [], ◌∷◌, ◌++◌}
 use Rattle.std.specs.Prelude.{Some, None, Result, Ok, Err}
@@ -19,10 +19,11 @@ use Rattle.rc_model.specs.declared.syntax.Class.{Class}
 use Rattle.rc_model.specs.declared.syntax.Previous.TheVariants as previous
 use Rattle.rc_model.specs.declared.syntax.Class.TheVariants as class
 
--- the longest run of characters with which a text goes on, and what is after it
-pub data Run (more : List ℕ → Bool) : List ℕ → List ℕ → Type 0 where
-  stop : (rest : List ℕ) → more rest ≡ false → Run more [] rest
-  next : (c : ℕ) (run rest : List ℕ) → more (c ∷ run ++ rest) ≡ true → Run more run rest → Run more (c ∷ run) rest
+-- the longest run of characters that continue a piece, and what follows it
+pub data IsLongestRun (more : List ℕ → Bool) : List ℕ → List ℕ → Type 0 where
+  stop : (rest : List ℕ) → more rest ≡ false → IsLongestRun more [] rest
+  next : (c : ℕ) (run rest : List ℕ) → more (c ∷ run ++ rest) ≡ true → IsLongestRun more run rest →
+      IsLongestRun more (c ∷ run) rest
 
 -- between quotes each quote is doubled
 pub data InQuotes : List ℕ → Type 0 where
@@ -39,7 +40,7 @@ doubled_quotes (b ∷ bs) = if b == 39 then 39 ∷ 39 ∷ doubled_quotes bs else
 abbrev pub quoted_text : List ℕ → List ℕ
 quoted_text text = 39 ∷ doubled_quotes text ++ 39 ∷ []
 
--- what a quoted word says: of each two quotes the first falls away, and so do those at the ends
+-- the text of a quoted word: each doubled quote becomes one, and those at the ends are dropped
 abbrev pub without_quotes : Bool → List ℕ → List ℕ
 without_quotes after_quote [] = []
 without_quotes true (b ∷ bs) = b ∷ without_quotes false bs
@@ -55,7 +56,7 @@ abbrev pub awaits_mark : Previous → Bool
 awaits_mark (previous.Here p q) = true
 awaits_mark _ = false
 
--- blanks may stand before a mark
+-- the context after a blank: blanks may precede a mark
 abbrev pub after_blank : Previous → Previous
 after_blank (previous.Here p q) = previous.Here p q
 after_blank _ = previous.Apart
@@ -65,7 +66,7 @@ abbrev pub begins_name : Previous → ℕ → Bool
 begins_name previous.Dollar c = is_name_char c
 begins_name _ c = false
 
--- a `$` without a name is bare, and a `(` directly after a name is a subscript
+-- a lexeme in its context: a `$` without a name is bare, and a `(` directly after a name is a subscript
 abbrev pub meant : Previous → List ℕ → Lexeme → Lexeme
 meant previous.Name rest LeftParen = Subscript
 meant prev rest Dollar = if names rest then Dollar else BareDollar
@@ -101,12 +102,12 @@ as_mark (Quoted text) = HereDoc true []
 as_mark _ = HereDoc false []
 
 -- the text of a word
-abbrev pub text_of : Lexeme → List ℕ
-text_of (Word text) = text
-text_of (Quoted text) = text
-text_of _ = []
+abbrev pub lexeme_text : Lexeme → List ℕ
+lexeme_text (Word text) = text
+lexeme_text (Quoted text) = text
+lexeme_text _ = []
 
--- a `^` where the lexeme wants one
+-- a `^` if the lexeme wants one
 abbrev pub caret : Previous → Lexeme → Place → List Token
 caret prev l p = if wants_caret prev l then token FreeCaret p p ∷ [] else []
 
@@ -115,7 +116,7 @@ abbrev pub tokens_of : Previous → Lexeme → Place → Place → List Token
 tokens_of (previous.Here begin end) l p q = token (as_mark l) begin q ∷ []
 tokens_of prev l p q = caret prev l p ++ token l p q ∷ []
 
--- what a lexeme is for what follows it
+-- the context that a lexeme leaves for what follows it
 abbrev pub after_token : Previous → Lexeme → Previous
 after_token (previous.Here begin end) l = previous.Apart
 after_token previous.Dollar (Quoted text) = previous.Name
@@ -134,38 +135,39 @@ pub record PendingHereDoc : Type 0 where
 
 -- the here documents that are pending: a mark adds one
 abbrev pub pending_after : Previous → Lexeme → List PendingHereDoc → List PendingHereDoc
-pending_after (previous.Here begin end) l due = due ++ record { mark = text_of l; line = begin.line } ∷ []
+pending_after (previous.Here begin end) l due = due ++ record { mark = lexeme_text l; line = begin.line } ∷ []
 pending_after prev l due = due
 
--- The characters are this lexeme, where that stands before them and this after.
-pub data Spells : Previous → List ℕ → List ℕ → Lexeme → Type 0 where
-  word : (prev : Previous) (c : ℕ) (cs rest : List ℕ) → begins_name prev c ≡ false → Run word_goes_on (c ∷ cs) rest →
-      Spells prev (c ∷ cs) rest (Word (encode_utf8_all (c ∷ cs)))
-  name : (c : ℕ) (cs rest : List ℕ) → Run name_goes_on (c ∷ cs) rest →
-      Spells previous.Dollar (c ∷ cs) rest (Name (encode_utf8_all (c ∷ cs)))
+-- The characters spell this lexeme, in this context and before this text.
+pub data IsLexeme : Previous → List ℕ → List ℕ → Lexeme → Type 0 where
+  word : (prev : Previous) (c : ℕ) (cs rest : List ℕ) → begins_name prev c ≡ false →
+      IsLongestRun word_goes_on (c ∷ cs) rest → IsLexeme prev (c ∷ cs) rest (Word (encode_utf8_all (c ∷ cs)))
+  name : (c : ℕ) (cs rest : List ℕ) → IsLongestRun name_goes_on (c ∷ cs) rest →
+      IsLexeme previous.Dollar (c ∷ cs) rest (Name (encode_utf8_all (c ∷ cs)))
   quoted : (prev : Previous) (cs rest : List ℕ) → InQuotes cs → begins_with (39 ∷ []) rest ≡ false →
-      Spells prev (39 ∷ cs ++ 39 ∷ []) rest (Quoted (unquoted_text (encode_utf8_all (39 ∷ cs ++ 39 ∷ []))))
+      IsLexeme prev (39 ∷ cs ++ 39 ∷ []) rest (Quoted (unquoted_text (encode_utf8_all (39 ∷ cs ++ 39 ∷ []))))
   operated : (prev : Previous) (cs rest : List ℕ) (l : Lexeme) → awaits_mark prev ≡ false → operator cs ≡ Some l →
       l ≢ BareHere → goes_on cs rest ≡ false →
-      Spells prev cs rest (meant prev rest l)
+      IsLexeme prev cs rest (meant prev rest l)
 
 -- The text begins with the body of a here document and with its end, a line that is the mark. That line may be the last
 -- one, without a newline.
 pub data Body (mark : List ℕ) : List ℕ → List ℕ → List ℕ → Type 0 where
-  marked : (line rest : List ℕ) → Run line_goes_on line (10 ∷ rest) → encode_utf8_all line ≡ mark →
+  marked : (line rest : List ℕ) → IsLongestRun line_goes_on line (10 ∷ rest) → encode_utf8_all line ≡ mark →
       Body mark [] (line ++ 10 ∷ []) rest
-  marked_last : (line : List ℕ) → Run line_goes_on line [] → line ≢ [] → encode_utf8_all line ≡ mark →
+  marked_last : (line : List ℕ) → IsLongestRun line_goes_on line [] → line ≢ [] → encode_utf8_all line ≡ mark →
       Body mark [] line []
-  other : (line body end rest : List ℕ) → Run line_goes_on line (10 ∷ body ++ end ++ rest) →
+  other : (line body end rest : List ℕ) → IsLongestRun line_goes_on line (10 ∷ body ++ end ++ rest) →
       encode_utf8_all line ≢ mark → Body mark body end rest →
       Body mark (line ++ 10 ∷ body) end rest
 
 -- No line of the text is the mark.
 pub data NoBody (mark : List ℕ) : List ℕ → Type 0 where
   nothing : NoBody mark []
-  other_last : (line : List ℕ) → Run line_goes_on line [] → line ≢ [] → encode_utf8_all line ≢ mark → NoBody mark line
-  other : (line rest : List ℕ) → Run line_goes_on line (10 ∷ rest) → encode_utf8_all line ≢ mark → NoBody mark rest →
-      NoBody mark (line ++ 10 ∷ rest)
+  other_last : (line : List ℕ) → IsLongestRun line_goes_on line [] → line ≢ [] → encode_utf8_all line ≢ mark →
+      NoBody mark line
+  other : (line rest : List ℕ) → IsLongestRun line_goes_on line (10 ∷ rest) → encode_utf8_all line ≢ mark →
+      NoBody mark rest → NoBody mark (line ++ 10 ∷ rest)
 
 -- The text begins with the bodies of these here documents and their ends, one after the other.
 pub data Bodies : List PendingHereDoc → List ℕ → List ℕ → List (List ℕ) → Type 0 where
@@ -183,16 +185,16 @@ pub data OpenBody : List PendingHereDoc → List ℕ → ℕ → Type 0 where
       OpenBody due text line →
       OpenBody (d ∷ due) (body ++ end ++ text) line
 
--- what a text is cut into: its tokens, and the bodies of its here documents in the order of their marks
+-- the outcome for a text: its tokens, and the bodies of its here documents in the order of their marks
 abbrev pub Outcome : Type 0
 Outcome = Result (List Token × List (List ℕ)) SyntaxFault
 
--- what comes first, with what comes then
+-- an outcome with these tokens and bodies before its own
 abbrev pub join : List Token → List (List ℕ) → Outcome → Outcome
 join ts bodies (Ok then') = Ok (ts ++ then'.0, bodies ++ then'.1)
 join ts bodies (Err f) = Err f
 
--- a mark stands here, perhaps after blanks
+-- a mark is next, perhaps after blanks
 abbrev pub is_mark : Class → Bool
 is_mark class.Blank = true
 is_mark class.Quote = true
@@ -205,7 +207,8 @@ abbrev pub mark_goes_on : List ℕ → Bool
 mark_goes_on [] = false
 mark_goes_on (c ∷ cs) = is_mark (class_of c)
 
--- The text at this place, after that and with these here documents due, is cut into longest pieces with this outcome.
+-- The text at this place, in this context and with these here documents due, is cut into longest pieces with this
+-- outcome.
 pub data Cuts : Previous → List PendingHereDoc → Place → List ℕ → Outcome → Type 0 where
   -- the end, with no body due, and with one
   finish : (prev : Previous) (p : Place) → awaits_mark prev ≡ false → Cuts prev [] p [] (Ok ([], []))
@@ -220,11 +223,11 @@ pub data Cuts : Previous → List PendingHereDoc → Place → List ℕ → Outc
       Cuts (after_blank prev) due (after_chars p (92 ∷ 10 ∷ [])) cs o → Cuts prev due p (92 ∷ 10 ∷ cs) o
   comment : (prev : Previous) (due : List PendingHereDoc) (p : Place) (cs rest : List ℕ) (o : Outcome) →
       awaits_mark prev ≡ false →
-      Run line_goes_on cs rest →
+      IsLongestRun line_goes_on cs rest →
       Cuts previous.Apart due (after_chars p (35 ∷ cs)) rest o → Cuts prev due p (35 ∷ cs ++ rest) o
   -- a word, a quoted word, a name, an operator
   lexeme : (prev : Previous) (due : List PendingHereDoc) (p : Place) (cs rest : List ℕ) (l : Lexeme) (o : Outcome) →
-      Spells prev cs rest l →
+      IsLexeme prev cs rest l →
       Cuts (after_token prev l) (pending_after prev l due) (after_chars p cs) rest o →
       Cuts prev due p (cs ++ rest) (join (tokens_of prev l p (after_chars p cs)) [] o)
   open_quote : (prev : Previous) (due : List PendingHereDoc) (p : Place) (cs : List ℕ) → InQuotes cs →
@@ -287,7 +290,7 @@ pub data Lexes (text : List ℕ) : Result (List Token) SyntaxFault → Type 0 wh
   cut : (o : Outcome) → without_zero (chars text) ≡ true → Cuts previous.Apart [] first_place (chars text) o →
       Lexes text (result_of o)
 
--- this and nothing else comes of the text
+-- this is what is read from the text, and nothing else is
 pub record IsCut (text : List ℕ) (read : Result (List Token) SyntaxFault) : Type 0 where
   pub found : Lexes text read
   pub only : (other : Result (List Token) SyntaxFault) → Lexes text other → other ≡ read

@@ -1,10 +1,10 @@
--- The tree of a script. A sort says what a node is, so that one kind of list serves all.
+-- The abstract syntax tree of a script. Nodes are indexed by their sort, so that one type of list serves all.
 use Rattle.std.specs.Prelude.{ℕ, suc, Bool, true, false, List, [], ◌∷◌}
 use Rattle.rc_model.specs.Run.Calls.{Mode}
 pub use Rattle.rc_model.specs.declared.syntax.Logic.{Logic}
 pub use Rattle.rc_model.specs.declared.syntax.Logic.TheVariants.{And, Or}
 
--- what a node can be
+-- the sorts of nodes
 pub data Sort : Type 0 where
   cmd : Sort
   arg : Sort
@@ -81,7 +81,7 @@ abbrev pub snoc : {s : Sort} → Many s → Node s → Many s
 snoc none x = more x none
 snoc (more n ns) x = more n (snoc ns x)
 
--- the nodes that the values of a list stand for
+-- the nodes that the values of a list represent
 abbrev pub nodes : {X : Type 0} {s : Sort} → (X → Node s) → List X → Many s
 nodes f [] = none
 nodes f (x ∷ xs) = more (f x) (nodes f xs)
@@ -96,7 +96,7 @@ abbrev pub has_no_items : Node cmd → Bool
 has_no_items (Seq none) = true
 has_no_items _ = false
 
--- The operands of `&&` and `||` but the last are guarded: whether one is, by the links that follow it.
+-- Whether an operand of `&&` and `||` is guarded, given the links after it: all operands but the last are.
 abbrev pub guards : Many link → (guarded : Bool) → Bool
 guards none guarded = guarded
 guards (more l ls) guarded = true

@@ -8,7 +8,7 @@ use Rattle.rc_model.specs.declared.limits.TheConstants.{MOST_LEVELS, MOST_STAGES
 
 -- the greatest number of commands and arguments on one path from the root
 abbrev mutual
-  -- the number at a node
+  -- the number for a node
   pub depth : {s : Sort} → Node s → ℕ
   depth t.Empty = 1
   depth (t.Seq items) = suc (depths items)
@@ -48,7 +48,7 @@ abbrev mutual
   depth (t.Text text) = 0
   depth (t.Name text) = 0
 
-  -- the greatest one at several nodes
+  -- the greatest number for several nodes
   pub depths : {s : Sort} → Many s → ℕ
   depths none = 0
   depths (more n ns) = max (depth n) (depths ns)
@@ -95,7 +95,7 @@ abbrev mutual
   most_stages (t.Text text) = 0
   most_stages (t.Name text) = 0
 
-  -- the greatest one inside several nodes
+  -- the greatest number inside several nodes
   pub most_stages_in : {s : Sort} → Many s → ℕ
   most_stages_in none = 0
   most_stages_in (more n ns) = max (most_stages n) (most_stages_in ns)
@@ -117,17 +117,17 @@ abbrev pub has_text : List ℕ → Bool
 has_text [] = false
 has_text (b ∷ bs) = true
 
--- 1 is standard output and 2 is where faults are written
+-- 1 is standard output and 2 is standard error
 abbrev pub is_output : ℕ → Bool
 is_output slot = (slot == 1) || (slot == 2)
 
--- what is opened for reading takes the place of 0, else that of 1 or 2
+-- a file opened for reading replaces descriptor 0, any other 1 or 2
 abbrev pub opens : Mode → ℕ → Bool
 opens Read slot = slot == 0
 opens Write slot = is_output slot
 opens Append slot = is_output slot
 
--- a copy is of one output to the other
+-- a copy makes one output the other
 abbrev pub copies : ℕ → ℕ → Bool
 copies to from = ((to == 1) && (from == 2)) || ((to == 2) && (from == 1))
 

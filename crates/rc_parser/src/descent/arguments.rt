@@ -6,92 +6,94 @@ ghost use Rattle.rc_model.specs.Mirrors.Descent.{read, a_part, parts_by, arg_by,
 ghost use Rattle.rc_model.specs.Mirrors.Descent.{brace_by, dollar_by};
 ghost use Rattle.rc_model.specs.Syntax.Grammar.{past_blanks};
 ghost use Rattle.rc_tree.specs.View.{arg_tree, args_tree};
-ghost use Rattle.rc_lexemes.specs.Lexemes.{lexemes_of};
-ghost use Rattle.rc_lexemes.specs.Reading.{Gives};
+ghost use Rattle.rc_parser.specs.Tokens.{lexemes_of};
+ghost use Rattle.rc_parser.specs.Answers.{Gives};
 ghost use Rattle.rc_parser.specs.Reading.{made};
 
 use crate::descent::command_lists::parse_brace;
 use crate::descent::variable_names::{parse_count, parse_flat, parse_name};
-use rc_lexemes::{
-    Lexeme, TokenError, after_caret, back, begins_arg, concat, fault_at, literal, paren,
-    past_blanks, push_arg, subscripted, variable,
-};
+use crate::lookahead::{after_caret, begins_arg, past_blanks};
+use crate::token_faults::{TokenError, fault_at};
+use crate::tokens::Tokens;
+use crate::words::parse_literal;
+use rc_lexer::TokenKind;
 use rc_model::DescentFault;
+use rc_nodes::{back, concat, paren, push_arg, subscripted, variable};
 use rc_tree::Arg;
 use std::alloc::Global;
 
-/// A part of an argument. Inside parentheses newlines are blanks.
+/// Parses a part of an argument. Inside parentheses newlines are blanks.
 #[cycle(parse)]
 #[tactic(auto, using(crate::proofs::Steps::levels), unfolding(rc_model::specs::Mirrors::Descent::part_by))]
 fn parse_part(
     alloc: Global,
     left: usize,
     inside: bool,
-    lexemes: &[Lexeme],
-) -> Result<(Box<Arg>, &[Lexeme]), TokenError>
-    ensures { Gives (λ x. (arg_tree x.0.value, lexemes_of x.1.now)) result
-        (read left (a_part inside) (lexemes_of lexemes.now)) }
+    tokens: Tokens<'_>,
+) -> Result<(Box<Arg>, Tokens<'_>), TokenError>
+    ensures { Gives (λ x. (arg_tree x.0.value, lexemes_of x.1)) result
+        (read left (a_part inside) (lexemes_of tokens.entry)) }
 {
     if left == 0 {
-        return Err(fault_at(DescentFault::TooDeep, lexemes));
+        return Err(fault_at(DescentFault::TooDeep, tokens));
     }
-    match lexemes {
-        [Lexeme::Word(text), rest @ ..] => Ok((literal(alloc, text, false)?, rest)),
-        [Lexeme::Quoted(text), rest @ ..] => Ok((literal(alloc, text, true)?, rest)),
-        [Lexeme::LeftParen, rest @ ..] => parse_group(alloc, left - 1, rest),
-        [Lexeme::Backquote, rest @ ..] => parse_backquote(alloc, left - 1, inside, rest),
-        [Lexeme::Dollar, rest @ ..] => parse_dollar(alloc, left - 1, rest),
-        [Lexeme::DollarCount, rest @ ..] => parse_count(alloc, left - 1, rest),
-        [Lexeme::DollarFlat, rest @ ..] => parse_flat(alloc, left - 1, rest),
-        _ => Err(fault_at(DescentFault::Unexpected, lexemes)),
+    match tokens.first() {
+        Some((TokenKind::Word, _, _)) => parse_literal(alloc, tokens),
+        Some((TokenKind::Quoted, _, _)) => parse_literal(alloc, tokens),
+        Some((TokenKind::LeftParen, _, rest)) => parse_group(alloc, left - 1, rest),
+        Some((TokenKind::Backquote, _, rest)) => parse_backquote(alloc, left - 1, inside, rest),
+        Some((TokenKind::Dollar, _, rest)) => parse_dollar(alloc, left - 1, rest),
+        Some((TokenKind::DollarCount, _, rest)) => parse_count(alloc, left - 1, rest),
+        Some((TokenKind::DollarFlat, _, rest)) => parse_flat(alloc, left - 1, rest),
+        _ => Err(fault_at(DescentFault::Unexpected, tokens)),
     }
 }
 
-/// What follows a `(`: a list of arguments.
+/// Parses what follows a `(`: a list of arguments.
 #[cycle(parse)]
 #[tactic(auto, using(std::proofs::lemmas::Grind::common_steps))]
 fn parse_group(
     alloc: Global,
     below: usize,
-    lexemes: &[Lexeme],
-) -> Result<(Box<Arg>, &[Lexeme]), TokenError>
-    ensures { Gives (λ x. (arg_tree x.0.value, lexemes_of x.1.now)) result
-        (made t.Paren (members_by (read below (a_part true)) (lexemes_of lexemes.now))) }
+    tokens: Tokens<'_>,
+) -> Result<(Box<Arg>, Tokens<'_>), TokenError>
+    ensures { Gives (λ x. (arg_tree x.0.value, lexemes_of x.1)) result
+        (made t.Paren (members_by (read below (a_part true)) (lexemes_of tokens.entry))) }
 {
-    let (words, rest) = parse_members(alloc, below, lexemes)?;
+    let (words, rest) = parse_members(alloc, below, tokens)?;
     Ok((paren(alloc, words)?, rest))
 }
 
-/// What follows a backquote: a list of commands in braces. Inside parentheses newlines before it are blanks.
+/// Parses what follows a backquote: a list of commands in braces. Inside parentheses newlines before it are blanks.
 #[cycle(parse)]
 #[tactic(auto, using(std::proofs::lemmas::Grind::common_steps))]
 fn parse_backquote(
     alloc: Global,
     below: usize,
     inside: bool,
-    lexemes: &[Lexeme],
-) -> Result<(Box<Arg>, &[Lexeme]), TokenError>
-    ensures { Gives (λ x. (arg_tree x.0.value, lexemes_of x.1.now)) result
-        (made t.Back (brace_by (read below) (past_blanks inside (lexemes_of lexemes.now)))) }
+    tokens: Tokens<'_>,
+) -> Result<(Box<Arg>, Tokens<'_>), TokenError>
+    ensures { Gives (λ x. (arg_tree x.0.value, lexemes_of x.1)) result
+        (made t.Back (brace_by (read below) (past_blanks inside (lexemes_of tokens.entry)))) }
 {
-    let (body, rest) = parse_brace(alloc, below, past_blanks(inside, lexemes))?;
+    let (body, rest) = parse_brace(alloc, below, past_blanks(inside, tokens))?;
     Ok((back(alloc, body)?, rest))
 }
 
-/// What follows a `$`: a name, perhaps with subscripts.
+/// Parses what follows a `$`: a name, perhaps with subscripts.
 #[cycle(parse)]
 #[tactic(auto, using(crate::proofs::Steps::steps), unfolding(rc_model::specs::Mirrors::Descent::dollar_by))]
 fn parse_dollar(
     alloc: Global,
     below: usize,
-    lexemes: &[Lexeme],
-) -> Result<(Box<Arg>, &[Lexeme]), TokenError>
-    ensures { Gives (λ x. (arg_tree x.0.value, lexemes_of x.1.now)) result
-        (dollar_by (read below) (lexemes_of lexemes.now)) }
+    tokens: Tokens<'_>,
+) -> Result<(Box<Arg>, Tokens<'_>), TokenError>
+    ensures { Gives (λ x. (arg_tree x.0.value, lexemes_of x.1)) result
+        (dollar_by (read below) (lexemes_of tokens.entry)) }
 {
-    let (inner, rest) = parse_name(alloc, below, lexemes)?;
-    match rest {
-        [Lexeme::Subscript, rest @ ..] => {
+    let (inner, rest) = parse_name(alloc, below, tokens)?;
+    match rest.first() {
+        Some((TokenKind::Subscript, _, rest)) => {
             let (subscripts, rest) = parse_members(alloc, below, rest)?;
             Ok((subscripted(alloc, inner, subscripts)?, rest))
         }
@@ -99,38 +101,38 @@ fn parse_dollar(
     }
 }
 
-/// An argument. Inside parentheses newlines are blanks.
+/// Parses an argument. Inside parentheses newlines are blanks.
 #[cycle(parse)]
 #[tactic(auto, unfolding(rc_model::specs::Mirrors::Descent::arg_by))]
 pub(crate) fn parse_argument(
     alloc: Global,
     left: usize,
     inside: bool,
-    lexemes: &[Lexeme],
-) -> Result<(Box<Arg>, &[Lexeme]), TokenError>
-    ensures { Gives (λ x. (arg_tree x.0.value, lexemes_of x.1.now)) result
-        (arg_by (read left (a_part inside)) inside (lexemes_of lexemes.now)) }
+    tokens: Tokens<'_>,
+) -> Result<(Box<Arg>, Tokens<'_>), TokenError>
+    ensures { Gives (λ x. (arg_tree x.0.value, lexemes_of x.1)) result
+        (arg_by (read left (a_part inside)) inside (lexemes_of tokens.entry)) }
 {
-    let (first, rest) = parse_part(alloc, left, inside, lexemes)?;
+    let (first, rest) = parse_part(alloc, left, inside, tokens)?;
     let (others, rest) = parse_parts(alloc, left, inside, rest)?;
     Ok((concat(alloc, first, others)?, rest))
 }
 
-/// The parts after carets.
+/// Parses the parts after carets.
 #[cycle(parse)]
 #[tactic(auto, using(crate::proofs::Turns::parts))]
 fn parse_parts(
     alloc: Global,
     left: usize,
     inside: bool,
-    lexemes: &[Lexeme],
-) -> Result<(Vec<Arg>, &[Lexeme]), TokenError>
-    ensures { Gives (λ x. (args_tree x.0.items, lexemes_of x.1.now)) result
-        (parts_by (read left (a_part inside)) inside (lexemes_of lexemes.now)) }
+    tokens: Tokens<'_>,
+) -> Result<(Vec<Arg>, Tokens<'_>), TokenError>
+    ensures { Gives (λ x. (args_tree x.0.items, lexemes_of x.1)) result
+        (parts_by (read left (a_part inside)) inside (lexemes_of tokens.entry)) }
 {
     let mut others = Vec::new(alloc);
-    let mut rest = lexemes;
-    let turns = lexemes.len();
+    let mut rest = tokens;
+    let turns = tokens.len();
     for _ in 0..turns {
         let Some(next) = after_caret(past_blanks(inside, rest)) else {
             break;
@@ -142,24 +144,24 @@ fn parse_parts(
     Ok((others, rest))
 }
 
-/// The arguments up to a `)`.
+/// Parses the arguments up to a `)`.
 #[cycle(parse)]
 #[tactic(auto, using(crate::proofs::Turns::members))]
 pub(crate) fn parse_members(
     alloc: Global,
     left: usize,
-    lexemes: &[Lexeme],
-) -> Result<(Vec<Arg>, &[Lexeme]), TokenError>
-    ensures { Gives (λ x. (args_tree x.0.items, lexemes_of x.1.now)) result
-        (members_by (read left (a_part true)) (lexemes_of lexemes.now)) }
+    tokens: Tokens<'_>,
+) -> Result<(Vec<Arg>, Tokens<'_>), TokenError>
+    ensures { Gives (λ x. (args_tree x.0.items, lexemes_of x.1)) result
+        (members_by (read left (a_part true)) (lexemes_of tokens.entry)) }
 {
     let mut words = Vec::new(alloc);
-    let mut rest = lexemes;
-    let turns = lexemes.len();
+    let mut rest = tokens;
+    let turns = tokens.len();
     for _ in 0..turns {
-        match rest {
-            [Lexeme::RightParen, after @ ..] => return Ok((words, after)),
-            [Lexeme::Newline, after @ ..] => rest = after,
+        match rest.first() {
+            Some((TokenKind::RightParen, _, after)) => return Ok((words, after)),
+            Some((TokenKind::Newline, _, after)) => rest = after,
             _ => {
                 let (word, after) = parse_argument(alloc, left, true, rest)?;
                 push_arg(&mut words, word)?;
@@ -170,20 +172,20 @@ pub(crate) fn parse_members(
     Err(fault_at(DescentFault::Unexpected, rest))
 }
 
-/// The arguments that stand here.
+/// Parses as many arguments as there are.
 #[cycle(parse)]
 #[tactic(auto, using(crate::proofs::Turns::words))]
 pub(crate) fn parse_words(
     alloc: Global,
     left: usize,
-    lexemes: &[Lexeme],
-) -> Result<(Vec<Arg>, &[Lexeme]), TokenError>
-    ensures { Gives (λ x. (args_tree x.0.items, lexemes_of x.1.now)) result
-        (words_by (read left (a_part false)) (lexemes_of lexemes.now)) }
+    tokens: Tokens<'_>,
+) -> Result<(Vec<Arg>, Tokens<'_>), TokenError>
+    ensures { Gives (λ x. (args_tree x.0.items, lexemes_of x.1)) result
+        (words_by (read left (a_part false)) (lexemes_of tokens.entry)) }
 {
     let mut words = Vec::new(alloc);
-    let mut rest = lexemes;
-    let turns = lexemes.len();
+    let mut rest = tokens;
+    let turns = tokens.len();
     for _ in 0..turns {
         if !begins_arg(rest) {
             break;

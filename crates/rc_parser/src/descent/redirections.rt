@@ -4,40 +4,43 @@ ghost use Rattle.std.specs.Prelude.{false};
 ghost use Rattle.rc_model.specs.Syntax.Tree as t;
 ghost use Rattle.rc_model.specs.Mirrors.Descent.{read, a_part, arg_by, redir_by, redirs_by};
 ghost use Rattle.rc_tree.specs.View.{redir_tree, redirs_tree};
-ghost use Rattle.rc_lexemes.specs.Lexemes.{lexemes_of};
-ghost use Rattle.rc_lexemes.specs.Reading.{Gives};
+ghost use Rattle.rc_parser.specs.Tokens.{lexemes_of};
+ghost use Rattle.rc_parser.specs.Answers.{Gives};
 ghost use Rattle.rc_parser.specs.Reading.{made};
 
 use crate::descent::arguments::parse_argument;
-use rc_lexemes::{
-    Lexeme, TokenError, begins_redir, copying, fault_at, here_doc, opening, push_redir,
-};
+use crate::lookahead::begins_redir;
+use crate::token_faults::{TokenError, fault_at};
+use crate::tokens::Tokens;
+use crate::words::parse_here_doc;
+use rc_lexer::TokenKind;
 use rc_model::{DescentFault, Mode};
+use rc_nodes::{copying, opening, push_redir};
 use rc_tree::Redir;
 use std::alloc::Global;
 
-/// A redirection.
+/// Parses a redirection.
 #[cycle(parse)]
 #[tactic(auto, using(std::proofs::lemmas::Grind::common_steps), unfolding(rc_model::specs::Mirrors::Descent::redir_by))]
 pub(crate) fn parse_redirection(
     alloc: Global,
     left: usize,
-    lexemes: &[Lexeme],
-) -> Result<(Box<Redir>, &[Lexeme]), TokenError>
-    ensures { Gives (λ x. (redir_tree x.0.value, lexemes_of x.1.now)) result
-        (redir_by (read left (a_part false)) (lexemes_of lexemes.now)) }
+    tokens: Tokens<'_>,
+) -> Result<(Box<Redir>, Tokens<'_>), TokenError>
+    ensures { Gives (λ x. (redir_tree x.0.value, lexemes_of x.1)) result
+        (redir_by (read left (a_part false)) (lexemes_of tokens.entry)) }
 {
-    match lexemes {
-        [Lexeme::Redirection(mode, slot), rest @ ..] => {
-            parse_file_redirection(alloc, left, *mode, *slot, rest)
+    match tokens.first() {
+        Some((TokenKind::Redirection(mode, slot), _, rest)) => {
+            parse_file_redirection(alloc, left, mode, slot, rest)
         }
-        [Lexeme::CopyTo(to, from), rest @ ..] => Ok((copying(alloc, *to, *from)?, rest)),
-        [Lexeme::HereDoc(quoted, body), rest @ ..] => Ok((here_doc(alloc, *quoted, body)?, rest)),
-        _ => Err(fault_at(DescentFault::Unexpected, lexemes)),
+        Some((TokenKind::CopyTo { to, from }, _, rest)) => Ok((copying(alloc, to, from)?, rest)),
+        Some((TokenKind::HereDoc { .. }, _, _)) => parse_here_doc(alloc, tokens),
+        _ => Err(fault_at(DescentFault::Unexpected, tokens)),
     }
 }
 
-/// What follows the mark of a redirection to a file, or from one.
+/// Parses what follows the operator of a redirection to a file, or from one.
 #[cycle(parse)]
 #[tactic(auto, using(std::proofs::lemmas::Grind::common_steps))]
 fn parse_file_redirection(
@@ -45,29 +48,29 @@ fn parse_file_redirection(
     left: usize,
     mode: Mode,
     slot: u8,
-    lexemes: &[Lexeme],
-) -> Result<(Box<Redir>, &[Lexeme]), TokenError>
-    ensures { Gives (λ x. (redir_tree x.0.value, lexemes_of x.1.now)) result
-        (made (t.Open mode slot) (arg_by (read left (a_part false)) false (lexemes_of lexemes.now))) }
+    tokens: Tokens<'_>,
+) -> Result<(Box<Redir>, Tokens<'_>), TokenError>
+    ensures { Gives (λ x. (redir_tree x.0.value, lexemes_of x.1)) result
+        (made (t.Open mode slot) (arg_by (read left (a_part false)) false (lexemes_of tokens.entry))) }
 {
-    let (file, rest) = parse_argument(alloc, left, false, lexemes)?;
+    let (file, rest) = parse_argument(alloc, left, false, tokens)?;
     Ok((opening(alloc, mode, slot, file)?, rest))
 }
 
-/// The redirections that stand here.
+/// Parses as many redirections as there are.
 #[cycle(parse)]
 #[tactic(auto, using(crate::proofs::Turns::redirs))]
 pub(crate) fn parse_redirections(
     alloc: Global,
     left: usize,
-    lexemes: &[Lexeme],
-) -> Result<(Vec<Redir>, &[Lexeme]), TokenError>
-    ensures { Gives (λ x. (redirs_tree x.0.items, lexemes_of x.1.now)) result
-        (redirs_by (read left (a_part false)) (lexemes_of lexemes.now)) }
+    tokens: Tokens<'_>,
+) -> Result<(Vec<Redir>, Tokens<'_>), TokenError>
+    ensures { Gives (λ x. (redirs_tree x.0.items, lexemes_of x.1)) result
+        (redirs_by (read left (a_part false)) (lexemes_of tokens.entry)) }
 {
     let mut redirs = Vec::new(alloc);
-    let mut rest = lexemes;
-    let turns = lexemes.len();
+    let mut rest = tokens;
+    let turns = tokens.len();
     for _ in 0..turns {
         if !begins_redir(rest) {
             break;

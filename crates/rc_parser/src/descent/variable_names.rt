@@ -1,64 +1,68 @@
-//! Names, and what stands for a variable as a whole.
+//! Names after `$`, `$#` and `$"`.
 
 ghost use Rattle.rc_model.specs.Syntax.Tree as t;
 ghost use Rattle.rc_model.specs.Mirrors.Descent.{read, a_name};
 ghost use Rattle.rc_tree.specs.View.{arg_tree};
-ghost use Rattle.rc_lexemes.specs.Lexemes.{lexemes_of};
-ghost use Rattle.rc_lexemes.specs.Reading.{Gives};
+ghost use Rattle.rc_parser.specs.Tokens.{lexemes_of};
+ghost use Rattle.rc_parser.specs.Answers.{Gives};
 ghost use Rattle.rc_parser.specs.Reading.{made};
 
-use rc_lexemes::{Lexeme, TokenError, count, fault_at, flat, literal, variable};
+use crate::token_faults::{TokenError, fault_at};
+use crate::tokens::Tokens;
+use crate::words::parse_literal;
+use rc_lexer::TokenKind;
 use rc_model::DescentFault;
+use rc_nodes::{count, flat, variable};
 use rc_tree::Arg;
 use std::alloc::Global;
 
-/// A name after a `$`.
+/// Parses a name after a `$`.
 #[tactic(auto, using(crate::proofs::Steps::levels), unfolding(rc_model::specs::Mirrors::Descent::name_by))]
 pub(crate) fn parse_name(
     alloc: Global,
     left: usize,
-    lexemes: &[Lexeme],
-) -> Result<(Box<Arg>, &[Lexeme]), TokenError>
-    ensures { Gives (λ x. (arg_tree x.0.value, lexemes_of x.1.now)) result (read left a_name (lexemes_of lexemes.now)) }
+    tokens: Tokens<'_>,
+) -> Result<(Box<Arg>, Tokens<'_>), TokenError>
+    ensures { Gives (λ x. (arg_tree x.0.value, lexemes_of x.1)) result (read left a_name (lexemes_of tokens.entry)) }
 {
     if left == 0 {
-        return Err(fault_at(DescentFault::TooDeep, lexemes));
+        return Err(fault_at(DescentFault::TooDeep, tokens));
     }
-    match lexemes {
-        [Lexeme::Name(text), rest @ ..] => Ok((literal(alloc, text, false)?, rest)),
-        [Lexeme::Quoted(text), rest @ ..] => Ok((literal(alloc, text, true)?, rest)),
-        [Lexeme::Dollar, rest @ ..] => {
+    match tokens.first() {
+        Some((TokenKind::Name, _, _)) => parse_literal(alloc, tokens),
+        Some((TokenKind::Quoted, _, _)) => parse_literal(alloc, tokens),
+        Some((TokenKind::Dollar, _, rest)) => {
             let (inner, rest) = parse_name(alloc, left - 1, rest)?;
             Ok((variable(alloc, inner)?, rest))
         }
-        _ => Err(fault_at(DescentFault::Unexpected, lexemes)),
+        _ => Err(fault_at(DescentFault::Unexpected, tokens)),
     }
 }
 
-/// What follows `$#`: the name of the variable whose values are counted.
+/// Parses what follows `$#`: the name of the variable whose values are counted.
 #[tactic(auto, using(std::proofs::lemmas::Grind::common_steps))]
 pub(crate) fn parse_count(
     alloc: Global,
     left: usize,
-    lexemes: &[Lexeme],
-) -> Result<(Box<Arg>, &[Lexeme]), TokenError>
-    ensures { Gives (λ x. (arg_tree x.0.value, lexemes_of x.1.now)) result
-        (made t.Count (read left a_name (lexemes_of lexemes.now))) }
+    tokens: Tokens<'_>,
+) -> Result<(Box<Arg>, Tokens<'_>), TokenError>
+    ensures { Gives (λ x. (arg_tree x.0.value, lexemes_of x.1)) result
+        (made t.Count (read left a_name (lexemes_of tokens.entry))) }
 {
-    let (name, rest) = parse_name(alloc, left, lexemes)?;
+    let (name, rest) = parse_name(alloc, left, tokens)?;
     Ok((count(alloc, name)?, rest))
 }
 
-/// What follows `$"`: the name of the variable whose values are joined.
+/// Parses what follows `$"`: the name of the variable whose values are joined.
 #[tactic(auto, using(std::proofs::lemmas::Grind::common_steps))]
 pub(crate) fn parse_flat(
     alloc: Global,
     left: usize,
-    lexemes: &[Lexeme],
-) -> Result<(Box<Arg>, &[Lexeme]), TokenError>
-    ensures { Gives (λ x. (arg_tree x.0.value, lexemes_of x.1.now)) result
-        (made t.Flat (read left a_name (lexemes_of lexemes.now))) }
+    tokens: Tokens<'_>,
+) -> Result<(Box<Arg>, Tokens<'_>), TokenError>
+    ensures { Gives (λ x. (arg_tree x.0.value, lexemes_of x.1)) result
+        (made t.Flat (read left a_name (lexemes_of tokens.entry))) }
 {
-    let (name, rest) = parse_name(alloc, left, lexemes)?;
+    let (name, rest) = parse_name(alloc, left, tokens)?;
     Ok((flat(alloc, name)?, rest))
 }

@@ -1,4 +1,4 @@
-//! What a step changes, and the change.
+//! The changes of a step, and making them.
 
 ghost use Rattle.std.specs.Prelude.{◌≡◌, ◌++◌, ◌∷◌, [], ◌<◌, IfErr, IfOk, OnOk, length, vec_len, vec_capacity};
 ghost use Rattle.rc_world.specs.Views.{answer_of};
@@ -15,7 +15,7 @@ use crate::family::process::{Change, Process, Step};
 use rc_world::{Answer, Call};
 use std::alloc::{AllocError, Global};
 
-/// The pending call of process `k`, if this answer fits it.
+/// The pending call of process `k`, if the answer fits it.
 fn answered_call<'a>(
     processes: &'a [Process],
     k: usize,
@@ -36,7 +36,7 @@ fn answered_call<'a>(
     Ok(call)
 }
 
-/// What a step of process `k` changes, if it is made.
+/// The changes of a step of process `k`, if it is made.
 pub(crate) fn change_of(
     alloc: Global,
     processes: &[Process],
@@ -63,7 +63,7 @@ pub(crate) fn change_of(
     })
 }
 
-/// Makes room for one more process and one more step.
+/// Reserves room for one more process and one more step.
 pub(crate) fn make_room(
     processes: &mut Vec<Process>,
     steps: &mut Vec<Step>,

@@ -17,7 +17,7 @@ use rc_tree::Cmd;
 use rc_world::{Answer, Call, Launch, Program};
 use std::alloc::{AllocError, Global};
 
-/// The words after `-S`, with whether the shell is strict.
+/// The words after `-S`, and whether the shell is strict.
 fn after_mark(is_strict: bool, args: &[String]) -> Option<(bool, &[String])>
     ensures { option_map words_of result ≡ after_mark is_strict (map string_bytes args.now) }
 {
@@ -37,7 +37,7 @@ fn options(args: &[String]) -> Option<(bool, &[String])>
     }
 }
 
-/// The script and the state that a shell reads from its launch: nothing to be done where it can't read them.
+/// The script and the state that a shell reads from its launch: the empty script if it can't read them.
 fn read_child(alloc: Global, launch: &Launch) -> Result<(Cmd, State), AllocError>
     ensures { IfOk result (λ x. (cmd_tree x.0, state_of x.1) ≡ read_launch (launch_of launch.now)) }
 {
@@ -51,7 +51,7 @@ fn read_child(alloc: Global, launch: &Launch) -> Result<(Cmd, State), AllocError
     }
 }
 
-/// The shell that a call starts, where it is answered by a child.
+/// The shell that a call starts, if its answer is a child.
 pub(crate) fn child_of(
     alloc: Global,
     call: &Call,

@@ -1,4 +1,4 @@
-//! Which answers fit a call.
+//! Whether an answer fits a call.
 
 ghost use Rattle.rc_model.specs.Run.Plans.{IsAnswered};
 ghost use Rattle.rc_world.specs.Views.{answer_of, call_of};

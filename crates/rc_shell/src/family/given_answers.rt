@@ -9,7 +9,7 @@ use crate::family::process::Step;
 use rc_world::Answer;
 use std::alloc::{AllocError, Global};
 
-/// Adds the answer of a step, if it is one of this process.
+/// Adds the answer of a step, if it is a step of this process.
 fn push_answer(answers: &mut Vec<Answer>, process: usize, step: &Step) -> Result<(), AllocError>
     ensures { OnOk result (map answer_of answers.new.items
         ≡ map answer_of answers.old.items ++ answers_at process (step_of step.now ∷ [])) }

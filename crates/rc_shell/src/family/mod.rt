@@ -1,4 +1,4 @@
-//! A family of shells, each with its own answers, over every order of them.
+//! A family of shells, each with its own answers, in any interleaving.
 
 mod changes;
 mod children;
@@ -57,7 +57,7 @@ impl Family {
     ghost use Rattle.rc_shell.specs.Families.{made_of};
     ghost use Rattle.rc_shell.specs.Made.{BeginsNot, KeepsPromise, PendingAt, Steps, StepsNot, begun, processes};
 
-    /// A family of one shell, which is run up to its first call or its end. No process of it runs more than `limit`
+    /// A family of one shell, which has run up to its first call or its end. No process of it runs more than `limit`
     /// instructions.
     pub fn new(alloc: Global, cmd: &Cmd, state: State, limit: u64) -> Result<Family, FamilyFault>
         requires { IsProperTree (cmd_tree cmd.now) }
@@ -72,18 +72,17 @@ impl Family {
         })
     }
 
-    /// Answers the pending call of process `k`, and gives that call. A shell that was started so becomes the last
-    /// process. The faults are looked for in their order, but out of memory may come in place of the limit or of an
-    /// answer. A step costs a run of process `k` from its beginning over all its answers, and a look at each step so
-    /// far.
+    /// Answers the pending call of process `k`, and returns that call. A shell that it starts becomes the last process.
+    /// The faults are looked for in their order, but out of memory may come in place of the limit or of an answer. A
+    /// step costs a run of process `k` from its beginning over all its answers, and a look at each step so far.
     pub fn step(&mut self, alloc: Global, k: usize, answer: Answer) -> Result<Call, FamilyFault>
-        // The family is made by one step more, which is that of this process, its pending call and this answer.
+        // The family has one step more: of this process, its pending call and this answer.
         ensures ok { IfOk result
             (λ call. Steps (made_of self.old) (made_of self.new) k (answer_of answer) (call_of call)) }
-        // A fault comes exactly in its case, and changes nothing.
+        // Each fault comes exactly in its case, and nothing changes.
         ensures err { IfErr result (λ fault. StepsNot (made_of self.old) k (answer_of answer) fault) }
         ensures kept { OnErr result (self.new ≡ self.old) }
-        // What is promised of families is kept.
+        // The promises for families are kept.
         ensures promised { OnOk result (KeepsPromise (made_of self.new)) }
     {
         let change = change_of(
@@ -110,7 +109,7 @@ impl Family {
         Ok(answered)
     }
 
-    /// The call of process `k` that wants an answer: none where it has ended, or there is no such process.
+    /// The call of process `k` that wants an answer, or none if it has ended or doesn't exist.
     pub fn pending(&self, k: usize) -> Option<&Call>
         ensures { PendingAt (made_of self.now) k (option_map call_of (option_copied result)) }
     {
@@ -120,7 +119,7 @@ impl Family {
         }
     }
 
-    /// How many shells there are.
+    /// The number of shells.
     pub fn count(&self) -> usize
         ensures count { result ≡ (processes (made_of self.now)).count }
         ensures promised { KeepsPromise (made_of self.now) }

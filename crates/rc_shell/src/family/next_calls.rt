@@ -1,4 +1,4 @@
-//! What a process comes to over its answers, and how it begins.
+//! The next call of a process over its answers, and its beginning.
 
 ghost use Rattle.std.specs.Prelude.{◌≡◌, ◌∷◌, [], IfErr, IfOk, map};
 ghost use Rattle.std.specs.List.{before_first};
@@ -19,7 +19,7 @@ use rc_tree::Cmd;
 use rc_world::{Answer, Call};
 use std::alloc::{AllocError, Global};
 
-/// The call to which a process comes over these answers: none where it ends.
+/// The call that a process reaches over these answers, or none if it ends.
 pub(crate) fn next_call(
     alloc: Global,
     cmd: &Cmd,
@@ -40,7 +40,7 @@ pub(crate) fn next_call(
     }
 }
 
-/// A process before any answer.
+/// A process before its first answer.
 pub(crate) fn begin(
     alloc: Global,
     cmd: Cmd,
@@ -59,7 +59,7 @@ pub(crate) fn begin(
     })
 }
 
-/// One process alone.
+/// A list with one process.
 pub(crate) fn alone(alloc: Global, process: Process) -> Result<Vec<Process>, AllocError>
     ensures { IfOk result (λ alone. alone.items ≡ process ∷ []) }
 {

@@ -1,4 +1,4 @@
-//! The shells of a family, and the steps that it made.
+//! The shells of a family, and its steps.
 
 use rc_scope::State;
 use rc_tree::Cmd;
@@ -7,10 +7,10 @@ use rc_world::{Answer, Call};
 /// A shell of a family.
 #[derive(Drop)]
 pub(crate) struct Process {
-    /// What it was handed.
+    /// The command that it was handed.
     pub cmd: Cmd,
     pub state: State,
-    /// Its call that wants an answer: none where it has ended.
+    /// Its call that wants an answer, or none if it has ended.
     pub pending: Option<Call>,
 }
 
@@ -22,15 +22,15 @@ pub(crate) struct Step {
     pub answer: Answer,
 }
 
-/// What a step changes.
+/// The changes of a step.
 #[derive(Drop)]
 pub(crate) struct Change {
     /// The call that the step answers, for the list of steps.
     pub kept: Call,
-    /// The same call once more, for who makes the step.
+    /// The same call, for the caller.
     pub answered: Call,
     /// The next call of the process that was answered.
     pub pending: Option<Call>,
-    /// The shell that was started, if one was.
+    /// The shell that was started, if any.
     pub child: Option<Process>,
 }

@@ -1,4 +1,4 @@
-//! A world that plays the answers of a process once more.
+//! A world that replays the answers of a process.
 
 ghost use Rattle.std.specs.Prelude.{◌≡◌, [], map};
 ghost use Rattle.std.specs.List.{before_first};
@@ -10,15 +10,15 @@ use rc_world::{
     Answer, Call, ChildNo, Ending, Fault, Handle, Kind, Launch, Mode, Slot, Tape, World,
 };
 
-/// A tape of answers. What it records begins with these answers: so it is known of a run over any world that this one
-/// played the answers that it was made with.
+/// A tape of answers. Its record begins with these answers: so it is known of a run over any world that this one
+/// replayed the answers that it was made with.
 #[derive(Drop)]
 pub(crate) struct Replay {
     tape: Tape,
 }
 
 impl Replay {
-    /// A world of these answers that was asked nothing. What follows a halt is never played.
+    /// A world of these answers, before its first call. The answers after a halt are never replayed.
     pub(crate) fn new(answers: Vec<Answer>) -> Replay
         ensures answers { replay_answers result ≡ before_first is_halt (map answer_of answers.items) }
         ensures events { replay_events result ≡ [] }

@@ -18,13 +18,13 @@ use rc_tree::Cmd;
 use rc_world::{Answer, Call};
 use std::alloc::{AllocError, Global};
 
-/// How far the code of a process comes.
+/// How far the code of a process runs.
 #[derive(Drop)]
 pub(crate) enum Reached {
-    /// To a call that wants an answer.
+    /// Up to a call that wants an answer.
     Waiting(Call),
     Ended,
-    /// To neither within the limit.
+    /// Up to the limit.
     Limit,
 }
 
@@ -36,7 +36,7 @@ fn last_call(calls: &[Call]) -> Result<Call, AllocError>
     calls[calls.len() - 1].copy()
 }
 
-/// How far a run came that made these calls.
+/// How far a run with these calls came.
 fn reached_by(progress: Progress, calls: &[Call]) -> Result<Reached, AllocError>
     requires { progress ≡ Halted → 0 < length calls.now }
     ensures { IfOk result (λ reached. IsSaid progress (map call_of calls.now) reached) }

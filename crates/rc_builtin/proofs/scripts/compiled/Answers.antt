@@ -1,6 +1,6 @@
 use Rattle.std.proofs.Common.{rules, ◌≡◌, subst}
 use Rattle.std.specs.Prelude.{IfOk, codes}
-use Rattle.rc_builtin.proofs.Evals.{fault_of, hands_on, refuses}
+use Rattle.rc_builtin.proofs.Evals.{hands_on, refuses}
 use Rattle.rc_model.specs.Run.State.{with_status}
 use Rattle.rc_model.specs.Syntax.Accepted.{IsAccepted, IsRefused}
 use Rattle.rc_model.specs.Handed.Proper.{IsProperTree}

@@ -11,30 +11,30 @@ use Rattle.rc_code.proofs.emit_commands.+emit.Goals as goal
 
 -- a jump stands where it was put
 
-pub emit_pipeline-patch-requires : goal.emit_pipeline-patch-requires
-emit_pipeline-patch-requires t c =
+pub emit_pipeline-patch_stages-requires : goal.emit_pipeline-patch_stages-requires
+emit_pipeline-patch_stages-requires t c =
     stays _ _ _ _ c.in_ok-put.ensures (stays _ _ _ _ c.in_ok-emit_cmd.ensures (starts _ _ _ _ c.in_ok-start.ensures.place c.in_ok-start.ensures.put))
 
-pub emit_and_or-patch-requires : goal.emit_and_or-patch-requires
-emit_and_or-patch-requires t c = stays _ _ _ _ c.in_ok-emit_cmd-2.ensures (starts _ _ _ _ c.in_ok-place.ensures.place c.in_ok-place.ensures.put)
+pub emit_and_or-patch_skip-requires : goal.emit_and_or-patch_skip-requires
+emit_and_or-patch_skip-requires t c = stays _ _ _ _ c.in_ok-emit_cmd-2.ensures (starts _ _ _ _ c.in_ok-place.ensures.place c.in_ok-place.ensures.put)
 
-pub emit_if-patch-requires : goal.emit_if-patch-requires
-emit_if-patch-requires t c =
+pub emit_if-patch-requires-clause-within : goal.emit_if-patch-requires-clause-within
+emit_if-patch-requires-clause-within t c =
     stays _ _ _ _ c.in_ok-put.ensures (stays _ _ _ _ c.in_ok-emit_cmd-2.ensures (starts _ _ _ _ c.in_ok-place.ensures.place c.in_ok-place.ensures.put))
 
-pub emit_if_not-patch-requires : goal.emit_if_not-patch-requires
-emit_if_not-patch-requires t c = stays _ _ _ _ c.in_ok-emit_cmd.ensures (starts _ _ _ _ c.in_ok-place.ensures.place c.in_ok-place.ensures.put)
+pub emit_if_not-patch-requires-clause-within : goal.emit_if_not-patch-requires-clause-within
+emit_if_not-patch-requires-clause-within t c = stays _ _ _ _ c.in_ok-emit_cmd.ensures (starts _ _ _ _ c.in_ok-place.ensures.place c.in_ok-place.ensures.put)
 
-pub emit_while-patch-requires : goal.emit_while-patch-requires
-emit_while-patch-requires t c =
+pub emit_while-patch-requires-clause-within : goal.emit_while-patch-requires-clause-within
+emit_while-patch-requires-clause-within t c =
     stays _ _ _ _ c.in_ok-put.ensures (stays _ _ _ _ c.in_ok-emit_cmd.ensures (starts _ _ _ _ c.in_ok-place.ensures.place c.in_ok-place.ensures.put))
 
-pub emit_turns-patch-requires : goal.emit_turns-patch-requires
-emit_turns-patch-requires t c =
+pub emit_turns-patch-requires-clause-within : goal.emit_turns-patch-requires-clause-within
+emit_turns-patch-requires-clause-within t c =
     stays _ _ _ _ c.in_ok-put-2.ensures (stays _ _ _ _ c.in_ok-emit_cmd.ensures (starts _ _ _ _ c.in_ok-turn.ensures.place c.in_ok-turn.ensures.put))
 
-pub emit_branch-patch-requires : goal.emit_branch-patch-requires
-emit_branch-patch-requires t c =
+pub emit_branch-patch-requires-clause-within : goal.emit_branch-patch-requires-clause-within
+emit_branch-patch-requires-clause-within t c =
     stays _ _ _ _ c.in_ok-last.ensures.put (stays _ _ _ _ c.in_ok-emit_cmd.ensures (starts _ _ _ _ c.in_ok-place.ensures.place c.in_ok-place.ensures.put))
 
 pub emit_branch-returns-clause-last : goal.emit_branch-returns-clause-last
@@ -56,8 +56,8 @@ emit_branches-loop-branch-preserved t c =
 pub emit_branches-returns : goal.emit_branches-returns
 emit_branches-returns t c =
     let over : length c.args.branches.now ≤ c.loop-branch.branch-index = omega arith in
-    leaves_none _ _ _ _ _ _ _ _ c.loop-branch.invariant (ap branches_tree (drop_of_length-le _ over)) c.end-end.ensures
-    (c.redirect.ensures ∙ ap (λ ends. redirected (listing_of c.loop-branch.code) ends c.end-end.result) c.deref.ensures.value)
+    leaves_none _ _ _ _ _ _ _ _ c.loop-branch.invariant (ap branches_tree (drop_of_length-le _ over)) c.in_ok-end.ensures
+    (c.redirect.ensures ∙ ap (λ ends. redirected (listing_of c.loop-branch.code) ends c.in_ok-end.end) c.deref.ensures.value)
 
 pub emit_cmd-returns-in_ok-emit_members-in-For : goal.emit_cmd-returns-in_ok-emit_members-in-For
 emit_cmd-returns-in_ok-emit_members-in-For t c =

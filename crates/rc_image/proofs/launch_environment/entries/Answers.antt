@@ -1,42 +1,58 @@
-use Rattle.std.proofs.Common.{rules, arith, ◌≡◌, sym, subst, ◌∙◌, [], ◌∷◌, ◌++◌, drop, map, string_bytes}
+use Rattle.std.proofs.Common.{rules, arith, ◌≡◌, ◌+◌, sym, subst, ap, ◌∙◌, [], ◌∷◌, ◌++◌, drop, map, codes, string_bytes}
 use Rattle.std.proofs.lemmas.Grind.{common_steps}
-use Rattle.std.proofs.lemmas.Map.Iter.{rest_all, rest_more}
-use Rattle.std.specs.List.Sorted.{IsStrictlySortedBy}
-use Rattle.std.specs.Map.{keys_of}
-use Rattle.std.specs.Map.Iter.{deref_pair}
-use Rattle.std.specs.String.{string_cmp}
-use Rattle.rc_model.specs.Handed.Image.{entry}
+use Rattle.std.proofs.lemmas.List.{drop_all}
+use Rattle.rc_model.specs.Handed.Image.{entry, value_text}
+use Rattle.rc_model.specs.Handed.Proper.{Ordered}
+use Rattle.rc_model.specs.Run.State.{status_name}
+use Rattle.rc_scope.specs.Bodies.{definitions_of}
 use Rattle.rc_scope.specs.States.{state_of}
-use Rattle.rc_image.specs.Additions.{texts_of, PushesBelow}
-use Rattle.rc_image.proofs.Handing.{all_to_come, sorted_on, turn}
+use Rattle.rc_scope.proofs.ProperStates.{is_proper}
+use Rattle.rc_image.specs.Additions.{additions, function_text, PushesBelow}
+use Rattle.rc_image.proofs.Handing.{all_to_come, function_left, turn}
+use Rattle.rc_image.proofs.Insertions.{comes_before}
 use Rattle.rc_image.proofs.launch_environment.entries.Goals as goal
 
-pub loop-name-init : goal.loop-name-init
-loop-name-init c =
-    let all = c.in_ok-additions.additions.entries in
-    let is : c.into_iter-name-iterator.result ≡ all = search rules in
+pub loop-definition-init : goal.loop-definition-init
+loop-definition-init c =
+    let s = state_of c.args.state.now in
+    let ds = c.deref-definition-items.result.now in
+    let are : definitions_of ds ≡ s.functions = ap definitions_of c.deref-definition-items.ensures.value ∙ c.in_ok-functions.ensures in
+    let ordered = (is_proper c.args.state.now).functions_ordered in
     let none : map string_bytes c.in_ok-all.all.items ≡ [] = search rules in (
-      subst (λ l. IsStrictlySortedBy string_cmp (keys_of l)) (sym is) c.len.ensures.ordered,
-      rw (none, is) (all_to_come (texts_of all) c.in_ok-variables.variables.items (state_of c.args.state.now) c.in_ok-additions.ensures c.in_ok-variables.ensures),
+      subst Ordered (sym are) ordered,
+      rw none (all_to_come ds c.in_ok-variables.variables.items s are ordered c.in_ok-variables.ensures),
     )
 
-pub loop-name-preserved : goal.loop-name-preserved
-loop-name-preserved c =
-    let e = deref_pair (c.in-Some.name, c.in-Some.text) in
-    let is = rest_more deref_pair c.loop-name.name-iterator c.next.new.self c.next.result (c.in-Some.name, c.in-Some.text) c.in-Some.is c.next.ensures.steps in
-    let x : string_bytes c.in_ok-format.field-0 ≡ entry (string_bytes e.0, string_bytes e.1) = search rules in
-    let more : map string_bytes c.push.new.self.items ≡ map string_bytes c.push_below.new.out.items ++ string_bytes c.in_ok-format.field-0 ∷ [] = grind (arith, common_steps) in
+pub loop-definition-preserved : goal.loop-definition-preserved
+loop-definition-preserved c =
+    let status = (state_of c.args.state.now).status in
+    let ds = c.deref-definition-items.result.now in
     let vs = c.in_ok-variables.variables.items in
+    let i = c.loop-definition.definition-index in
+    let d = c.definition-item.result in
+    let is = function_left ds i d c.loop-definition-test.true c.definition-item.is in
+    let ordered = subst (λ l. Ordered (definitions_of l)) is c.loop-definition.invariant.0 in
+    let name : string_bytes c.in_ok-name.name ≡ codes "fn#" ++ d.name.now = search rules in
+    let x : string_bytes c.in_ok-function_entry.field-0 ≡ entry (function_text d) = search rules in
+    let more : map string_bytes c.push.new.self.items ≡ map string_bytes c.push_below.new.out.items ++ string_bytes c.in_ok-function_entry.field-0 ∷ [] = grind (arith, common_steps) in
     let same : c.deref.result.now ≡ vs = search rules in
-    let name : c.deref-in-loop-name.result.now ≡ string_bytes c.in-Some.name.now = search rules in
-    let pushes : PushesBelow (string_bytes c.in-Some.name.now) (drop c.loop-name.place vs) (drop c.in_ok-place.place vs) (map string_bytes c.loop-name.all.items) (map string_bytes c.push_below.new.out.items)
-    = rw (same, name) at c.in_ok-place.ensures in (
-      sorted_on e _ _ is c.loop-name.invariant.0,
-      rw more (turn _ _ _ _ e _ _ _ _ is pushes x c.loop-name.invariant.0 c.loop-name.invariant.1),
+    let bound : c.deref-in-loop-definition.result.now ≡ codes "fn#" ++ d.name.now = search rules in
+    let pushes : PushesBelow (codes "fn#" ++ d.name.now) (drop c.loop-definition.place vs) (drop c.in_ok-place.place vs) (map string_bytes c.loop-definition.all.items) (map string_bytes c.push_below.new.out.items)
+    = rw (same, bound) at c.in_ok-place.ensures in (
+      ordered.1,
+      rw more (turn _ _ _ _ (function_text d) _ _ _ _ (ap (λ l. additions l status) is) pushes x (comes_before d.name.now (drop (i + 1) ds) status ordered.0) c.loop-definition.invariant.1),
     )
 
 pub returns : goal.returns
 returns c =
-    let none = rest_all deref_pair c.loop-name.name-iterator c.next.new.self c.next.result c.in-None.is c.next.ensures.steps in
-    let same : c.deref-2.result.now ≡ c.in_ok-variables.variables.items = search rules in
-    c.in_ok-push_rest.ensures ∙ (rw (none, sym same) at c.loop-name.invariant.1)
+    let status = (state_of c.args.state.now).status in
+    let ds = c.deref-definition-items.result.now in
+    let vs = c.in_ok-variables.variables.items in
+    let none = drop_all c.loop-definition.definition-index ds c.loop-definition-test.false in
+    let x : string_bytes c.in_ok-status_entry.field-0 ≡ entry (status_name, value_text (status ∷ [])) = search rules in
+    let more : map string_bytes c.push-2.new.self.items ≡ map string_bytes c.push_below-2.new.out.items ++ string_bytes c.in_ok-status_entry.field-0 ∷ [] = grind (arith, common_steps) in
+    let same : c.deref-2.result.now ≡ vs = search rules in
+    let rest : c.deref-3.result.now ≡ vs = search rules in
+    let pushes : PushesBelow status_name (drop c.loop-definition.place vs) (drop c.in_ok-place-2.place vs) (map string_bytes c.loop-definition.all.items) (map string_bytes c.push_below-2.new.out.items)
+    = rw same at c.in_ok-place-2.ensures in
+    (rw rest at c.in_ok-push_rest.ensures) ∙ rw more (turn _ _ _ _ (status_name, value_text (status ∷ [])) [] _ _ _ (ap (λ l. additions l status) none) pushes x tt c.loop-definition.invariant.1)

@@ -1,13 +1,14 @@
 use Rattle.std.proofs.Common.{◌≡◌, ◌++◌, drop, map, string_bytes}
-use Rattle.std.specs.List.Sorted.{IsStrictlySortedBy}
-use Rattle.std.specs.Map.{keys_of}
-use Rattle.std.specs.String.{string_cmp}
 use Rattle.rc_model.specs.Handed.Image.{entry, entries}
+use Rattle.rc_model.specs.Handed.Proper.{Ordered}
+use Rattle.rc_scope.specs.Bodies.{definitions_of}
 use Rattle.rc_scope.specs.States.{state_of}
-use Rattle.rc_image.specs.Additions.{handed, put_all, texts_of}
+use Rattle.rc_image.specs.Additions.{additions, handed, put_all}
 use Rattle.rc_image.proofs.launch_environment.entries.Given as goal
 
 -- the entries so far and those to come are all
-abbrev pub invariant-loop-name : goal.invariant-loop-name
-invariant-loop-name l = IsStrictlySortedBy string_cmp (keys_of l.name-iterator)
-    × (map string_bytes l.all.items ++ map entry (put_all (texts_of l.name-iterator) (handed (drop l.place l.variables.items))) ≡ entries (state_of l.state))
+abbrev pub invariant-loop-definition : goal.invariant-loop-definition
+invariant-loop-definition l =
+    let left = drop l.definition-index l.definition-items in
+    Ordered (definitions_of left)
+    × (map string_bytes l.all.items ++ map entry (put_all (additions left (state_of l.state).status) (handed (drop l.place l.variables.items))) ≡ entries (state_of l.state))

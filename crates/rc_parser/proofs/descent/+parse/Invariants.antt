@@ -2,7 +2,7 @@ use Rattle.std.proofs.Common.{◌≡◌, ◌+◌, ◌-◌, ◌*◌, false, true}
 use Rattle.rc_model.specs.Mirrors.Descent as d
 use Rattle.rc_tree.specs.View.{cmd_tree, args_tree, items_tree, pairs_tree, redirs_tree, stages_tree}
 use Rattle.rc_tree.specs.View.{links_tree, branches_tree}
-use Rattle.rc_lexemes.specs.Lexemes.{lexemes_of}
+use Rattle.rc_parser.specs.Tokens.{lexemes_of}
 use Rattle.rc_parser.proofs.descent.+parse.Given as goal
 
 abbrev pub decreases-arguments::parse_part : goal.decreases-arguments::parse_part
@@ -162,53 +162,53 @@ abbrev pub invariant-arguments::parse_parts-loop : goal.invariant-arguments::par
 invariant-arguments::parse_parts-loop l =
     d.parts_from (d.read l.left (d.a_part l.inside)) l.inside (l.turns - l.counter) (args_tree l.others.items)
     (lexemes_of l.rest)
-    ≡ d.parts_by (d.read l.left (d.a_part l.inside)) l.inside (lexemes_of l.lexemes)
+    ≡ d.parts_by (d.read l.left (d.a_part l.inside)) l.inside (lexemes_of l.tokens)
 
 abbrev pub invariant-arguments::parse_members-loop : goal.invariant-arguments::parse_members-loop
 invariant-arguments::parse_members-loop l =
     d.members_from (d.read l.left (d.a_part true)) (l.turns - l.counter) (args_tree l.words.items) (lexemes_of l.rest)
-    ≡ d.members_by (d.read l.left (d.a_part true)) (lexemes_of l.lexemes)
+    ≡ d.members_by (d.read l.left (d.a_part true)) (lexemes_of l.tokens)
 
 abbrev pub invariant-arguments::parse_words-loop : goal.invariant-arguments::parse_words-loop
 invariant-arguments::parse_words-loop l =
     d.words_from (d.read l.left (d.a_part false)) (l.turns - l.counter) (args_tree l.words.items) (lexemes_of l.rest)
-    ≡ d.words_by (d.read l.left (d.a_part false)) (lexemes_of l.lexemes)
+    ≡ d.words_by (d.read l.left (d.a_part false)) (lexemes_of l.tokens)
 
 abbrev pub invariant-redirections::parse_redirections-loop : goal.invariant-redirections::parse_redirections-loop
 invariant-redirections::parse_redirections-loop l =
     d.redirs_from (d.read l.left (d.a_part false)) (l.turns - l.counter) (redirs_tree l.redirs.items)
     (lexemes_of l.rest)
-    ≡ d.redirs_by (d.read l.left (d.a_part false)) (lexemes_of l.lexemes)
+    ≡ d.redirs_by (d.read l.left (d.a_part false)) (lexemes_of l.tokens)
 
 abbrev pub invariant-stages::parse_simple-loop : goal.invariant-stages::parse_simple-loop
 invariant-stages::parse_simple-loop l =
     d.simple_from (d.read l.left (d.a_part false)) (l.turns - l.counter) (args_tree l.words.items)
     (redirs_tree l.redirs.items) (lexemes_of l.rest)
-    ≡ d.simple_by (d.read l.left (d.a_part false)) (lexemes_of l.lexemes)
+    ≡ d.simple_by (d.read l.left (d.a_part false)) (lexemes_of l.tokens)
 
 abbrev pub invariant-switches::parse_cases-loop : goal.invariant-switches::parse_cases-loop
 invariant-switches::parse_cases-loop l =
     d.branches_from (d.read l.below) (l.turns - l.counter) (branches_tree l.branches.items) (lexemes_of l.rest)
-    ≡ d.branches_by (d.read l.below) (lexemes_of l.lexemes)
+    ≡ d.branches_by (d.read l.below) (lexemes_of l.tokens)
 
 abbrev pub invariant-commands::parse_pipeline-loop : goal.invariant-commands::parse_pipeline-loop
 invariant-commands::parse_pipeline-loop l =
     d.pipe_from (d.read l.below) (l.turns - l.counter) (stages_tree l.stages.items) (cmd_tree l.last.value)
     (lexemes_of l.rest)
-    ≡ d.pipe_by (d.read l.below) (cmd_tree l.fn.first.value) (lexemes_of l.lexemes)
+    ≡ d.pipe_by (d.read l.below) (cmd_tree l.fn.first.value) (lexemes_of l.tokens)
 
 abbrev pub invariant-prefixes::parse_values-loop : goal.invariant-prefixes::parse_values-loop
 invariant-prefixes::parse_values-loop l =
     d.values_from (d.read l.below) (l.turns - l.counter) (pairs_tree l.pairs.items) (lexemes_of l.rest)
-    ≡ d.values_by (d.read l.below) (pairs_tree l.fn.pairs.items) (lexemes_of l.lexemes)
+    ≡ d.values_by (d.read l.below) (pairs_tree l.fn.pairs.items) (lexemes_of l.tokens)
 
 abbrev pub invariant-commands::parse_links-loop : goal.invariant-commands::parse_links-loop
 invariant-commands::parse_links-loop l =
     d.links_from (d.read l.below) (l.turns - l.counter) (links_tree l.links.items) (lexemes_of l.rest)
-    ≡ d.links_by (d.read l.below) (lexemes_of l.lexemes)
+    ≡ d.links_by (d.read l.below) (lexemes_of l.tokens)
 
 abbrev pub invariant-command_lists::parse_items-loop : goal.invariant-command_lists::parse_items-loop
 invariant-command_lists::parse_items-loop l =
     d.items_from (d.read l.below) l.in_switch (l.turns - l.counter) l.after_if (items_tree l.items.items)
     (lexemes_of l.rest)
-    ≡ d.items_by (d.read l.below) l.in_switch (lexemes_of l.lexemes)
+    ≡ d.items_by (d.read l.below) l.in_switch (lexemes_of l.tokens)

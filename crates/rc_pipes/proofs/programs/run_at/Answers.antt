@@ -1,6 +1,6 @@
 use Rattle.std.proofs.Common.{map, string_bytes, ap, sym}
 use Rattle.rc_model.specs.Handed.Image.{program_launch}
-use Rattle.rc_model.specs.Run.Acts.{started, wait_started}
+use Rattle.rc_model.specs.Run.Acts.{start_if_fit, wait_started}
 use Rattle.rc_model.specs.Run.Shell.{leaves}
 use Rattle.rc_world.specs.declared.starts.Stop.TheVariants.{NoMemory}
 use Rattle.rc_scope.specs.States.{state_of}
@@ -9,19 +9,22 @@ use Rattle.rc_world.proofs.Shells.{comes_next, left_under}
 use Rattle.law_plans.proofs.Runs.{ran_none}
 use Rattle.rc_pipes.proofs.programs.run_at.Goals as goal
 
+pub returns-in_err-keep_entries-clause-does : goal.returns-in_err-keep_entries-clause-does
+returns-in_err-keep_entries-clause-does g c = passed_up _ _ _ _ c.from_residual.result NoMemory c.from_residual.ensures.1 (left_here _ _ _ _ (ran_none _ _))
+
 pub returns-in_err-launch-clause-does : goal.returns-in_err-launch-clause-does
-returns-in_err-launch-clause-does g c = passed_up _ _ _ _ c.from_residual.result NoMemory c.from_residual.ensures.1 (left_here _ _ _ _ (ran_none _ _))
+returns-in_err-launch-clause-does g c = passed_up _ _ _ _ c.from_residual-in_err-launch.result NoMemory c.from_residual-in_err-launch.ensures.1 (left_here _ _ _ _ (ran_none _ _))
 
 pub returns-in_err-child-clause-does : goal.returns-in_err-child-clause-does
 returns-in_err-child-clause-does g c =
-    let s = state_of c.args.state.now in
+    let s = state_of c.keep_entries.new.state in
     let l = program_launch c.args.slots (string_bytes c.args.path) (map string_bytes c.args.args.items) s in
-    passed_up _ _ _ _ c.from_residual-in_err-child.result c.in_err-child.field-0.0 c.from_residual-in_err-child.ensures.1
-    (left_under _ _ _ (started l s) (λ x t. wait_started c.args.slots c.args.name.now x t) leaves (left_as _ _ _ _ _ (ap (λ x. started x s) (sym c.in_ok-launch.ensures)) (c.in_err-child.ensures s)))
+    rw (sym c.keep_entries.ensures) (passed_up _ _ _ _ c.from_residual-in_err-child.result c.in_err-child.field-0.0 c.from_residual-in_err-child.ensures.1
+    (left_under _ _ _ (start_if_fit l s) (λ x t. wait_started c.args.slots c.args.name.now x t) leaves (left_as _ _ _ _ _ (ap (λ x. start_if_fit x s) (sym c.in_ok-launch.ensures)) (c.in_err-child.ensures s))))
 
 pub returns-clause-does : goal.returns-clause-does
 returns-clause-does g c =
-    let s = state_of c.args.state.now in
+    let s = state_of c.keep_entries.new.state in
     let l = program_launch c.args.slots (string_bytes c.args.path) (map string_bytes c.args.args.items) s in
-    comes_next _ _ _ (started l s) _ _ (λ x t. wait_started c.args.slots c.args.name.now x t) leaves _ c.wait_started.result
-    (ran_as _ _ _ _ _ (ap (λ x. started x s) (sym c.in_ok-launch.ensures)) (c.in_ok-child.ensures s)) c.wait_started.ensures.does
+    rw (sym c.keep_entries.ensures) (comes_next _ _ _ (start_if_fit l s) _ _ (λ x t. wait_started c.args.slots c.args.name.now x t) leaves _ c.wait_started.result
+    (ran_as _ _ _ _ _ (ap (λ x. start_if_fit x s) (sym c.in_ok-launch.ensures)) (c.in_ok-child.ensures s)) c.wait_started.ensures.does)

@@ -12,12 +12,13 @@ use Rattle.rc_machine.proofs.Stacks.{topped}
 use Rattle.rc_machine.proofs.control.calls.define.Goals as goal
 
 pub returns-then-not-branch : goal.returns-then-not-branch
-returns-then-not-branch g c =
+returns-then-not-branch g c place counted =
     let m = c.args.machine.now in
+    let start = record (config_of m) { place = place } in
     let v = c.in-Some.words.now in
     let body = cmd_tree c.in-Some-tree.body.now.value in
     let top : top_of m.words ≡ Some v = search rules in
     let tree : tree_at (config_of m).code c.args.number ≡ Some body = search rules in
     let after = state_of c.define_each.new.state in
     let refused : Defines (word_texts v) body (state_of m.state) after false = search rules in
-    steps_as _ _ _ _ _ _ (defines_no_name (config_of m) c.args.number v _ body after (topped m.words v top) tree refused) c.fail_bad_name.ensures
+    steps_as _ _ _ _ _ _ (defines_no_name start c.args.number v _ body after (topped m.words v top) tree refused) c.fail_bad_name.ensures

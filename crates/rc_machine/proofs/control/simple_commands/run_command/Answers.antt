@@ -1,4 +1,4 @@
-use Rattle.std.proofs.Common.{rules, ◌≡◌, [], Some, false, map, string_bytes, refl, ap, sym, subst, ◌∙◌}
+use Rattle.std.proofs.Common.{rules, ◌≡◌, ◌+◌, [], Some, false, map, string_bytes, refl, ap, sym, subst, ◌∙◌}
 use Rattle.rc_model.specs.Code.Layout as op
 use Rattle.rc_model.specs.Code.Machine.{On, act, enter, unwind}
 use Rattle.rc_model.specs.Code.Layout.{code}
@@ -23,11 +23,12 @@ use Rattle.rc_scope.specs.States.{state_of}
 use Rattle.rc_machine.proofs.control.simple_commands.run_command.Goals as goal
 
 pub returns-in_err-texts : goal.returns-in_err-texts
-returns-in_err-texts g c = step_left _ _ _ _ c.from_residual.result NoMemory c.from_residual.ensures.1 (left_memory _ _)
+returns-in_err-texts g c place counted = step_left _ _ _ _ c.from_residual.result NoMemory c.from_residual.ensures.1 (left_memory _ _)
 
 pub returns-in_err-run_words : goal.returns-in_err-run_words
-returns-in_err-run_words g c =
+returns-in_err-run_words g c place counted =
     let m = c.args.machine.now in
+    let start = record (config_of m) { place = place } in
     let v = uppermost m.words in
     let rest = c.take_texts.new.words in
     let there : is_none c.top.result ≡ false = search rules in
@@ -35,26 +36,28 @@ returns-in_err-run_words g c =
     let texts : map string_bytes c.in_ok-texts.texts.items ≡ word_texts v = search rules in
     let own : c.slots.result ≡ m.redirs.slots = search rules in
     step_left _ _ _ _ c.from_residual-in_err-run_words.result c.in_err-run_words.field-0.0 c.from_residual-in_err-run_words.ensures.1
-    (left_as _ _ _ _ _ (runs_top (config_of m) m.words refl top rest c.in_ok-texts.ensures.below)
-    (left_under _ _ _ (run_words m.redirs.slots (word_texts v) (state_of m.state)) (λ d s. enter (config_of m) rest d s) (unwind (config_of m).scopes)
+    (left_as _ _ _ _ _ (runs_top start m.words refl top rest c.in_ok-texts.ensures.below)
+    (left_under _ _ _ (run_words m.redirs.slots (word_texts v) (state_of m.state)) (λ d s. enter start rest d s) (unwind start.scopes)
     (rw (texts, own) at c.in_err-run_words.ensures.runs)))
 
 pub returns-in-Finished : goal.returns-in-Finished
-returns-in-Finished g c =
+returns-in-Finished g c place counted =
     let m = c.args.machine.now in
+    let start = record (config_of m) { place = place } in
     let v = uppermost m.words in
     let rest = c.take_texts.new.words in
     let there : is_none c.top.result ≡ false = search rules in
     let top : top_of m.words ≡ Some v = top_is m.words c.top.result c.top.ensures there in
     let texts : map string_bytes c.in_ok-texts.texts.items ≡ word_texts v = search rules in
     let own : c.slots.result ≡ m.redirs.slots = search rules in
-    ran_as _ _ _ _ _ (runs_top (config_of m) m.words refl top rest c.in_ok-texts.ensures.below)
-    (ran_next _ _ _ (run_words m.redirs.slots (word_texts v) (state_of m.state)) Finished (state_of c.run_words.new.state) (λ d s. enter (config_of m) rest d s) (unwind (config_of m).scopes) _
-    (rw (c.in-Finished.is, texts, own) at c.in_ok-run_words.ensures.runs) (ran_none _ _))
+    rw counted (ran_as _ _ _ _ _ (runs_top start m.words refl top rest c.in_ok-texts.ensures.below)
+    (ran_next _ _ _ (run_words m.redirs.slots (word_texts v) (state_of m.state)) Finished (state_of c.run_words.new.state) (λ d s. enter start rest d s) (unwind start.scopes) _
+    (rw (c.in-Finished.is, texts, own) at c.in_ok-run_words.ensures.runs) (ran_none _ _)))
 
 pub returns-in-Exit : goal.returns-in-Exit
-returns-in-Exit g c =
+returns-in-Exit g c place counted =
     let m = c.args.machine.now in
+    let start = record (config_of m) { place = place } in
     let v = uppermost m.words in
     let rest = c.take_texts.new.words in
     let there : is_none c.top.result ≡ false = search rules in
@@ -64,16 +67,17 @@ returns-in-Exit g c =
     let t = state_of c.run_words.new.state in
     let before = g.W.World.events c.args.world.now in
     let after = g.W.World.events c.run_words.new.world in
-    let left = unwind (config_of m).scopes t [] in
-    steps_after before after (g.W.World.events c.unwind.new.world) (act (Some op.Run) (config_of m)) left (config_of c.unwind.new.self) c.unwind.result
-    (ran_as before after _ _ _ (runs_top (config_of m) m.words refl top rest c.in_ok-texts.ensures.below)
-    (ran_exit before after after (run_words m.redirs.slots (word_texts v) (state_of m.state)) t [] (λ d s. enter (config_of m) rest d s) (unwind (config_of m).scopes) (unwind (config_of m).scopes t [])
+    let left = unwind start.scopes t [] in
+    steps_after before after (g.W.World.events c.unwind.new.world) (act (Some op.Run) start) left (config_of c.unwind.new.self) c.unwind.result
+    (ran_as before after _ _ _ (runs_top start m.words refl top rest c.in_ok-texts.ensures.below)
+    (ran_exit before after after (run_words m.redirs.slots (word_texts v) (state_of m.state)) t [] (λ d s. enter start rest d s) (unwind start.scopes) (unwind start.scopes t [])
     (rw (c.in-Exit.is, texts, own) at c.in_ok-run_words.ensures.runs) (ran_none after left)))
     c.unwind.ensures
 
 pub returns-in_ok-enter-in-Body : goal.returns-in_ok-enter-in-Body
-returns-in_ok-enter-in-Body g c =
+returns-in_ok-enter-in-Body g c place counted =
     let m = c.args.machine.now in
+    let start = record (config_of m) { place = place } in
     let v = uppermost m.words in
     let rest = c.take_texts.new.words in
     let there : is_none c.top.result ≡ false = search rules in
@@ -82,18 +86,21 @@ returns-in_ok-enter-in-Body g c =
     let own : c.slots.result ≡ m.redirs.slots = search rules in
     let f = rw (c.in-Body.is, texts, own) at c.in_ok-run_words.ensures.runs in
     let t = state_of c.run_words.new.state in
-    let d = record (config_of m) { words = rest; state = t } in
-    let now : config_of c.enter.new.machine ≡ entered d false (code_of c.in-Body.body) = search rules in
+    let d = record (config_of m) { place = place + 1; words = rest; state = t } in
+    let left : config_of c.enter.new.machine ≡ entered (record d { place = m.place }) false (code_of c.in-Body.body) = search rules in
+    let now : config_of c.enter.new.machine ≡ entered d false (code_of c.in-Body.body) =
+    left ∙ ap (λ n. entered (record d { place = n }) false (code_of c.in-Body.body)) counted in
     let to : done_with (On (entered d false (code f.0))) ≡ done_with (On (config_of c.enter.new.machine)) =
     ap (λ x. done_with (On (entered d false x))) (sym f.1) ∙ ap (λ x. done_with (On x)) (sym now) in
-    subst (λ p. Ran (g.W.World.events c.args.world.now) (g.W.World.events c.run_words.new.world) (act (Some op.Run) (config_of m)) p) to
-    (ran_as _ _ _ _ _ (runs_top (config_of m) m.words refl top rest c.in_ok-texts.ensures.below)
-    (ran_next _ _ _ (run_words m.redirs.slots (word_texts v) (state_of m.state)) (Body f.0) t (λ x s. enter (config_of m) rest x s) (unwind (config_of m).scopes) _
+    subst (λ p. Ran (g.W.World.events c.args.world.now) (g.W.World.events c.run_words.new.world) (act (Some op.Run) start) p) to
+    (ran_as _ _ _ _ _ (runs_top start m.words refl top rest c.in_ok-texts.ensures.below)
+    (ran_next _ _ _ (run_words m.redirs.slots (word_texts v) (state_of m.state)) (Body f.0) t (λ x s. enter start rest x s) (unwind start.scopes) _
     f.2 (ran_none _ _)))
 
 pub returns-in_err-enter-in-Body : goal.returns-in_err-enter-in-Body
-returns-in_err-enter-in-Body g c =
+returns-in_err-enter-in-Body g c place counted =
     let m = c.args.machine.now in
+    let start = record (config_of m) { place = place } in
     let v = uppermost m.words in
     let rest = c.take_texts.new.words in
     let there : is_none c.top.result ≡ false = search rules in
@@ -102,13 +109,14 @@ returns-in_err-enter-in-Body g c =
     let own : c.slots.result ≡ m.redirs.slots = search rules in
     let f = rw (c.in-Body.is, texts, own) at c.in_ok-run_words.ensures.runs in
     step_left _ _ _ _ c.from_residual-in_err-enter-in-Body.result NoMemory c.from_residual-in_err-enter-in-Body.ensures.1
-    (for_memory _ (ran_as _ _ _ _ _ (runs_top (config_of m) m.words refl top rest c.in_ok-texts.ensures.below)
-    (ran_next _ _ _ (run_words m.redirs.slots (word_texts v) (state_of m.state)) (Body f.0) (state_of c.run_words.new.state) (λ x s. enter (config_of m) rest x s)
-    (unwind (config_of m).scopes) _ f.2 (ran_none _ _))))
+    (for_memory _ (ran_as _ _ _ _ _ (runs_top start m.words refl top rest c.in_ok-texts.ensures.below)
+    (ran_next _ _ _ (run_words m.redirs.slots (word_texts v) (state_of m.state)) (Body f.0) (state_of c.run_words.new.state) (λ x s. enter start rest x s)
+    (unwind start.scopes) _ f.2 (ran_none _ _))))
 
 pub returns-in_ok-call-in-Call : goal.returns-in_ok-call-in-Call
-returns-in_ok-call-in-Call g c =
+returns-in_ok-call-in-Call g c place counted =
     let m = c.args.machine.now in
+    let start = record (config_of m) { place = place } in
     let v = uppermost m.words in
     let rest = c.take_texts.new.words in
     let there : is_none c.top.result ≡ false = search rules in
@@ -118,18 +126,21 @@ returns-in_ok-call-in-Call g c =
     let f = rw (c.in-Call.is, texts, own) at c.in_ok-run_words.ensures.runs in
     let t = state_of c.run_words.new.state in
     let args = map string_bytes c.in-Call.args.items in
-    let d = record (config_of m) { words = rest; state = t } in
-    let now : config_of c.call.new.machine ≡ called d args (code_of c.in-Call.body) = search rules in
+    let d = record (config_of m) { place = place + 1; words = rest; state = t } in
+    let left : config_of c.call.new.machine ≡ called (record d { place = m.place }) args (code_of c.in-Call.body) = search rules in
+    let now : config_of c.call.new.machine ≡ called d args (code_of c.in-Call.body) =
+    left ∙ ap (λ n. called (record d { place = n }) args (code_of c.in-Call.body)) counted in
     let to : done_with (On (called d args (code f.0))) ≡ done_with (On (config_of c.call.new.machine)) =
     ap (λ x. done_with (On (called d args x))) (sym f.1) ∙ ap (λ x. done_with (On x)) (sym now) in
-    subst (λ p. Ran (g.W.World.events c.args.world.now) (g.W.World.events c.run_words.new.world) (act (Some op.Run) (config_of m)) p) to
-    (ran_as _ _ _ _ _ (runs_top (config_of m) m.words refl top rest c.in_ok-texts.ensures.below)
-    (ran_next _ _ _ (run_words m.redirs.slots (word_texts v) (state_of m.state)) (BodyWith args f.0) t (λ x s. enter (config_of m) rest x s) (unwind (config_of m).scopes) _
+    subst (λ p. Ran (g.W.World.events c.args.world.now) (g.W.World.events c.run_words.new.world) (act (Some op.Run) start) p) to
+    (ran_as _ _ _ _ _ (runs_top start m.words refl top rest c.in_ok-texts.ensures.below)
+    (ran_next _ _ _ (run_words m.redirs.slots (word_texts v) (state_of m.state)) (BodyWith args f.0) t (λ x s. enter start rest x s) (unwind start.scopes) _
     f.2 (ran_none _ _)))
 
 pub returns-in_err-call-in-Call : goal.returns-in_err-call-in-Call
-returns-in_err-call-in-Call g c =
+returns-in_err-call-in-Call g c place counted =
     let m = c.args.machine.now in
+    let start = record (config_of m) { place = place } in
     let v = uppermost m.words in
     let rest = c.take_texts.new.words in
     let there : is_none c.top.result ≡ false = search rules in
@@ -139,6 +150,6 @@ returns-in_err-call-in-Call g c =
     let f = rw (c.in-Call.is, texts, own) at c.in_ok-run_words.ensures.runs in
     let args = map string_bytes c.in-Call.args.items in
     step_left _ _ _ _ c.from_residual-in_err-call-in-Call.result NoMemory c.from_residual-in_err-call-in-Call.ensures.1
-    (for_memory _ (ran_as _ _ _ _ _ (runs_top (config_of m) m.words refl top rest c.in_ok-texts.ensures.below)
-    (ran_next _ _ _ (run_words m.redirs.slots (word_texts v) (state_of m.state)) (BodyWith args f.0) (state_of c.run_words.new.state) (λ x s. enter (config_of m) rest x s)
-    (unwind (config_of m).scopes) _ f.2 (ran_none _ _))))
+    (for_memory _ (ran_as _ _ _ _ _ (runs_top start m.words refl top rest c.in_ok-texts.ensures.below)
+    (ran_next _ _ _ (run_words m.redirs.slots (word_texts v) (state_of m.state)) (BodyWith args f.0) (state_of c.run_words.new.state) (λ x s. enter start rest x s)
+    (unwind start.scopes) _ f.2 (ran_none _ _))))

@@ -13,38 +13,41 @@ use Rattle.rc_machine.proofs.Stacks.{taken, topped}
 use Rattle.rc_machine.proofs.descriptors.redirections.open.Goals as goal
 
 pub returns-in-Err : goal.returns-in-Err
-returns-in-Err g c =
+returns-in-Err g c place counted =
     let m = c.args.machine.now in
+    let start = record (config_of m) { place = place } in
     let v = c.in-Some.words.now in
     let top : top_of m.words ≡ Some v = search rules in
     let names = map string_bytes c.deref.result.now in
     let texts : map string_bytes c.deref.result.now ≡ word_texts v = search rules in
-    steps_as _ _ _ _ _ c.refuse.result (opens_top (config_of m) c.args.mode c.args.slot v (drop 1 m.words) names (topped m.words v top) texts)
+    steps_as _ _ _ _ _ c.refuse.result (opens_top start c.args.mode c.args.slot v (drop 1 m.words) names (topped m.words v top) texts)
     (opens_refused _ _ m c.push_open.new.self c.args.slot (open_one m.redirs.slots c.args.mode names) _
-    (λ h s. redirect (config_of m) (drop 1 m.words) c.args.slot h s) (config_of c.refuse.new.machine) c.refuse.result c.in-Err.error
+    (λ h s. redirect start (drop 1 m.words) c.args.slot h s) (config_of c.refuse.new.machine) c.refuse.result c.in-Err.error
     c.in-Err.ensures.opened (rw c.in-Err.ensures.err at c.refuse.ensures))
 
 pub returns-in_err-open : goal.returns-in_err-open
-returns-in_err-open g c =
+returns-in_err-open g c place counted =
     let m = c.args.machine.now in
+    let start = record (config_of m) { place = place } in
     let v = c.in-Some.words.now in
     let top : top_of m.words ≡ Some v = search rules in
     let names = map string_bytes c.deref.result.now in
     let texts : map string_bytes c.deref.result.now ≡ word_texts v = search rules in
     let words = drop 1 m.words in
     step_left _ _ _ _ c.from_residual-in_err-open.result NoMemory c.from_residual-in_err-open.ensures.1
-    (left_as _ _ _ _ NoMemory (opens_top (config_of m) c.args.mode c.args.slot v words names (topped m.words v top) texts)
-    (opened_left _ _ m c.push_open.new.self c.args.slot (open_one m.redirs.slots c.args.mode names) (λ h s. redirect (config_of m) words c.args.slot h s)
+    (left_as _ _ _ _ NoMemory (opens_top start c.args.mode c.args.slot v words names (topped m.words v top) texts)
+    (opened_left _ _ m c.push_open.new.self c.args.slot (open_one m.redirs.slots c.args.mode names) (λ h s. redirect start words c.args.slot h s)
     c.in_default-push_open.ensures.opened))
 
 pub returns : goal.returns
-returns g c =
+returns g c place counted =
     let m = c.args.machine.now in
+    let start = record (config_of m) { place = place } in
     let v = c.in-Some.words.now in
     let rest = c.drop_top.new.self in
     let top : top_of m.words ≡ Some v = search rules in
     let names = map string_bytes c.deref.result.now in
     let texts : map string_bytes c.deref.result.now ≡ word_texts v = search rules in
-    ran_as _ _ _ _ _ (opens_top (config_of m) c.args.mode c.args.slot v rest names (taken m.words rest v _ top c.drop_top.ensures) texts)
-    (rw c.in_ok-open.ensures (opened _ _ m c.push_open.new.self c.args.slot (open_one m.redirs.slots c.args.mode names) rest _
+    rw (counted, c.in_ok-open.ensures) (ran_as _ _ _ _ _ (opens_top start c.args.mode c.args.slot v rest names (taken m.words rest v _ top c.drop_top.ensures) texts)
+    (opened _ _ m c.push_open.new.self c.args.slot (open_one m.redirs.slots c.args.mode names) place rest _
     c.in_default-push_open.ensures.opened refl))

@@ -14,34 +14,37 @@ use Rattle.rc_machine.proofs.Shells.{backed, left_back}
 use Rattle.rc_machine.proofs.descriptors.shells.back.Goals as goal
 
 pub returns-in_err-output : goal.returns-in_err-output
-returns-in_err-output g c =
+returns-in_err-output g c place counted =
     let m = c.args.machine.now in
+    let start = record (config_of m) { place = place } in
     let body = cmd_tree c.in-Some.body.now.value in
-    let tree : tree_at (config_of m).code c.args.number ≡ Some body = search rules in
+    let tree : tree_at start.code c.args.number ≡ Some body = search rules in
     let same : cmd_tree c.deref.result.now ≡ body = search rules in
     let own : c.slots-slots.result ≡ m.redirs.slots = search rules in
     step_left _ _ _ _ c.from_residual.result c.in_err-output.field-0.0 c.from_residual.ensures.1
-    (left_back _ _ (config_of m) c.args.number body tree c.in_err-output.field-0.0 (rw (own, same) at c.in_err-output.ensures.does))
+    (left_back _ _ start c.args.number body tree c.in_err-output.field-0.0 (rw (own, same) at c.in_err-output.ensures.does))
 
 pub returns-in_err-put_members : goal.returns-in_err-put_members
-returns-in_err-put_members g c =
+returns-in_err-put_members g c place counted =
     let m = c.args.machine.now in
+    let start = record (config_of m) { place = place } in
     let body = cmd_tree c.in-Some.body.now.value in
-    let tree : tree_at (config_of m).code c.args.number ≡ Some body = search rules in
+    let tree : tree_at start.code c.args.number ≡ Some body = search rules in
     let same : cmd_tree c.deref.result.now ≡ body = search rules in
     let own : c.slots-slots.result ≡ m.redirs.slots = search rules in
     step_left _ _ _ _ c.from_residual-in_err-put_members.result NoMemory c.from_residual-in_err-put_members.ensures.1
-    (for_memory _ (backed _ _ (config_of m) c.args.number body tree _ (state_of c.backquote.new.state) (rw (own, same) at c.in_ok-output.ensures.does)))
+    (for_memory _ (backed _ _ start c.args.number body tree _ (state_of c.backquote.new.state) (rw (own, same) at c.in_ok-output.ensures.does)))
 
 pub returns : goal.returns
-returns g c =
+returns g c place counted =
     let m = c.args.machine.now in
+    let start = record (config_of m) { place = place } in
     let t = state_of c.backquote.new.state in
     let body = cmd_tree c.in-Some.body.now.value in
     let members = c.in_ok-output.output in
-    let tree : tree_at (config_of m).code c.args.number ≡ Some body = search rules in
+    let tree : tree_at start.code c.args.number ≡ Some body = search rules in
     let same : cmd_tree c.deref.result.now ≡ body = search rules in
     let own : c.slots-slots.result ≡ m.redirs.slots = search rules in
     let put : c.put_members.new.words ≡ plain_words members ∷ m.words = search rules in
-    subst (λ ws. Ran (g.W.World.events c.args.world.now) (g.W.World.events c.backquote.new.world) (act (Some (Back c.args.number)) (config_of m)) (done_with (On (next (config_of m) ws t)))) (sym put)
-    (backed _ _ (config_of m) c.args.number body tree members t (rw (own, same) at c.in_ok-output.ensures.does))
+    rw counted (subst (λ ws. Ran (g.W.World.events c.args.world.now) (g.W.World.events c.backquote.new.world) (act (Some (Back c.args.number)) start) (done_with (On (next start ws t)))) (sym put)
+    (backed _ _ start c.args.number body tree members t (rw (own, same) at c.in_ok-output.ensures.does)))

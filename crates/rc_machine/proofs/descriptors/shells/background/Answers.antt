@@ -8,20 +8,22 @@ use Rattle.rc_machine.proofs.Shells.{left_background, ran_background}
 use Rattle.rc_machine.proofs.descriptors.shells.background.Goals as goal
 
 pub returns-in_err-background : goal.returns-in_err-background
-returns-in_err-background g c =
+returns-in_err-background g c place counted =
     let m = c.args.machine.now in
+    let start = record (config_of m) { place = place } in
     let body = cmd_tree c.in-Some.body.now.value in
-    let tree : tree_at (config_of m).code c.args.number ≡ Some body = search rules in
+    let tree : tree_at start.code c.args.number ≡ Some body = search rules in
     let same : cmd_tree c.deref.result.now ≡ body = search rules in
     let own : c.slots-slots.result ≡ m.redirs.slots = search rules in
     step_left _ _ _ _ c.from_residual.result c.in_err-background.field-0.0 c.from_residual.ensures.1
-    (left_background _ _ (config_of m) c.args.number body tree c.in_err-background.field-0.0 (rw (own, same) at c.in_err-background.ensures.does))
+    (left_background _ _ start c.args.number body tree c.in_err-background.field-0.0 (rw (own, same) at c.in_err-background.ensures.does))
 
 pub returns : goal.returns
-returns g c =
+returns g c place counted =
     let m = c.args.machine.now in
+    let start = record (config_of m) { place = place } in
     let body = cmd_tree c.in-Some.body.now.value in
-    let tree : tree_at (config_of m).code c.args.number ≡ Some body = search rules in
+    let tree : tree_at start.code c.args.number ≡ Some body = search rules in
     let same : cmd_tree c.deref.result.now ≡ body = search rules in
     let own : c.slots-slots.result ≡ m.redirs.slots = search rules in
-    ran_background _ _ (config_of m) c.args.number body tree (state_of c.background.new.state) (rw (own, same) at c.in_ok-background.ensures.does)
+    rw counted (ran_background _ _ start c.args.number body tree (state_of c.background.new.state) (rw (own, same) at c.in_ok-background.ensures.does))

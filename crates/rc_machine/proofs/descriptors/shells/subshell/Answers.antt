@@ -8,20 +8,22 @@ use Rattle.rc_machine.proofs.Shells.{left_subshell, ran_subshell}
 use Rattle.rc_machine.proofs.descriptors.shells.subshell.Goals as goal
 
 pub returns-in_err-subshell : goal.returns-in_err-subshell
-returns-in_err-subshell g c =
+returns-in_err-subshell g c place counted =
     let m = c.args.machine.now in
+    let start = record (config_of m) { place = place } in
     let body = cmd_tree c.in-Some.body.now.value in
-    let tree : tree_at (config_of m).code c.args.number ≡ Some body = search rules in
+    let tree : tree_at start.code c.args.number ≡ Some body = search rules in
     let same : cmd_tree c.deref.result.now ≡ body = search rules in
     let own : c.slots-slots.result ≡ m.redirs.slots = search rules in
     step_left _ _ _ _ c.from_residual.result c.in_err-subshell.field-0.0 c.from_residual.ensures.1
-    (left_subshell _ _ (config_of m) c.args.number body tree c.in_err-subshell.field-0.0 (rw (own, same) at c.in_err-subshell.ensures.does))
+    (left_subshell _ _ start c.args.number body tree c.in_err-subshell.field-0.0 (rw (own, same) at c.in_err-subshell.ensures.does))
 
 pub returns : goal.returns
-returns g c =
+returns g c place counted =
     let m = c.args.machine.now in
+    let start = record (config_of m) { place = place } in
     let body = cmd_tree c.in-Some.body.now.value in
-    let tree : tree_at (config_of m).code c.args.number ≡ Some body = search rules in
+    let tree : tree_at start.code c.args.number ≡ Some body = search rules in
     let same : cmd_tree c.deref.result.now ≡ body = search rules in
     let own : c.slots-slots.result ≡ m.redirs.slots = search rules in
-    ran_subshell _ _ (config_of m) c.args.number body tree (state_of c.subshell.new.state) (rw (own, same) at c.in_ok-subshell.ensures.does)
+    rw counted (ran_subshell _ _ start c.args.number body tree (state_of c.subshell.new.state) (rw (own, same) at c.in_ok-subshell.ensures.does))

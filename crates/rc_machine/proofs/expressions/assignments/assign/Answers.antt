@@ -1,19 +1,15 @@
-use Rattle.std.proofs.Common.{rules, ◌≡◌, None, Some}
-use Rattle.rc_model.specs.Run.State.{is_name}
-use Rattle.rc_model.specs.Syntax.Words.{word_texts}
-use Rattle.rc_machine.specs.Lists.{two_of, below_two}
+use Rattle.std.proofs.Common.{rules, ◌≡◌, ◌∙◌, Some, ap, sym}
+use Rattle.rc_model.specs.Code.Layout as op
+use Rattle.rc_model.specs.Code.Machine.{Config, act}
 use Rattle.rc_machine.specs.Configurations.{config_of}
-use Rattle.rc_machine.specs.Names.{the_name}
-use Rattle.rc_machine.proofs.ExpressionActs.{assigns_no_name}
-use Rattle.rc_machine.proofs.Left.{steps_as}
-use Rattle.rc_machine.proofs.Stacks.{two_topped}
+use Rattle.rc_machine.proofs.Left.{stepped, steps_as}
 use Rattle.rc_machine.proofs.expressions.assignments.assign.Goals as goal
 
-pub returns-in_default-variable_name : goal.returns-in_default-variable_name
-returns-in_default-variable_name g c =
-    let m = c.args.machine.now in
-    let a = c.in-Some.words.now in
-    let b = c.in-Some.field-0-1.now in
-    let two : two_of m.words ≡ Some (a, b) = search rules in
-    let none : the_name is_name (word_texts a) ≡ None = search rules in
-    steps_as _ _ _ _ _ _ (assigns_no_name (config_of m) a b (below_two m.words) (two_topped m.words a b two) none) c.fail_bad_name.ensures
+pub returns-in-Some : goal.returns-in-Some
+returns-in-Some g c place counted = stepped _ _ _ _ ((rw c.in-Some.is at c.in_ok-moved.ensures) place counted)
+
+pub returns : goal.returns
+returns g c place counted =
+    let same : config_of c.assign_one.new.machine ≡ config_of c.args.machine.now = search rules in
+    steps_as _ _ _ _ _ _ (ap (λ (d : Config). act (Some op.Assign) (record d { place = place })) (sym same))
+    (c.assign_list.ensures place (ap (λ (d : Config). d.place) same ∙ counted))

@@ -10,10 +10,11 @@ use Rattle.rc_machine.proofs.Stacks.{two_topped}
 use Rattle.rc_machine.proofs.expressions.assignments.local.Goals as goal
 
 pub returns-in_default-variable_name : goal.returns-in_default-variable_name
-returns-in_default-variable_name g c =
+returns-in_default-variable_name g c place counted =
     let m = c.args.machine.now in
+    let start = record (config_of m) { place = place } in
     let a = c.in-Some.words.now in
     let b = c.in-Some.field-0-1.now in
     let two : two_of m.words ≡ Some (a, b) = search rules in
     let none : the_name is_name (word_texts a) ≡ None = search rules in
-    steps_as _ _ _ _ _ _ (opens_no_name (config_of m) a b (below_two m.words) (two_topped m.words a b two) none) c.fail_bad_name.ensures
+    steps_as _ _ _ _ _ _ (opens_no_name start a b (below_two m.words) (two_topped m.words a b two) none) c.fail_bad_name.ensures

@@ -10,10 +10,11 @@ use Rattle.rc_scope.specs.States.{state_of}
 use Rattle.rc_machine.proofs.expressions.assignments.select.Goals as goal
 
 pub returns-in_default-read : goal.returns-in_default-read
-returns-in_default-read g c =
+returns-in_default-read g c place counted =
     let m = c.args.machine.now in
+    let start = record (config_of m) { place = place } in
     let a = c.in-Some.words.now in
     let b = c.in-Some.field-0-1.now in
     let two : two_of m.words ≡ Some (a, b) = search rules in
     let none : read (state_of m.state) (word_texts a) ≡ None = search rules in
-    steps_as _ _ _ _ _ _ (selects_no_name (config_of m) a b (below_two m.words) (two_topped m.words a b two) none) c.fail_bad_name.ensures
+    steps_as _ _ _ _ _ _ (selects_no_name start a b (below_two m.words) (two_topped m.words a b two) none) c.fail_bad_name.ensures

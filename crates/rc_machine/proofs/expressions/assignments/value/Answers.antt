@@ -10,9 +10,10 @@ use Rattle.rc_scope.specs.States.{state_of}
 use Rattle.rc_machine.proofs.expressions.assignments.value.Goals as goal
 
 pub returns-in_default-read : goal.returns-in_default-read
-returns-in_default-read g c =
+returns-in_default-read g c place counted =
     let m = c.args.machine.now in
+    let start = record (config_of m) { place = place } in
     let v = c.in-Some.words.now in
     let top : top_of m.words ≡ Some v = search rules in
     let none : read (state_of m.state) (word_texts v) ≡ None = search rules in
-    steps_as _ _ _ _ _ _ (reads_no_name (λ z. z) (config_of m) v (drop 1 m.words) (topped m.words v top) none) c.fail_bad_name.ensures
+    steps_as _ _ _ _ _ _ (reads_no_name (λ z. z) start v (drop 1 m.words) (topped m.words v top) none) c.fail_bad_name.ensures

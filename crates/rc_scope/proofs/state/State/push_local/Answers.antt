@@ -13,6 +13,6 @@ invariant_of-self-2 c =
     let other : bytes_eq name status_name ≡ false = sym c.is_status.ensures ∙ c.if-is_status.false in
     record {
       proper = by_result c.push.result c.push.ensures.ok c.push.ensures.err
-          (λ e. local_pushed s.variables c.push.new.self fs name (map string_bytes c.args.value.items) s.proper named other e)
+          (λ e. local_pushed s.variables c.push.new.self fs name (map string_bytes c.new.result) s.proper named other e)
           (λ e. nothing_set s.variables c.push.new.self fs s.proper e);
     }

@@ -13,6 +13,6 @@ invariant_of-self-2 c =
     let other : bytes_eq name status_name ≡ false = sym c.is_status.ensures ∙ c.if-is_status.false in
     record {
       proper = by_result c.set.result c.set.ensures.ok c.set.ensures.err
-          (λ e. value_set s.variables c.set.new.self fs name (map string_bytes c.args.value.items) s.proper named other e)
+          (λ e. value_set s.variables c.set.new.self fs name (map string_bytes c.new.result) s.proper named other e)
           (λ e. nothing_set s.variables c.set.new.self fs s.proper e);
     }

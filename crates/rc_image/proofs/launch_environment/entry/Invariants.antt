@@ -1,8 +1,0 @@
-use Rattle.std.proofs.Common.{◌≡◌, ◌∷◌, ◌++◌, take, string_bytes}
-use Rattle.std.specs.List.{flat_map}
-use Rattle.rc_model.specs.Handed.Image.{escaped}
-use Rattle.rc_image.proofs.launch_environment.entry.Given as goal
-
--- the first member, and each so far after byte 1
-abbrev pub invariant-loop-member : goal.invariant-loop-member
-invariant-loop-member l = string_bytes l.text ≡ string_bytes l.initial.text ++ flat_map (λ t. 1 ∷ escaped (string_bytes t)) (take l.member-index l.others)

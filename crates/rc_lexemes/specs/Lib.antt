@@ -1,3 +1,0 @@
-pub mod Lexemes
-pub mod Reading
-pub mod Begun

@@ -1,0 +1,18 @@
+use Rattle.std.proofs.Common.{rules, ◌≡◌, IsTrue, false, ◌∷◌, [], string_bytes, sym, ◌∙◌}
+use Rattle.std.specs.Str.{bytes_eq}
+use Rattle.rc_model.specs.Run.State.{is_name, status_name}
+use Rattle.rc_scope.proofs.ProperStates.{by_result, nothing_set, value_set}
+use Rattle.rc_scope.proofs.state.State.set_one.Goals as goal
+
+pub invariant_of-self-2 : goal.invariant_of-self-2
+invariant_of-self-2 c =
+    let s = c.args.self.now in
+    let fs = s.functions.entries in
+    let name = c.args.variable.now in
+    let named : IsTrue (is_name name) = search rules in
+    let other : bytes_eq name status_name ≡ false = sym c.is_status.ensures ∙ c.if-is_status.false in
+    record {
+      proper = by_result c.set_one.result c.set_one.ensures.ok c.set_one.ensures.err
+          (λ e. value_set s.variables c.set_one.new.self fs name (string_bytes c.args.text ∷ []) s.proper named other e)
+          (λ e. nothing_set s.variables c.set_one.new.self fs s.proper e);
+    }

@@ -1,0 +1,20 @@
+use Rattle.std.proofs.Common.{rules, ◌≡◌, ◌+◌, ◌-◌, ℕ, List, drop, length, min, ap, sym, ◌∙◌}
+use Rattle.std.proofs.lemmas.List.{drop-drop, drop_min, length-drop}
+use Rattle.std.specs.declared.alloc.Global.{Global}
+use Rattle.std.specs.declared.string.String.{String}
+use Rattle.rc_scope.proofs.value_members.Members.drop_first.Goals as goal
+
+-- the members from a place on, which may be past the end
+from_place : (n first more : ℕ) (xs : List (String Global)) → more ≡ min n (length xs - first) → drop (first + more) xs ≡ drop n (drop first xs)
+from_place n first more xs e =
+    ap (λ k. drop (first + k) xs) e
+    ∙ sym (drop-drop (min n (length xs - first)) first xs)
+    ∙ ap (λ k. drop (min n k) (drop first xs)) (sym (length-drop first xs))
+    ∙ drop_min n (drop first xs)
+
+pub returns : goal.returns
+returns c =
+    let xs = c.self.inside.texts.items in
+    let first = c.self.inside.first in
+    let all : c.len.result ≡ length xs = search rules in
+    rw (← c.self.view_is) (from_place c.args.count first c.min.result xs (c.min.ensures ∙ ap (λ k. min c.args.count (k - first)) all))

@@ -1,0 +1,124 @@
+//! The members of a value, which are dropped from the front, and the text that an environment has for them.
+
+ghost use Rattle.std.specs.Prelude.{◌≡◌, ◌∷◌, [], IfErr, IfOk, IfSome, OnErr, OnOk, drop, map, string_bytes};
+ghost use Rattle.rc_model.specs.Handed.Image.{value_text};
+
+use crate::texts::copy_texts;
+use std::alloc::{AllocError, Global};
+use std::marker::Model;
+
+/// The members of a value. Those that were dropped from its front stay where they are until the others go.
+#[derive(Drop)]
+pub struct Members {
+    texts: Vec<String>,
+    /// The place of the first member.
+    first: usize,
+    /// Their text in an environment, once a launch has handed it over.
+    kept: Option<String>,
+}
+
+impl Model for Members {
+    ghost use Rattle.std.specs.Prelude.{List, ◌≡◌, ◌≤◌, IfSome, drop, length, map, string_bytes};
+    ghost use Rattle.std.specs.declared.alloc.Global.{Global};
+    ghost use Rattle.std.specs.declared.string.String.{String};
+    ghost use Rattle.rc_model.specs.Handed.Image.{value_text};
+
+    ghost Value = { List (String Global) };
+
+    ghost view = { λ m. drop m.first m.texts.items };
+
+    ghost invariant = { λ m. (m.first ≤ length m.texts.items)
+        × IfSome m.kept (λ text. string_bytes text ≡ value_text (map string_bytes (drop m.first m.texts.items))) };
+}
+
+impl Clone for Members {
+    ghost use Rattle.std.specs.Prelude.{◌≡◌, map, string_bytes};
+
+    ghost is_clone = { λ m n. map string_bytes n ≡ map string_bytes m };
+
+    /// The members alone.
+    fn clone(&self) -> Result<Members, AllocError> {
+        let texts = copy_texts(*self.texts.allocator(), self.as_slice())?;
+        Ok(Members::new(texts))
+    }
+}
+
+impl Members {
+    /// No members.
+    pub(crate) fn none(alloc: Global) -> Members
+        ensures { result ≡ [] }
+    {
+        Members::new(Vec::new(alloc))
+    }
+
+    /// These members.
+    pub(crate) fn new(texts: Vec<String>) -> Members
+        ensures { result ≡ texts.items }
+    {
+        let kept = None;
+        Members {
+            texts,
+            first: 0,
+            kept,
+        }
+    }
+
+    /// One member.
+    pub(crate) fn one(alloc: Global, text: String) -> Result<Members, AllocError>
+        ensures { IfOk result (λ one. one ≡ text ∷ []) }
+    {
+        let mut texts = Vec::with_capacity(alloc, 1)?;
+        texts.push(text)?;
+        Ok(Members::new(texts))
+    }
+
+    /// The members.
+    pub fn as_slice(&self) -> &[String]
+        ensures { result.now ≡ self.now }
+    {
+        &self.texts[self.first..]
+    }
+
+    /// Drops the first members: as many as the count says, or all if there are fewer. No other member is moved.
+    pub(crate) fn drop_first(&mut self, count: usize)
+        ensures { self.new ≡ drop count self.old }
+    {
+        let left = self.texts.len() - self.first;
+        self.first += count.min(left);
+        self.kept = None;
+    }
+
+    /// Writes the text over the only one that the list has, dropped or not; or returns it if there is another number of
+    /// them.
+    pub(crate) fn replace_only(&mut self, text: String) -> Result<(), String>
+        ensures ok { OnOk result (self.new ≡ text ∷ []) }
+        ensures err { OnErr result (self.new ≡ self.old) }
+        ensures back { IfErr result (λ given. given ≡ text) }
+    {
+        if self.texts.len() != 1 {
+            return Err(text);
+        }
+        self.texts[0] = text;
+        self.first = 0;
+        self.kept = None;
+        Ok(())
+    }
+
+    /// The text of the members in an environment, if it is kept.
+    pub fn text(&self) -> Option<&str>
+        ensures { IfSome result (λ text. text.now ≡ value_text (map string_bytes self.now)) }
+    {
+        match &self.kept {
+            Some(text) => Some(text.as_str()),
+            None => None,
+        }
+    }
+
+    /// Keeps the text of the members in an environment.
+    pub(crate) fn keep(&mut self, text: String)
+        requires { string_bytes text ≡ value_text (map string_bytes self.old) }
+        ensures { self.new ≡ self.old }
+    {
+        self.kept = Some(text);
+    }
+}

@@ -1,0 +1,4 @@
+pub mod Made
+pub mod Quotes
+pub mod Walks
+pub mod Written

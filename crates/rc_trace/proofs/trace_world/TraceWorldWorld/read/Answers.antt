@@ -1,0 +1,5 @@
+use Rattle.rc_trace.proofs.Made.{made_on}
+use Rattle.rc_trace.proofs.trace_world.TraceWorldWorld.read.Goals as goal
+
+pub invariant_of-self : goal.invariant_of-self
+invariant_of-self g c = record { made = made_on _ _ _ _ _ _ _ _ c.args.self.now.made c.read-said.ensures.recorded c.of_bytes.ensures c.show.ensures.trail }

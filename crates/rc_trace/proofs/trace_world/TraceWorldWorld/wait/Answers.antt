@@ -1,0 +1,5 @@
+use Rattle.rc_trace.proofs.Made.{made_on}
+use Rattle.rc_trace.proofs.trace_world.TraceWorldWorld.wait.Goals as goal
+
+pub invariant_of-self : goal.invariant_of-self
+invariant_of-self g c = record { made = made_on _ _ _ _ _ _ _ _ c.args.self.now.made c.wait-said.ensures c.of_ending.ensures c.show.ensures.trail }
