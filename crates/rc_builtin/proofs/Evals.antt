@@ -1,8 +1,6 @@
 -- What a text comes to that is run as a script.
 use Rattle.std.proofs.Common.{rules, ◌≡◌, ℕ, List, ◌∷◌, Option, Some, None, Result, Ok, Err, map, string_bytes, refl, ap, sym, subst, ◌∙◌}
 use Rattle.std.specs.Prelude.{IfErr, IfOk, Vec, codes}
-use Rattle.std.specs.Result.{IsOkAnd, MatchResult}
-use Rattle.std.specs.declared.alloc.AllocError.{AllocError}
 use Rattle.std.specs.declared.alloc.Global.{Global}
 use Rattle.std.specs.declared.string.String.{String}
 use Rattle.law_syntax.proofs.Decided.{never_both}
@@ -12,7 +10,7 @@ use Rattle.rc_code.specs.Views.{code_of}
 use Rattle.rc_code.specs.declared.code.Code.{Code}
 use Rattle.rc_scope.specs.CompiledTexts.{IsCodeOfText}
 use Rattle.rc_builtin.specs.Outcomes.{RunsWords}
-use Rattle.rc_builtin.specs.Scripts.{Compiles}
+use Rattle.rc_builtin.specs.Scripts.{Compiles, IsCodeOf, IsCompiled}
 use Rattle.rc_builtin.specs.declared.simple_commands.Outcome.TheVariants as words
 use Rattle.rc_model.specs.Code.Layout.{code}
 use Rattle.rc_model.specs.Mirrors.TreeOfText.{tree_of}
@@ -27,8 +25,6 @@ use Rattle.rc_model.specs.Syntax.Tree.{Node, cmd}
 use Rattle.rc_model.specs.declared.fault.InputError.{InputError}
 use Rattle.rc_model.specs.declared.fault.InputError.TheVariants.{Fault}
 use Rattle.rc_parser.specs.Faults.{Refuses}
-use Rattle.rc_parser.specs.Parsed.{Parses}
-use Rattle.rc_tree.specs.declared.types.Cmd.{Cmd}
 use Rattle.rc_builtin.specs.Files.{after_file, got_of}
 use Rattle.rc_builtin.specs.declared.dot.ReadFile.{ReadFile}
 use Rattle.rc_world.specs.Comes.{Left}
@@ -37,10 +33,6 @@ use Rattle.rc_world.specs.declared.starts.Stop.TheVariants.{NoMemory}
 use Rattle.rc_world.proofs.Joins.{left_here, ran_as}
 use Rattle.rc_builtin.specs.declared.simple_commands.Outcome.{Outcome}
 use Rattle.rc_builtin.proofs.Left.{words_after}
-use Rattle.law_handed.proofs.Characters.{accepted_are_scripts}
-use Rattle.rc_model.specs.Handed.Proper.{IsProperTree}
-use Rattle.rc_tree.specs.declared.types.Cmd.{Cmd}
-use Rattle.rc_tree.specs.View.{cmd_tree}
 
 -- a text that is refused has no tree
 no_tree : (text : List ℕ) (fault : SyntaxFault) → IsRefused text fault → (found : Option (Node cmd)) → tree_of text ≡ found → found ≡ None
@@ -48,21 +40,19 @@ no_tree text fault refused None h = refl
 no_tree text fault refused (Some d) h = absurd (never_both text fault d refused ((finds_the_tree text d).0 h))
 
 -- the fault of a text that is refused
-pub fault_of : (text : List ℕ) (parsed : Result Cmd (InputError SyntaxFault)) (e : InputError SyntaxFault) (f : SyntaxFault) → parsed ≡ Err e → e ≡ Fault f → Parses text parsed → IsRefused text f
-fault_of text parsed e f is same parses = subst (λ z. Refuses z text) same (subst (λ r. IfErr r (λ x. Refuses x text)) is parses.refused)
+pub fault_of : (text : List ℕ) (made : Result Code (InputError SyntaxFault)) (f : SyntaxFault) → made ≡ Err (Fault f) → IsCompiled text made → IsRefused text f
+fault_of text made f is h = subst (λ r. IfErr r (λ x. Refuses x text)) is h.refused
+
+pub code_in : (text : List ℕ) (made : Result Code (InputError SyntaxFault)) (body : Code) → made ≡ Ok body → IsCompiled text made → IsCodeOf text body
+code_in text made body is h = subst (λ r. IfOk r (IsCodeOf text)) is h.made
 
 -- a text is compiled, or refused
 module _ (s : State) (text : List ℕ) where
   compiles : (d : Node cmd) (body : Code) → IsAccepted text d → code_of body ≡ code d → Compiles text s s (Some body)
   compiles d body accepted e = (d, (finds_the_tree text d).1 accepted, e, refl)
 
-  -- its code is handed on
-  pub hands_on : (d : Node cmd) → IsAccepted text d → (made : Result Code AllocError) (handed : Result (Option Code) AllocError) → IfOk made (λ body. code_of body ≡ code d)
-      → MatchResult made (λ body. IsOkAnd handed (λ found. found ≡ Some body)) (λ e. handed ≡ Err e) → IfOk handed (λ found. Compiles text s s found)
-  hands_on d accepted (Ok body) (Ok found) e h = subst (λ x. Compiles text s s x) (sym h) (compiles d body accepted e)
-  hands_on d accepted (Ok body) (Err why) e h = tt
-  hands_on d accepted (Err why) (Err same) e h = tt
-  hands_on d accepted (Err why) (Ok found) e h = absurd (search (rules, h))
+  pub compiles_by : (body : Code) → IsCodeOf text body → Compiles text s s (Some body)
+  compiles_by body h = compiles h.tree body h.accepted h.code_is
 
   pub refuses : (t : State) (fault : SyntaxFault) → IsRefused text fault → t ≡ with_status s (codes "syntax error") → Compiles text s t None
   refuses t fault refused e = (no_tree text fault refused (tree_of text) refl, e)
@@ -132,8 +122,3 @@ module _ (a b : Option (List Event)) (s : State) (ws : List (List ℕ)) (name : 
     pub runs_file : (d : Option (List Event)) (t : State) (r : Result Outcome Stop) → (got_of read).why ≡ None
         → RunsWords b d (as_body_with args (tree_of read.reader) s) t r → RunsWords a d (dot ws s) t r
     runs_file d t r h k = words_after a b d _ _ t r (came_so None h) k
-
--- the tree that is found is that of an accepted script, and so it is proper
-pub proper_if_accepted : {E : Type 0} (text : List ℕ) (r : Result Cmd E) → IfOk r (λ x. IsAccepted text (cmd_tree x)) → IfOk r (λ x. IsProperTree (cmd_tree x))
-proper_if_accepted text (Ok x) h = accepted_are_scripts text (cmd_tree x) h
-proper_if_accepted text (Err e) h = tt

@@ -11,7 +11,7 @@ ghost use Rattle.rc_builtin.specs.Outcomes.{RunsWords};
 ghost use Rattle.rc_scope.specs.States.{state_of};
 ghost use Rattle.rc_world.specs.Comes.{GoesOn, Reads};
 
-use crate::scripts::compiled;
+use crate::scripts::{compile_read, compiled};
 use crate::simple_commands::{Outcome, name_and_args};
 use rc_parser::Reader;
 use rc_pipes::{misuse, open_file};
@@ -89,7 +89,7 @@ fn run_read(
         (state_of state.new) (Ok outcome)) }
     ensures err { OnErr result (state_of state.new ≡ state_of state.old) }
 {
-    let Some(body) = compiled(alloc, state, reader.finish())? else {
+    let Some(body) = compiled(state, compile_read(alloc, reader))? else {
         return Ok(Outcome::Finished);
     };
     Ok(Outcome::Call { args, body })

@@ -8,9 +8,8 @@ ghost use Rattle.rc_model.specs.Syntax.Text.{spaced};
 ghost use Rattle.rc_builtin.specs.Outcomes.{RunsWords};
 ghost use Rattle.rc_scope.specs.States.{state_of};
 
-use crate::scripts::compiled;
+use crate::scripts::{compile_script, compiled};
 use crate::simple_commands::Outcome;
-use rc_parser::parse;
 use rc_scope::State;
 use rc_text::flat;
 use std::alloc::{AllocError, Global};
@@ -21,7 +20,7 @@ fn eval_new(alloc: Global, state: &mut State, text: String) -> Result<Outcome, A
         (as_body (tree_of (string_bytes text)) (state_of state.old)) (state_of state.new) (Ok outcome)) }
     ensures err { OnErr result (state_of state.new ≡ state_of state.old) }
 {
-    match compiled(alloc, state, parse(alloc, text.as_bytes()))? {
+    match compiled(state, compile_script(alloc, text.as_bytes()))? {
         Some(body) => {
             state.keep_code(text, &body)?;
             Ok(Outcome::Body(body))

@@ -18,5 +18,6 @@ pub use directories::change_dir;
 pub use exits::exit_status;
 pub use known_names::whatis;
 pub use rc_model::Builtin;
+pub use scripts::compile_script;
 pub use shifts::shift;
 pub use simple_commands::{Outcome, run_words};

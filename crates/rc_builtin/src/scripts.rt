@@ -1,31 +1,71 @@
-//! Texts that become scripts, for `eval` and `.`.
+//! Texts that become scripts, for `eval` and `.`, and for a script itself.
 
-ghost use Rattle.std.specs.Prelude.{◌≡◌, IfOk, List, OnErr, ℕ};
-ghost use Rattle.rc_model.specs.Handed.Proper.{IsProperTree};
-ghost use Rattle.rc_builtin.specs.Scripts.{Compiles};
-ghost use Rattle.rc_parser.specs.Parsed.{Parses};
+ghost use Rattle.std.specs.Prelude.{◌≡◌, IfOk, List, OnErr, OnOk, ℕ};
+ghost use Rattle.rc_code.specs.Compiled.{HasCompiled};
+ghost use Rattle.rc_lexer.specs.Views.{tokens_of};
+ghost use Rattle.rc_model.specs.Syntax.Accepted.{HasTokens};
+ghost use Rattle.rc_model.specs.Syntax.Tree as tree;
+ghost use Rattle.rc_model.specs.Syntax.Tree.{Many, snoc};
+ghost use Rattle.rc_tree.specs.View.{item_tree};
+ghost use Rattle.rc_builtin.specs.Scripts.{Compiles, IsCompiled};
 ghost use Rattle.rc_scope.specs.States.{state_of};
-ghost use Rattle.rc_tree.specs.View.{cmd_tree};
 
-use rc_code::{Code, compile};
-use rc_parser::{InputError, ScriptError};
+use rc_code::{Code, Compiler};
+use rc_parser::{InputError, Items, Reader, ScriptError, Source};
 use rc_scope::State;
-use rc_tree::Cmd;
+use rc_tree::Item;
 use std::alloc::{AllocError, Global};
 
-/// Compiles a text, given the result of its parse. A text that is refused has no code, and sets the status.
+/// Compiles an item, and drops it.
+fn compile_item(compiler: &mut Compiler, item: Item) -> Result<(), AllocError>
+    ensures { (items : Many tree.item) → HasCompiled items compiler.old →
+        OnOk result (HasCompiled (snoc items (item_tree item)) compiler.new) }
+{
+    compiler.add(&item)
+}
+
+/// Compiles a script with its tokens. Each item is parsed, compiled and dropped before the next.
+fn compile_items(alloc: Global, source: &Source<'_>) -> Result<Code, ScriptError>
+    requires { HasTokens source.now.script.now (tokens_of source.now.script.now source.now.tokens.now) }
+    ensures { IsCompiled source.now.script.now result }
+{
+    let mut items = Items::new(alloc, source);
+    let mut compiler = Compiler::new(alloc);
+    while let Some(item) = items.next()? {
+        compile_item(&mut compiler, item)?;
+    }
+    Ok(compiler.finish()?)
+}
+
+/// Compiles the text that was read. The faults come in the order of those of `parse`.
+pub(crate) fn compile_read(alloc: Global, reader: Reader) -> Result<Code, ScriptError>
+    ensures { IsCompiled reader result }
+{
+    let lexed = reader.lexed()?;
+    compile_items(alloc, &lexed.source())
+}
+
+/// Compiles a script into the code of its tree, which never stands in memory as a whole, or returns its first fault, as
+/// `parse` does.
+pub fn compile_script(alloc: Global, script: &[u8]) -> Result<Code, ScriptError>
+    ensures { IsCompiled script.now result }
+{
+    let mut reader = Reader::new(alloc);
+    reader.feed(script)?;
+    compile_read(alloc, reader)
+}
+
+/// The code of a text, given the result of its compilation. A text that is refused has no code, and sets the status.
 pub(crate) fn compiled(
-    alloc: Global,
     state: &mut State,
-    parsed: Result<Cmd, ScriptError>,
+    made: Result<Code, ScriptError>,
 ) -> Result<Option<Code>, AllocError>
-    requires { IfOk parsed (λ cmd. IsProperTree (cmd_tree cmd)) }
-    ensures ok { (text : List ℕ) → Parses text parsed →
+    ensures ok { (text : List ℕ) → IsCompiled text made →
         IfOk result (λ code. Compiles text (state_of state.old) (state_of state.new) code) }
     ensures err { OnErr result (state_of state.new ≡ state_of state.old) }
 {
-    match parsed {
-        Ok(cmd) => compile(alloc, &cmd).map(Some),
+    match made {
+        Ok(code) => Ok(Some(code)),
         Err(InputError::Fault(_)) => {
             state.set_status("syntax error")?;
             Ok(None)

@@ -4,3 +4,5 @@ pub mod Parts
 pub mod Branches
 pub mod OtherForms
 pub mod ProperTrees
+pub mod Items
+pub mod Frozen

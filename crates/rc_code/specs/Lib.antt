@@ -5,3 +5,4 @@ pub mod Views
 pub mod Writing
 pub mod Emission
 pub mod ProperCode
+pub mod Compiled

@@ -68,7 +68,7 @@ pub(crate) fn emit_cmd(
 /// Emits items; those in the background are kept.
 #[cycle(emit)]
 #[tactic(auto, using(crate::proofs::Parts::emitting))]
-fn emit_items(
+pub(crate) fn emit_items(
     alloc: Global,
     code: &mut Listing,
     items: &[Item],

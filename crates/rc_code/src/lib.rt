@@ -2,6 +2,7 @@
 #![tactic(auto)]
 
 mod code;
+mod compiler;
 mod emit_args;
 mod emit_commands;
 mod emit_plain;
@@ -22,6 +23,7 @@ ghost use Rattle.rc_code.specs.Views.{code_of};
 ghost use Rattle.rc_code.specs.Writing.{Writes};
 
 pub use code::{Code, Op};
+pub use compiler::Compiler;
 use emit_commands::emit_cmd;
 use listing::Listing;
 pub use pipelines::Pipeline;

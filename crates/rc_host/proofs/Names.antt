@@ -1,9 +1,12 @@
 -- Texts that stand one after the other, each ended by a byte 0.
-use Rattle.std.proofs.Common.{◌≡◌, ◌≢◌, refl, ap, sym, ◌∙◌, ℕ, suc, ◌<◌, ◌+◌, ◌-◌, ◌==◌, ◌||◌, ◌&&◌, not, if◌then◌else◌, Bool, true, false, List, [], ◌∷◌, ◌++◌, length, take, drop, append_assoc, slice_index, EachIndex, IsUtf8, codes, arith}
+use Rattle.std.proofs.Common.{◌≡◌, ◌≢◌, refl, ap, sym, ◌∙◌, ℕ, suc, ◌<◌, ◌≤◌, ◌+◌, ◌-◌, ◌==◌, ◌||◌, ◌&&◌, not, if◌then◌else◌, Bool, cond, true, false, List, [], ◌∷◌, ◌++◌, length, take, drop, count_by, append_assoc, slice_index, EachIndex, IsUtf8, codes, arith}
 use Rattle.std.specs.Str.{bytes_eq, is_utf8}
+use Rattle.std.proofs.Math.Seq.{drop-cons}
 use Rattle.std.proofs.lemmas.Grind.{common_steps}
-use Rattle.std.proofs.lemmas.List.{append-nil, get_or-drop, length-drop, take-append-drop}
+use Rattle.std.proofs.lemmas.List.{append-nil, get_or-take, length-drop, length-take-le, take-append-drop}
+use Rattle.std.proofs.lemmas.List.Sums.{sum_by-cons, sum_by-drop_more, sum_by-take-drop}
 use Rattle.std.proofs.lemmas.Str.{is_utf8-from_IsUtf8, IsUtf8-from_is_utf8}
+use Rattle.bstr.specs.Find.{Nowhere, Passes, is_byte}
 use Rattle.rc_host.specs.Names.{named, entered, kept, ended_from}
 use Rattle.rc_host.specs.declared.ended.Sort.{Sort}
 
@@ -49,38 +52,85 @@ past sort read (byte ∷ bytes) rest clear =
     ∙ past sort (read ++ byte ∷ []) bytes rest (clear_rest byte bytes clear)
     ∙ ap (λ r. ended_from sort r rest) (append_assoc read (byte ∷ []) bytes)
 
-shorter : (bytes others : List ℕ) (n byte : ℕ) → drop n bytes ≡ byte ∷ others → n < length bytes
-shorter bytes others n byte e = let h : length bytes - n ≡ suc (length others) = sym (length-drop n bytes) ∙ ap length e in omega arith
+-- the byte at this place is 0
+abbrev IsEnd : List ℕ → ℕ → Type 0
+IsEnd bytes n = Passes (is_byte 0) bytes n
+
+zero_byte : (byte : ℕ) → (byte == 0) ≡ true → byte ≡ 0
+zero_byte byte h = grind (arith, common_steps)
+
+clear_whole : (bytes : List ℕ) → Nowhere (IsEnd bytes) 0 (length bytes) → Clear bytes
+clear_whole bytes none i lt = λ same. none i (omega arith) lt (ap (λ b. b == 0) same)
+
+clear_front : (bytes : List ℕ) (n : ℕ) → n < length bytes → Nowhere (IsEnd bytes) 0 n → Clear (take n bytes)
+clear_front bytes n inside none i lt =
+    let short : length (take n bytes) ≡ n = length-take-le n bytes (omega arith) in
+    let below : i < n = omega arith in
+    λ same. none i (omega arith) below (ap (λ b. b == 0) (sym (get_or-take n bytes i 0 below) ∙ same))
 
 -- what stands after the bytes of the first text begins with a byte 0
-ended : (bytes others : List ℕ) (n byte : ℕ) → (n < length bytes → slice_index bytes n ≡ 0) → drop n bytes ≡ byte ∷ others → byte ≡ 0
-ended bytes others n byte nul e =
-    let same : n + 0 ≡ n = omega arith in
-    ap (λ l. slice_index l 0) (sym e) ∙ get_or-drop n bytes 0 0 ∙ ap (slice_index bytes) same ∙ nul (shorter bytes others n byte e)
+ended : (bytes : List ℕ) (n : ℕ) → n < length bytes → IsEnd bytes n → drop n bytes ≡ 0 ∷ drop (n + 1) bytes
+ended bytes n inside end =
+    let next : suc n ≡ n + 1 = omega arith in
+    drop-cons bytes n 0 inside ∙ ap (λ b. b ∷ drop (suc n) bytes) (zero_byte (slice_index bytes n) end) ∙ ap (λ m. 0 ∷ drop m bytes) next
 
 -- the first text, and those after its byte 0
-first_text : (sort : Sort) (bytes others : List ℕ) (n byte : ℕ) → Clear (take n bytes) → (n < length bytes → slice_index bytes n ≡ 0) → drop n bytes ≡ byte ∷ others
-    → ended_from sort [] bytes ≡ kept sort (take n bytes) ++ ended_from sort [] others
-first_text sort bytes others n byte clear nul e =
-    ap (ended_from sort []) (sym (take-append-drop n bytes) ∙ ap (λ rest. take n bytes ++ rest) (e ∙ ap (λ b. b ∷ others) (ended bytes others n byte nul e)))
-    ∙ past sort [] (take n bytes) (0 ∷ others) clear
-
-none_left : (bytes : List ℕ) → length bytes ≡ 0 → bytes ≡ []
-none_left [] h = refl
-none_left (byte ∷ bytes) h = cc
+first_text : (sort : Sort) (bytes : List ℕ) (n : ℕ) → n < length bytes → Nowhere (IsEnd bytes) 0 n → IsEnd bytes n
+    → ended_from sort [] bytes ≡ kept sort (take n bytes) ++ ended_from sort [] (drop (n + 1) bytes)
+first_text sort bytes n inside none end =
+    ap (ended_from sort []) (sym (take-append-drop n bytes) ∙ ap (λ rest. take n bytes ++ rest) (ended bytes n inside end))
+    ∙ past sort [] (take n bytes) (0 ∷ drop (n + 1) bytes) (clear_front bytes n inside none)
 
 -- a text is added to those before it
-pub text_added : (sort : Sort) (all before texts : List (List ℕ)) (bytes text others : List ℕ) (n byte : ℕ) → Clear (take n bytes) → (n < length bytes → slice_index bytes n ≡ 0)
-    → text ≡ take n bytes → drop n bytes ≡ byte ∷ others → before ++ ended_from sort [] bytes ≡ all → texts ≡ before ++ kept sort text → texts ++ ended_from sort [] others ≡ all
-text_added sort all before texts bytes text others n byte clear nul is e was now =
+pub text_added : (sort : Sort) (all before texts : List (List ℕ)) (bytes text others : List ℕ) (n : ℕ) → n < length bytes → Nowhere (Passes (is_byte 0) bytes) 0 n
+    → Passes (is_byte 0) bytes n → text ≡ take n bytes → others ≡ drop (n + 1) bytes → before ++ ended_from sort [] bytes ≡ all → texts ≡ before ++ kept sort text
+    → texts ++ ended_from sort [] others ≡ all
+text_added sort all before texts bytes text others n inside none end is left was now =
     ap (λ l. l ++ ended_from sort [] others) (now ∙ ap (λ l. before ++ kept sort l) is)
     ∙ append_assoc before (kept sort (take n bytes)) (ended_from sort [] others)
-    ∙ ap (λ l. before ++ l) (sym (first_text sort bytes others n byte clear nul e)) ∙ was
+    ∙ ap (λ l. before ++ (kept sort (take n bytes) ++ ended_from sort [] l)) left
+    ∙ ap (λ l. before ++ l) (sym (first_text sort bytes n inside none end)) ∙ was
 
 -- with no byte 0 left those before are all
-pub texts_end : (sort : Sort) (all texts : List (List ℕ)) (bytes after : List ℕ) (n : ℕ) → Clear (take n bytes) → after ≡ drop n bytes → length after ≡ 0
-    → texts ++ ended_from sort [] bytes ≡ all → texts ≡ all
-texts_end sort all texts bytes after n clear e h was =
-    let none : ended_from sort [] bytes ≡ [] =
-    ap (ended_from sort []) (sym (take-append-drop n bytes) ∙ ap (λ rest. take n bytes ++ rest) (sym e ∙ none_left after h)) ∙ past sort [] (take n bytes) [] clear in
-    sym (append-nil texts) ∙ ap (λ l. texts ++ l) (sym none) ∙ was
+pub texts_end : (sort : Sort) (all texts : List (List ℕ)) (bytes : List ℕ) → Nowhere (Passes (is_byte 0) bytes) 0 (length bytes) → texts ++ ended_from sort [] bytes ≡ all → texts ≡ all
+texts_end sort all texts bytes none was =
+    let empty : ended_from sort [] bytes ≡ [] = ap (ended_from sort []) (sym (append-nil bytes)) ∙ past sort [] bytes [] (clear_whole bytes none) in
+    sym (append-nil texts) ∙ ap (λ l. texts ++ l) (sym empty) ∙ was
+
+-- how many of the bytes are 0
+abbrev ends : List ℕ → ℕ
+ends bytes = count_by (λ byte. byte == 0) bytes
+
+zero_more : (n : ℕ) → 0 + n ≡ n
+zero_more n = omega arith
+
+none_counted : (bytes : List ℕ) → Clear bytes → ends bytes ≡ 0
+none_counted [] clear = refl
+none_counted (byte ∷ bytes) clear =
+    sum_by-cons (λ b. cond (b == 0) 1 0) byte bytes ∙ ap (λ is. cond is 1 0 + ends bytes) (other_byte byte (clear 0 (omega arith)))
+    ∙ zero_more (ends bytes) ∙ none_counted bytes (clear_rest byte bytes clear)
+
+one_more : (front back whole one others count all : ℕ) → front + back ≡ whole → front ≡ 0 → back ≡ one + others → one ≡ 1 → count + whole ≡ all → count + 1 + others ≡ all
+one_more front back whole one others count all parts none more is was = omega arith
+
+none_more : (left count all : ℕ) → left ≡ 0 → count + left ≡ all → count ≡ all
+none_more left count all none was = omega arith
+
+-- the byte 0 of the first text is counted
+pub end_counted : (bytes others : List ℕ) (n count all : ℕ) → n < length bytes → Nowhere (Passes (is_byte 0) bytes) 0 n → Passes (is_byte 0) bytes n → others ≡ drop (n + 1) bytes
+    → count + count_by (λ byte. byte == 0) bytes ≡ all → count + 1 + count_by (λ byte. byte == 0) others ≡ all
+end_counted bytes others n count all inside none end left was =
+    let one = cond (slice_index bytes n == 0) 1 0 in
+    one_more (ends (take n bytes)) (ends (drop n bytes)) (ends bytes) one (ends others) count all (sum_by-take-drop (λ b. cond (b == 0) 1 0) bytes n)
+    (none_counted (take n bytes) (clear_front bytes n inside none))
+    (sum_by-drop_more (λ b. cond (b == 0) 1 0) bytes n 0 inside ∙ ap (λ l. one + ends l) (sym left)) (ap (λ is. cond is 1 0) end) was
+
+-- with no byte 0 left all are counted
+pub counted_end : (bytes : List ℕ) (count all : ℕ) → Nowhere (Passes (is_byte 0) bytes) 0 (length bytes) → count + count_by (λ byte. byte == 0) bytes ≡ all → count ≡ all
+counted_end bytes count all none was = none_more (ends bytes) count all (none_counted bytes (clear_whole bytes none)) was
+
+-- what is left is shorter by the text and its byte 0
+pub left_shorter : (bytes others : List ℕ) (n count all : ℕ) → n < length bytes → others ≡ drop (n + 1) bytes → count + length bytes ≤ all → count + 1 + length others ≤ all
+left_shorter bytes others n count all inside left was =
+    let rest : length others ≡ length bytes - (n + 1) = ap length left ∙ length-drop (n + 1) bytes in
+    omega arith

@@ -1,11 +1,16 @@
 -- A table of numbered things, as a list of places: a place holds a thing or is free.
-use Rattle.std.specs.Prelude.{◌≡◌, ◌≢◌, ℕ, ◌+◌, ◌<◌, ◌≤◌, ◌^◌, List, Option, None, IsSome, IsSomeAnd, slice_index_or}
+use Rattle.std.specs.Prelude.{◌≡◌, ◌≢◌, ℕ, ◌+◌, ◌<◌, ◌≤◌, ◌^◌, List, length, Option, None, IsSome, IsSomeAnd, slice_index_or}
 use Rattle.rc_model.specs.declared.call.Fault.{Fault}
 use Rattle.rc_model.specs.declared.call.Fault.TheVariants.{Other, NoMemory}
 
 -- what is held at a number, if anything
 abbrev pub held_at : {T : Type 0} → List (Option T) → ℕ → Option T
 held_at places n = slice_index_or places n None
+
+-- no place before this one is free, and it is a place or the end of them
+pub record HasNoneFreeBefore {T : Type 0} (places : List (Option T)) (first : ℕ) : Type 0 where
+  pub within : first ≤ length places
+  pub held : (k : ℕ) → k < first → IsSome (held_at places k)
 
 -- the lowest of the free numbers from `start`
 pub record IsLeastFreeFrom {T : Type 0} (places : List (Option T)) (start n : ℕ) : Type 0 where

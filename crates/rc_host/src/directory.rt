@@ -63,7 +63,7 @@ fn names_of<R: Read>(alloc: Global, directory: &mut R) -> Result<Vec<String>, Fa
     let bytes = read_whole(alloc, directory)?;
     let mut names = Vec::new(alloc);
     match push_ended(&mut names, &bytes, Sort::Names) {
-        Ok(()) => Ok(names),
+        Ok(_) => Ok(names),
         Err(AllocError) => Err(Fault::NoMemory),
     }
 }

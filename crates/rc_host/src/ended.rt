@@ -1,7 +1,8 @@
 //! Texts in a sequence, each terminated by a byte 0.
-ghost use Rattle.std.specs.Prelude.{◌≡◌, ◌++◌, ◌∷◌, [], OnOk, MatchOption, map, string_bytes};
+ghost use Rattle.std.specs.Prelude.{◌≡◌, ◌==◌, ◌++◌, ◌∷◌, [], IfOk, OnOk, MatchOption, count_by, map, string_bytes};
 ghost use Rattle.rc_host.specs.Names.{named, entered, kept, ended_from};
 
+use bstr::ByteSlice;
 use std::alloc::AllocError;
 use std::str;
 
@@ -14,24 +15,24 @@ pub(crate) enum Sort {
     Entries,
 }
 
-/// Adds those of the texts in the bytes that are kept.
+/// Adds those of the texts in the bytes that are kept, and returns how many texts there are.
 pub(crate) fn push_ended(
     texts: &mut Vec<String>,
     bytes: &[u8],
     sort: Sort,
-) -> Result<(), AllocError>
-    ensures { OnOk result (map string_bytes texts.new.items
+) -> Result<usize, AllocError>
+    ensures kept { OnOk result (map string_bytes texts.new.items
         ≡ map string_bytes texts.old.items ++ ended_from sort [] bytes.now) }
+    ensures count { IfOk result (λ count. count ≡ count_by (λ byte. byte == 0) bytes.now) }
 {
     let mut rest = bytes;
-    loop {
-        let (text, after) = rest.split_at(os::name_length(rest));
-        let Some((_, others)) = after.split_first() else {
-            return Ok(());
-        };
-        push_kept(texts, text, sort)?;
-        rest = others;
+    let mut count = 0usize;
+    while let Some(length) = rest.find_byte(0) {
+        push_kept(texts, &rest[..length], sort)?;
+        rest = &rest[length + 1..];
+        count += 1;
     }
+    Ok(count)
 }
 
 /// Adds the text, if it is kept.

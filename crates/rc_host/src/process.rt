@@ -1,5 +1,6 @@
 //! What a program gets from its process.
-ghost use Rattle.std.specs.Prelude.{◌≡◌, ◌==◌, ◌++◌, None, IfOk, OnErr, codes, count_by, drop, map, string_bytes};
+ghost use Rattle.std.specs.Prelude.{◌≡◌, ◌==◌, ◌≤◌, ◌++◌, None, IfOk, IfSome, OnErr, codes, count_by, drop, map};
+ghost use Rattle.std.specs.Prelude.{string_bytes, vec_len};
 ghost use Rattle.std.specs.Fmt.{decimal};
 ghost use Rattle.std.specs.Path.{path_buf_bytes};
 ghost use Rattle.rc_host.specs.Names.{entries_in};
@@ -7,11 +8,13 @@ ghost use Rattle.rc_host.specs.Process.{arguments_error};
 ghost use Rattle.rc_world.specs.Faults.{fault_at};
 
 use crate::ended::{Sort, push_ended, push_kept};
+use crate::files::read_again;
 use crate::leaving::open_null;
 use rc_model::InputError;
 use rc_world::{Fault, fault_of};
 use std::alloc::{AllocError, AllocGlobal, Global};
 use std::env::FillError;
+use std::io::Read;
 use std::os::fd::{AsFd, IntoRawFd};
 use std::path::PathBuf;
 use std::rt::{Env, HostRuntime};
@@ -20,6 +23,15 @@ use thiserror::Error;
 
 /// Linux's number for a descriptor that is not open.
 const NOT_OPEN: i32 = 9;
+
+/// How many bytes of the environment are read at first. A usual one has fewer.
+const ENVIRONMENT_BYTES: usize = 4_096;
+
+/// For how many entries of the environment there is room at first.
+const USUAL_ENTRIES: usize = 64;
+
+/// For how many bytes of an entry that is taken by its index there is room at first.
+const ENTRY_BYTES: usize = 256;
 
 /// The fault of the arguments of a program.
 #[derive(Clone, Copy, Debug, Error)]
@@ -60,28 +72,36 @@ fn arguments_error(error: &io::Error) -> InputError<ArgumentsFault>
 
 /// The entries of the environment that are UTF-8, in their order.
 pub fn entries(rt: &HostRuntime) -> Result<Vec<String>, AllocError> {
-    if let Ok(bytes) = fs::read(rt, "/proc/self/environ") {
-        if has_entries(rt, count_ended(&bytes)) {
-            return entries_in(rt.alloc(), &bytes);
+    if let Ok(bytes) = environment(rt) {
+        let (entries, count) = entries_in(rt.alloc(), &bytes)?;
+        if has_entries(rt, count) {
+            return Ok(entries);
         }
     }
     entries_by_place(rt)
 }
 
-/// The entries that are UTF-8, from bytes in which a byte 0 terminates each entry.
-fn entries_in(alloc: Global, bytes: &[u8]) -> Result<Vec<String>, AllocError>
-    ensures { IfOk result (λ entries. map string_bytes entries.items ≡ entries_in bytes.now) }
-{
-    let mut entries = Vec::new(alloc);
-    push_ended(&mut entries, bytes, Sort::Entries)?;
-    Ok(entries)
+/// What Linux has of the environment of this process: bytes in which a byte 0 terminates each entry. A read that leaves
+/// room is the last one; if it left out an entry, there are fewer than the environment has.
+fn environment(rt: &HostRuntime) -> io::Result<Vec<u8>> {
+    let mut file = fs::open(rt, "/proc/self/environ")?;
+    let mut bytes = vec![in rt.alloc(); 0u8; ENVIRONMENT_BYTES]?;
+    let count = read_again(&mut file, &mut bytes)?;
+    bytes.truncate(count);
+    if count == ENVIRONMENT_BYTES {
+        file.read_to_end(&mut bytes)?;
+    }
+    Ok(bytes)
 }
 
-/// Counts the terminated texts in the bytes.
-fn count_ended(bytes: &[u8]) -> usize
-    ensures { result ≡ count_by (λ byte. byte == 0) bytes.now }
+/// The entries that are UTF-8, from bytes in which a byte 0 terminates each entry, and how many entries there are.
+fn entries_in(alloc: Global, bytes: &[u8]) -> Result<(Vec<String>, usize), AllocError>
+    ensures entries { IfOk result (λ found. map string_bytes found.0.items ≡ entries_in bytes.now) }
+    ensures count { IfOk result (λ found. found.1 ≡ count_by (λ byte. byte == 0) bytes.now) }
 {
-    bytes.iter().filter(|byte| **byte == 0).count()
+    let mut entries = Vec::with_capacity(alloc, USUAL_ENTRIES)?;
+    let count = push_ended(&mut entries, bytes, Sort::Entries)?;
+    Ok((entries, count))
 }
 
 /// Whether the environment has exactly this many entries.
@@ -98,34 +118,37 @@ fn is_present<R: Env>(rt: &R, place: usize) -> bool {
 /// anew for each.
 pub fn entries_by_place<R: Env + AllocGlobal>(rt: &R) -> Result<Vec<String>, AllocError> {
     let mut entries = Vec::new(rt.alloc());
+    let mut buffer = vec![in rt.alloc(); 0u8; ENTRY_BYTES]?;
     for place in 0..usize::MAX {
-        let Some(bytes) = entry_at(rt, place)? else {
+        let Some(length) = fill_entry(rt, place, &mut buffer)? else {
             break;
         };
-        push_kept(&mut entries, &bytes, Sort::Entries)?;
+        push_kept(&mut entries, &buffer[..length], Sort::Entries)?;
     }
     Ok(entries)
 }
 
-/// The entry at an index of the environment. A buffer that is too small is doubled.
-fn entry_at<R: Env + AllocGlobal>(rt: &R, place: usize) -> Result<Option<Vec<u8>>, AllocError> {
-    let mut size = 256usize;
+/// Fills the buffer with the entry at an index of the environment, and returns the entry's length. A buffer that is
+/// too small is doubled.
+fn fill_entry<R: Env>(
+    rt: &R,
+    place: usize,
+    buffer: &mut Vec<u8>,
+) -> Result<Option<usize>, AllocError>
+    ensures { IfOk result (λ found. IfSome found (λ length. length ≤ vec_len buffer.new)) }
+{
     for _ in 0..usize::BITS {
-        let mut bytes = vec![in rt.alloc(); 0u8; size]?;
-        match rt.var_at(place, &mut bytes) {
-            Ok(length) => {
-                bytes.truncate(length);
-                return Ok(Some(bytes));
-            }
+        match rt.var_at(place, buffer) {
+            Ok(length) => return Ok(Some(length)),
             Err(FillError::NotPresent) => return Ok(None),
-            Err(FillError::TooLong) => size = size.saturating_mul(2),
+            Err(FillError::TooLong) => buffer.resize(buffer.len().saturating_mul(2), 0)?,
         }
     }
     Err(AllocError)
 }
 
-/// The path with which a program starts itself, given its path according to Linux and the number of its process: that
-/// path, or else the link that Linux keeps to the program of a process.
+/// The path with which a program starts itself, given its path according to Linux and, for the case that there is none,
+/// the number of its process: that path, or else the link that Linux keeps to the program of a process.
 pub fn own_path(
     alloc: Global,
     found: io::Result<PathBuf>,

@@ -2,7 +2,7 @@
 ghost use Rattle.std.specs.Prelude.{◌≡◌, ℕ, ◌+◌, ◌<◌, ◌≤◌, List, length, Option, None, Some, option_copied};
 ghost use Rattle.std.specs.Prelude.{IfOk, IfErr, IfSome, IfNone, IsSome};
 ghost use Rattle.rc_host.specs.Table.{held_at, IsLeastFree, IsLeastFreeFrom, AreLeastFree, HoldsTheSame, ChangesOnly};
-ghost use Rattle.rc_host.specs.Table.{HasNoRoom, HasNoRoomFrom, HasNoRoomForTwo};
+ghost use Rattle.rc_host.specs.Table.{HasNoneFreeBefore, HasNoRoom, HasNoRoomFrom, HasNoRoomForTwo};
 
 use rc_world::Fault;
 use std::alloc::Global;
@@ -12,12 +12,16 @@ use std::marker::Model;
 #[derive(Drop)]
 pub(crate) struct Table<T> {
     places: Vec<Option<T>>,
+    /// No place before this one is free.
+    first: usize,
 }
 
 impl<T> Model for Table<T> {
     ghost Value = { List (Option T) };
 
     ghost view = { λ table. table.places.items };
+
+    ghost invariant = { λ table. HasNoneFreeBefore table.places.items table.first };
 }
 
 impl<T: Drop> Table<T> {
@@ -27,6 +31,7 @@ impl<T: Drop> Table<T> {
     {
         Table {
             places: Vec::new(alloc),
+            first: 0,
         }
     }
 
@@ -44,7 +49,10 @@ impl<T: Drop> Table<T> {
         ensures same { HoldsTheSame self.old self.new }
         ensures err { IfErr result (HasNoRoom self.old) }
     {
-        self.room_from(0)
+        let first = self.first;
+        let number = self.room_from(first)?;
+        self.first = number as usize;
+        Ok(number)
     }
 
     /// Returns the two lowest numbers that are not held, and makes room for them.
@@ -107,6 +115,7 @@ impl<T: Drop> Table<T> {
         ensures taken { result ≡ held_at self.old number }
         ensures freed { ChangesOnly self.old self.new number None }
     {
+        self.first = self.first.min(number as usize);
         self.places.get_mut(number as usize)?.take()
     }
 }

@@ -1,6 +1,6 @@
 -- The pieces of a spelling, and its words.
 use Rattle.std.proofs.Common.{◌≡◌, refl, ap, sym, subst, ◌∙◌, ℕ, zero, suc, ◌<◌, ◌≤◌, ◌⊎◌, inl, inr, Bool, true, false, if◌then◌else◌, List, [], ◌∷◌, ◌++◌, length, take, drop, map, codes, Option, Some, None, arith, append_assoc, string_bytes}
-use Rattle.std.specs.Prelude.{option_map}
+use Rattle.std.specs.Prelude.{option_map, is_some}
 use Rattle.std.specs.Str.{IsCharBoundary}
 use Rattle.std.specs.Fmt.{decimal}
 use Rattle.std.specs.declared.alloc.Global.{Global}
@@ -10,12 +10,12 @@ use Rattle.std.proofs.lemmas.Bool.{le-leb, cases_lt, false≢true, lt-leb}
 use Rattle.std.proofs.lemmas.Grind.{common_steps}
 use Rattle.rc_model.specs.Syntax.Tree.{Node, cmd}
 use Rattle.rc_model.specs.Handed.Pieces.{longest_word, most_pieces, one_word, several_words, can_cut, last_cut, pieces, words_of}
-use Rattle.rc_model.specs.Handed.Image.{image_words, node_image}
+use Rattle.rc_model.specs.Handed.Image.{image, image_words, is_short, node_image}
 use Rattle.law_image.proofs.Cuts.{cut_back, cut_here}
 use Rattle.rc_model.specs.declared.fault.InputError.TheVariants as error
 use Rattle.rc_model.specs.declared.fault.ImageFault.TheVariants as fault
 use Rattle.rc_spelling.specs.Faults.{ImageError}
-use Rattle.rc_image.specs.Images.{Refuses, written}
+use Rattle.rc_image.specs.Images.{Refuses, short_image, where_short, written}
 
 -- ** where a text can be cut
 
@@ -127,3 +127,16 @@ unfolding written
 image_written c text e = ap (words_of longest_word) (sym e)
 
 pub ruleset words = (written_one, written_several, written_refused, image_written, common_steps)
+
+-- an image that is short enough is the only word
+only_by : (c : Node cmd) (text : List ℕ) (t : Bool) → is_short (image c) ≡ t → (if t then Some (image c) else None) ≡ Some text → image_words c ≡ Some (text ∷ [])
+only_by c text true e h =
+    ap (λ (t : Bool). if t then Some (one_word (node_image c)) else option_map several_words (pieces most_pieces longest_word (node_image c))) e
+    ∙ ap (option_map (λ (x : List ℕ). x ∷ [])) h
+only_by c text false e h = absurd (false≢true (ap is_some h))
+
+pub only_word : (c : Node cmd) (text : List ℕ) → short_image c ≡ Some text → image_words c ≡ Some (text ∷ [])
+unfolding where_short
+only_word c text h = only_by c text (is_short (image c)) refl h
+
+pub ruleset in_one = (only_word, common_steps)

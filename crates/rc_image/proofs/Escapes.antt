@@ -1,19 +1,20 @@
 -- What the entries of an environment say.
-use Rattle.std.specs.Prelude.{string_bytes, option_map}
-use Rattle.std.proofs.Common.{◌≡◌, ℕ, ◌<◌, suc, List, [], ◌∷◌, ◌++◌, length, drop, map, get_or, refl, sym, ap, ◌∙◌, arith, append_assoc, true, false, cond, ◌==◌, ◌&&◌, if◌then◌else◌, codes, Option, Some, None}
-use Rattle.std.proofs.lemmas.Bool.{ne_eqb}
+use Rattle.std.specs.Prelude.{string_bytes, option_map, IfSome}
+use Rattle.std.proofs.Common.{◌≡◌, ℕ, ◌<◌, suc, List, [], ◌∷◌, ◌++◌, length, drop, map, get_or, refl, sym, ap, ◌∙◌, arith, append_assoc, Bool, true, false, cond, ◌==◌, ◌&&◌, ◌||◌, if◌then◌else◌, codes, Option, Some, None}
+use Rattle.std.proofs.lemmas.Bool.{ne_eqb, eqb-true}
+use mathlib.Core.Bool.{true≢false}
 use Rattle.std.proofs.lemmas.List.{append-nil, map-append}
-use Rattle.std.specs.List.{slice_split, onto_first}
+use Rattle.std.specs.List.{slice_split, onto_first, list_any}
 use Rattle.std.specs.Option.{MatchOption}
 use denote.Ref.{Bor}
 use Rattle.std.specs.declared.alloc.Global.{Global}
 use Rattle.std.specs.declared.string.String.{String}
-use Rattle.rc_model.specs.Syntax.Text.{begins_with}
 use Rattle.rc_model.specs.Run.State.{is_function_name}
 use Rattle.rc_model.specs.Handed.Environment.{cut_entry, with_first, unescaped, entry_members}
+use Rattle.rc_image.specs.Additions.{is_mark}
 use Rattle.rc_image.specs.Entries.{pair_of, function_in}
 use Rattle.law_image.proofs.Members.{past_other}
-use Rattle.rc_image.proofs.Beginnings.{begun_by, not_begun}
+use Rattle.rc_image.proofs.Beginnings.{begun_by, from_mark, not_begun}
 
 -- a text without a byte
 abbrev pub Lacks : ℕ → List ℕ → Type 0
@@ -115,27 +116,91 @@ no_more_members m written s rest whole h k i w =
     ∙ ap (λ t. map string_bytes m ++ t) (sym (last_member rest h))
     ∙ i
 
+-- ** a text without marks
+
+no_mark : (s t u : Bool) → ((s || t) || u) ≡ false → (s ≡ false) × (t ≡ false) × (u ≡ false)
+no_mark false false false h = (refl, refl, refl)
+no_mark true t u h = absurd (true≢false h)
+no_mark false true u h = absurd (true≢false h)
+no_mark false false true h = absurd (true≢false h)
+
+-- its escapes are none
+pub as_it_is : (bs : List ℕ) → list_any is_mark bs ≡ false → unescaped bs ≡ bs
+as_it_is [] h = refl
+as_it_is (b ∷ bs) h =
+    let p = no_mark (b == 1) (b == 2) (list_any is_mark bs) h in
+    past_other b bs p.1 ∙ ap (λ t. b ∷ t) (as_it_is bs p.2)
+
+split_none : (bs : List ℕ) → list_any is_mark bs ≡ false → slice_split (λ b. b == 1) bs ≡ bs ∷ []
+split_none [] h = refl
+split_none (b ∷ bs) h =
+    let p = no_mark (b == 1) (b == 2) (list_any is_mark bs) h in
+    ap (λ t. cond t ([] ∷ slice_split (λ b. b == 1) bs) (onto_first b (slice_split (λ b. b == 1) bs))) p.0
+    ∙ ap (onto_first b) (split_none bs p.2)
+
+-- it is the only member
+pub only_member : (bs : List ℕ) → list_any is_mark bs ≡ false → entry_members bs ≡ bs ∷ []
+only_member bs h = ap (map unescaped) (split_none bs h) ∙ ap (λ t. t ∷ []) (as_it_is bs h)
+
 -- ** functions
 
-pub function_none : (cut : Option (List ℕ × List ℕ)) → cut ≡ None → function_in cut ≡ None
-unfolding function_in
-function_none cut h = ap function_in h
+-- an entry that could be cut is its name, `=` and its text
+whole_first : (b : ℕ) (bs : List ℕ) (cut : Option (List ℕ × List ℕ)) → IfSome cut (λ x. bs ≡ x.0 ++ 61 ∷ x.1) → IfSome (with_first b cut) (λ x. b ∷ bs ≡ x.0 ++ 61 ∷ x.1)
+whole_first b bs None h = tt
+whole_first b bs (Some x) h = ap (λ t. b ∷ t) h
 
-pub function_unmarked : (key image : List ℕ) → ((rest : List ℕ) → key ≡ codes "fn#" ++ rest → ⊥) → function_in (Some (key, image)) ≡ None
+whole_by : (b : ℕ) (bs : List ℕ) (t : Bool) → (b == 61) ≡ t → IfSome (cut_entry bs) (λ x. bs ≡ x.0 ++ 61 ∷ x.1) →
+    IfSome (if t then Some ([], bs) else with_first b (cut_entry bs)) (λ x. b ∷ bs ≡ x.0 ++ 61 ∷ x.1)
+whole_by b bs true e h = ap (λ c. c ∷ bs) (eqb-true b 61 e)
+whole_by b bs false e h = whole_first b bs (cut_entry bs) h
+
+whole : (bs : List ℕ) → IfSome (cut_entry bs) (λ x. bs ≡ x.0 ++ 61 ∷ x.1)
+whole [] = tt
+whole (b ∷ bs) = whole_by b bs (b == 61) refl (whole bs)
+
+unmarked : (key image : List ℕ) → ((rest : List ℕ) → key ≡ codes "fn#" ++ rest → ⊥) → function_in (Some (key, image)) ≡ None
 unfolding function_in
-function_unmarked key image h =
+unmarked key image h =
     ap (λ t. if t && is_function_name (drop 3 key) then Some (drop 3 key, image) else None) (not_begun (codes "fn#") key h)
 
-function_marked : (key name image : List ℕ) → key ≡ codes "fn#" ++ name → function_in (Some (key, image)) ≡ (if is_function_name name then Some (name, image) else None)
+other_by : (entry : List ℕ) (cut : Option (List ℕ × List ℕ)) → ((rest : List ℕ) → entry ≡ codes "fn#" ++ rest → ⊥) → IfSome cut (λ x. entry ≡ x.0 ++ 61 ∷ x.1) → function_in cut ≡ None
 unfolding function_in
-function_marked key name image e =
-    ap (λ k. if begins_with (codes "fn#") k && is_function_name (drop 3 k) then Some (drop 3 k, image) else None) e
-    ∙ ap (λ t. if t && is_function_name name then Some (name, image) else None) (begun_by (codes "fn#") name)
+other_by entry None h w = refl
+other_by entry (Some x) h w =
+    unmarked x.0 x.1 (λ rest e. h (rest ++ 61 ∷ x.1) (w ∙ ap (λ t. t ++ 61 ∷ x.1) e ∙ append_assoc (codes "fn#") rest (61 ∷ x.1)))
 
-pub function_unnamed : (key name image : List ℕ) → key ≡ codes "fn#" ++ name → is_function_name name ≡ false → function_in (Some (key, image)) ≡ None
-function_unnamed key name image e h =
-    function_marked key name image e ∙ ap (λ t. if t then Some (name, image) else None) h
+-- an entry that begins otherwise
+pub function_other : (entry : List ℕ) → ((rest : List ℕ) → entry ≡ codes "fn#" ++ rest → ⊥) → function_in (cut_entry entry) ≡ None
+function_other entry h = other_by entry (cut_entry entry) h (whole entry)
 
-pub function_named : (key name image : List ℕ) → key ≡ codes "fn#" ++ name → is_function_name name ≡ true → function_in (Some (key, image)) ≡ Some (name, image)
-function_named key name image e h =
-    function_marked key name image e ∙ ap (λ t. if t then Some (name, image) else None) h
+-- the name that is cut off after a mark
+abbrev with_mark : List ℕ × List ℕ → List ℕ × List ℕ
+with_mark x = (codes "fn#" ++ x.0, x.1)
+
+marked_by : (cut : Option (List ℕ × List ℕ)) → with_first 102 (with_first 110 (with_first 35 cut)) ≡ option_map with_mark cut
+marked_by None = refl
+marked_by (Some x) = refl
+
+cut_marked : (entry rest : List ℕ) (n : ℕ) → entry ≡ codes "fn#" ++ drop n entry → rest ≡ drop n entry → cut_entry entry ≡ option_map with_mark (cut_entry rest)
+cut_marked entry rest n e r = ap cut_entry (from_mark (codes "fn#") entry rest n e r) ∙ marked_by (cut_entry rest)
+
+marked_in : (name image : List ℕ) → function_in (Some (codes "fn#" ++ name, image)) ≡ (if is_function_name name then Some (name, image) else None)
+unfolding function_in
+marked_in name image = ap (λ t. if t && is_function_name name then Some (name, image) else None) (begun_by (codes "fn#") name)
+
+pub function_uncut : (entry rest : List ℕ) (n : ℕ) → entry ≡ codes "fn#" ++ drop n entry → rest ≡ drop n entry → None ≡ cut_entry rest → function_in (cut_entry entry) ≡ None
+unfolding function_in
+function_uncut entry rest n e r h = ap function_in (cut_marked entry rest n e r ∙ ap (option_map with_mark) (sym h))
+
+by_name : (entry rest name image : List ℕ) (n : ℕ) (t : Bool) → entry ≡ codes "fn#" ++ drop n entry → rest ≡ drop n entry → Some (name, image) ≡ cut_entry rest → is_function_name name ≡ t →
+    function_in (cut_entry entry) ≡ (if t then Some (name, image) else None)
+by_name entry rest name image n t e r h k =
+    ap function_in (cut_marked entry rest n e r ∙ ap (option_map with_mark) (sym h)) ∙ marked_in name image ∙ ap (λ u. if u then Some (name, image) else None) k
+
+pub function_unnamed : (entry rest name image : List ℕ) (n : ℕ) → entry ≡ codes "fn#" ++ drop n entry → rest ≡ drop n entry → Some (name, image) ≡ cut_entry rest → is_function_name name ≡ false →
+    function_in (cut_entry entry) ≡ None
+function_unnamed entry rest name image n e r h k = by_name entry rest name image n false e r h k
+
+pub function_named : (entry rest name image : List ℕ) (n : ℕ) → entry ≡ codes "fn#" ++ drop n entry → rest ≡ drop n entry → Some (name, image) ≡ cut_entry rest → is_function_name name ≡ true →
+    function_in (cut_entry entry) ≡ Some (name, image)
+function_named entry rest name image n e r h k = by_name entry rest name image n true e r h k

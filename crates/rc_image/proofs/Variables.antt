@@ -6,10 +6,11 @@ use Rattle.std.specs.Map.{lookup}
 use Rattle.std.specs.BTreeMap.{insert_entry}
 use Rattle.std.proofs.lemmas.Bool.{false≢true}
 use Rattle.std.proofs.lemmas.Slice.Eq.{bytes_eq-Decides}
-use Rattle.rc_model.specs.Syntax.Text.{text_cmp, spaced}
+use Rattle.rc_model.specs.Syntax.Text.{text_cmp, begins_with, spaced}
 use Rattle.rc_model.specs.Run.State.{State, covered, values_of, put_values, set_value, with_status, status_name, is_name}
 use Rattle.rc_model.specs.Handed.Environment.{Bindings, Variables, with_cut, cut_entry, entry_members, is_variable, variables_in, status_in, own_status, fresh_state}
 use Rattle.rc_image.specs.Entries.{is_ignored, values_state}
+use Rattle.rc_image.proofs.Beginnings.{begun_split}
 use Rattle.rc_image.proofs.Puts.{found}
 
 one_value : (t : Bool) (v : List (List ℕ)) (o : Option (List (List (List ℕ)))) → covered (unwrap_or o []) ≡ [] → covered (unwrap_or (cond t (Some (v ∷ [])) o) []) ≡ []
@@ -120,6 +121,14 @@ next_by own false name text bs i h =
 pub set_next : (own : Bool) (name text : List ℕ) (bs : Bindings) → is_ignored own name ≡ false →
     (if is_name name then set_value (values_state own bs) name (entry_members text) else values_state own bs) ≡ values_state own ((name, text) ∷ bs)
 set_next own name text bs h = next_by own (is_name name) name text bs refl h
+
+-- the name of a function is not that of a variable
+unnamed : (name : List ℕ) → begins_with (codes "fn#") name ≡ true → is_name name ≡ false
+unnamed name h = ap is_name (begun_split (codes "fn#") name h)
+
+pub skip_function : (own : Bool) (name text : List ℕ) (bs : Bindings) → begins_with (codes "fn#") name ≡ true → is_ignored own name ≡ false →
+    values_state own bs ≡ values_state own ((name, text) ∷ bs)
+skip_function own name text bs h k = next_by own false name text bs (unnamed name h) k
 
 pub entry_set : (own : Bool) (name text entry : List ℕ) (bs : Bindings) (s t : State) (v : List (List ℕ)) → Some (name, text) ≡ cut_entry entry → is_ignored own name ≡ false → v ≡ entry_members text →
     s ≡ values_state own bs → t ≡ (if is_name name then set_value s name v else s) → t ≡ values_state own (with_cut (cut_entry entry) bs)

@@ -4,6 +4,8 @@ ghost use Rattle.std.specs.Prelude.{◌≡◌, ◌∷◌, ◌<◌, ◌≤◌, le
 ghost use Rattle.rc_model.specs.Handed.Environment.{cut_entry, entry_members, unescaped};
 ghost use Rattle.rc_image.specs.Entries.{pair_of, function_in};
 
+use crate::marks::has_marks;
+use crate::text_copies::one_text;
 use rc_scope::is_function_name;
 use std::alloc::{AllocError, Global};
 
@@ -29,11 +31,11 @@ fn unmarked(after: &str) -> (char, &str)
     ('\u{2}', after)
 }
 
-/// Undoes the escapes of bytes 1 and 2 in a member.
-fn unescaped(alloc: Global, text: &str) -> Result<String, AllocError>
+/// Undoes the escapes of bytes 1 and 2 in a member, from one byte 2 to the next.
+fn without_escapes(alloc: Global, text: &str) -> Result<String, AllocError>
     ensures { IfOk result (λ member. string_bytes member ≡ unescaped text.now) }
 {
-    let mut member = String::new(alloc);
+    let mut member = String::with_capacity(alloc, text.len())?;
     let mut rest = text;
     while let Some((plain, after)) = rest.split_once('\u{2}') {
         let (c, more) = unmarked(after);
@@ -45,8 +47,18 @@ fn unescaped(alloc: Global, text: &str) -> Result<String, AllocError>
     Ok(member)
 }
 
-/// The members of a value, which byte 1 separates.
-pub(crate) fn members(alloc: Global, text: &str) -> Result<Vec<String>, AllocError>
+/// Undoes the escapes of bytes 1 and 2 in a member. One without them is copied in one piece.
+fn unescaped(alloc: Global, text: &str) -> Result<String, AllocError>
+    ensures { IfOk result (λ member. string_bytes member ≡ unescaped text.now) }
+{
+    if has_marks(text) {
+        return without_escapes(alloc, text);
+    }
+    String::from_str(alloc, text)
+}
+
+/// The members of a value, cut at each byte 1.
+fn cut_members(alloc: Global, text: &str) -> Result<Vec<String>, AllocError>
     ensures { IfOk result (λ members. map string_bytes members.items ≡ entry_members text.now) }
 {
     let mut members = Vec::new(alloc);
@@ -59,14 +71,24 @@ pub(crate) fn members(alloc: Global, text: &str) -> Result<Vec<String>, AllocErr
     Ok(members)
 }
 
-/// The name of a function and its image, if the entry is that of a function.
+/// The members of a value, which byte 1 separates. A text without marks is the only one.
+pub(crate) fn members(alloc: Global, text: &str) -> Result<Vec<String>, AllocError>
+    ensures { IfOk result (λ members. map string_bytes members.items ≡ entry_members text.now) }
+{
+    if has_marks(text) {
+        return cut_members(alloc, text);
+    }
+    one_text(alloc, String::from_str(alloc, text)?)
+}
+
+/// The name of a function and its image, if the entry is that of a function. Its name alone is cut off.
 pub(crate) fn function_entry(entry: &str) -> Option<(&str, &str)>
     ensures { option_map pair_of result ≡ function_in (cut_entry entry.now) }
 {
-    let Some((key, image)) = cut_entry(entry) else {
+    let Some(rest) = entry.strip_prefix("fn#") else {
         return None;
     };
-    let Some(name) = key.strip_prefix("fn#") else {
+    let Some((name, image)) = cut_entry(rest) else {
         return None;
     };
     if !is_function_name(name) {

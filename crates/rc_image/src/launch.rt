@@ -25,17 +25,23 @@ pub struct Handover {
 }
 
 /// The arguments of a shell whose command is in these words.
-fn shell_args(alloc: Global, state: &State, words: &[String]) -> Result<Vec<String>, AllocError>
+fn shell_args(
+    alloc: Global,
+    state: &State,
+    mut words: Vec<String>,
+) -> Result<Vec<String>, AllocError>
     ensures { IfOk result (λ args. map string_bytes args.items
-        ≡ args_with (map string_bytes words.now) (state_of state.now)) }
+        ≡ args_with (map string_bytes words.items) (state_of state.now)) }
 {
-    let mut args = Vec::new(alloc);
+    let others = state.value("*");
+    let count = words.len().saturating_add(others.len());
+    let mut args = Vec::with_capacity(alloc, count.saturating_add(2))?;
     if state.strict() {
         args.push(String::from_str(alloc, "-e")?)?;
     }
     args.push(String::from_str(alloc, "-S")?)?;
-    push_copies(&mut args, words)?;
-    push_copies(&mut args, state.value("*"))?;
+    args.append(&mut words)?;
+    push_copies(&mut args, others)?;
     Ok(args)
 }
 
@@ -60,7 +66,7 @@ pub fn handed(alloc: Global, cmd: &Cmd, state: &State) -> Result<Handover, Image
         IfOk result (λ h. ReadsBack (cmd_tree cmd.now) (state_of state.now) h) }
 {
     let words = write_pieces(alloc, cmd)?;
-    let args = shell_args(alloc, state, &words)?;
+    let args = shell_args(alloc, state, words)?;
     let entries = entries(alloc, state)?;
     if are_short(&args) && are_short(&entries) {
         Ok(Handover { args, entries })

@@ -2,15 +2,15 @@
 
 ghost use Rattle.std.specs.Prelude.{◌≡◌, ◌++◌, ◌∷◌, [], IfOk, OnOk, codes, drop, map, string_bytes};
 ghost use Rattle.std.specs.Char.{encode_utf8};
-ghost use Rattle.std.specs.List.{list_any};
 ghost use Rattle.rc_model.specs.Handed.Image.{escaped, value_text, entry, entries, image, stays_behind};
 ghost use Rattle.rc_model.specs.Run.State.{status_name};
 ghost use Rattle.rc_tree.specs.View.{cmd_tree};
 ghost use Rattle.rc_scope.specs.Bindings.{binding_of};
 ghost use Rattle.rc_scope.specs.States.{state_of};
-ghost use Rattle.rc_image.specs.Additions.{is_handed, is_mark, handed, PushesBelow};
+ghost use Rattle.rc_image.specs.Additions.{is_handed, handed, PushesBelow};
 
-use rc_scope::{Binding, Function, Members, State};
+use crate::marks::has_marks;
+use rc_scope::{Binding, Definition, Function, Members, State};
 use rc_spelling::push_spelling;
 use rc_tree::Cmd;
 use std::alloc::{AllocError, Global};
@@ -28,20 +28,6 @@ fn push_escaped(out: &mut String, c: char) -> Result<(), AllocError>
         return out.push_str("\u{2}B");
     }
     out.push(c)
-}
-
-/// Whether a byte is escaped.
-fn is_mark(byte: u8) -> bool
-    ensures { result ≡ is_mark byte }
-{
-    byte == 1 || byte == 2
-}
-
-/// Whether a member has a byte that is escaped.
-fn has_marks(member: &str) -> bool
-    ensures { result ≡ list_any is_mark member.now }
-{
-    member.as_bytes().iter().any(|byte| is_mark(*byte))
 }
 
 /// Writes a member character by character.
@@ -92,12 +78,24 @@ fn push_text(out: &mut String, value: &Members) -> Result<(), AllocError>
     }
 }
 
+/// An empty text with room for an entry: a name of this length, `=`, and the text after it, if that is known.
+fn entry_room(alloc: Global, name: usize, text: Option<&str>) -> Result<String, AllocError>
+    ensures { IfOk result (λ room. string_bytes room ≡ []) }
+{
+    let after = match text {
+        Some(text) => text.len(),
+        None => 0,
+    };
+    String::with_capacity(alloc, name.saturating_add(1).saturating_add(after))
+}
+
 /// NAME=VALUE.
 fn entry(alloc: Global, variable: &Binding) -> Result<String, AllocError>
     ensures { let value = map string_bytes variable.now.value.now in
         IfOk result (λ text. string_bytes text ≡ entry (variable.now.name.now, value_text value)) }
 {
-    let mut text = String::from_str(alloc, variable.name)?;
+    let mut text = entry_room(alloc, variable.name.len(), variable.value.text())?;
+    text.push_str(variable.name)?;
     text.push('=')?;
     push_text(&mut text, variable.value)?;
     Ok(text)
@@ -123,7 +121,8 @@ fn status_entry(alloc: Global, state: &State) -> Result<String, AllocError>
     ensures { IfOk result (λ text. string_bytes text
         ≡ entry (status_name, value_text ((state_of state.now).status ∷ []))) }
 {
-    let mut text = String::from_str(alloc, "status=")?;
+    let mut text = entry_room(alloc, "status".len(), Some(state.status()))?;
+    text.push_str("status=")?;
     push_member(&mut text, state.status())?;
     Ok(text)
 }
@@ -146,11 +145,15 @@ fn push_function(out: &mut String, function: &Function) -> Result<(), AllocError
     }
 }
 
-/// The name that a function has in an environment.
-fn function_name(alloc: Global, name: &str) -> Result<String, AllocError>
-    ensures { IfOk result (λ text. string_bytes text ≡ codes "fn#" ++ name.now) }
+/// The name that a function has in an environment, with room for the rest of its entry.
+fn function_name(alloc: Global, definition: &Definition) -> Result<String, AllocError>
+    ensures { IfOk result (λ text. string_bytes text ≡ codes "fn#" ++ definition.now.name.now) }
 {
-    format!(in alloc; "fn#{name}")
+    let length = definition.name.len().saturating_add("fn#".len());
+    let mut name = entry_room(alloc, length, definition.function.image())?;
+    name.push_str("fn#")?;
+    name.push_str(definition.name)?;
+    Ok(name)
 }
 
 /// The entry of a function that has this name in an environment.
@@ -213,10 +216,11 @@ pub fn entries(alloc: Global, state: &State) -> Result<Vec<String>, AllocError>
 {
     let variables = state.bindings()?;
     let functions = state.definitions()?;
-    let mut all = Vec::with_capacity(alloc, variables.len())?;
+    let count = variables.len().saturating_add(functions.len());
+    let mut all = Vec::with_capacity(alloc, count.saturating_add(1))?;
     let mut place = 0;
     for definition in &functions {
-        let name = function_name(alloc, definition.name)?;
+        let name = function_name(alloc, definition)?;
         place = push_below(alloc, &mut all, &variables, place, &name)?;
         all.push(function_entry(name, definition.function)?)?;
     }

@@ -8,6 +8,7 @@ mod kept_entries;
 mod launch;
 mod launch_environment;
 mod launch_sizes;
+mod marks;
 mod pieces;
 mod read_environment;
 mod read_handed;

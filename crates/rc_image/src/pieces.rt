@@ -7,7 +7,8 @@ ghost use Rattle.rc_tree.specs.View.{cmd_tree};
 ghost use Rattle.rc_image.specs.Images.{Writes, written};
 
 use crate::beginning::{MARK, PIECES_MARK};
-use crate::{ImageError, ImageFault, InputError};
+use crate::text_copies::one_text;
+use crate::{ImageError, ImageFault, InputError, write_tree};
 use rc_model::limits::{LONGEST_ARGUMENT, MOST_PIECES};
 use rc_spelling::push_spelling;
 use rc_tree::Cmd;
@@ -39,9 +40,7 @@ fn cut(alloc: Global, spelling: &str) -> Result<Vec<String>, ImageError>
 fn one_word(alloc: Global, spelling: &str) -> Result<Vec<String>, AllocError>
     ensures { IfOk result (λ words. map string_bytes words.items ≡ one_word spelling.now) }
 {
-    let mut words = Vec::new(alloc);
-    words.push(format!(in alloc; "{MARK}{spelling}")?)?;
-    Ok(words)
+    one_text(alloc, format!(in alloc; "{MARK}{spelling}")?)
 }
 
 /// Pieces, after the word with their number.
@@ -66,12 +65,25 @@ pub(crate) fn words_of(alloc: Global, spelling: &str) -> Result<Vec<String>, Ima
     Ok(several_words(alloc, pieces)?)
 }
 
-/// The words in which a tree is handed over. It is too large if there would be too many.
+/// The words in which a tree is handed over, by its spelling. It is too large if there would be too many.
 #[tactic(auto, using(crate::proofs::Cuts::words))]
-pub fn write_pieces(alloc: Global, cmd: &Cmd) -> Result<Vec<String>, ImageError>
+fn write_words(alloc: Global, cmd: &Cmd) -> Result<Vec<String>, ImageError>
     ensures { Writes (λ words. map string_bytes words.items) result (image_words (cmd_tree cmd.now)) }
 {
     let mut spelling = String::new(alloc);
     push_spelling(&mut spelling, cmd)?;
     words_of(alloc, &spelling)
+}
+
+/// The words in which a tree is handed over. It is too large if there would be too many. Most trees have a short image,
+/// which is itself the word; only a long one is spelled once more, to be cut.
+#[tactic(auto, using(crate::proofs::Cuts::in_one))]
+pub fn write_pieces(alloc: Global, cmd: &Cmd) -> Result<Vec<String>, ImageError>
+    ensures { Writes (λ words. map string_bytes words.items) result (image_words (cmd_tree cmd.now)) }
+{
+    match write_tree(alloc, cmd) {
+        Ok(image) => Ok(one_text(alloc, image)?),
+        Err(InputError::NoMemory) => Err(InputError::NoMemory),
+        Err(InputError::Fault(_)) => write_words(alloc, cmd),
+    }
 }

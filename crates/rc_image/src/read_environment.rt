@@ -48,6 +48,10 @@ fn set_entry(alloc: Global, state: &mut State, entry: &str, own: bool) -> Result
     if is_ignored(name, own) {
         return Ok(());
     }
+    // A function's name is not that of a variable, so its image isn't copied.
+    if name.starts_with("fn#") {
+        return Ok(());
+    }
     set_value(state, name, members(alloc, text)?)
 }
 

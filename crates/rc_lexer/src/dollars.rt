@@ -109,13 +109,13 @@ impl Reading {
             TokenKind::BareHere => self.begin_token(Previous::Here(first, place), place, b, class),
             TokenKind::Dollar => {
                 self.push_caret(previous, TokenKind::Dollar, first)?;
-                self.dollars.push(token_between(kind, first, place))?;
+                self.dollars.push(token_between(kind, first, place)?)?;
                 self.continue_dollars(place, b, class)
             }
             TokenKind::DollarCount | TokenKind::DollarFlat => {
                 self.push_caret(previous, TokenKind::Dollar, first)?;
                 self.push_bare_dollars()?;
-                self.dollars.push(token_between(kind, first, place))?;
+                self.dollars.push(token_between(kind, first, place)?)?;
                 self.continue_dollars(place, b, class)
             }
             _ => {

@@ -12,7 +12,7 @@ ghost use Rattle.rc_lexer.specs.declared.lexer_state.State.TheVariants as state;
 
 use crate::lexer_state::{Reading, State, TokenStart};
 use crate::previous::meaning_after;
-use crate::tokens::token_between;
+use crate::tokens::{span_between, token_between};
 use crate::{ScriptError, Span, Token, TokenKind, fault};
 use rc_model::{FaultKind, Place};
 
@@ -122,10 +122,7 @@ impl Reading {
         if last.is_empty() || last != first.mark.as_slice() {
             return Err(fault(FaultKind::OpenHere, first.line));
         }
-        self.bodies.push(Span {
-            start: body,
-            stop: line,
-        })?;
+        self.bodies.push(span_between(body, line)?)?;
         let _ = self.pending.pop_front();
         self.expect_none_pending()
     }
@@ -154,7 +151,7 @@ impl Reading {
             State::WordBackslash(start, _) => self.finish_word(script, false, start, place),
             State::Name(start) => {
                 self.tokens
-                    .push(token_between(TokenKind::Name, start, place))?;
+                    .push(token_between(TokenKind::Name, start, place)?)?;
                 self.expect_none_pending()
             }
             State::Quoted(start) => Err(fault(FaultKind::OpenQuote, start.place.line)),

@@ -5,9 +5,10 @@ ghost use Rattle.rc_lexer.specs.Spans as spans;
 ghost use Rattle.rc_lexer.specs.Machine.{Takes, line_of, pending_in};
 ghost use Rattle.rc_lexer.specs.declared.lexer_state.State.TheVariants as state;
 
+use crate::ScriptError;
 use crate::byte_classes::ByteClass;
 use crate::lexer_state::{Reading, State};
-use crate::{ScriptError, Span};
+use crate::tokens::span_between;
 use rc_model::{Place, Previous};
 
 impl Reading {
@@ -54,10 +55,7 @@ impl Reading {
                         line: next,
                     });
                 }
-                self.bodies.push(Span {
-                    start: body,
-                    stop: line,
-                })?;
+                self.bodies.push(span_between(body, line)?)?;
                 let _ = self.pending.pop_front();
                 Ok(self.begin_line(next))
             }

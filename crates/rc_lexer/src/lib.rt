@@ -24,8 +24,8 @@ use rc_model::{FaultKind, InputError, Mode, SyntaxFault};
 /// A part of the script, in bytes.
 #[derive(Clone, Copy, Debug, PartialEq)]
 pub struct Span {
-    pub start: usize,
-    pub stop: usize,
+    pub start: u32,
+    pub stop: u32,
 }
 
 /// The kind of a token. Its text is the slice of the script at its span.
@@ -64,13 +64,15 @@ pub enum TokenKind {
     BareHere,
 }
 
-/// A token, with the line where it begins. Lines count from 1.
+/// A token, with the line where it begins, in 24 bytes. Lines count from 1. A place has 32 bits.
 #[derive(Clone, Copy, PartialEq)]
 pub struct Token {
     pub kind: TokenKind,
     pub span: Span,
-    pub line: usize,
+    pub line: u32,
 }
+
+const _: () = prove!(size_of::<Token>() == 24);
 
 /// Why a script has no tokens, or no tree: its first fault, or memory ran out.
 pub type ScriptError = InputError<SyntaxFault>;

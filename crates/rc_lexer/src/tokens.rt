@@ -12,18 +12,35 @@ use rc_model::{Place, Previous};
 use rc_text::unquote;
 use std::alloc::AllocError;
 
-/// The token of this kind between two places.
-pub(crate) fn token_between(kind: TokenKind, start: Place, stop: Place) -> Token
-    ensures { result ≡ spans.token kind start stop }
+/// A place in the 32 bits that a token has for it. Where they don't suffice, the tokens need more memory than there is.
+fn in_32_bits(place: usize) -> Result<u32, AllocError>
+    ensures { IfOk result (λ small. small ≡ place) }
 {
-    Token {
-        kind,
-        span: Span {
-            start: start.byte,
-            stop: stop.byte,
-        },
-        line: start.line,
+    match u32::try_from(place) {
+        Ok(small) => Ok(small),
+        Err(_) => Err(AllocError),
     }
+}
+
+/// The part of the script between two bytes.
+pub(crate) fn span_between(start: usize, stop: usize) -> Result<Span, AllocError>
+    ensures { IfOk result (λ span. span ≡ record { start = start; stop = stop }) }
+{
+    Ok(Span {
+        start: in_32_bits(start)?,
+        stop: in_32_bits(stop)?,
+    })
+}
+
+/// The token of this kind between two places.
+pub(crate) fn token_between(kind: TokenKind, start: Place, stop: Place) -> Result<Token, AllocError>
+    ensures { IfOk result (λ token. token ≡ spans.token kind start stop) }
+{
+    Ok(Token {
+        kind,
+        span: span_between(start.byte, stop.byte)?,
+        line: in_32_bits(start.line)?,
+    })
 }
 
 /// The place after a byte.
@@ -49,7 +66,7 @@ impl Reading {
     {
         if let Previous::Here(start, stop) = previous {
             self.tokens
-                .push(token_between(TokenKind::BareHere, start, stop))?;
+                .push(token_between(TokenKind::BareHere, start, stop)?)?;
         }
         Ok(())
     }
@@ -65,12 +82,13 @@ impl Reading {
     {
         if wants_caret(previous, kind) {
             self.tokens
-                .push(token_between(TokenKind::FreeCaret, start, start))?;
+                .push(token_between(TokenKind::FreeCaret, start, start)?)?;
         }
         Ok(())
     }
 
     /// Adds a token between two places, after a `^` if it wants one.
+    #[inline(always)]
     pub(crate) fn push_token(
         &mut self,
         previous: Previous,
@@ -81,7 +99,7 @@ impl Reading {
         ensures { OnOk result (Adds (spans.tokens_of previous kind start stop) self.old self.new) }
     {
         self.push_caret(previous, kind, start)?;
-        self.tokens.push(token_between(kind, start, stop))?;
+        self.tokens.push(token_between(kind, start, stop)?)?;
         Ok(())
     }
 
@@ -118,7 +136,7 @@ impl Reading {
                 is_quoted: quoted,
                 body: Span { start: 0, stop: 0 },
             };
-            self.tokens.push(token_between(kind, here, stop))?;
+            self.tokens.push(token_between(kind, here, stop)?)?;
             return Ok(Previous::Apart);
         }
         let kind = if quoted {

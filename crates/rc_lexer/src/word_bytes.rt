@@ -60,7 +60,7 @@ impl Reading {
         self.push_bare_here(previous)?;
         let next = after_byte(place, b);
         self.tokens
-            .push(token_between(TokenKind::Newline, place, next))?;
+            .push(token_between(TokenKind::Newline, place, next)?)?;
         Ok(self.begin_line(next.byte))
     }
 
@@ -177,7 +177,7 @@ impl Reading {
             return Ok(State::Name(start));
         }
         self.tokens
-            .push(token_between(TokenKind::Name, start, place))?;
+            .push(token_between(TokenKind::Name, start, place)?)?;
         self.begin_token(Previous::Name, place, b, class)
     }
 }

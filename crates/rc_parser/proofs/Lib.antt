@@ -7,4 +7,5 @@ pub mod Spelled
 pub mod Keywords
 pub mod Parsing
 pub mod Scripts
+pub mod ReadItems
 pub mod Kept

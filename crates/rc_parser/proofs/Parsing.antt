@@ -1,5 +1,5 @@
 -- What the laws say of the trees of a script.
-use Rattle.std.specs.Prelude.{Vec}
+use Rattle.std.specs.Prelude.{IfErr, Vec}
 use Rattle.std.specs.Result.{IsErrAnd}
 use Rattle.std.proofs.Common.{◌≡◌, ℕ, ◌<◌, ◌≤◌, ◌-◌, List, Result, Ok, Err, length, ◌⊎◌, inl, inr, refl, sym, ap, subst, ◌∙◌}
 use Rattle.std.proofs.lemmas.Str.{is_utf8-from_IsUtf8}
@@ -36,8 +36,8 @@ is_not_cut Z text (error.Fault f) short utf8 read = script.no_tokens f short (is
 is_not_cut Z text error.NoMemory short utf8 read = tt
 
 -- a fault is handed on
-pub handed_on : (text : List ℕ) (result : Result Cmd ScriptError) (e : ScriptError) → IsErrAnd result (λ x. x ≡ e) → Refuses e text → Parses text result
-handed_on text (Err x) e h refused = record { accepted = tt; only = tt; refused = subst (λ z. Refuses z text) (sym h) refused }
+pub handed_on : {X : Type 0} (text : List ℕ) (result : Result X ScriptError) (e : ScriptError) → IsErrAnd result (λ x. x ≡ e) → Refuses e text → IfErr result (λ x. Refuses x text)
+handed_on text (Err x) e h refused = subst (λ z. Refuses z text) (sym h) refused
 handed_on text (Ok c) e h refused = absurd h
 
 -- the tree of a script's tokens is the script's only one
@@ -76,7 +76,7 @@ is_refused_at text tokens ts descent.TooDeep line h e says at =
 is_refused_at text tokens ts descent.TooManyStages line h e says at =
     script.too_many_stages tokens line h at (λ tree s. says.stages refl tree (subst (λ z. HaveTree z tree) (sym e) s))
 
-is_refused : (text : List ℕ) (tokens : List Token) (ts : List t.Lexeme) (fault : DescentFault) (left : ℕ) (f : SyntaxFault) → HasTokens text tokens → ts ≡ lexemes tokens →
+pub is_refused : (text : List ℕ) (tokens : List Token) (ts : List t.Lexeme) (fault : DescentFault) (left : ℕ) (f : SyntaxFault) → HasTokens text tokens → ts ≡ lexemes tokens →
     Says ts fault → f ≡ placed (line_left text tokens left) fault → IsRefused text f
 is_refused text tokens ts fault left f h e says p =
     subst (IsRefused text) (sym p) (is_refused_at text tokens ts fault _ h e says (is_line text tokens (length tokens - left)))

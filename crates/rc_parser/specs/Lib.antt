@@ -6,3 +6,4 @@ pub mod Parsed
 pub mod Reading
 pub mod Texts
 pub mod Tokens
+pub mod ItemReading

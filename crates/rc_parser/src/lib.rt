@@ -3,7 +3,10 @@
 #![tactic(auto)]
 
 mod descent;
+mod found_items;
 mod here_pieces;
+mod items;
+mod lexed_script;
 mod lookahead;
 mod reader;
 mod syntax_faults;
@@ -19,6 +22,8 @@ ghost use Rattle.rc_model.specs.Syntax.Tree.{Node, cmd};
 ghost use Rattle.rc_parser.specs.Faults.{Refuses};
 ghost use Rattle.rc_tree.specs.View.{cmd_tree};
 
+pub use items::Items;
+pub use lexed_script::LexedScript;
 pub use rc_lexer::ScriptError;
 pub use rc_model::{FaultKind, InputError, SyntaxFault};
 use rc_tree::Cmd;

@@ -4,18 +4,17 @@ ghost use Rattle.std.specs.Prelude.{◌≡◌, ◌≤◌, ◌<◌, ◌++◌, ◌
 ghost use Rattle.std.specs.Prelude.{IfErr, IfOk, IsTrue, OnErr, OnOk};
 ghost use Rattle.rc_model.specs.Syntax.Accepted.{HasTokens, IsAccepted, longest_script};
 ghost use Rattle.rc_model.specs.Syntax.Tree.{Node, cmd};
-ghost use Rattle.rc_lexer.specs.Reads.{Finishes};
 ghost use Rattle.rc_lexer.specs.Views.{tokens_of};
 ghost use Rattle.rc_parser.specs.Faults.{Refuses};
 ghost use Rattle.rc_parser.specs.Kept.{IsKept};
 ghost use Rattle.rc_parser.specs.Parsed.{Parses};
 ghost use Rattle.rc_tree.specs.View.{cmd_tree};
 
+use crate::lexed_script::LexedScript;
 use crate::syntax_faults::syntax_fault;
-use crate::text::checked;
 use crate::tokens::{Source, Tokens};
 use crate::trees::script;
-use rc_lexer::{Pieces, ScriptError, Token};
+use rc_lexer::{Pieces, ScriptError};
 use rc_model::limits::LONGEST_SCRIPT;
 use rc_model::{FaultKind, InputError, SyntaxFault};
 use rc_tree::Cmd;
@@ -24,36 +23,19 @@ use std::marker::Model;
 use std::snapshot::Snapshot;
 
 /// Parses a script that has these tokens.
-fn tree_of_tokens(alloc: Global, text: &[u8], tokens: &[Token]) -> Result<Cmd, ScriptError>
-    requires { HasTokens text.now (tokens_of text.now tokens.now) }
-    ensures { Parses text.now result }
+fn tree_of_tokens(alloc: Global, source: &Source<'_>) -> Result<Cmd, ScriptError>
+    requires { HasTokens source.now.script.now (tokens_of source.now.script.now source.now.tokens.now) }
+    ensures { Parses source.now.script.now result }
 {
-    let source = Source {
-        script: text,
-        tokens,
-    };
-    match script(alloc, Tokens::new(&source)) {
+    match script(alloc, Tokens::new(source)) {
         Ok(cmd) => Ok(cmd),
-        Err(InputError::Fault(found)) => {
-            Err(InputError::Fault(syntax_fault(text, tokens, found)))
-        }
+        Err(InputError::Fault(found)) => Err(InputError::Fault(syntax_fault(
+            source.script,
+            source.tokens,
+            found,
+        ))),
         Err(InputError::NoMemory) => Err(InputError::NoMemory),
     }
-}
-
-/// Returns the tree of a script that is short enough, given the result of the lexer.
-fn tree_of(
-    alloc: Global,
-    text: &[u8],
-    tokens: Result<Vec<Token>, ScriptError>,
-) -> Result<Cmd, ScriptError>
-    requires short { length text.now ≤ longest_script }
-    requires tokens { Finishes text.now tokens }
-    ensures { Parses text.now result }
-{
-    checked(text)?;
-    let tokens = tokens?;
-    tree_of_tokens(alloc, text, &tokens)
 }
 
 /// Adds to the bytes past the greatest length, which only the view keeps. Snapshots have no bytes.
@@ -123,15 +105,13 @@ impl Reader {
         Ok(())
     }
 
-    /// Returns the tree of the text, or its first fault, in the order of [`parse`](crate::parse).
-    pub fn finish(self) -> Result<Cmd, ScriptError>
-        ensures accepted { IfOk result (λ c. IsAccepted self (cmd_tree c)) }
-        // It has no other tree.
-        ensures only { IfOk result (λ c. (other : Node cmd) → IsAccepted self other → other ≡ cmd_tree c) }
+    /// Returns the text with its tokens, or its first fault, in the order of [`parse`](crate::parse).
+    pub fn lexed(self) -> Result<LexedScript, ScriptError>
+        ensures text { IfOk result (λ script. script ≡ self) }
         ensures refused { IfErr result (λ e. Refuses e self) }
     {
         let Reader {
-            alloc,
+            alloc: _,
             pieces,
             room: _,
             passed,
@@ -143,6 +123,18 @@ impl Reader {
             }));
         }
         let (text, tokens) = pieces.finish();
-        tree_of(alloc, &text, tokens)
+        LexedScript::new(text, tokens)
+    }
+
+    /// Returns the tree of the text, or its first fault, in the order of [`parse`](crate::parse).
+    pub fn finish(self) -> Result<Cmd, ScriptError>
+        ensures accepted { IfOk result (λ c. IsAccepted self (cmd_tree c)) }
+        // It has no other tree.
+        ensures only { IfOk result (λ c. (other : Node cmd) → IsAccepted self other → other ≡ cmd_tree c) }
+        ensures refused { IfErr result (λ e. Refuses e self) }
+    {
+        let alloc = self.alloc;
+        let lexed = self.lexed()?;
+        tree_of_tokens(alloc, &lexed.source())
     }
 }

@@ -42,7 +42,7 @@ fn line_at(script: &[u8], tokens: &[Token], left: usize) -> usize
     ensures { result ≡ line_left script.now (tokens_of script.now tokens.now) left }
 {
     match tokens.get(tokens.len().saturating_sub(left)) {
-        Some(token) => token.line,
+        Some(token) => token.line as usize,
         None => line_of(script, script.len()),
     }
 }

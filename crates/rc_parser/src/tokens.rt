@@ -49,8 +49,8 @@ impl<'a> Tokens<'a> {
         ensures { result.now ≡ slice_at self.entry.source.now.script.now span }
     {
         let script = self.source.script;
-        let rest = &script[span.start.min(script.len())..];
-        let len = span.stop.saturating_sub(span.start);
+        let rest = &script[(span.start as usize).min(script.len())..];
+        let len = span.stop.saturating_sub(span.start) as usize;
         &rest[..len.min(rest.len())]
     }
 

@@ -12,7 +12,7 @@ use rc_host::{
     ArgumentsFault, HostWorld, Input, InputError, Leaving, entries, open_standard, own_path,
 };
 use rc_image::read_pieces;
-use std::alloc::Global;
+use std::alloc::{AllocError, Global};
 use std::process::ExitCode;
 use std::{env, fs, process};
 
@@ -77,7 +77,7 @@ pub fn shell_of<'a>(rt: HostRuntime, request: Request<'a>) -> Result<Shell, RunE
 {
     // Before anything else is opened, so that no file of a script gets the number 0, 1 or 2.
     open_standard(&rt).map_err(|_| RunError::CannotRead("standard input"))?;
-    let shell = own_path(rt.alloc(), env::current_exe(&rt), process::id(rt.process()))?;
+    let shell = own_program(&rt)?;
     let entries = entries(&rt)?;
     let leaving = match request.source {
         Source::Image => leaving_of(rt.alloc(), request.arguments),
@@ -93,6 +93,17 @@ pub fn shell_of<'a>(rt: HostRuntime, request: Request<'a>) -> Result<Shell, RunE
         entries,
         input,
     })
+}
+
+/// The path with which the shell starts itself. Linux is asked for the number of the process only if that is needed.
+fn own_program(rt: &HostRuntime) -> Result<String, AllocError> {
+    let found = env::current_exe(rt);
+    let process = if found.is_ok() {
+        0
+    } else {
+        process::id(rt.process())
+    };
+    own_path(rt.alloc(), found, process)
 }
 
 /// Which of its own descriptors a shell with these words can close.

@@ -1,13 +1,17 @@
-//! Running a tree from a state.
+//! Running code, or a tree, from a state.
 
+ghost use Rattle.std.specs.Prelude.{◌≡◌};
+ghost use Rattle.rc_code.specs.Views.{code_of};
 ghost use Rattle.rc_machine.specs.Machines.{config_of};
+ghost use Rattle.rc_model.specs.Code.Layout as layout;
 ghost use Rattle.rc_model.specs.Handed.Proper.{IsProperTree};
 ghost use Rattle.rc_model.specs.Run.Script.{Recorded};
+ghost use Rattle.rc_model.specs.Syntax.Tree as tree;
 ghost use Rattle.rc_scope.specs.States.{state_of};
 ghost use Rattle.rc_shell.specs.Outcome.{IsOutcome, RunsAsMeant};
 ghost use Rattle.rc_tree.specs.View.{cmd_tree};
 
-use rc_code::compile;
+use rc_code::{Code, compile};
 use rc_machine::{Machine, Progress};
 use rc_model::{ImageFault, SyntaxFault};
 use rc_scope::State;
@@ -40,6 +44,22 @@ pub enum ShellFault {
     NoMemory,
 }
 
+/// Runs the code of a script.
+pub(crate) fn run_code<W: World>(
+    alloc: Global,
+    world: &mut W,
+    code: Code,
+    state: State,
+    limit: u64,
+) -> Result<Ran, ShellFault>
+    ensures { (t : tree.Node tree.cmd) → code_of code ≡ layout.code t → Recorded (W.events world.old) (W.events world.new)
+        (λ trace. RunsAsMeant limit t (state_of state) trace result) }
+{
+    let mut machine = Machine::new(alloc, code, state);
+    let progress = machine.run(alloc, world, limit);
+    outcome(machine, progress)
+}
+
 /// Runs a command as a script by itself.
 pub(crate) fn run_tree<W: World>(
     alloc: Global,
@@ -57,9 +77,7 @@ pub(crate) fn run_tree<W: World>(
     let Ok(code) = compiled else {
         return Err(ShellFault::NoMemory);
     };
-    let mut machine = Machine::new(alloc, code, state);
-    let progress = machine.run(alloc, world, limit);
-    outcome(machine, progress)
+    run_code(alloc, world, code, state, limit)
 }
 
 /// The outcome of a script, by how far its machine came.

@@ -3,9 +3,9 @@
 ghost use Rattle.rc_scope.specs.States.{state_of};
 ghost use Rattle.rc_shell.specs.Executed.{IsExecuted, text_from};
 
-use crate::run::{Ran, ShellFault, run_tree};
+use crate::run::{Ran, ShellFault, run_code};
+use rc_builtin::compile_script;
 use rc_model::{InputError, SyntaxFault};
-use rc_parser::parse;
 use rc_scope::State;
 use rc_world::World;
 use std::alloc::Global;
@@ -23,8 +23,8 @@ pub fn execute<W: World>(
     ensures { IsExecuted (text_from script.now (state_of state)) limit
         (W.events world.old) (W.events world.new) result }
 {
-    match parse(alloc, script) {
-        Ok(cmd) => run_tree(alloc, world, cmd, state, limit),
+    match compile_script(alloc, script) {
+        Ok(code) => run_code(alloc, world, code, state, limit),
         Err(InputError::Fault(fault)) => Err(ShellFault::Syntax(fault)),
         Err(InputError::NoMemory) => Err(ShellFault::NoMemory),
     }

@@ -1,20 +1,15 @@
 //! The run of a script on a machine over a world that refuses no call, for runs in which an allocation is refused.
 
-ghost use Rattle.std.specs.Prelude.{IfOk};
-ghost use Rattle.rc_model.specs.Handed.Proper.{IsProperTree};
-ghost use Rattle.rc_tree.specs.View.{cmd_tree};
-
 use crate::calls::print_call;
 use crate::runs::{LIMIT, state};
 use crate::scripts::Script;
 use crate::world::{Refusals, RefusingWorld};
 use anyhow::{Result, bail};
-use rc_code::{Code, compile};
+use rc_builtin::compile_script;
+use rc_code::Code;
 use rc_machine::{Machine, Progress};
-use rc_model::{InputError, SyntaxFault};
-use rc_parser::parse;
-use rc_tree::Cmd;
-use std::alloc::{AllocError, Global};
+use rc_model::InputError;
+use std::alloc::Global;
 
 /// Runs a script, and prints its calls and, unless memory ran out, how it ended. If memory ran out, which is an error,
 /// it runs the machine once more, and prints whether that does anything but return that it has halted.
@@ -59,17 +54,9 @@ fn machine_of(alloc: Global, script: Script) -> Result<Box<Machine>> {
 
 /// The code of a script.
 fn code_of(alloc: Global, script: Script) -> Result<Code> {
-    match tree_of(alloc, script) {
-        Ok(tree) => Ok(compile(alloc, &tree)?),
+    match compile_script(alloc, script.text.as_bytes()) {
+        Ok(code) => Ok(code),
         Err(InputError::Fault(_)) => bail!("no script"),
         Err(InputError::NoMemory) => bail!("no memory"),
     }
-}
-
-/// The tree of a script, in a box: each place that may drop a tree takes long to prove.
-#[tactic(auto, using(law_handed::proofs::Characters::accepted_are_scripts))]
-fn tree_of(alloc: Global, script: Script) -> Result<Box<Cmd>, InputError<SyntaxFault>>
-    ensures { IfOk result (λ tree. IsProperTree (cmd_tree tree.value)) }
-{
-    Ok(Box::new(alloc, parse(alloc, script.text.as_bytes())?)?)
 }

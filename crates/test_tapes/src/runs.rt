@@ -8,11 +8,11 @@ use crate::answers::Calls;
 use crate::fault::RowError;
 use crate::rows::{Handed, Row};
 use crate::story::{End, Story, ended};
+use rc_builtin::compile_script;
 use rc_cli::run_rc;
 use rc_code::{Code, compile};
 use rc_image::{ImageError, read_image};
 use rc_machine::{Machine, Progress};
-use rc_parser::{ScriptError, parse};
 use rc_scope::State;
 use rc_shell::{Ran, ShellFault, execute, execute_image};
 use rc_trace::{Lines, TraceWorld};
@@ -87,23 +87,9 @@ fn end_of_program<W: World>(
     Ok(ended(alloc, end)?)
 }
 
-/// The tree of a script, in a box: each place that may drop a tree takes long to prove.
-#[tactic(auto, using(law_handed::proofs::Characters::accepted_are_scripts))]
-fn tree_of(alloc: Global, script: &[u8]) -> Result<Box<Cmd>, ScriptError>
-    ensures { IfOk result (λ tree. IsProperTree (cmd_tree tree.value)) }
-{
-    Ok(Box::new(alloc, parse(alloc, script)?)?)
-}
-
-/// The code of a script.
-fn code_of(alloc: Global, script: &[u8]) -> Result<Code, RowError> {
-    let tree = tree_of(alloc, script)?;
-    Ok(compile(alloc, &tree)?)
-}
-
 /// The machine of a row before its first instruction.
 fn machine_of_script(alloc: Global, row: &Row<'_>) -> Result<Box<Machine>, RowError> {
-    let code = code_of(alloc, row.script.as_bytes())?;
+    let code = compile_script(alloc, row.script.as_bytes())?;
     let state = row.state(alloc)?;
     Ok(Box::new(alloc, Machine::new(alloc, code, state))?)
 }

@@ -40,8 +40,8 @@ pub(crate) fn tokens_of(alloc: Global, script: &[u8]) -> Result<Vec<Token>, Allo
 
 /// The part of the script at a span, as far as the script goes.
 fn part(script: &[u8], span: Span) -> &[u8] {
-    let rest = &script[span.start.min(script.len())..];
-    let len = span.stop.saturating_sub(span.start);
+    let rest = &script[(span.start as usize).min(script.len())..];
+    let len = span.stop.saturating_sub(span.start) as usize;
     &rest[..len.min(rest.len())]
 }
 
@@ -84,7 +84,7 @@ impl<'a> Tokens<'a> {
         ensures { result ≤ length self.entry.script.now }
     {
         match self.all.get(index) {
-            Some(token) => token.span.start.min(self.script.len()),
+            Some(token) => (token.span.start as usize).min(self.script.len()),
             None => self.script.len(),
         }
     }
@@ -92,7 +92,7 @@ impl<'a> Tokens<'a> {
     /// The line of the token at this index, or 0 if there is none.
     pub(crate) fn line(self, index: usize) -> usize {
         match self.all.get(index) {
-            Some(token) => token.line,
+            Some(token) => token.line as usize,
             None => 0,
         }
     }

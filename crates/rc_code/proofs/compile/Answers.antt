@@ -1,22 +1,12 @@
-use Rattle.std.proofs.Common.{◌≡◌, Result, Ok, Err, IfOk, OnOk, IsOk, arith, subst, sym}
+use Rattle.std.proofs.Common.{◌≡◌, subst, sym}
 use Rattle.law_handed.specs.Kept.{AllKeptProper}
 use Rattle.law_handed.proofs.Keeping.{code_keeps_proper}
 use Rattle.rc_model.specs.Code.Layout.{Code, code}
 use Rattle.rc_tree.specs.View.{cmd_tree}
 use Rattle.rc_code.specs.Views.{code_of}
+use Rattle.rc_code.proofs.Frozen.{once_written, where_written}
 use Rattle.rc_code.proofs.Parts.{whole_code}
 use Rattle.rc_code.proofs.compile.Goals as goal
-
--- there is code only where all was written, so what holds then holds of it
-where_written : {A B E F P : Type 0} (Q : A → Type 0) (made : Result A E) (written : Result B F) → OnOk made (IsOk written) → OnOk written P → (P → IfOk made Q) → IfOk made Q
-where_written Q (Ok x) (Ok u) whole holds go_on = go_on holds
-where_written Q (Ok x) (Err e) whole holds go_on = absurd (grind arith)
-where_written Q (Err e) written whole holds go_on = tt
-
--- what follows once all was written
-once_written : {B F P Q : Type 0} (written : Result B F) → OnOk written P → (P → Q) → OnOk written Q
-once_written (Ok u) holds go_on = go_on holds
-once_written (Err e) holds go_on = tt
 
 pub of-requires : goal.of-requires
 of-requires c =

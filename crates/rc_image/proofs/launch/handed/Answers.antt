@@ -20,8 +20,8 @@ pub returns-then-are_short-2-clause-back : goal.returns-then-are_short-2-clause-
 returns-then-are_short-2-clause-back c =
     λ proper. handed_reads_back (cmd_tree c.args.cmd.now) (state_of c.args.state.now) _ proper (is_proper c.args.state.now) (returns-then-are_short-2-clause-written c)
 
-pub returns-clause-written : goal.returns-clause-written
-returns-clause-written c =
+pub returns-else-are_short-clause-written : goal.returns-else-are_short-clause-written
+returns-else-are_short-clause-written c =
     let words = map string_bytes c.in_ok-words.words.items in
     elim c.else-are_short.branch [
       | else-are_short-via-then-are_short+else-are_short-2 w ↦

@@ -1,9 +1,10 @@
-use Rattle.std.proofs.Common.{ap, sym, ◌∙◌, map, string_bytes}
+use Rattle.std.proofs.Common.{ap, sym, ◌∙◌, codes, map, string_bytes}
 use Rattle.std.proofs.lemmas.Result.{on_ok_weaker}
 use Rattle.rc_model.specs.Handed.Environment.{with_cut}
 use Rattle.rc_scope.specs.States.{state_of}
 use Rattle.rc_image.specs.Entries.{values_state}
-use Rattle.rc_image.proofs.Variables.{skip_next, entry_set}
+use Rattle.rc_image.proofs.Beginnings.{begins_by}
+use Rattle.rc_image.proofs.Variables.{skip_next, skip_function, entry_set}
 use Rattle.rc_image.proofs.read_environment.set_entry.Goals as goal
 
 pub returns-then-is_ignored : goal.returns-then-is_ignored
@@ -11,6 +12,16 @@ returns-then-is_ignored c =
     let name = c.in-Some.name.now in
     let text = c.in-Some.text.now in
     λ bs h. h ∙ skip_next c.args.own name text bs (sym c.is_ignored.ensures ∙ c.if-is_ignored.true) ∙ ap (λ z. values_state c.args.own (with_cut z bs)) c.in-Some.ensures
+
+pub returns-then-starts_with : goal.returns-then-starts_with
+returns-then-starts_with c =
+    let name = c.in-Some.name.now in
+    let text = c.in-Some.text.now in
+    let begun = sym (begins_by c.starts_with.result (codes "fn#") name c.starts_with.ensures.cases) ∙ c.if-starts_with.true in
+    λ bs h.
+    h
+    ∙ skip_function c.args.own name text bs begun (sym c.is_ignored.ensures ∙ c.if-is_ignored.false)
+    ∙ ap (λ z. values_state c.args.own (with_cut z bs)) c.in-Some.ensures
 
 pub returns : goal.returns
 returns c =

@@ -1,18 +1,14 @@
-use Rattle.law_handed.proofs.Characters.{accepted_are_scripts}
-use Rattle.rc_tree.specs.View.{cmd_tree}
 use Rattle.rc_scope.proofs.ProperStates.{is_proper}
 use Rattle.rc_scope.specs.States.{state_of}
 use Rattle.rc_shell.specs.Executed.{text_from}
 use Rattle.rc_shell.proofs.Executed.{out_of_memory, script_ran, script_refused, text_proper}
 use Rattle.rc_shell.proofs.script.execute.Goals as goal
 
-pub run_tree-requires : goal.run_tree-requires
-run_tree-requires g c = accepted_are_scripts c.args.script.now (cmd_tree c.in-Ok.cmd) c.in-Ok.ensures.accepted
-
 pub returns-in-Ok : goal.returns-in-Ok
 returns-in-Ok g c =
-    script_ran c.args.script.now (state_of c.args.state) c.args.limit (g.W.World.events c.args.world.now) (g.W.World.events c.run_tree.new.world)
-    c.run_tree.result (cmd_tree c.in-Ok.cmd) c.in-Ok.ensures.accepted c.in-Ok.ensures.only (is_proper c.args.state) c.run_tree.ensures
+    let made = c.in-Ok.ensures.made in
+    script_ran c.args.script.now (state_of c.args.state) c.args.limit (g.W.World.events c.args.world.now) (g.W.World.events c.run_code.new.world)
+    c.run_code.result made.tree made.accepted made.only (is_proper c.args.state) (c.run_code.ensures made.tree made.code_is)
 
 pub returns-in-Err-Fault : goal.returns-in-Err-Fault
 returns-in-Err-Fault g c =

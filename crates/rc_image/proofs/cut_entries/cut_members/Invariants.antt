@@ -2,7 +2,7 @@ use Rattle.std.proofs.Common.{◌≡◌, ◌++◌, length, map, string_bytes}
 use denote.Text.{Utf8}
 use denote.Shadow.{shadow}
 use Rattle.rc_model.specs.Handed.Environment.{entry_members}
-use Rattle.rc_image.proofs.cut_entries.members.Given as goal
+use Rattle.rc_image.proofs.cut_entries.cut_members.Given as goal
 
 -- the members so far and those that are left are the whole
 abbrev pub invariant-loop-member : goal.invariant-loop-member

@@ -2,7 +2,7 @@ use Rattle.std.proofs.Common.{◌≡◌, ◌++◌, length, string_bytes}
 use denote.Text.{Utf8}
 use denote.Shadow.{shadow}
 use Rattle.rc_model.specs.Handed.Environment.{unescaped}
-use Rattle.rc_image.proofs.cut_entries.unescaped.Given as goal
+use Rattle.rc_image.proofs.cut_entries.without_escapes.Given as goal
 
 -- what is written and what is left is the whole
 abbrev pub invariant-loop-plain : goal.invariant-loop-plain

@@ -1,0 +1,56 @@
+//! A compiler to which the items of a script come one after the other, so that no tree holds them all.
+
+ghost use Rattle.std.specs.Prelude.{◌≡◌, IfOk, OnOk};
+ghost use Rattle.rc_model.specs.Code.Layout.{code};
+ghost use Rattle.rc_model.specs.Handed.Proper.{IsProperTree};
+ghost use Rattle.rc_model.specs.Syntax.Tree as tree;
+ghost use Rattle.rc_model.specs.Syntax.Tree.{Many, Seq, none, snoc};
+ghost use Rattle.rc_tree.specs.View.{item_tree};
+ghost use Rattle.rc_code.specs.Compiled.{HasCompiled};
+ghost use Rattle.rc_code.specs.Views.{code_of};
+
+use crate::code::{Code, Op};
+use crate::emit_commands::emit_items;
+use crate::listing::Listing;
+use rc_tree::Item;
+use std::alloc::{AllocError, Global};
+use std::slice;
+
+/// The code of the items so far.
+#[derive(Drop)]
+pub struct Compiler {
+    alloc: Global,
+    listing: Listing,
+}
+
+impl Compiler {
+    /// A compiler without items.
+    #[tactic(auto, using(crate::proofs::Items::compiling))]
+    pub fn new(alloc: Global) -> Self
+        ensures { HasCompiled none result }
+    {
+        Compiler {
+            alloc,
+            listing: Listing::empty(alloc),
+        }
+    }
+
+    /// Compiles one more item. If memory is refused, there is no code of it.
+    #[tactic(auto, using(crate::proofs::Items::compiling))]
+    pub fn add(&mut self, item: &Item) -> Result<(), AllocError>
+        ensures { (items : Many tree.item) → HasCompiled items self.old →
+            OnOk result (HasCompiled (snoc items (item_tree item.now)) self.new) }
+    {
+        emit_items(self.alloc, &mut self.listing, slice::from_ref(item), false)
+    }
+
+    /// The code of all items as a script, which ends with a `Return`.
+    pub fn finish(self) -> Result<Code, AllocError>
+        requires { (items : Many tree.item) × HasCompiled items self × IsProperTree (Seq items) }
+        ensures { (items : Many tree.item) → HasCompiled items self → IfOk result (λ done. code_of done ≡ code (Seq items)) }
+    {
+        let Compiler { alloc, mut listing } = self;
+        let written = listing.put(Op::Return);
+        Code::of(alloc, listing, written)
+    }
+}
