@@ -1,5 +1,6 @@
 -- A table of numbered things, as a list of places: a place holds a thing or is free.
-use Rattle.std.specs.Prelude.{◌≡◌, ◌≢◌, ℕ, ◌+◌, ◌<◌, ◌≤◌, ◌^◌, List, length, Option, None, IsSome, IsSomeAnd, slice_index_or}
+use Rattle.std.specs.Prelude.{◌≡◌, ◌≢◌, ℕ, ◌+◌, ◌<◌, ◌≤◌, ◌^◌, List, length, Option, None, IsSome, IsSomeAnd}
+use Rattle.std.specs.Prelude.{slice_index_or}
 use Rattle.rc_model.specs.declared.call.Fault.{Fault}
 use Rattle.rc_model.specs.declared.call.Fault.TheVariants.{Other, NoMemory}
 
