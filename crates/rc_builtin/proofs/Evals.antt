@@ -1,8 +1,10 @@
 -- What a text comes to that is run as a script.
-use Rattle.std.proofs.Common.{rules, ◌≡◌, ℕ, List, ◌∷◌, Option, Some, None, Result, Ok, Err, map, string_bytes, refl, ap, sym, subst, ◌∙◌}
+use Rattle.std.proofs.Common.{rules, ◌≡◌, ℕ, List, ◌∷◌, Option, Some, None, Result, Ok, Err, map, refl, ap, sym, subst, ◌∙◌}
 use Rattle.std.specs.Prelude.{IfErr, IfOk, Vec, codes}
 use Rattle.std.specs.declared.alloc.Global.{Global}
 use Rattle.std.specs.declared.string.String.{String}
+use Rattle.rc_text.specs.declared.texts.Text.{Text}
+use Rattle.rc_text.specs.Texts.{text_bytes}
 use Rattle.law_syntax.proofs.Decided.{never_both}
 use Rattle.law_syntax.proofs.Found.{finds_the_tree}
 use Rattle.law_plans.proofs.Runs.{ran_none}
@@ -82,7 +84,7 @@ module _ (recorded : Option (List Event)) (s t : State) (text : List ℕ) where
   not_evaluated h = ran_as recorded recorded _ _ _ (ap (λ x. as_body x s) h.0 ∙ ap (λ u. done_with (Next Finished u)) (sym h.1)) (ran_none recorded _)
 
   -- and with a `$*` of its own
-  pub sourced : (args : Vec (String Global) Global) (ws : List (List ℕ)) (body : Code) → map string_bytes args.items ≡ ws → Compiles text s t (Some body)
+  pub sourced : (args : Vec Text Global) (ws : List (List ℕ)) (body : Code) → map text_bytes args.items ≡ ws → Compiles text s t (Some body)
       → RunsWords recorded recorded (as_body_with ws (tree_of text) s) t (Ok (words.Call args body))
   sourced args ws body e h = (
     h.0,

@@ -1,5 +1,6 @@
 -- The outcome of the words of a simple command.
-use Rattle.std.specs.Prelude.{◌≡◌, List, [], Option, Result, Ok, Err, map, string_bytes}
+use Rattle.std.specs.Prelude.{◌≡◌, List, [], Option, Result, Ok, Err, map}
+use Rattle.rc_text.specs.Texts.{text_bytes}
 use Rattle.rc_model.specs.Run.Calls.{Event}
 use Rattle.rc_model.specs.Run.Plans.{Plan, done_with, Ran}
 use Rattle.rc_model.specs.Run.Shell as shell
@@ -23,6 +24,6 @@ RunsWords before after plan s (Ok (words.Body body)) =
     × Ran before after plan (done_with (shell.Next (Body called) s))
 RunsWords before after plan s (Ok (words.Call args body)) =
     (called : Node cmd) × (code_of body ≡ code called)
-    × Ran before after plan (done_with (shell.Next (BodyWith (map string_bytes args.items) called) s))
+    × Ran before after plan (done_with (shell.Next (BodyWith (map text_bytes args.items) called) s))
 RunsWords before after plan s (Ok words.Exit) = Ran before after plan (done_with (shell.Exit s []))
 RunsWords before after plan s (Err stop) = Left before after plan stop

@@ -1,6 +1,6 @@
 //! Which code runs words that name no function: that of a built-in command, or of a program.
 
-ghost use Rattle.std.specs.Prelude.{◌≡◌, ◌≢◌, ◌≤◌, OnErr, drop, length, map, string_bytes};
+ghost use Rattle.std.specs.Prelude.{◌≡◌, ◌≢◌, ◌≤◌, OnErr, drop, length, map};
 ghost use Rattle.rc_model.specs.Run.Acts.{run_program};
 ghost use Rattle.rc_model.specs.Run.Builtins.{Called, finished, run_builtin, without_functions};
 ghost use Rattle.rc_model.specs.Run.Shell.{Shell};
@@ -9,6 +9,7 @@ ghost use Rattle.rc_model.specs.declared.call.Slots.{Slots};
 ghost use Rattle.rc_builtin.specs.Outcomes.{RunsWords};
 ghost use Rattle.rc_builtin.specs.Words.{BeginsOther};
 ghost use Rattle.rc_scope.specs.States.{state_of};
+ghost use Rattle.rc_text.specs.Texts.{text_bytes};
 
 use crate::Builtin;
 use crate::directories::change_dir;
@@ -22,6 +23,7 @@ use crate::simple_commands::{Outcome, name_and_args};
 use crate::wait::wait;
 use rc_pipes::{misuse, run_program};
 use rc_scope::State;
+use rc_text::Text;
 use rc_world::{Slots, Stop, World};
 use std::alloc::Global;
 
@@ -33,11 +35,11 @@ fn run_builtin<W: World>(
     state: &mut State,
     slots: Slots,
     builtin: Builtin,
-    args: Vec<String>,
+    args: Vec<Text>,
 ) -> Result<Outcome, Stop>
     requires { builtin ≢ BuiltinWord }
     ensures runs { (again : Shell Called) → RunsWords (W.events world.old) (W.events world.new)
-        (run_builtin again slots builtin (map string_bytes args.items) (state_of state.old))
+        (run_builtin again slots builtin (map text_bytes args.items) (state_of state.old))
         (state_of state.new) result }
     ensures err { OnErr result (state_of state.new ≡ state_of state.old) }
 {
@@ -66,10 +68,10 @@ fn run_as_program<W: World>(
     state: &mut State,
     slots: Slots,
     name: &str,
-    args: Vec<String>,
+    args: Vec<Text>,
 ) -> Result<Outcome, Stop>
     ensures runs { RunsWords (W.events world.old) (W.events world.new)
-        (finished (run_program slots name.now (map string_bytes args.items)) (state_of state.old))
+        (finished (run_program slots name.now (map text_bytes args.items)) (state_of state.old))
         (state_of state.new) result }
     ensures err { OnErr result (state_of state.new ≡ state_of state.old) }
 {
@@ -78,15 +80,15 @@ fn run_as_program<W: World>(
 }
 
 /// Counts the leading words that are `builtin`.
-fn leading_builtins(words: &[String]) -> usize
+fn leading_builtins(words: &[Text]) -> usize
     ensures within { result ≤ length words.now }
-    ensures same { (slots : Slots) → without_functions slots (map string_bytes words.now)
-        ≡ without_functions slots (map string_bytes (drop result words.now)) }
-    ensures other { BeginsOther (map string_bytes (drop result words.now)) }
+    ensures same { (slots : Slots) → without_functions slots (map text_bytes words.now)
+        ≡ without_functions slots (map text_bytes (drop result words.now)) }
+    ensures other { BeginsOther (map text_bytes (drop result words.now)) }
 {
     let mut count = 0;
     for word in words {
-        if Builtin::named(word) != Some(Builtin::BuiltinWord) {
+        if Builtin::named(word.as_str()) != Some(Builtin::BuiltinWord) {
             return count;
         }
         count += 1;
@@ -95,10 +97,10 @@ fn leading_builtins(words: &[String]) -> usize
 }
 
 /// Drops each leading `builtin` of these words.
-fn past_builtins(mut words: Vec<String>) -> Vec<String>
-    ensures same { (slots : Slots) → without_functions slots (map string_bytes words.items)
-        ≡ without_functions slots (map string_bytes result.items) }
-    ensures other { BeginsOther (map string_bytes result.items) }
+fn past_builtins(mut words: Vec<Text>) -> Vec<Text>
+    ensures same { (slots : Slots) → without_functions slots (map text_bytes words.items)
+        ≡ without_functions slots (map text_bytes result.items) }
+    ensures other { BeginsOther (map text_bytes result.items) }
 {
     let count = leading_builtins(&words);
     words.drain(..count);
@@ -112,18 +114,18 @@ pub(crate) fn run_without_functions<W: World>(
     world: &mut W,
     state: &mut State,
     slots: Slots,
-    words: Vec<String>,
+    words: Vec<Text>,
 ) -> Result<Outcome, Stop>
     ensures runs { RunsWords (W.events world.old) (W.events world.new)
-        (without_functions slots (map string_bytes words.items) (state_of state.old)) (state_of state.new) result }
+        (without_functions slots (map text_bytes words.items) (state_of state.old)) (state_of state.new) result }
     ensures err { OnErr result (state_of state.new ≡ state_of state.old) }
 {
     let Some((name, args)) = name_and_args(past_builtins(words)) else {
         misuse(state)?;
         return Ok(Outcome::Finished);
     };
-    match Builtin::named(&name) {
+    match Builtin::named(name.as_str()) {
         Some(builtin) => run_builtin(alloc, world, state, slots, builtin, args),
-        None => run_as_program(alloc, world, state, slots, &name, args),
+        None => run_as_program(alloc, world, state, slots, name.as_str(), args),
     }
 }

@@ -6,9 +6,11 @@ ghost use Rattle.rc_model.specs.Run.Builtins.{is_own_dir, under_dir};
 ghost use Rattle.rc_model.specs.Run.State.{value_of};
 ghost use Rattle.rc_world.specs.Comes.{Does};
 ghost use Rattle.rc_scope.specs.States.{state_of};
+ghost use Rattle.rc_text.specs.Texts.{text_bytes};
 
 use rc_pipes::{is_path, misuse};
 use rc_scope::State;
+use rc_text::Text;
 use rc_world::{Stop, World, calls};
 use std::alloc::{AllocError, Global};
 
@@ -30,8 +32,8 @@ fn under_dir(alloc: Global, dir: &str, member: &str) -> Result<String, AllocErro
 }
 
 /// The paths to try, by the members of `$cdpath`.
-fn dirs_by(alloc: Global, dir: &str, members: &[String]) -> Result<Vec<String>, AllocError>
-    ensures { IfOk result (λ dirs. map string_bytes dirs.items ≡ dirs_by dir.now (map string_bytes members.now)) }
+fn dirs_by(alloc: Global, dir: &str, members: &[Text]) -> Result<Vec<String>, AllocError>
+    ensures { IfOk result (λ dirs. map string_bytes dirs.items ≡ dirs_by dir.now (map text_bytes members.now)) }
 {
     let mut dirs = Vec::new(alloc);
     if members.is_empty() || is_own_dir(dir) {
@@ -39,7 +41,7 @@ fn dirs_by(alloc: Global, dir: &str, members: &[String]) -> Result<Vec<String>, 
         return Ok(dirs);
     }
     for member in members {
-        dirs.push(under_dir(alloc, dir, member)?)?;
+        dirs.push(under_dir(alloc, dir, member.as_str())?)?;
     }
     Ok(dirs)
 }
@@ -57,7 +59,7 @@ fn home_dirs(alloc: Global, state: &State) -> Result<Vec<String>, AllocError>
         ≡ dirs_of (state_of state.now) (first_member (value_of (state_of state.now) (codes "home")))) }
 {
     match state.value("home").first() {
-        Some(home) => dirs_of(alloc, state, home),
+        Some(home) => dirs_of(alloc, state, home.as_str()),
         None => Ok(Vec::new(alloc)),
     }
 }
@@ -86,15 +88,15 @@ pub fn change_dir<W: World>(
     alloc: Global,
     world: &mut W,
     state: &mut State,
-    words: &[String],
+    words: &[Text],
 ) -> Result<(), Stop>
     ensures does { Does W.events world.old world.new state_of state.old state.new
-        (cd (map string_bytes words.now)) (λ _. Finished) result }
+        (cd (map text_bytes words.now)) (λ _. Finished) result }
     ensures err { OnErr result (state_of state.new ≡ state_of state.old) }
 {
     let dirs = match words {
         [] => home_dirs(alloc, state)?,
-        [dir] => dirs_of(alloc, state, dir)?,
+        [dir] => dirs_of(alloc, state, dir.as_str())?,
         _ => {
             misuse(state)?;
             return Ok(());

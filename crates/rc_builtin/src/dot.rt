@@ -1,6 +1,6 @@
 //! `.`: finding a file of commands by its name, reading it, and running it as a script.
 
-ghost use Rattle.std.specs.Prelude.{◌≡◌, ◌∷◌, ℕ, IfOk, List, Ok, OnErr, Option, Some, map, string_bytes};
+ghost use Rattle.std.specs.Prelude.{◌≡◌, ◌∷◌, ℕ, IfOk, List, Ok, OnErr, Option, Some, map};
 ghost use Rattle.rc_model.specs.Mirrors.TreeOfText.{tree_of};
 ghost use Rattle.rc_model.specs.Run.Acts.{longest_file, read_all};
 ghost use Rattle.rc_model.specs.Run.Builtins.{as_body_with, dot, run_file};
@@ -10,12 +10,14 @@ ghost use Rattle.rc_builtin.specs.Files.{after_file, got_of};
 ghost use Rattle.rc_builtin.specs.Outcomes.{RunsWords};
 ghost use Rattle.rc_scope.specs.States.{state_of};
 ghost use Rattle.rc_world.specs.Comes.{GoesOn, Reads};
+ghost use Rattle.rc_text.specs.Texts.{text_bytes};
 
 use crate::scripts::{compile_read, compiled};
 use crate::simple_commands::{Outcome, name_and_args};
 use rc_parser::Reader;
 use rc_pipes::{misuse, open_file};
 use rc_scope::State;
+use rc_text::Text;
 use rc_world::{Handle, Stop, World, calls};
 use std::alloc::{AllocError, Global};
 
@@ -82,10 +84,10 @@ fn run_read(
     alloc: Global,
     state: &mut State,
     reader: Reader,
-    args: Vec<String>,
+    args: Vec<Text>,
 ) -> Result<Outcome, AllocError>
     ensures ok { IfOk result (λ outcome. (recorded : Option (List Event)) → RunsWords recorded recorded
-        (as_body_with (map string_bytes args.items) (tree_of reader) (state_of state.old))
+        (as_body_with (map text_bytes args.items) (tree_of reader) (state_of state.old))
         (state_of state.new) (Ok outcome)) }
     ensures err { OnErr result (state_of state.new ≡ state_of state.old) }
 {
@@ -101,17 +103,17 @@ pub(crate) fn dot<W: World>(
     alloc: Global,
     world: &mut W,
     state: &mut State,
-    words: Vec<String>,
+    words: Vec<Text>,
 ) -> Result<Outcome, Stop>
     ensures runs { RunsWords (W.events world.old) (W.events world.new)
-        (dot (map string_bytes words.items) (state_of state.old)) (state_of state.new) result }
+        (dot (map text_bytes words.items) (state_of state.old)) (state_of state.new) result }
     ensures err { OnErr result (state_of state.new ≡ state_of state.old) }
 {
     let Some((name, args)) = name_and_args(words) else {
         misuse(state)?;
         return Ok(Outcome::Finished);
     };
-    let Some(file) = read_file(alloc, world, state, &name)? else {
+    let Some(file) = read_file(alloc, world, state, name.as_str())? else {
         state.set_status("cannot open")?;
         return Ok(Outcome::Finished);
     };

@@ -7,11 +7,12 @@ ghost use Rattle.rc_model.specs.Run.Calls.{Event};
 ghost use Rattle.rc_model.specs.Syntax.Text.{spaced};
 ghost use Rattle.rc_builtin.specs.Outcomes.{RunsWords};
 ghost use Rattle.rc_scope.specs.States.{state_of};
+ghost use Rattle.rc_text.specs.Texts.{text_bytes};
 
 use crate::scripts::{compile_script, compiled};
 use crate::simple_commands::Outcome;
 use rc_scope::State;
-use rc_text::flat;
+use rc_text::{Text, flat};
 use std::alloc::{AllocError, Global};
 
 /// A text that did not run lately: it is a script that is run, and its code is kept.
@@ -30,13 +31,9 @@ fn eval_new(alloc: Global, state: &mut State, text: String) -> Result<Outcome, A
 }
 
 /// `eval`: runs the words, joined by spaces, as a script.
-pub(crate) fn eval(
-    alloc: Global,
-    state: &mut State,
-    words: &[String],
-) -> Result<Outcome, AllocError>
+pub(crate) fn eval(alloc: Global, state: &mut State, words: &[Text]) -> Result<Outcome, AllocError>
     ensures ok { IfOk result (λ outcome. (recorded : Option (List Event)) → RunsWords recorded recorded
-        (as_body (tree_of (spaced (map string_bytes words.now))) (state_of state.old))
+        (as_body (tree_of (spaced (map text_bytes words.now))) (state_of state.old))
         (state_of state.new) (Ok outcome)) }
     ensures err { OnErr result (state_of state.new ≡ state_of state.old) }
 {

@@ -12,12 +12,14 @@ ghost use Rattle.rc_world.specs.Comes.{Reads, Does};
 ghost use Rattle.rc_builtin.specs.Known.{known, status_of};
 ghost use Rattle.rc_pipes.specs.Starts.{path_of};
 ghost use Rattle.rc_scope.specs.States.{state_of};
+ghost use Rattle.rc_text.specs.Texts.{text_bytes};
 
 use crate::shown::value_line;
 use rc_model::{Builtin, InputError};
 use rc_pipes::find_program;
 use rc_print::{PrintFault, print};
 use rc_scope::State;
+use rc_text::Text;
 use rc_tree::Cmd;
 use rc_world::{Slots, Stop, World, calls};
 use std::alloc::{AllocError, Global};
@@ -144,15 +146,15 @@ fn known_each<W: World>(
     alloc: Global,
     world: &mut W,
     state: &State,
-    names: &[String],
+    names: &[Text],
 ) -> Result<Known, Stop>
     ensures { Reads W.events world.old world.new (state_of state.now)
-        (known_each (map string_bytes names.now)) known result }
+        (known_each (map text_bytes names.now)) known result }
 {
     let mut lines = String::new(alloc);
     let mut status = None;
     for name in names {
-        let known = known_of(alloc, world, state, name)?;
+        let known = known_of(alloc, world, state, name.as_str())?;
         lines.push_str(&known.lines)?;
         status = known.status.or(status);
     }
@@ -200,10 +202,10 @@ pub fn whatis<W: World>(
     world: &mut W,
     state: &mut State,
     slots: Slots,
-    names: &[String],
+    names: &[Text],
 ) -> Result<(), Stop>
     ensures does { Does W.events world.old world.new state_of state.old state.new
-        (whatis slots (map string_bytes names.now)) (λ _. Finished) result }
+        (whatis slots (map text_bytes names.now)) (λ _. Finished) result }
     ensures err { OnErr result (state_of state.new ≡ state_of state.old) }
 {
     let known = known_each(alloc, world, state, names)?;

@@ -4,10 +4,12 @@ ghost use Rattle.rc_model.specs.Run.State.{set_value};
 ghost use Rattle.rc_scope.specs.States.{state_of};
 ghost use Rattle.rc_cli.specs.Asked.{asked};
 ghost use Rattle.rc_cli.specs.Start.{first_state, given_state, with_default, with_defaults};
+ghost use Rattle.rc_text.specs.Texts.{text_bytes};
 
 use crate::request::Request;
 use rc_image::read_state;
-use rc_scope::{State, copy_texts};
+use rc_scope::{State, texts_of};
+use rc_text::Text;
 use std::alloc::{AllocError, Global};
 
 /// The state that the script of this request begins in, with these entries of the environment.
@@ -44,7 +46,7 @@ fn set_arguments(alloc: Global, state: &mut State, arguments: &[String]) -> Resu
     ensures { OnOk result (state_of state.new
         ≡ set_value (state_of state.old) (codes "*") (map string_bytes arguments.now)) }
 {
-    let arguments = copy_texts(alloc, arguments)?;
+    let arguments = texts_of(alloc, arguments)?;
     state.set("*", arguments).map_err(|_| AllocError)
 }
 
@@ -55,7 +57,7 @@ fn set_defaults(alloc: Global, state: &mut State) -> Result<(), AllocError>
 {
     let ifs = value(alloc, &[" \t\n"])?;
     let path = value(alloc, &["/bin", "/usr/bin"])?;
-    let home = state.get("HOME")?;
+    let home = texts_of(alloc, &state.get("HOME")?)?;
     set_default(state, "ifs", ifs)?;
     set_default(state, "path", path)?;
     set_default(state, "home", home)
@@ -63,9 +65,9 @@ fn set_defaults(alloc: Global, state: &mut State) -> Result<(), AllocError>
 
 /// Sets a variable, if it has no members.
 #[tactic(auto, unfolding(crate::specs::Start::with_default))]
-fn set_default(state: &mut State, name: &str, value: Vec<String>) -> Result<(), AllocError>
+fn set_default(state: &mut State, name: &str, value: Vec<Text>) -> Result<(), AllocError>
     ensures { OnOk result (state_of state.new
-        ≡ with_default name.now (map string_bytes value.items) (state_of state.old)) }
+        ≡ with_default name.now (map text_bytes value.items) (state_of state.old)) }
 {
     if value.is_empty() || !state.value(name).is_empty() {
         return Ok(());
@@ -73,12 +75,12 @@ fn set_default(state: &mut State, name: &str, value: Vec<String>) -> Result<(), 
     state.set(name, value).map_err(|_| AllocError)
 }
 
-fn value(alloc: Global, members: &[&str]) -> Result<Vec<String>, AllocError>
-    ensures { IfOk result (λ value. map string_bytes value.items ≡ map (λ member. member.now) members.now) }
+fn value(alloc: Global, members: &[&str]) -> Result<Vec<Text>, AllocError>
+    ensures { IfOk result (λ value. map text_bytes value.items ≡ map (λ member. member.now) members.now) }
 {
     let mut value = Vec::new(alloc);
     for member in members {
-        value.push(String::from_str(alloc, member)?)?;
+        value.push(Text::of(alloc, member)?)?;
     }
     Ok(value)
 }

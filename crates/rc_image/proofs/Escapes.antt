@@ -1,5 +1,5 @@
 -- What the entries of an environment say.
-use Rattle.std.specs.Prelude.{string_bytes, option_map, IfSome}
+use Rattle.std.specs.Prelude.{option_map, IfSome}
 use Rattle.std.proofs.Common.{◌≡◌, ℕ, ◌<◌, suc, List, [], ◌∷◌, ◌++◌, length, drop, map, get_or, refl, sym, ap, ◌∙◌, arith, append_assoc, Bool, true, false, cond, ◌==◌, ◌&&◌, ◌||◌, if◌then◌else◌, codes, Option, Some, None}
 use Rattle.std.proofs.lemmas.Bool.{ne_eqb, eqb-true}
 use mathlib.Core.Bool.{true≢false}
@@ -7,8 +7,8 @@ use Rattle.std.proofs.lemmas.List.{append-nil, map-append}
 use Rattle.std.specs.List.{slice_split, onto_first, list_any}
 use Rattle.std.specs.Option.{MatchOption}
 use denote.Ref.{Bor}
-use Rattle.std.specs.declared.alloc.Global.{Global}
-use Rattle.std.specs.declared.string.String.{String}
+use Rattle.rc_text.specs.declared.texts.Text.{Text}
+use Rattle.rc_text.specs.Texts.{text_bytes}
 use Rattle.rc_model.specs.Run.State.{is_function_name}
 use Rattle.rc_model.specs.Handed.Environment.{cut_entry, with_first, unescaped, entry_members}
 use Rattle.rc_image.specs.Additions.{is_mark}
@@ -93,27 +93,27 @@ pub first_member : (xs ys : List ℕ) → Lacks 1 xs → entry_members (xs ++ 1 
 first_member xs ys h = ap (map unescaped) (split_at xs ys h)
 
 -- one more member
-pub one_member : (m written : List (String Global)) (s : String Global) (member after rest : List ℕ) (whole : List (List ℕ)) → rest ≡ member ++ 1 ∷ after →
-    Lacks 1 member → string_bytes s ≡ unescaped member → map string_bytes m ++ entry_members rest ≡ whole → written ≡ m ++ s ∷ [] →
-    map string_bytes written ++ entry_members after ≡ whole
+pub one_member : (m written : List (Text)) (s : Text) (member after rest : List ℕ) (whole : List (List ℕ)) → rest ≡ member ++ 1 ∷ after →
+    Lacks 1 member → text_bytes s ≡ unescaped member → map text_bytes m ++ entry_members rest ≡ whole → written ≡ m ++ s ∷ [] →
+    map text_bytes written ++ entry_members after ≡ whole
 one_member m written s member after rest whole e h k i w =
-    ap (λ t. map string_bytes t ++ entry_members after) w
-    ∙ ap (λ t. t ++ entry_members after) (map-append string_bytes m (s ∷ []))
-    ∙ append_assoc (map string_bytes m) (string_bytes s ∷ []) (entry_members after)
-    ∙ ap (λ t. map string_bytes m ++ t ∷ entry_members after) k
-    ∙ ap (λ t. map string_bytes m ++ t) (sym (first_member member after h))
-    ∙ ap (λ t. map string_bytes m ++ entry_members t) (sym e)
+    ap (λ t. map text_bytes t ++ entry_members after) w
+    ∙ ap (λ t. t ++ entry_members after) (map-append text_bytes m (s ∷ []))
+    ∙ append_assoc (map text_bytes m) (text_bytes s ∷ []) (entry_members after)
+    ∙ ap (λ t. map text_bytes m ++ t ∷ entry_members after) k
+    ∙ ap (λ t. map text_bytes m ++ t) (sym (first_member member after h))
+    ∙ ap (λ t. map text_bytes m ++ entry_members t) (sym e)
     ∙ i
 
 -- and the last
-pub no_more_members : (m written : List (String Global)) (s : String Global) (rest : List ℕ) (whole : List (List ℕ)) →
-    Lacks 1 rest → string_bytes s ≡ unescaped rest → map string_bytes m ++ entry_members rest ≡ whole → written ≡ m ++ s ∷ [] →
-    map string_bytes written ≡ whole
+pub no_more_members : (m written : List (Text)) (s : Text) (rest : List ℕ) (whole : List (List ℕ)) →
+    Lacks 1 rest → text_bytes s ≡ unescaped rest → map text_bytes m ++ entry_members rest ≡ whole → written ≡ m ++ s ∷ [] →
+    map text_bytes written ≡ whole
 no_more_members m written s rest whole h k i w =
-    ap (map string_bytes) w
-    ∙ map-append string_bytes m (s ∷ [])
-    ∙ ap (λ t. map string_bytes m ++ t ∷ []) k
-    ∙ ap (λ t. map string_bytes m ++ t) (sym (last_member rest h))
+    ap (map text_bytes) w
+    ∙ map-append text_bytes m (s ∷ [])
+    ∙ ap (λ t. map text_bytes m ++ t ∷ []) k
+    ∙ ap (λ t. map text_bytes m ++ t) (sym (last_member rest h))
     ∙ i
 
 -- ** a text without marks

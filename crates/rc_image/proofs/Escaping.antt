@@ -1,5 +1,5 @@
 -- The text of a value.
-use Rattle.std.proofs.Common.{◌≡◌, ℕ, ◌<◌, suc, List, [], ◌∷◌, ◌++◌, length, map, get_or, refl, sym, ap, ◌∙◌, arith, string_bytes, append_assoc, cond, ◌==◌, ◌||◌, Bool, true, false, lit<}
+use Rattle.std.proofs.Common.{◌≡◌, ℕ, ◌<◌, suc, List, [], ◌∷◌, ◌++◌, length, map, get_or, refl, sym, ap, ◌∙◌, arith, append_assoc, cond, ◌==◌, ◌||◌, Bool, true, false, lit<}
 use Rattle.std.proofs.lemmas.List.{append-nil}
 use Rattle.std.proofs.lemmas.Str.{encode_ascii, inside_one}
 use Rattle.std.proofs.lemmas.Bool.{ne_eqb}
@@ -8,6 +8,8 @@ use Rattle.std.specs.List.{flat_map, list_any}
 use mathlib.Core.Bool.{true≢false}
 use Rattle.std.specs.declared.alloc.Global.{Global}
 use Rattle.std.specs.declared.string.String.{String}
+use Rattle.rc_text.specs.declared.texts.Text.{Text}
+use Rattle.rc_text.specs.Texts.{text_bytes}
 use Rattle.rc_model.specs.Handed.Image.{escape, escaped, value_text}
 use Rattle.rc_image.specs.Additions.{is_mark}
 
@@ -51,8 +53,8 @@ escaped_other c h k = escaped_plain (encode_utf8 c) (λ i lt. (
 ))
 
 -- the text of members after a first one
-pub value_strings : (s : String Global) (ss : List (String Global)) → escaped (string_bytes s) ++ flat_map (λ t. 1 ∷ escaped (string_bytes t)) ss ≡ value_text (map string_bytes (s ∷ ss))
-value_strings s [] = append-nil (escaped (string_bytes s))
-value_strings s (t ∷ ts) = ap (λ u. escaped (string_bytes s) ++ (1 ∷ u)) (value_strings t ts)
+pub value_texts : (s : Text) (ss : List Text) → escaped (text_bytes s) ++ flat_map (λ t. 1 ∷ escaped (text_bytes t)) ss ≡ value_text (map text_bytes (s ∷ ss))
+value_texts s [] = append-nil (escaped (text_bytes s))
+value_texts s (t ∷ ts) = ap (λ u. escaped (text_bytes s) ++ (1 ∷ u)) (value_texts t ts)
 
 pub ruleset escapes = (escaped_append, escaped_one, escaped_two, escaped_other)

@@ -1,8 +1,9 @@
 -- The entries of a launch, variable by variable.
-use Rattle.std.proofs.Common.{◌≡◌, ℕ, Bool, true, false, not, cond, List, [], ◌∷◌, ◌++◌, length, map, refl, sym, ap, ◌∙◌, arith, string_bytes, append_assoc, ◌&&◌, ◌==◌, ◌<◌, ◌+◌, drop, get_or, drop-cons, add-one, subst}
+use Rattle.std.proofs.Common.{◌≡◌, ℕ, Bool, true, false, not, cond, List, [], ◌∷◌, ◌++◌, length, map, refl, sym, ap, ◌∙◌, arith, append_assoc, ◌&&◌, ◌==◌, ◌<◌, ◌+◌, drop, get_or, drop-cons, add-one, subst}
 use Rattle.std.proofs.lemmas.Bool.{ne_eqb}
 use mathlib.Core.Bool.{true≢false}
 use Rattle.std.specs.declared.cmp.Ordering.TheVariants.{Less, Equal, Greater}
+use Rattle.rc_text.specs.Texts.{text_bytes}
 use Rattle.rc_model.specs.Syntax.Text.{text_cmp}
 use Rattle.rc_model.specs.Run.State.{State, status_name, visible}
 use Rattle.rc_model.specs.Handed.Environment.{Bindings}
@@ -31,8 +32,8 @@ on_by name [] others false h e = cc
 on_by name (m ∷ ms) others true h e = absurd (true≢false (sym e ∙ and_false _))
 on_by name (m ∷ ms) others false h e = ap (λ b. cond b others ((name, value_text (m ∷ ms)) ∷ others)) h
 
-pub handed_on : (v : Binding) (vs : List Binding) → is_handed (binding_of v) ≡ true → handed (v ∷ vs) ≡ (v.name.now, value_text (map string_bytes v.value.now)) ∷ handed vs
-handed_on v vs h = on_by (v.name.now) (map string_bytes v.value.now) (handed vs) (stays_behind v.name.now) refl h
+pub handed_on : (v : Binding) (vs : List Binding) → is_handed (binding_of v) ≡ true → handed (v ∷ vs) ≡ (v.name.now, value_text (map text_bytes v.value.now)) ∷ handed vs
+handed_on v vs h = on_by (v.name.now) (map text_bytes v.value.now) (handed vs) (stays_behind v.name.now) refl h
 
 -- one that is not
 off_by : (name : List ℕ) (value : List (List ℕ)) (others : Bindings) (k : Bool) → stays_behind name ≡ k → not (length value == 0) && not k ≡ false → with_binding name value others ≡ others
@@ -41,7 +42,7 @@ off_by name (m ∷ ms) others true h e = ap (λ b. cond b others ((name, value_t
 off_by name (m ∷ ms) others false h e = absurd (true≢false (sym (ap (λ b. not b && true) (ne_eqb (length (m ∷ ms)) 0 (λ z. omega (arith, z)))) ∙ e))
 
 pub handed_off : (v : Binding) (vs : List Binding) → is_handed (binding_of v) ≡ false → handed (v ∷ vs) ≡ handed vs
-handed_off v vs h = off_by (v.name.now) (map string_bytes v.value.now) (handed vs) (stays_behind v.name.now) refl h
+handed_off v vs h = off_by (v.name.now) (map text_bytes v.value.now) (handed vs) (stays_behind v.name.now) refl h
 
 -- ** the variables that are left
 
@@ -50,7 +51,7 @@ variable_left vs i v lt is =
     drop-cons vs i v lt ∙ ap (λ n. get_or vs i v ∷ drop n vs) (sym (add-one i)) ∙ ap (λ w. w ∷ drop (i + 1) vs) (sym is)
 
 pub left_on : (vs : List Binding) (i : ℕ) (v : Binding) → i < length vs → v ≡ get_or vs i v → is_handed (binding_of v) ≡ true
-    → handed (drop i vs) ≡ (v.name.now, value_text (map string_bytes v.value.now)) ∷ handed (drop (i + 1) vs)
+    → handed (drop i vs) ≡ (v.name.now, value_text (map text_bytes v.value.now)) ∷ handed (drop (i + 1) vs)
 left_on vs i v lt is h = ap handed (variable_left vs i v lt is) ∙ handed_on v (drop (i + 1) vs) h
 
 pub left_off : (vs : List Binding) (i : ℕ) (v : Binding) → i < length vs → v ≡ get_or vs i v → is_handed (binding_of v) ≡ false → handed (drop i vs) ≡ handed (drop (i + 1) vs)

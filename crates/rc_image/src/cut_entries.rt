@@ -3,10 +3,12 @@
 ghost use Rattle.std.specs.Prelude.{◌≡◌, ◌∷◌, ◌<◌, ◌≤◌, length, IfOk, map, option_map, string_bytes};
 ghost use Rattle.rc_model.specs.Handed.Environment.{cut_entry, entry_members, unescaped};
 ghost use Rattle.rc_image.specs.Entries.{pair_of, function_in};
+ghost use Rattle.rc_text.specs.Texts.{text_bytes};
 
 use crate::marks::has_marks;
-use crate::text_copies::one_text;
+use crate::text_copies::one;
 use rc_scope::is_function_name;
+use rc_text::Text;
 use std::alloc::{AllocError, Global};
 
 /// Cuts an entry at its first `=`.
@@ -48,18 +50,18 @@ fn without_escapes(alloc: Global, text: &str) -> Result<String, AllocError>
 }
 
 /// Undoes the escapes of bytes 1 and 2 in a member. One without them is copied in one piece.
-fn unescaped(alloc: Global, text: &str) -> Result<String, AllocError>
-    ensures { IfOk result (λ member. string_bytes member ≡ unescaped text.now) }
+fn unescaped(alloc: Global, text: &str) -> Result<Text, AllocError>
+    ensures { IfOk result (λ member. text_bytes member ≡ unescaped text.now) }
 {
     if has_marks(text) {
-        return without_escapes(alloc, text);
+        return Text::from_string(alloc, without_escapes(alloc, text)?);
     }
-    String::from_str(alloc, text)
+    Text::of(alloc, text)
 }
 
 /// The members of a value, cut at each byte 1.
-fn cut_members(alloc: Global, text: &str) -> Result<Vec<String>, AllocError>
-    ensures { IfOk result (λ members. map string_bytes members.items ≡ entry_members text.now) }
+fn cut_members(alloc: Global, text: &str) -> Result<Vec<Text>, AllocError>
+    ensures { IfOk result (λ members. map text_bytes members.items ≡ entry_members text.now) }
 {
     let mut members = Vec::new(alloc);
     let mut rest = text;
@@ -72,13 +74,13 @@ fn cut_members(alloc: Global, text: &str) -> Result<Vec<String>, AllocError>
 }
 
 /// The members of a value, which byte 1 separates. A text without marks is the only one.
-pub(crate) fn members(alloc: Global, text: &str) -> Result<Vec<String>, AllocError>
-    ensures { IfOk result (λ members. map string_bytes members.items ≡ entry_members text.now) }
+pub(crate) fn members(alloc: Global, text: &str) -> Result<Vec<Text>, AllocError>
+    ensures { IfOk result (λ members. map text_bytes members.items ≡ entry_members text.now) }
 {
     if has_marks(text) {
         return cut_members(alloc, text);
     }
-    one_text(alloc, String::from_str(alloc, text)?)
+    one(alloc, Text::of(alloc, text)?)
 }
 
 /// The name of a function and its image, if the entry is that of a function. Its name alone is cut off.

@@ -8,10 +8,12 @@ ghost use Rattle.rc_tree.specs.View.{cmd_tree};
 ghost use Rattle.rc_scope.specs.Bindings.{binding_of};
 ghost use Rattle.rc_scope.specs.States.{state_of};
 ghost use Rattle.rc_image.specs.Additions.{is_handed, handed, PushesBelow};
+ghost use Rattle.rc_text.specs.Texts.{text_bytes};
 
 use crate::marks::has_marks;
 use rc_scope::{Binding, Definition, Function, Members, State};
 use rc_spelling::push_spelling;
+use rc_text::Text;
 use rc_tree::Cmd;
 use std::alloc::{AllocError, Global};
 use std::cmp::Ordering;
@@ -53,16 +55,16 @@ fn push_member(out: &mut String, member: &str) -> Result<(), AllocError>
 }
 
 /// Writes the text of a value: its members, escaped, with byte 1 between them.
-pub(crate) fn push_value(out: &mut String, value: &[String]) -> Result<(), AllocError>
-    ensures { OnOk result (string_bytes out.new ≡ string_bytes out.old ++ value_text (map string_bytes value.now)) }
+pub(crate) fn push_value(out: &mut String, value: &[Text]) -> Result<(), AllocError>
+    ensures { OnOk result (string_bytes out.new ≡ string_bytes out.old ++ value_text (map text_bytes value.now)) }
 {
     let Some((first, others)) = value.split_first() else {
         return Ok(());
     };
-    push_member(out, first)?;
+    push_member(out, first.as_str())?;
     for member in others {
         out.push('\u{1}')?;
-        push_member(out, member)?;
+        push_member(out, member.as_str())?;
     }
     Ok(())
 }
@@ -70,7 +72,7 @@ pub(crate) fn push_value(out: &mut String, value: &[String]) -> Result<(), Alloc
 /// Writes the text of a value, as it is kept or anew.
 fn push_text(out: &mut String, value: &Members) -> Result<(), AllocError>
     ensures { OnOk result (string_bytes out.new
-        ≡ string_bytes out.old ++ value_text (map string_bytes value.now)) }
+        ≡ string_bytes out.old ++ value_text (map text_bytes value.now)) }
 {
     match value.text() {
         Some(text) => out.push_str(text),
@@ -91,7 +93,7 @@ fn entry_room(alloc: Global, name: usize, text: Option<&str>) -> Result<String, 
 
 /// NAME=VALUE.
 fn entry(alloc: Global, variable: &Binding) -> Result<String, AllocError>
-    ensures { let value = map string_bytes variable.now.value.now in
+    ensures { let value = map text_bytes variable.now.value.now in
         IfOk result (λ text. string_bytes text ≡ entry (variable.now.name.now, value_text value)) }
 {
     let mut text = entry_room(alloc, variable.name.len(), variable.value.text())?;

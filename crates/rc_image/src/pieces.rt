@@ -7,7 +7,7 @@ ghost use Rattle.rc_tree.specs.View.{cmd_tree};
 ghost use Rattle.rc_image.specs.Images.{Writes, written};
 
 use crate::beginning::{MARK, PIECES_MARK};
-use crate::text_copies::one_text;
+use crate::text_copies::one;
 use crate::{ImageError, ImageFault, InputError, write_tree};
 use rc_model::limits::{LONGEST_ARGUMENT, MOST_PIECES};
 use rc_spelling::push_spelling;
@@ -40,7 +40,7 @@ fn cut(alloc: Global, spelling: &str) -> Result<Vec<String>, ImageError>
 fn one_word(alloc: Global, spelling: &str) -> Result<Vec<String>, AllocError>
     ensures { IfOk result (λ words. map string_bytes words.items ≡ one_word spelling.now) }
 {
-    one_text(alloc, format!(in alloc; "{MARK}{spelling}")?)
+    one(alloc, format!(in alloc; "{MARK}{spelling}")?)
 }
 
 /// Pieces, after the word with their number.
@@ -82,7 +82,7 @@ pub fn write_pieces(alloc: Global, cmd: &Cmd) -> Result<Vec<String>, ImageError>
     ensures { Writes (λ words. map string_bytes words.items) result (image_words (cmd_tree cmd.now)) }
 {
     match write_tree(alloc, cmd) {
-        Ok(image) => Ok(one_text(alloc, image)?),
+        Ok(image) => Ok(one(alloc, image)?),
         Err(InputError::NoMemory) => Err(InputError::NoMemory),
         Err(InputError::Fault(_)) => write_words(alloc, cmd),
     }

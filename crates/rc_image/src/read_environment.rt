@@ -8,11 +8,13 @@ ghost use Rattle.rc_tree.specs.View.{cmd_tree};
 ghost use Rattle.rc_scope.specs.States.{state_of};
 ghost use Rattle.rc_model.specs.Syntax.Faults.{Gives};
 ghost use Rattle.rc_image.specs.Entries.{function_in, is_ignored, values_state, with_function, with_functions};
+ghost use Rattle.rc_text.specs.Texts.{text_bytes};
 
 use crate::cut_entries::{cut_entry, function_entry, members};
 use crate::{ImageError, read_tree};
 use rc_model::InputError;
 use rc_scope::{NameFault, State};
+use rc_text::Text;
 use rc_tree::Cmd;
 use std::alloc::{AllocError, Global};
 use std::rc::Rc;
@@ -25,10 +27,10 @@ fn is_ignored(name: &str, own: bool) -> bool
 }
 
 /// Sets a variable, unless its name is bad.
-pub(crate) fn set_value(state: &mut State, name: &str, value: Vec<String>) -> Result<(), AllocError>
+pub(crate) fn set_value(state: &mut State, name: &str, value: Vec<Text>) -> Result<(), AllocError>
     ensures { OnOk result (state_of state.new
         ≡ (if is_name name.now
-        then set_value (state_of state.old) name.now (map string_bytes value.items)
+        then set_value (state_of state.old) name.now (map text_bytes value.items)
         else state_of state.old)) }
 {
     match state.set(name, value) {

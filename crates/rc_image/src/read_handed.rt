@@ -11,7 +11,7 @@ ghost use Rattle.rc_image.specs.Entries.{with_arguments};
 use crate::ImageError;
 use crate::image_words::read_words;
 use crate::read_environment::{read_env, set_value};
-use rc_scope::{State, copy_texts};
+use rc_scope::{State, texts_of};
 use rc_tree::Cmd;
 use std::alloc::{AllocError, Global};
 
@@ -23,7 +23,7 @@ fn set_arguments(alloc: Global, state: &mut State, args: &[String]) -> Result<()
     if args.is_empty() {
         return Ok(());
     }
-    set_value(state, "*", copy_texts(alloc, args)?)
+    set_value(state, "*", texts_of(alloc, args)?)
 }
 
 /// The state that arguments and entries denote. Functions and the status are read only if these are `own`, from a

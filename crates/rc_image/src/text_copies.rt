@@ -1,25 +1,28 @@
 //! Lists of texts.
 
 ghost use Rattle.std.specs.Prelude.{◌≡◌, ◌∷◌, ◌++◌, [], IfOk, OnOk, map, string_bytes};
+ghost use Rattle.rc_text.specs.Texts.{text_bytes};
 
+use rc_text::Text;
 use std::alloc::{AllocError, Global};
 
-/// This text alone.
-pub(crate) fn one_text(alloc: Global, text: String) -> Result<Vec<String>, AllocError>
-    ensures { IfOk result (λ texts. map string_bytes texts.items ≡ string_bytes text ∷ []) }
+/// This item alone.
+pub(crate) fn one<T: Drop>(alloc: Global, item: T) -> Result<Vec<T>, AllocError>
+    ensures { IfOk result (λ list. list.items ≡ item ∷ []) }
 {
-    let mut texts = Vec::with_capacity(alloc, 1)?;
-    texts.push(text)?;
-    Ok(texts)
+    let mut list = Vec::with_capacity(alloc, 1)?;
+    list.push(item)?;
+    Ok(list)
 }
 
-/// Adds copies of these texts.
-pub(crate) fn push_copies(out: &mut Vec<String>, texts: &[String]) -> Result<(), AllocError>
+/// Adds these texts as strings.
+pub(crate) fn push_copies(out: &mut Vec<String>, texts: &[Text]) -> Result<(), AllocError>
     ensures { OnOk result
-        (map string_bytes out.new.items ≡ map string_bytes out.old.items ++ map string_bytes texts.now) }
+        (map string_bytes out.new.items ≡ map string_bytes out.old.items ++ map text_bytes texts.now) }
 {
+    let alloc = *out.allocator();
     for text in texts {
-        out.push(text.clone()?)?;
+        out.push(String::from_str(alloc, text.as_str())?)?;
     }
     Ok(())
 }

@@ -1,8 +1,8 @@
 -- One turn of the search for a directory, and the words of `cd`.
-use Rattle.std.proofs.Common.{◌≡◌, ℕ, ◌<◌, ◌≤◌, ◌+◌, Bool, true, false, cond, List, [], ◌∷◌, length, map, drop, get_or, Option, Ok, Err, ap, ◌∙◌, sym, refl, string_bytes, drop-cons, add-one, arith}
+use Rattle.std.proofs.Common.{◌≡◌, ℕ, ◌<◌, ◌≤◌, ◌+◌, Bool, true, false, cond, List, [], ◌∷◌, length, map, drop, get_or, Option, Ok, Err, ap, ◌∙◌, sym, refl, drop-cons, add-one, arith}
 use Rattle.std.specs.Prelude.{codes, Result as Outcome}
-use Rattle.std.specs.declared.alloc.Global.{Global}
-use Rattle.std.specs.declared.string.String.{String}
+use Rattle.rc_text.specs.declared.texts.Text.{Text}
+use Rattle.rc_text.specs.Texts.{text_bytes}
 use Rattle.rc_model.specs.Run.Acts.{set_status}
 use Rattle.rc_model.specs.Run.Builtins.{Finished, finished, cd, dirs_of, first_dir, first_member}
 use Rattle.rc_model.specs.Run.Calls.{Event, change_dir, as_done}
@@ -15,12 +15,12 @@ use Rattle.rc_world.proofs.Joins.{left_asked, ran_answered}
 use Rattle.rc_world.proofs.Shells.{left_under}
 use Rattle.law_plans.proofs.Runs.{ran_next, ran_none}
 
--- the directories that are left: this one and those after it
-pub texts_left : (dirs : List (String Global)) (i : ℕ) (dir : String Global) → i < length dirs → dir ≡ get_or dirs i dir → map string_bytes (drop i dirs) ≡ string_bytes dir ∷ map string_bytes (drop (i + 1) dirs)
-texts_left dirs i dir lt is =
-    ap (map string_bytes) (drop-cons dirs i dir lt)
-    ∙ ap (λ n. string_bytes (get_or dirs i dir) ∷ map string_bytes (drop n dirs)) (sym (add-one i))
-    ∙ ap (λ d. string_bytes d ∷ map string_bytes (drop (i + 1) dirs)) (sym is)
+-- the texts that are left: this one and those after it
+pub texts_left : {X : Type 0} (f : X → List ℕ) (xs : List X) (i : ℕ) (x : X) → i < length xs → x ≡ get_or xs i x → map f (drop i xs) ≡ f x ∷ map f (drop (i + 1) xs)
+texts_left f xs i x lt is =
+    ap (map f) (drop-cons xs i x lt)
+    ∙ ap (λ n. f (get_or xs i x) ∷ map f (drop n xs)) (sym (add-one i))
+    ∙ ap (λ y. f y ∷ map f (drop (i + 1) xs)) (sym is)
 
 module _ (dir : List ℕ) (dirs : List (List ℕ)) (s : State) where
   -- what follows the call
@@ -44,12 +44,12 @@ comes_finished a b m s t (Err stop) f = left_under a b stop (m s) (λ y u. done_
 
 -- ** `cd` by the count of its words
 
-pub cd_home : (ws : List (String Global)) (s : State) → length ws < 1 → cd (map string_bytes ws) s ≡ finished (first_dir (dirs_of s (first_member (value_of s (codes "home"))))) s
+pub cd_home : (ws : List (Text)) (s : State) → length ws < 1 → cd (map text_bytes ws) s ≡ finished (first_dir (dirs_of s (first_member (value_of s (codes "home"))))) s
 cd_home [] s h = refl
 cd_home (w ∷ ws) s h = absurd (omega (arith, h))
 
-pub cd_one : (ws : List (String Global)) (w : String Global) (s : State) → 1 ≤ length ws → length ws < 2 → w ≡ get_or ws 0 w →
-    cd (map string_bytes ws) s ≡ finished (first_dir (dirs_of s (string_bytes w ∷ []))) s
+pub cd_one : (ws : List (Text)) (w : Text) (s : State) → 1 ≤ length ws → length ws < 2 → w ≡ get_or ws 0 w →
+    cd (map text_bytes ws) s ≡ finished (first_dir (dirs_of s (text_bytes w ∷ []))) s
 cd_one [] w s h k is = absurd (omega (arith, h))
-cd_one (v ∷ []) w s h k is = ap (λ x. finished (first_dir (dirs_of s (string_bytes x ∷ []))) s) (sym is)
+cd_one (v ∷ []) w s h k is = ap (λ x. finished (first_dir (dirs_of s (text_bytes x ∷ []))) s) (sym is)
 cd_one (v ∷ u ∷ ws) w s h k is = absurd (omega (arith, k))

@@ -1,7 +1,7 @@
 -- One turn of the search for a program.
-use Rattle.std.proofs.Common.{◌≡◌, ℕ, ◌<◌, ◌+◌, Bool, true, false, cond, List, ◌∷◌, length, drop, get_or, Option, Some, ap, ◌∙◌, subst, sym, string_bytes, drop-cons, add-one}
-use Rattle.std.specs.declared.alloc.Global.{Global}
-use Rattle.std.specs.declared.string.String.{String}
+use Rattle.std.proofs.Common.{◌≡◌, ℕ, ◌<◌, ◌+◌, Bool, true, false, cond, List, ◌∷◌, length, drop, get_or, Option, Some, ap, ◌∙◌, subst, sym, drop-cons, add-one}
+use Rattle.rc_text.specs.declared.texts.Text.{Text}
+use Rattle.rc_text.specs.Texts.{text_bytes}
 use Rattle.rc_model.specs.Run.Acts.{candidate, is_program, first_program}
 use Rattle.rc_model.specs.Run.Calls.{Event, probe, as_kind}
 use Rattle.rc_model.specs.declared.call.Kind.{Kind}
@@ -15,11 +15,11 @@ use Rattle.rc_world.proofs.Joins.{left_asked, ran_answered}
 use Rattle.law_plans.proofs.Runs.{ran_none}
 
 -- the directories that are left: this one and those after it
-pub dirs_left : (name : List ℕ) (dirs : List (String Global)) (i : ℕ) (dir : String Global) → i < length dirs → dir ≡ get_or dirs i dir → paths_in name (drop i dirs) ≡ candidate (string_bytes dir) name ∷ paths_in name (drop (i + 1) dirs)
+pub dirs_left : (name : List ℕ) (dirs : List (Text)) (i : ℕ) (dir : Text) → i < length dirs → dir ≡ get_or dirs i dir → paths_in name (drop i dirs) ≡ candidate (text_bytes dir) name ∷ paths_in name (drop (i + 1) dirs)
 dirs_left name dirs i dir lt is =
     ap (paths_in name) (drop-cons dirs i dir lt)
-    ∙ ap (λ n. candidate (string_bytes (get_or dirs i dir)) name ∷ paths_in name (drop n dirs)) (sym (add-one i))
-    ∙ ap (λ d. candidate (string_bytes d) name ∷ paths_in name (drop (i + 1) dirs)) (sym is)
+    ∙ ap (λ n. candidate (text_bytes (get_or dirs i dir)) name ∷ paths_in name (drop n dirs)) (sym (add-one i))
+    ∙ ap (λ d. candidate (text_bytes d) name ∷ paths_in name (drop (i + 1) dirs)) (sym is)
 
 module _ (name dir : List ℕ) (paths : List (List ℕ)) (s : State) where
   -- what follows the probe

@@ -7,6 +7,7 @@ ghost use Rattle.rc_tree.specs.View.{cmd_tree};
 ghost use Rattle.rc_world.specs.Comes.{Does};
 ghost use Rattle.rc_pipes.specs.Starts.{started_of};
 ghost use Rattle.rc_scope.specs.States.{state_of};
+ghost use Rattle.rc_text.specs.Texts.{text_bytes};
 
 use crate::child_statuses::wait_child;
 use crate::launches::start_shell;
@@ -15,18 +16,18 @@ use crate::programs::Started;
 use rc_image::keep_entries;
 use rc_model::limits::LONGEST_OUTPUT;
 use rc_scope::State;
-use rc_text::{Output, into_lossy};
+use rc_text::{Output, Text, into_lossy};
 use rc_tree::Cmd;
 use rc_world::{Handle, Slot, Slots, Stop, World, calls};
 use std::alloc::{AllocError, Global};
 
 /// Joins the texts.
-fn concat(alloc: Global, texts: &[String]) -> Result<String, AllocError>
-    ensures { IfOk result (λ all. string_bytes all ≡ concat (map string_bytes texts.now)) }
+fn concat(alloc: Global, texts: &[Text]) -> Result<String, AllocError>
+    ensures { IfOk result (λ all. string_bytes all ≡ concat (map text_bytes texts.now)) }
 {
     let mut all = String::new(alloc);
     for text in texts {
-        all.push_str(text)?;
+        all.push_str(text.as_str())?;
     }
     Ok(all)
 }

@@ -10,16 +10,17 @@ ghost use Rattle.rc_world.specs.Comes.{GoesOn, Reads};
 
 use crate::programs::{candidate, is_path};
 use rc_scope::State;
+use rc_text::Text;
 use rc_world::{Handle, Mode, Stop, World, calls};
 use std::alloc::{AllocError, Global};
 
 /// The paths at which a file of this name may be, by these directories.
-fn paths_in(alloc: Global, name: &str, dirs: &[String]) -> Result<Vec<String>, AllocError>
+fn paths_in(alloc: Global, name: &str, dirs: &[Text]) -> Result<Vec<String>, AllocError>
     ensures { IfOk result (λ paths. map string_bytes paths.items ≡ paths_in name.now dirs.now) }
 {
     let mut paths = Vec::new(alloc);
     for dir in dirs {
-        paths.push(candidate(alloc, dir, name)?)?;
+        paths.push(candidate(alloc, dir.as_str(), name)?)?;
     }
     Ok(paths)
 }

@@ -21,7 +21,7 @@ use crate::programs::Started;
 use crate::statuses::misuse;
 use rc_image::keep_entries;
 use rc_scope::State;
-use rc_text::number_of;
+use rc_text::{Text, number_of};
 use rc_tree::Cmd;
 use rc_world::{ChildNo, Handle, Mode, Slot, Slots, Stop, World, calls};
 use std::alloc::{AllocError, Global};
@@ -33,7 +33,8 @@ fn add_job(alloc: Global, state: &mut State, child: ChildNo) -> Result<(), Alloc
         ≡ model.set_value (model.add_child (state_of state.old) child.0) (codes "apid") (decimal child.0 ∷ [])) }
     ensures err { OnErr result (state_of state.new ≡ state_of state.old) }
 {
-    let number = vec![in alloc; child.0.to_string(alloc)?]?;
+    let number = Text::from_string(alloc, child.0.to_string(alloc)?)?;
+    let number = vec![in alloc; number]?;
     state.add_child(child)?;
     match state.set("apid", number) {
         Ok(()) => Ok(()),

@@ -9,10 +9,12 @@ ghost use Rattle.rc_model.specs.Handed.Image.{is_fit, program_launch};
 ghost use Rattle.rc_world.specs.Comes.{Reads, Does};
 ghost use Rattle.rc_world.specs.Views.{launch_of};
 ghost use Rattle.rc_pipes.specs.Starts.{path_of, paths_in, started_of};
+ghost use Rattle.rc_text.specs.Texts.{text_bytes};
 ghost use Rattle.rc_scope.specs.States.{state_of};
 
 use rc_image::{are_short, entries, keep_entries};
 use rc_scope::State;
+use rc_text::Text;
 use rc_world::{ChildNo, Ending, Kind, Launch, Program, Slots, Stop, World, calls};
 use std::alloc::{AllocError, Global};
 
@@ -61,13 +63,13 @@ fn first_program<W: World>(
     alloc: Global,
     world: &mut W,
     name: &str,
-    dirs: &[String],
+    dirs: &[Text],
 ) -> Result<Option<String>, Stop>
     ensures { (s : model.State) → Reads W.events world.old world.new s
         (first_program (paths_in name.now dirs.now)) path_of result }
 {
     for dir in dirs {
-        let path = candidate(alloc, dir, name)?;
+        let path = candidate(alloc, dir.as_str(), name)?;
         if is_program(calls::probe(world, &path)?) {
             return Ok(Some(path));
         }
@@ -186,17 +188,29 @@ fn wait_started<W: World>(
     Ok(())
 }
 
+/// The texts as strings.
+fn into_strings(alloc: Global, texts: Vec<Text>) -> Result<Vec<String>, AllocError>
+    ensures { IfOk result (λ strings. map string_bytes strings.items ≡ map text_bytes texts.items) }
+{
+    let mut strings = Vec::with_capacity(alloc, texts.len())?;
+    for text in texts {
+        strings.push(text.into_string(alloc)?)?;
+    }
+    Ok(strings)
+}
+
 /// The launch of a program, whose arguments are passed on unchanged.
 fn launch(
     alloc: Global,
     state: &State,
     slots: Slots,
     path: String,
-    args: Vec<String>,
+    args: Vec<Text>,
 ) -> Result<Launch, AllocError>
     ensures { IfOk result (λ launch. launch_of launch
-        ≡ program_launch slots (string_bytes path) (map string_bytes args.items) (state_of state.now)) }
+        ≡ program_launch slots (string_bytes path) (map text_bytes args.items) (state_of state.now)) }
 {
+    let args = into_strings(alloc, args)?;
     let env = entries(alloc, state)?;
     Ok(Launch {
         program: Program::Path(path),
@@ -214,11 +228,11 @@ fn run_at<W: World>(
     state: &mut State,
     slots: Slots,
     name: &str,
-    args: Vec<String>,
+    args: Vec<Text>,
     path: String,
 ) -> Result<(), Stop>
     ensures does { Does W.events world.old world.new state_of state.old state.new
-        (run_found slots name.now (map string_bytes args.items) (Some (string_bytes path))) (λ x. x) result }
+        (run_found slots name.now (map text_bytes args.items) (Some (string_bytes path))) (λ x. x) result }
     ensures err { OnErr result (state_of state.new ≡ state_of state.old) }
 {
     keep_entries(alloc, state)?;
@@ -235,11 +249,11 @@ fn run_found<W: World>(
     state: &mut State,
     slots: Slots,
     name: &str,
-    args: Vec<String>,
+    args: Vec<Text>,
     path: Option<String>,
 ) -> Result<(), Stop>
     ensures does { Does W.events world.old world.new state_of state.old state.new
-        (run_found slots name.now (map string_bytes args.items) (path_of path)) (λ x. x) result }
+        (run_found slots name.now (map text_bytes args.items) (path_of path)) (λ x. x) result }
     ensures err { OnErr result (state_of state.new ≡ state_of state.old) }
 {
     match path {
@@ -258,10 +272,10 @@ pub fn run_program<W: World>(
     state: &mut State,
     slots: Slots,
     name: &str,
-    args: Vec<String>,
+    args: Vec<Text>,
 ) -> Result<(), Stop>
     ensures does { Does W.events world.old world.new state_of state.old state.new
-        (run_program slots name.now (map string_bytes args.items)) (λ x. x) result }
+        (run_program slots name.now (map text_bytes args.items)) (λ x. x) result }
     ensures err { OnErr result (state_of state.new ≡ state_of state.old) }
 {
     let path = find_program(alloc, world, state, name)?;

@@ -1,9 +1,12 @@
 //! Members of a value, by decimal place.
 
-ghost use Rattle.std.specs.Prelude.{◌≡◌, ◌<◌, ◌≤◌, ◌^◌, MatchOption, length, map, string_bytes, true, Some};
+ghost use Rattle.std.specs.Prelude.{◌≡◌, ◌<◌, ◌≤◌, ◌^◌, MatchOption, length, map, true, Some};
 ghost use Rattle.std.specs.List.{list_all};
 ghost use Rattle.rc_model.specs.Run.Lists.{member};
 ghost use Rattle.rc_model.specs.Run.Numbers.{is_digit, digits_value};
+ghost use Rattle.rc_text.specs.Texts.{text_bytes};
+
+use rc_text::Text;
 
 /// Parses digits as a number, or returns none if it is above every length.
 #[tactic(auto, using(crate::proofs::Places::place_read))]
@@ -17,10 +20,10 @@ fn place_of(digits: &str) -> Option<usize>
 
 /// The member at the decimal place, counted from 1.
 #[tactic(auto, using(crate::proofs::Places::no_member, crate::proofs::Places::one_member))]
-pub(crate) fn member<'a>(value: &'a [String], digits: &str) -> &'a [String]
+pub(crate) fn member<'a>(value: &'a [Text], digits: &str) -> &'a [Text]
     requires digits { list_all is_digit digits.now ≡ true }
     requires some { 0 < length digits.now }
-    ensures { map string_bytes result.now ≡ member (map string_bytes value.now) (Some (digits_value 0 digits.now)) }
+    ensures { map text_bytes result.now ≡ member (map text_bytes value.now) (Some (digits_value 0 digits.now)) }
 {
     let count = value.len();
     match place_of(digits) {

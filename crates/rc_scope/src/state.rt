@@ -9,6 +9,7 @@ ghost use Rattle.rc_model.specs.Run.State.{push_local, pop_local, is_function_na
 ghost use Rattle.rc_model.specs.Run.State.{add_child, drop_child};
 ghost use Rattle.rc_model.specs.Handed.Image.{image, value_text};
 ghost use Rattle.rc_model.specs.Handed.Proper.{IsProper, IsProperTree};
+ghost use Rattle.rc_text.specs.Texts.{text_bytes};
 ghost use Rattle.rc_tree.specs.View.{cmd_tree};
 ghost use Rattle.rc_scope.specs.Bindings.{bindings_of, visible_values};
 ghost use Rattle.rc_scope.specs.Bodies.{IsCodeOf, definitions_of};
@@ -22,12 +23,12 @@ use crate::functions::{Definition, Function, definitions, names};
 use crate::members::member;
 use crate::names::{NameFault, has_digits, is_function_name, is_name, is_status};
 use crate::recent_codes::RecentCodes;
-use crate::texts::copy_texts;
+use crate::texts::strings_of;
 use crate::value_members::Members;
 use crate::variables::{Binding, Variables};
 use rc_code::Code;
 use rc_model::{ChildNo, InputError};
-use rc_text::flat;
+use rc_text::{Text, flat};
 use rc_tree::Cmd;
 use std::alloc::{AllocError, Global};
 use std::collections::BTreeMap;
@@ -39,7 +40,7 @@ use std::slice::from_ref;
 pub struct State {
     variables: Variables,
     functions: BTreeMap<String, Function>,
-    status: String,
+    status: Text,
     if_not: bool,
     strict: bool,
     background: Vec<ChildNo>,
@@ -59,7 +60,7 @@ impl State {
         State {
             variables: Variables::new(alloc),
             functions: BTreeMap::new(alloc),
-            status: String::new(alloc),
+            status: Text::new(),
             if_not: false,
             strict: false,
             background: Vec::new(alloc),
@@ -69,8 +70,8 @@ impl State {
 
     /// Borrows the members of a variable: none if it was never assigned.
     #[tactic(auto, unfolding(crate::specs::States::state_of))]
-    pub fn value(&self, name: &str) -> &[String]
-        ensures { map string_bytes result.now ≡ value_of (state_of self.now) name.now }
+    pub fn value(&self, name: &str) -> &[Text]
+        ensures { map text_bytes result.now ≡ value_of (state_of self.now) name.now }
     {
         if is_status(name) {
             return from_ref(&self.status);
@@ -79,8 +80,8 @@ impl State {
     }
 
     /// Borrows the value of `$` and a name: for digits the member of `$*` at that place, counted from 1, or nothing.
-    pub fn lookup(&self, name: &str) -> &[String]
-        ensures { map string_bytes result.now ≡ got (state_of self.now) name.now }
+    pub fn lookup(&self, name: &str) -> &[Text]
+        ensures { map text_bytes result.now ≡ got (state_of self.now) name.now }
     {
         if !has_digits(name) || name.is_empty() {
             return self.value(name);
@@ -92,23 +93,23 @@ impl State {
     pub fn get(&self, name: &str) -> Result<Vec<String>, AllocError>
         ensures { IfOk result (λ value. map string_bytes value.items ≡ got (state_of self.now) name.now) }
     {
-        copy_texts(*self.status.allocator(), self.lookup(name))
+        strings_of(*self.background.allocator(), self.lookup(name))
     }
 
     /// Assigns to a variable. On `Err` nothing has changed.
     #[tactic(auto, unfolding(crate::specs::States::state_of))]
-    pub fn set(&mut self, name: &str, value: Vec<String>) -> Result<(), InputError<NameFault>>
+    pub fn set(&mut self, name: &str, value: Vec<Text>) -> Result<(), InputError<NameFault>>
         ensures ok { OnOk result (state_of self.new
-            ≡ set_value (state_of self.old) name.now (map string_bytes value.items)) }
+            ≡ set_value (state_of self.old) name.now (map text_bytes value.items)) }
         ensures bad_name { IsErrOf result (InputError.Fault NameFault.BadName) ↔ (is_name name.now ≡ false) }
         ensures err { OnErr result (state_of self.new ≡ state_of self.old) }
     {
         if !is_name(name) {
             return Err(InputError::Fault(NameFault::BadName));
         }
-        let alloc = *self.status.allocator();
+        let alloc = *self.background.allocator();
         if is_status(name) {
-            self.status = flat(alloc, value.as_slice())?;
+            self.status = Text::from_string(alloc, flat(alloc, value.as_slice())?)?;
             return Ok(());
         }
         self.variables.set(alloc, name, Members::new(value))?;
@@ -117,9 +118,9 @@ impl State {
 
     /// Assigns one text to a variable. An `Err` changes nothing.
     #[tactic(auto, unfolding(crate::specs::States::state_of))]
-    pub fn set_one(&mut self, variable: &str, text: String) -> Result<(), InputError<NameFault>>
+    pub fn set_one(&mut self, variable: &str, text: Text) -> Result<(), InputError<NameFault>>
         ensures ok { OnOk result (state_of self.new
-            ≡ set_value (state_of self.old) variable.now (string_bytes text ∷ [])) }
+            ≡ set_value (state_of self.old) variable.now (text_bytes text ∷ [])) }
         ensures bad_name { IsErrOf result (InputError.Fault NameFault.BadName) ↔ (is_name variable.now ≡ false) }
         ensures err { OnErr result (state_of self.new ≡ state_of self.old) }
     {
@@ -130,7 +131,7 @@ impl State {
             self.status = text;
             return Ok(());
         }
-        let alloc = *self.status.allocator();
+        let alloc = *self.background.allocator();
         self.variables.set_one(alloc, variable, text)?;
         Ok(())
     }
@@ -154,7 +155,7 @@ impl State {
             ≡ set_value (state_of self.old) (codes "*") (drop count (value_of (state_of self.old) (codes "*")))) }
         ensures err { OnErr result (state_of self.new ≡ state_of self.old) }
     {
-        let alloc = *self.status.allocator();
+        let alloc = *self.background.allocator();
         self.variables.drop_first(alloc, "*", count)
     }
 
@@ -163,19 +164,19 @@ impl State {
     pub fn push_local(
         &mut self,
         variable: &str,
-        value: Vec<String>,
+        value: Vec<Text>,
     ) -> Result<(), InputError<NameFault>>
         ensures ok { OnOk result (state_of self.new
-            ≡ push_local (state_of self.old) variable.now (map string_bytes value.items)) }
+            ≡ push_local (state_of self.old) variable.now (map text_bytes value.items)) }
         ensures bad_name { IsErrOf result (InputError.Fault NameFault.BadName) ↔ (is_name variable.now ≡ false) }
         ensures err { OnErr result (state_of self.new ≡ state_of self.old) }
     {
         if !is_name(variable) {
             return Err(InputError::Fault(NameFault::BadName));
         }
-        let alloc = *self.status.allocator();
+        let alloc = *self.background.allocator();
         if is_status(variable) {
-            let status = flat(alloc, value.as_slice())?;
+            let status = Text::from_string(alloc, flat(alloc, value.as_slice())?)?;
             self.variables.push_status(alloc)?;
             self.status = status;
             return Ok(());
@@ -197,7 +198,7 @@ impl State {
     pub fn variables(&self) -> Result<Vec<String>, AllocError>
         ensures { IfOk result (λ names. map string_bytes names.items ≡ flat_names (state_of self.now).variables) }
     {
-        self.variables.names(*self.status.allocator())
+        self.variables.names(*self.background.allocator())
     }
 
     /// Each variable with its visible value, in byte order of the names.
@@ -205,7 +206,7 @@ impl State {
     pub fn bindings(&self) -> Result<Vec<Binding<'_>>, AllocError>
         ensures { IfOk result (λ all. bindings_of all.items ≡ visible_values (state_of self.now).variables) }
     {
-        self.variables.bindings(*self.status.allocator())
+        self.variables.bindings(*self.background.allocator())
     }
 
     /// Defines a function. On `Err` nothing has changed.
@@ -219,7 +220,7 @@ impl State {
         if !is_function_name(name) {
             return Err(InputError::Fault(NameFault::BadName));
         }
-        let body = Rc::new(*self.status.allocator(), body)?;
+        let body = Rc::new(*self.background.allocator(), body)?;
         self.insert_function(name, body)?;
         Ok(())
     }
@@ -247,7 +248,7 @@ impl State {
         ensures ok { OnOk result (state_of self.new ≡ define (state_of self.old) name.now (cmd_tree body.value)) }
         ensures err { OnErr result (state_of self.new ≡ state_of self.old) }
     {
-        let name = String::from_str(*self.status.allocator(), name)?;
+        let name = String::from_str(*self.background.allocator(), name)?;
         self.functions.insert(name, Function::new(body))?;
         Ok(())
     }
@@ -277,7 +278,7 @@ impl State {
         ensures code { IfOk result (λ code. IsCodeOf (function_of (state_of self.old) name.now) code) }
         ensures same { state_of self.new ≡ state_of self.old }
     {
-        let alloc = *self.status.allocator();
+        let alloc = *self.background.allocator();
         match self.functions.get_mut(name) {
             Some(function) => Ok(Some(function.code(alloc)?)),
             None => Ok(None),
@@ -317,7 +318,7 @@ impl State {
     pub fn definitions(&self) -> Result<Vec<Definition<'_>>, AllocError>
         ensures { IfOk result (λ all. definitions_of all.items ≡ (state_of self.now).functions) }
     {
-        definitions(*self.status.allocator(), &self.functions)
+        definitions(*self.background.allocator(), &self.functions)
     }
 
     /// The names of the functions, in byte order.
@@ -325,7 +326,7 @@ impl State {
     pub fn functions(&self) -> Result<Vec<String>, AllocError>
         ensures { IfOk result (λ names. map string_bytes names.items ≡ map (λ f. f.0) (state_of self.now).functions) }
     {
-        names(*self.status.allocator(), &self.functions)
+        names(*self.background.allocator(), &self.functions)
     }
 
     /// The status of the last command: empty for the null status.
@@ -342,7 +343,7 @@ impl State {
         ensures ok { OnOk result (state_of self.new ≡ with_status (state_of self.old) status.now) }
         ensures err { OnErr result (state_of self.new ≡ state_of self.old) }
     {
-        self.status = String::from_str(*self.status.allocator(), status)?;
+        self.status = Text::of(*self.background.allocator(), status)?;
         Ok(())
     }
 
@@ -351,7 +352,7 @@ impl State {
     pub fn clear_status(&mut self)
         ensures { state_of self.new ≡ with_status (state_of self.old) [] }
     {
-        self.status = String::new(*self.status.allocator());
+        self.status = Text::new();
     }
 
     /// The flag for `if not`.
@@ -442,7 +443,7 @@ impl State {
             if_not: self.if_not,
             strict: self.strict,
             background: self.background.clone()?,
-            recent_codes: RecentCodes::new(*self.status.allocator()),
+            recent_codes: RecentCodes::new(*self.background.allocator()),
         })
     }
 

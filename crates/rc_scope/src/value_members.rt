@@ -2,15 +2,17 @@
 
 ghost use Rattle.std.specs.Prelude.{◌≡◌, ◌∷◌, [], IfErr, IfOk, IfSome, OnErr, OnOk, drop, map, string_bytes};
 ghost use Rattle.rc_model.specs.Handed.Image.{value_text};
+ghost use Rattle.rc_text.specs.Texts.{text_bytes};
 
-use crate::texts::copy_texts;
+use crate::texts::copies;
+use rc_text::Text;
 use std::alloc::{AllocError, Global};
 use std::marker::Model;
 
 /// The members of a value. Those that were dropped from its front stay where they are until the others go.
 #[derive(Drop)]
 pub struct Members {
-    texts: Vec<String>,
+    texts: Vec<Text>,
     /// The place of the first member.
     first: usize,
     /// Their text in an environment, once a launch has handed it over.
@@ -19,26 +21,27 @@ pub struct Members {
 
 impl Model for Members {
     ghost use Rattle.std.specs.Prelude.{List, ◌≡◌, ◌≤◌, IfSome, drop, length, map, string_bytes};
-    ghost use Rattle.std.specs.declared.alloc.Global.{Global};
-    ghost use Rattle.std.specs.declared.string.String.{String};
     ghost use Rattle.rc_model.specs.Handed.Image.{value_text};
+    ghost use Rattle.rc_text.specs.Texts.{text_bytes};
+    ghost use Rattle.rc_text.specs.declared.texts.Text.{Text};
 
-    ghost Value = { List (String Global) };
+    ghost Value = { List Text };
 
     ghost view = { λ m. drop m.first m.texts.items };
 
     ghost invariant = { λ m. (m.first ≤ length m.texts.items)
-        × IfSome m.kept (λ text. string_bytes text ≡ value_text (map string_bytes (drop m.first m.texts.items))) };
+        × IfSome m.kept (λ text. string_bytes text ≡ value_text (map text_bytes (drop m.first m.texts.items))) };
 }
 
 impl Clone for Members {
-    ghost use Rattle.std.specs.Prelude.{◌≡◌, map, string_bytes};
+    ghost use Rattle.std.specs.Prelude.{◌≡◌, map};
+    ghost use Rattle.rc_text.specs.Texts.{text_bytes};
 
-    ghost is_clone = { λ m n. map string_bytes n ≡ map string_bytes m };
+    ghost is_clone = { λ m n. map text_bytes n ≡ map text_bytes m };
 
     /// The members alone.
     fn clone(&self) -> Result<Members, AllocError> {
-        let texts = copy_texts(*self.texts.allocator(), self.as_slice())?;
+        let texts = copies(*self.texts.allocator(), self.as_slice())?;
         Ok(Members::new(texts))
     }
 }
@@ -52,7 +55,7 @@ impl Members {
     }
 
     /// These members.
-    pub(crate) fn new(texts: Vec<String>) -> Members
+    pub(crate) fn new(texts: Vec<Text>) -> Members
         ensures { result ≡ texts.items }
     {
         let kept = None;
@@ -64,7 +67,7 @@ impl Members {
     }
 
     /// One member.
-    pub(crate) fn one(alloc: Global, text: String) -> Result<Members, AllocError>
+    pub(crate) fn one(alloc: Global, text: Text) -> Result<Members, AllocError>
         ensures { IfOk result (λ one. one ≡ text ∷ []) }
     {
         let mut texts = Vec::with_capacity(alloc, 1)?;
@@ -73,7 +76,7 @@ impl Members {
     }
 
     /// The members.
-    pub fn as_slice(&self) -> &[String]
+    pub fn as_slice(&self) -> &[Text]
         ensures { result.now ≡ self.now }
     {
         &self.texts[self.first..]
@@ -90,7 +93,7 @@ impl Members {
 
     /// Writes the text over the only one that the list has, dropped or not; or returns it if there is another number of
     /// them.
-    pub(crate) fn replace_only(&mut self, text: String) -> Result<(), String>
+    pub(crate) fn replace_only(&mut self, text: Text) -> Result<(), Text>
         ensures ok { OnOk result (self.new ≡ text ∷ []) }
         ensures err { OnErr result (self.new ≡ self.old) }
         ensures back { IfErr result (λ given. given ≡ text) }
@@ -106,7 +109,7 @@ impl Members {
 
     /// The text of the members in an environment, if it is kept.
     pub fn text(&self) -> Option<&str>
-        ensures { IfSome result (λ text. text.now ≡ value_text (map string_bytes self.now)) }
+        ensures { IfSome result (λ text. text.now ≡ value_text (map text_bytes self.now)) }
     {
         match &self.kept {
             Some(text) => Some(text.as_str()),
@@ -116,7 +119,7 @@ impl Members {
 
     /// Keeps the text of the members in an environment.
     pub(crate) fn keep(&mut self, text: String)
-        requires { string_bytes text ≡ value_text (map string_bytes self.old) }
+        requires { string_bytes text ≡ value_text (map text_bytes self.old) }
         ensures { self.new ≡ self.old }
     {
         self.kept = Some(text);

@@ -12,6 +12,7 @@ ghost use Rattle.rc_scope.specs.Rows.{row_of, is_named, entries_of, Grows};
 ghost use Rattle.rc_scope.specs.Stacks.{covers_in, texts_of};
 
 use crate::value_members::Members;
+use rc_text::Text;
 use std::alloc::{AllocError, Global};
 use std::collections::BTreeMap;
 use std::marker::Model;
@@ -151,7 +152,7 @@ impl Values {
 
     /// Writes one text over that of the value at a name, whose room it takes; or returns it if there is no value of one
     /// text.
-    pub(crate) fn write_one(&mut self, name: &str, text: String) -> Result<(), String>
+    pub(crate) fn write_one(&mut self, name: &str, text: Text) -> Result<(), Text>
         ensures found { OnOk result (is_some (lookup (is_named name.now) self.old) ≡ true) }
         ensures new { OnOk result (self.new ≡ set_value (is_named name.now) self.old
             (record { texts = text ∷ []; covers = covers_in name.now self.old })) }

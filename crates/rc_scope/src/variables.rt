@@ -9,12 +9,14 @@ ghost use Rattle.std.specs.List.Sorted.{IsStrictlySortedBy};
 ghost use Rattle.std.specs.String.{string_cmp};
 ghost use Rattle.rc_scope.specs.Rows.{is_named};
 ghost use Rattle.rc_scope.specs.Bindings.{bindings_of, bindings_in};
+ghost use Rattle.rc_text.specs.Texts.{text_bytes};
 ghost use Rattle.rc_scope.specs.Stacks.{names_in, uncovered, without_newest, flat_names, is_listed, Covers, Uncovers};
 
 use crate::locals::{Local, LocalName};
 use crate::names::is_status;
 use crate::value_members::Members;
 use crate::value_rows::{Value, Values};
+use rc_text::Text;
 use std::alloc::{AllocError, Global};
 use std::collections::BTreeMap;
 
@@ -35,8 +37,8 @@ pub struct Binding<'a> {
 
 /// Whether a variable has members.
 #[tactic(auto, using(crate::proofs::Stacks::length_texts))]
-fn is_listed(name: &str, texts: &[String]) -> bool
-    ensures { result ≡ is_listed name.now (map string_bytes texts.now) }
+fn is_listed(name: &str, texts: &[Text]) -> bool
+    ensures { result ≡ is_listed name.now (map text_bytes texts.now) }
 {
     !texts.is_empty() && !is_status(name)
 }
@@ -89,8 +91,8 @@ impl Variables {
 
     /// The visible value of a variable: empty if it was never assigned.
     #[tactic(auto, using(crate::proofs::Stacks::variables), unfolding(crate::specs::Stacks::stacks_of))]
-    pub(crate) fn get(&self, name: &str) -> &[String]
-        ensures { map string_bytes result.now ≡ visible (stack_in (stacks_of self.now) name.now) }
+    pub(crate) fn get(&self, name: &str) -> &[Text]
+        ensures { map text_bytes result.now ≡ visible (stack_in (stacks_of self.now) name.now) }
     {
         match self.values.get(name) {
             Some(value) => value.texts.as_slice(),
@@ -107,7 +109,7 @@ impl Variables {
         texts: Members,
     ) -> Result<(), AllocError>
         ensures ok { OnOk result (stacks_of self.new
-            ≡ put_values (stacks_of self.old) name.now (map string_bytes texts
+            ≡ put_values (stacks_of self.old) name.now (map text_bytes texts
             ∷ covered (stack_in (stacks_of self.old) name.now))) }
         ensures locals { locals_of self.new ≡ locals_of self.old }
         ensures err { OnErr result (stacks_of self.new ≡ stacks_of self.old) }
@@ -129,10 +131,10 @@ impl Variables {
         &mut self,
         alloc: Global,
         name: &str,
-        text: String,
+        text: Text,
     ) -> Result<(), AllocError>
         ensures ok { OnOk result (stacks_of self.new
-            ≡ put_values (stacks_of self.old) name.now ((string_bytes text ∷ [])
+            ≡ put_values (stacks_of self.old) name.now ((text_bytes text ∷ [])
             ∷ covered (stack_in (stacks_of self.old) name.now))) }
         ensures locals { locals_of self.new ≡ locals_of self.old }
         ensures err { OnErr result (stacks_of self.new ≡ stacks_of self.old) }
@@ -183,7 +185,7 @@ impl Variables {
     /// Covers the value of a name, and returns the covered one: an empty one if it has none.
     fn cover(&mut self, alloc: Global, name: &str, texts: Members) -> Result<Value, AllocError>
         ensures ok { IfOk result (λ old.
-            Covers name.now (map string_bytes texts) self.old.values self.new.values old) }
+            Covers name.now (map text_bytes texts) self.old.values self.new.values old) }
         ensures err { OnErr result (self.new.values ≡ self.old.values) }
         ensures log { self.new.log ≡ self.old.log }
     {
@@ -201,7 +203,7 @@ impl Variables {
     fn put(&mut self, alloc: Global, name: &str, texts: Members) -> Result<Value, AllocError>
         requires { lookup (is_named name.now) self.old.values ≡ None }
         ensures ok { IfOk result (λ old.
-            Covers name.now (map string_bytes texts) self.old.values self.new.values old) }
+            Covers name.now (map text_bytes texts) self.old.values self.new.values old) }
         ensures err { OnErr result (self.new.values ≡ self.old.values) }
         ensures log { self.new.log ≡ self.old.log }
     {
@@ -227,7 +229,7 @@ impl Variables {
     ) -> Result<(), AllocError>
         requires { bytes_eq name.now status_name ≡ false }
         ensures ok { OnOk result (stacks_of self.new
-            ≡ put_values (stacks_of self.old) name.now (map string_bytes texts
+            ≡ put_values (stacks_of self.old) name.now (map text_bytes texts
             ∷ stack_in (stacks_of self.old) name.now)) }
         ensures locals { OnOk result (locals_of self.new ≡ name.now ∷ locals_of self.old) }
         ensures err { OnErr result (stacks_of self.new ≡ stacks_of self.old) }

@@ -17,6 +17,8 @@ use Rattle.std.specs.declared.rc.Rc.{Rc}
 use Rattle.rc_text.specs.declared.words.Letters.{Letters}
 use Rattle.rc_text.specs.declared.words.Letters.TheVariants.{Plain, Marked, Mixed, Literal}
 use Rattle.rc_text.specs.declared.words.MixedText.{MixedText}
+use Rattle.rc_text.specs.Texts.{text_bytes}
+use Rattle.rc_text.specs.declared.texts.Text.{Text}
 use Rattle.rc_text.specs.Views.{word_of, AreMarked, HaveMark}
 
 -- what was pushed is there where memory was
@@ -33,13 +35,13 @@ pub written_characters : (text : List ℕ) (quoted : Bool) → map (λ (c : ℕ 
 written_characters text quoted = without (not quoted) (chars text)
 
 -- the characters of letters are those of their text
-pub alike_characters : (letters : Letters) (text : String Global) → (letters ≡ Plain text) ⊎ (letters ≡ Marked text) →
-    map (λ (c : ℕ × Bool). c.0) (word_of letters) ≡ chars (string_bytes text)
-alike_characters letters text (inl e) = ap (λ l. map (λ (c : ℕ × Bool). c.0) (word_of l)) e ∙ without false (chars (string_bytes text))
-alike_characters letters text (inr e) = ap (λ l. map (λ (c : ℕ × Bool). c.0) (word_of l)) e ∙ without true (chars (string_bytes text))
+pub alike_characters : (letters : Letters) (text : Text) → (letters ≡ Plain text) ⊎ (letters ≡ Marked text) →
+    map (λ (c : ℕ × Bool). c.0) (word_of letters) ≡ chars (text_bytes text)
+alike_characters letters text (inl e) = ap (λ l. map (λ (c : ℕ × Bool). c.0) (word_of l)) e ∙ without false (chars (text_bytes text))
+alike_characters letters text (inr e) = ap (λ l. map (λ (c : ℕ × Bool). c.0) (word_of l)) e ∙ without true (chars (text_bytes text))
 
 pub mixed_characters : (letters : Letters) (mixed : Box MixedText Global) → letters ≡ Mixed mixed → AreMarked letters →
-    map (λ (c : ℕ × Bool). c.0) (word_of letters) ≡ chars (string_bytes mixed.value.text)
+    map (λ (c : ℕ × Bool). c.0) (word_of letters) ≡ chars (text_bytes mixed.value.text)
 mixed_characters letters mixed e h = ap (λ l. map (λ (c : ℕ × Bool). c.0) (word_of l)) e ∙ subst AreMarked e h
 
 -- the text of a word, by its characters
@@ -58,7 +60,7 @@ patterns-append (m ∷ left) right h k = let b = or_parts (is_pattern m) (has_pa
 -- letters with no marks of their own have no pattern characters
 pub no_patterns : (letters : Letters) → AreMarked letters → ((mixed : _) → letters ≡ Mixed mixed → ⊥) →
     ((literal : _) → letters ≡ Literal literal → ⊥) → has_pattern (word_of letters) ≡ false
-no_patterns (Plain text) h n l = unmarked_patterns (chars (string_bytes text))
+no_patterns (Plain text) h n l = unmarked_patterns (chars (text_bytes text))
 no_patterns (Marked text) h n l = h
 no_patterns (Mixed mixed) h n l = absurd (n mixed refl)
 no_patterns (Literal literal) h n l = absurd (l literal refl)
@@ -70,13 +72,13 @@ HaveOneMark mark w = HaveMark mark w × (has_pattern w ≡ false)
 one_mark : (b : Bool) (cs : List ℕ) → HaveMark b (map (λ c. (c, b)) cs)
 one_mark b cs = ap (map (λ c. (c, b))) (without b cs)
 
-pub plain_mark : (letters : Letters) (text : String Global) (w : Word) → letters ≡ Plain text → word_of letters ≡ w → HaveOneMark false w
+pub plain_mark : (letters : Letters) (text : Text) (w : Word) → letters ≡ Plain text → word_of letters ≡ w → HaveOneMark false w
 plain_mark letters text w e v =
-    subst (HaveOneMark false) (sym (ap word_of e) ∙ v) (one_mark false (chars (string_bytes text)), unmarked_patterns (chars (string_bytes text)))
+    subst (HaveOneMark false) (sym (ap word_of e) ∙ v) (one_mark false (chars (text_bytes text)), unmarked_patterns (chars (text_bytes text)))
 
-pub marked_mark : (letters : Letters) (text : String Global) (w : Word) → letters ≡ Marked text → AreMarked letters → word_of letters ≡ w → HaveOneMark true w
+pub marked_mark : (letters : Letters) (text : Text) (w : Word) → letters ≡ Marked text → AreMarked letters → word_of letters ≡ w → HaveOneMark true w
 marked_mark letters text w e h v =
-    subst (HaveOneMark true) (sym (ap word_of e) ∙ v) (one_mark true (chars (string_bytes text)), subst AreMarked e h)
+    subst (HaveOneMark true) (sym (ap word_of e) ∙ v) (one_mark true (chars (text_bytes text)), subst AreMarked e h)
 
 pub literal_mark : (letters : Letters) (literal : Rc (List ℕ × Bool) Global) (w : Word) → letters ≡ Literal literal → word_of letters ≡ w →
     has_pattern (written literal.value.0 literal.value.1) ≡ false → HaveOneMark (not literal.value.1) w

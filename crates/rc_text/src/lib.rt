@@ -11,6 +11,7 @@ mod output;
 mod quoting;
 mod selection;
 mod separators;
+mod texts;
 mod values;
 mod words;
 
@@ -24,5 +25,6 @@ pub use output::{into_lossy, lossy, split};
 pub use quoting::{push_quoted, quote, unquote};
 pub use rc_model::InputError;
 pub use selection::select;
+pub use texts::Text;
 pub use values::{flat, is_true};
 pub use words::{Word, joined_text};

@@ -2,6 +2,7 @@
 ghost use Rattle.std.specs.Prelude.{◌≡◌, [], ◌∷◌, ◌++◌, true, false, length, map, string_bytes, IfOk, OnOk, OnErr};
 ghost use Rattle.rc_model.specs.Syntax.Words.{plain_words, spaced_words, unmarked, word_texts, written};
 
+use crate::texts::Text;
 use crate::words::Word;
 use smallvec::SmallVec;
 use std::alloc::{AllocError, Global};
@@ -32,7 +33,9 @@ impl List {
         ensures { IfOk result (λ list. list ≡ plain_words (map string_bytes texts.items)) }
     {
         let mut words = SmallVec::new(alloc);
-        words.extend(texts.into_iter().map(|text| Word::plain(text)))?;
+        for text in texts {
+            words.push(Word::plain(Text::from_string(alloc, text)?))?;
+        }
         Ok(List(words))
     }
 
@@ -76,7 +79,7 @@ impl List {
     {
         let mut texts = Vec::with_capacity(alloc, self.words().len())?;
         for word in self.into_words()? {
-            texts.push(word.into_text(alloc)?)?;
+            texts.push(word.into_text()?.into_string(alloc)?)?;
         }
         Ok(texts)
     }
@@ -88,13 +91,13 @@ pub fn spaced_unmarked(alloc: Global, words: &[Word]) -> Result<Word, AllocError
 {
     let mut joined = String::new(alloc);
     let Some((first, others)) = words.split_first() else {
-        return Ok(Word::new(alloc));
+        return Ok(Word::empty());
     };
     push_text(&mut joined, first)?;
     for word in others {
         push_spaced(&mut joined, word)?;
     }
-    Ok(Word::plain(joined))
+    Ok(Word::plain(Text::from_string(alloc, joined)?))
 }
 
 fn push_text(joined: &mut String, word: &Word) -> Result<(), AllocError>

@@ -6,6 +6,7 @@ ghost use Rattle.std.specs.Str.{chars};
 ghost use Rattle.rc_model.specs.Syntax.Words.{has_pattern, is_pattern, is_pattern_char, written};
 ghost use Rattle.rc_text.specs.Literals.{mark_of, marks, KeepsPatterns};
 
+use crate::texts::Text;
 use std::alloc::{AllocError, Global};
 use std::marker::Model;
 
@@ -19,21 +20,22 @@ pub struct Ch {
 /// A word of a script: a text, and whether it is quoted.
 #[derive(Drop)]
 pub struct Literal {
-    text: String,
+    text: Text,
     quoted: bool,
     /// The characters, if there is a pattern character among them.
     chars: Option<Vec<Ch>>,
 }
 
 impl Model for Literal {
-    ghost use Rattle.std.specs.Prelude.{ℕ, Bool, List, string_bytes};
+    ghost use Rattle.std.specs.Prelude.{ℕ, Bool, List};
     ghost use Rattle.rc_text.specs.Literals.{KeepsPatterns};
+    ghost use Rattle.rc_text.specs.Texts.{text_bytes};
 
     ghost Value = { List ℕ × Bool };
 
-    ghost view = { λ l. (string_bytes l.text, l.quoted) };
+    ghost view = { λ l. (text_bytes l.text, l.quoted) };
 
-    ghost invariant = { λ l. KeepsPatterns (string_bytes l.text) l.quoted l.chars };
+    ghost invariant = { λ l. KeepsPatterns (text_bytes l.text) l.quoted l.chars };
 }
 
 fn is_pattern_char(c: char) -> bool
@@ -90,11 +92,13 @@ fn pattern_chars(alloc: Global, text: &str, quoted: bool) -> Result<Option<Vec<C
 }
 
 impl Literal {
+    ghost use Rattle.rc_text.specs.Texts.{text_bytes};
+
     /// A word of this text. Each character of an unquoted one is marked, and none of a quoted one.
     pub fn new(alloc: Global, text: &str, quoted: bool) -> Result<Literal, AllocError>
         ensures { IfOk result (λ literal. literal ≡ (text.now, quoted)) }
     {
-        let copy = String::from_str(alloc, text)?;
+        let copy = Text::of(alloc, text)?;
         let chars = pattern_chars(alloc, text, quoted)?;
         Ok(Literal {
             text: copy,
@@ -108,6 +112,13 @@ impl Literal {
         ensures { result.now ≡ self.now.0 }
     {
         self.text.as_str()
+    }
+
+    /// The text without its quotes, shared. It fails only if it has too many owners.
+    pub(crate) fn shared_text(&self) -> Result<Text, AllocError>
+        ensures { IfOk result (λ text. text_bytes text ≡ self.now.0) }
+    {
+        self.text.clone()
     }
 
     pub(crate) fn is_quoted(&self) -> bool

@@ -1,28 +1,26 @@
 //! Members of a value by their places, which are counted from 1.
-ghost use Rattle.std.specs.Prelude.{◌≡◌, map, string_bytes, IfOk};
+ghost use Rattle.std.specs.Prelude.{◌≡◌, map, IfOk};
 ghost use Rattle.rc_model.specs.Run.Lists.{from_place, front, member, selected, selected_by, up_to};
+ghost use Rattle.rc_text.specs.Texts.{text_bytes};
 
 use crate::numbers::number_of;
+use crate::texts::Text;
 use std::alloc::{AllocError, Global};
 
 /// Selects the members that subscripts `m`, `m-n` and `m-` name, in the order of the subscripts.
-pub fn select(
-    alloc: Global,
-    value: &[String],
-    subscripts: &[String],
-) -> Result<Vec<String>, AllocError>
+pub fn select(alloc: Global, value: &[Text], subscripts: &[Text]) -> Result<Vec<Text>, AllocError>
     ensures { IfOk result (λ members.
-        map string_bytes members.items ≡ selected (map string_bytes value.now) (map string_bytes subscripts.now)) }
+        map text_bytes members.items ≡ selected (map text_bytes value.now) (map text_bytes subscripts.now)) }
 {
     let mut members = Vec::new(alloc);
     for subscript in subscripts {
-        members.extend_with_clones(selected_by(value, subscript))?;
+        members.extend_with_clones(selected_by(value, subscript.as_str()))?;
     }
     Ok(members)
 }
 
-fn selected_by<'a>(value: &'a [String], subscript: &str) -> &'a [String]
-    ensures { map string_bytes result.now ≡ selected_by (map string_bytes value.now) subscript.now }
+fn selected_by<'a>(value: &'a [Text], subscript: &str) -> &'a [Text]
+    ensures { map text_bytes result.now ≡ selected_by (map text_bytes value.now) subscript.now }
 {
     match subscript.split_once('-') {
         Some((first, last)) => from_place(front(value, last), number_of(first)),
@@ -30,8 +28,8 @@ fn selected_by<'a>(value: &'a [String], subscript: &str) -> &'a [String]
     }
 }
 
-fn front<'a>(value: &'a [String], last: &str) -> &'a [String]
-    ensures { map string_bytes result.now ≡ front (map string_bytes value.now) last.now }
+fn front<'a>(value: &'a [Text], last: &str) -> &'a [Text]
+    ensures { map text_bytes result.now ≡ front (map text_bytes value.now) last.now }
 {
     if last.is_empty() {
         value
@@ -41,15 +39,15 @@ fn front<'a>(value: &'a [String], last: &str) -> &'a [String]
 }
 
 #[tactic(auto, using(crate::proofs::Places::member_of_front))]
-fn member(value: &[String], place: Option<u32>) -> &[String]
-    ensures { map string_bytes result.now ≡ member (map string_bytes value.now) place }
+fn member(value: &[Text], place: Option<u32>) -> &[Text]
+    ensures { map text_bytes result.now ≡ member (map text_bytes value.now) place }
 {
     from_place(up_to(value, place), place)
 }
 
 #[tactic(auto, using(crate::proofs::Places::cuts))]
-fn up_to(value: &[String], last: Option<u32>) -> &[String]
-    ensures { map string_bytes result.now ≡ up_to (map string_bytes value.now) last }
+fn up_to(value: &[Text], last: Option<u32>) -> &[Text]
+    ensures { map text_bytes result.now ≡ up_to (map text_bytes value.now) last }
 {
     match last {
         Some(place) if (place as usize) < value.len() => &value[..place as usize],
@@ -59,8 +57,8 @@ fn up_to(value: &[String], last: Option<u32>) -> &[String]
 }
 
 #[tactic(auto, using(crate::proofs::Places::cuts))]
-fn from_place(value: &[String], first: Option<u32>) -> &[String]
-    ensures { map string_bytes result.now ≡ from_place (map string_bytes value.now) first }
+fn from_place(value: &[Text], first: Option<u32>) -> &[Text]
+    ensures { map text_bytes result.now ≡ from_place (map text_bytes value.now) first }
 {
     match first {
         Some(place) if 0 < place && place as usize <= value.len() => &value[place as usize - 1..],

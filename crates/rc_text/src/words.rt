@@ -3,9 +3,11 @@ ghost use Rattle.std.specs.Prelude.{◌≡◌, [], ◌++◌, true, false, map, s
 ghost use Rattle.std.specs.Str.{chars};
 ghost use Rattle.rc_model.specs.Syntax.Words.{has_pattern, unmarked, word_text, written};
 ghost use Rattle.rc_text.specs.Literals.{marks};
+ghost use Rattle.rc_text.specs.Texts.{text_bytes};
 ghost use Rattle.rc_text.specs.Views.{word_of, AreMarked, HaveMark};
 
 use crate::literal::{Ch, Literal, any_pattern, push_text};
+use crate::texts::Text;
 use std::alloc::{AllocError, Global};
 use std::default::MadeWith;
 use std::marker::Model;
@@ -14,7 +16,7 @@ use std::rc::Rc;
 /// A text with a mark for each of its characters.
 #[derive(Drop)]
 pub(crate) struct MixedText {
-    text: String,
+    text: Text,
     /// The characters of the text.
     chars: Vec<Ch>,
 }
@@ -23,9 +25,9 @@ pub(crate) struct MixedText {
 #[derive(Drop)]
 pub(crate) enum Letters {
     /// No character is marked.
-    Plain(String),
+    Plain(Text),
     /// All characters are marked, and none is a pattern character.
-    Marked(String),
+    Marked(Text),
     /// Each character has its own mark. Few words are mixed, and the box keeps the others small.
     Mixed(Box<MixedText>),
     /// A word of a script, shared by all its evaluations.
@@ -52,8 +54,8 @@ impl MadeWith<Global> for Word {
 
     ghost is_made_with = { λ w. w ≡ [] };
 
-    fn made_with(alloc: Global) -> Word {
-        Word::new(alloc)
+    fn made_with(_alloc: Global) -> Word {
+        Word::empty()
     }
 }
 
@@ -70,22 +72,22 @@ pub fn joined_text(alloc: Global, left: &str, right: &str) -> Result<String, All
 
 impl Word {
     /// The word with no characters.
-    pub fn new(alloc: Global) -> Word
+    pub(crate) fn empty() -> Word
         ensures { result ≡ [] }
     {
-        Word::plain(String::new(alloc))
+        Word::plain(Text::new())
     }
 
     /// A text of which no character is marked.
-    pub fn plain(text: String) -> Word
-        ensures { result ≡ written (string_bytes text) true }
+    pub fn plain(text: Text) -> Word
+        ensures { result ≡ written (text_bytes text) true }
     {
         Word(Letters::Plain(text))
     }
 
     /// A text with a mark for each of its characters.
-    fn mixed(alloc: Global, text: String, all: Vec<Ch>) -> Result<Word, AllocError>
-        requires { map (λ m. m.0) (marks all.items) ≡ chars (string_bytes text) }
+    fn mixed(alloc: Global, text: Text, all: Vec<Ch>) -> Result<Word, AllocError>
+        requires { map (λ m. m.0) (marks all.items) ≡ chars (text_bytes text) }
         ensures { IfOk result (λ word. word ≡ marks all.items) }
     {
         let mixed = Box::new(alloc, MixedText { text, chars: all })?;
@@ -111,7 +113,7 @@ impl Word {
     pub(crate) fn joined(alloc: Global, left: &Word, right: &Word) -> Result<Word, AllocError>
         ensures { IfOk result (λ word. word ≡ left.now ++ right.now) }
     {
-        let text = joined_text(alloc, left.text(), right.text())?;
+        let text = Text::joined(alloc, left.text(), right.text())?;
         match (left.common_mark(), right.common_mark()) {
             (Some(mark), Some(other)) if mark == other => Ok(Word::with_mark(text, mark)),
             _ => Word::mixed(alloc, text, Word::all_chars(alloc, left, right)?),
@@ -123,12 +125,12 @@ impl Word {
         ensures { IfOk result (λ word. word ≡ self ++ next.now) }
     {
         match (self.0, next.common_mark()) {
-            (Letters::Plain(mut text), Some(false)) => {
-                text.push_str(next.text())?;
+            (Letters::Plain(text), Some(false)) => {
+                let text = text.followed_by(alloc, next.text())?;
                 Ok(Word::plain(text))
             }
-            (Letters::Marked(mut text), Some(true)) => {
-                text.push_str(next.text())?;
+            (Letters::Marked(text), Some(true)) => {
+                let text = text.followed_by(alloc, next.text())?;
                 Ok(Word(Letters::Marked(text)))
             }
             (letters, _) => Word::joined(alloc, &Word(letters), next),
@@ -136,9 +138,9 @@ impl Word {
     }
 
     /// A text whose characters all have this mark, and none of them is a pattern character.
-    fn with_mark(text: String, mark: bool) -> Word
-        requires { has_pattern (map (λ c. (c, mark)) (chars (string_bytes text))) ≡ false }
-        ensures { result ≡ map (λ c. (c, mark)) (chars (string_bytes text)) }
+    fn with_mark(text: Text, mark: bool) -> Word
+        requires { has_pattern (map (λ c. (c, mark)) (chars (text_bytes text))) ≡ false }
+        ensures { result ≡ map (λ c. (c, mark)) (chars (text_bytes text)) }
     {
         if mark {
             Word(Letters::Marked(text))
@@ -178,8 +180,8 @@ impl Word {
         ensures { OnOk result (marks chars.new.items ≡ marks chars.old.items ++ self.now) }
     {
         match &self.0 {
-            Letters::Plain(text) => push_text(chars, text, false),
-            Letters::Marked(text) => push_text(chars, text, true),
+            Letters::Plain(text) => push_text(chars, text.as_str(), false),
+            Letters::Marked(text) => push_text(chars, text.as_str(), true),
             Letters::Mixed(mixed) => chars.extend_from_slice(mixed.chars.as_slice()),
             Letters::Literal(literal) => push_text(chars, literal.text(), !literal.is_quoted()),
         }
@@ -197,20 +199,20 @@ impl Word {
         }
     }
 
-    /// Returns the characters without their marks. Only those of a literal are copied.
-    pub fn into_text(self, alloc: Global) -> Result<String, AllocError>
-        ensures { IfOk result (λ text. string_bytes text ≡ word_text self) }
+    /// Returns the characters without their marks. It fails only if those of a literal have too many owners.
+    pub fn into_text(self) -> Result<Text, AllocError>
+        ensures { IfOk result (λ text. text_bytes text ≡ word_text self) }
     {
         match self.0 {
             Letters::Plain(text) => Ok(text),
             Letters::Marked(text) => Ok(text),
             Letters::Mixed(mixed) => Ok(Box::into_inner(mixed).text),
-            Letters::Literal(literal) => String::from_str(alloc, literal.text()),
+            Letters::Literal(literal) => literal.shared_text(),
         }
     }
 
-    /// Removes the marks. Only the characters of a literal that is not quoted are copied.
-    pub fn unmarked(self, alloc: Global) -> Result<Word, AllocError>
+    /// Removes the marks. It fails only if the characters of a literal have too many owners.
+    pub fn unmarked(self) -> Result<Word, AllocError>
         ensures { IfOk result (λ word. word ≡ unmarked self) }
     {
         match self.0 {
@@ -218,7 +220,7 @@ impl Word {
             Letters::Marked(text) => Ok(Word::plain(text)),
             Letters::Mixed(mixed) => Ok(Word::plain(Box::into_inner(mixed).text)),
             Letters::Literal(literal) => {
-                let text = String::from_str(alloc, literal.text())?;
+                let text = literal.shared_text()?;
                 Ok(Word::plain(text))
             }
         }
@@ -253,8 +255,8 @@ impl Word {
             Letters::Plain(text) => Ok(Word::plain(text.clone()?)),
             Letters::Marked(text) => Ok(Word(Letters::Marked(text.clone()?))),
             Letters::Mixed(mixed) => {
-                let text = mixed.text.clone()?;
-                Word::mixed(*text.allocator(), text, mixed.chars.clone()?)
+                let alloc = *mixed.chars.allocator();
+                Word::mixed(alloc, mixed.text.clone()?, mixed.chars.clone()?)
             }
             Letters::Literal(literal) => Word::literal(literal),
         }

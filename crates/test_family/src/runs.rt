@@ -7,7 +7,7 @@ ghost use Rattle.rc_tree.specs.View.{cmd_tree};
 use crate::accounts::Accounts;
 use crate::fault::RunError;
 use rc_parser::{ScriptError, parse};
-use rc_scope::State;
+use rc_scope::{State, texts_of};
 use rc_shell::{Family, FamilyFault};
 use rc_tree::Cmd;
 use std::alloc::Global;
@@ -27,7 +27,7 @@ fn tree_of(alloc: Global, script: &str) -> Result<Box<Cmd>, ScriptError>
 fn state(alloc: Global) -> Result<State, RunError> {
     let mut state = State::new(alloc);
     let path = vec![in alloc; String::from_str(alloc, "/bin")?]?;
-    if state.set("path", path).is_err() {
+    if state.set("path", texts_of(alloc, &path)?).is_err() {
         return Err(RunError::NoMemory);
     }
     Ok(state)

@@ -1,6 +1,5 @@
 //! Redirections: when memory runs out, nothing is opened or ended, and the descriptors stay.
 
-use crate::support::list;
 use rc_redir::{RedirError, RedirFault, RedirStack};
 use rc_world::{Answer, Fault, Handle, Mode, PLAIN_SLOTS, Slot, Stop, Tape};
 use std::alloc::AllocError;
@@ -19,7 +18,7 @@ fn refused_name(opened: Result<(), RedirError>) -> Result<String, Fail> {
 fn out_of_memory_opens_nothing(rt: HostRuntime) -> Result<(), Fail> {
     let alloc = rt.alloc();
     let mut tape = Tape::new(vec![in alloc; Answer::File(Handle(4)), Answer::Done]?);
-    let names = list(alloc, &["f"])?;
+    let names = vec![in alloc; String::from_str(alloc, "f")?]?;
     let mut stack = RedirStack::new(alloc, PLAIN_SLOTS);
     let opened = stack.push_open(&mut tape, Mode::Write, 1, &names);
     if matches!(opened, Err(RedirError::Stopped(Stop::NoMemory))) {
@@ -41,7 +40,7 @@ fn out_of_memory_opens_nothing(rt: HostRuntime) -> Result<(), Fail> {
 fn out_of_memory_after_a_refused_open_changes_nothing(rt: HostRuntime) -> Result<(), Fail> {
     let alloc = rt.alloc();
     let mut tape = Tape::new(vec![in alloc; Answer::Refused(Fault::Other)]?);
-    let names = list(alloc, &["f"])?;
+    let names = vec![in alloc; String::from_str(alloc, "f")?]?;
     let mut stack = RedirStack::new(alloc, PLAIN_SLOTS);
     let opened = stack.push_open(&mut tape, Mode::Write, 1, &names);
     assert!(rt; stack.slots() == PLAIN_SLOTS);

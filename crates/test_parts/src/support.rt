@@ -4,15 +4,16 @@ ghost use Rattle.rc_model.specs.Handed.Proper.{IsProperTree};
 ghost use Rattle.rc_tree.specs.View.{cmd_tree};
 
 use rc_scope::State;
+use rc_text::Text;
 use rc_tree::Cmd;
 use rc_world::Stop;
 use std::alloc::{AllocError, Global};
 use std::test::Fail;
 
-pub fn list(alloc: Global, members: &[&str]) -> Result<Vec<String>, AllocError> {
+pub fn list(alloc: Global, members: &[&str]) -> Result<Vec<Text>, AllocError> {
     let mut list = Vec::new(alloc);
     for member in members {
-        list.push(String::from_str(alloc, *member)?)?;
+        list.push(Text::of(alloc, *member)?)?;
     }
     Ok(list)
 }

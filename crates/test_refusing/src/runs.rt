@@ -3,7 +3,7 @@
 use crate::accounts::{Wrong, check};
 use crate::scripts::Script;
 use crate::world::{Refusals, RefusingWorld};
-use rc_scope::State;
+use rc_scope::{State, texts_of};
 use rc_shell::{Ran, ShellFault, execute};
 use rc_world::{Answer, ChildNo, Fault};
 use std::alloc::{AllocError, Global};
@@ -15,7 +15,9 @@ pub const LIMIT: u64 = 1_000_000;
 pub fn state(alloc: Global) -> Result<State, AllocError> {
     let mut state = State::new(alloc);
     let bin = vec![in alloc; String::from_str(alloc, "/bin")?]?;
-    state.set("path", bin).map_err(|_| AllocError)?;
+    state
+        .set("path", texts_of(alloc, &bin)?)
+        .map_err(|_| AllocError)?;
     Ok(state)
 }
 

@@ -5,7 +5,7 @@ ghost use Rattle.rc_model.specs.Handed.Proper.{IsProperTree};
 ghost use Rattle.rc_tree.specs.View.{cmd_tree};
 
 use rc_parser::{ScriptError, parse};
-use rc_scope::State;
+use rc_scope::{State, texts_of};
 use rc_shell::{Family, FamilyFault};
 use rc_tree::Cmd;
 use rc_world::{Answer, Call, ChildNo, Handle};
@@ -25,7 +25,8 @@ fn tree_of(alloc: Global, script: &[u8]) -> Result<Box<Cmd>, ScriptError>
 fn begun(rt: &impl Abort, alloc: Global) -> Result<Family, Fail> {
     let tree = tree_of(alloc, b"a | b".as_slice())?;
     let mut state = State::new(alloc);
-    state.set("path", vec![in alloc; String::from_str(alloc, "/bin")?]?)?;
+    let path = vec![in alloc; String::from_str(alloc, "/bin")?]?;
+    state.set("path", texts_of(alloc, &path)?)?;
     match Family::new(alloc, &tree, state, 1000) {
         Ok(family) => Ok(family),
         Err(fault) => {

@@ -1,7 +1,7 @@
 //! Runs of a script when memory runs out.
 
 use crate::support::one_program;
-use rc_scope::State;
+use rc_scope::{State, texts_of};
 use rc_shell::{Ran, ShellFault, execute, execute_image};
 use rc_world::{Answer, Call, ChildNo, Ending, Handle, Program, Tape};
 use std::alloc::{AllocError, Global};
@@ -47,7 +47,8 @@ fn out_of_memory_is_reported(rt: HostRuntime) -> Result<(), Fail> {
     let alloc = rt.alloc();
     let mut tape = one_program(alloc)?;
     let mut state = State::new(alloc);
-    state.set("path", vec![in alloc; String::from_str(alloc, "/bin")?]?)?;
+    let path = vec![in alloc; String::from_str(alloc, "/bin")?]?;
+    state.set("path", texts_of(alloc, &path)?)?;
     let script = b"fn f {echo $1}; for(i in hello) x=$i {if(~ $x h*) f $\"x}";
     let ran = execute(alloc, &mut tape, script.as_slice(), state, 100);
     for (place, call) in tape.calls().iter().enumerate() {

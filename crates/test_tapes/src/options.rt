@@ -16,7 +16,7 @@
 //! Before the options `path` is `/bin`.
 
 use crate::fault::RowError;
-use rc_scope::State;
+use rc_scope::{State, texts_of};
 use std::alloc::{AllocError, Global};
 
 /// Enough instructions for each script that ends.
@@ -59,7 +59,7 @@ fn change(alloc: Global, state: &mut State, option: &str) -> Result<(), RowError
 /// Sets a variable to members.
 fn set(alloc: Global, state: &mut State, name: &str, written: &str) -> Result<(), RowError> {
     let members = members(alloc, written)?;
-    Ok(state.set(name, members)?)
+    Ok(state.set(name, texts_of(alloc, &members)?)?)
 }
 
 /// Whether there is an option of one word.

@@ -14,7 +14,7 @@ use crate::row_texts::{list, text};
 use rc_image::{
     Handover, ImageError, handed, read_env, read_image, read_state, write_env, write_tree,
 };
-use rc_scope::State;
+use rc_scope::{State, texts_of};
 use rc_tree::Cmd;
 use std::alloc::{AllocError, Global};
 
@@ -75,8 +75,8 @@ fn change(alloc: Global, state: &mut State, option: &str) -> Result<(), RowError
     let (kind, said) = cut(option);
     let (name, members) = cut(said);
     match kind {
-        "set" => state.set(name, list(alloc, members)?)?,
-        "local" => state.push_local(name, list(alloc, members)?)?,
+        "set" => state.set(name, texts_of(alloc, &list(alloc, members)?)?)?,
+        "local" => state.push_local(name, texts_of(alloc, &list(alloc, members)?)?)?,
         "unlocal" => state.pop_local(),
         "strict" => state.set_strict(true),
         "own" | "arg" | "entry" | "entries" | "tree" | "#" => {}

@@ -7,10 +7,11 @@ ghost use Rattle.rc_machine.specs.Lists.{below_top};
 ghost use Rattle.rc_model.specs.Run.State.{is_name, is_readable};
 ghost use Rattle.rc_model.specs.Syntax.Words.{plain_words, word_texts};
 ghost use Rattle.rc_scope.specs.States.{state_of};
+ghost use Rattle.rc_text.specs.Texts.{text_bytes};
 
 use crate::stack::Stack;
 use rc_scope::{State, is_name, is_readable};
-use rc_text::{Output, Word};
+use rc_text::{Output, Text, Word};
 use std::alloc::{AllocError, Global};
 
 /// The texts of words.
@@ -25,14 +26,14 @@ pub(crate) fn texts(alloc: Global, words: &[Word]) -> Result<Vec<String>, AllocE
 }
 
 /// Pops the top list and returns its texts, or none if there is no list.
-pub(crate) fn take_texts(alloc: Global, words: &mut Stack<Word>) -> Result<Vec<String>, AllocError>
-    ensures texts { IfOk result (λ texts. map string_bytes texts.items ≡ word_texts (uppermost words.old)) }
+pub(crate) fn take_texts(alloc: Global, words: &mut Stack<Word>) -> Result<Vec<Text>, AllocError>
+    ensures texts { IfOk result (λ texts. map text_bytes texts.items ≡ word_texts (uppermost words.old)) }
     ensures below { OnOk result (words.new ≡ below_top words.old) }
 {
     let count = words.top().map_or(0, |list| list.len());
     let mut texts = Vec::with_capacity(alloc, count)?;
     while let Some(word) = words.take_last() {
-        texts.push(word.into_text(alloc)?)?;
+        texts.push(word.into_text()?)?;
     }
     words.drop_top();
     texts.reverse();
@@ -41,8 +42,8 @@ pub(crate) fn take_texts(alloc: Global, words: &mut Stack<Word>) -> Result<Vec<S
 
 /// Pushes texts as a list of words with no marks.
 #[tactic(auto, using(crate::proofs::Stacks::extends))]
-pub(crate) fn put_texts(words: &mut Stack<Word>, texts: Vec<String>) -> Result<(), AllocError>
-    ensures { OnOk result (words.new ≡ plain_words (map string_bytes texts.items) ∷ words.old) }
+pub(crate) fn put_texts(words: &mut Stack<Word>, texts: Vec<Text>) -> Result<(), AllocError>
+    ensures { OnOk result (words.new ≡ plain_words (map text_bytes texts.items) ∷ words.old) }
 {
     words.begin()?;
     words.reserve(texts.len())?;
@@ -64,15 +65,15 @@ pub(crate) fn put_members(
     words.begin()?;
     let mut members = output.members(alloc)?;
     while let Some(member) = members.next() {
-        words.push(Word::plain(String::from_str(alloc, member)?))?;
+        words.push(Word::plain(Text::of(alloc, member)?))?;
     }
     Ok(())
 }
 
 /// Pushes a copy of a value as a list of words with no marks.
 #[tactic(auto, using(crate::proofs::Stacks::extends))]
-pub(crate) fn put_value(words: &mut Stack<Word>, value: &[String]) -> Result<(), AllocError>
-    ensures { OnOk result (words.new ≡ plain_words (map string_bytes value.now) ∷ words.old) }
+pub(crate) fn put_value(words: &mut Stack<Word>, value: &[Text]) -> Result<(), AllocError>
+    ensures { OnOk result (words.new ≡ plain_words (map text_bytes value.now) ∷ words.old) }
 {
     words.begin()?;
     for text in value {
@@ -83,8 +84,8 @@ pub(crate) fn put_value(words: &mut Stack<Word>, value: &[String]) -> Result<(),
 
 /// Pushes a text as a list of one word with no marks.
 #[tactic(auto, using(crate::proofs::Stacks::extends))]
-pub(crate) fn put_text(words: &mut Stack<Word>, text: String) -> Result<(), AllocError>
-    ensures { OnOk result (words.new ≡ plain_words (string_bytes text ∷ []) ∷ words.old) }
+pub(crate) fn put_text(words: &mut Stack<Word>, text: Text) -> Result<(), AllocError>
+    ensures { OnOk result (words.new ≡ plain_words (text_bytes text ∷ []) ∷ words.old) }
 {
     words.begin()?;
     let word = Word::plain(text);
@@ -114,8 +115,8 @@ pub(crate) fn variable_name(words: &[Word]) -> Option<&str>
 }
 
 /// The value of a `$` and these words, or none if they are not a name.
-pub(crate) fn read<'a>(state: &'a State, words: &[Word]) -> Option<&'a [String]>
-    ensures { option_map (λ v. map string_bytes v.now) result ≡ read (state_of state.now) (word_texts words.now) }
+pub(crate) fn read<'a>(state: &'a State, words: &[Word]) -> Option<&'a [Text]>
+    ensures { option_map (λ v. map text_bytes v.now) result ≡ read (state_of state.now) (word_texts words.now) }
 {
     let name = readable_name(words)?;
     Some(state.lookup(name))

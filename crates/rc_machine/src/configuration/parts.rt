@@ -2,6 +2,7 @@
 
 use crate::stack::nest::Nest;
 use rc_code::Code;
+use rc_text::Text;
 use rc_world::ChildNo;
 
 /// The place where a body was called.
@@ -20,7 +21,7 @@ pub(crate) enum Scope {
     /// A loop, with the members that are left.
     Loop {
         name: String,
-        rest: Nest<String>,
+        rest: Nest<Text>,
         bound: bool,
     },
     /// The newest redirection.

@@ -6,6 +6,7 @@ ghost use Rattle.rc_model.specs.Handed.Proper.{IsProperTree};
 ghost use Rattle.rc_model.specs.Run.State.{undefine};
 ghost use Rattle.rc_code.specs.Views.{code_of};
 ghost use Rattle.rc_scope.specs.States.{state_of};
+ghost use Rattle.rc_text.specs.Texts.{text_bytes};
 ghost use Rattle.rc_tree.specs.View.{cmd_tree};
 ghost use Rattle.rc_machine.specs.Calls.{Defines, called, entered};
 ghost use Rattle.rc_machine.specs.Configurations.{config_of};
@@ -18,6 +19,7 @@ use crate::control::scopes::end_local;
 use rc_code::Code;
 use rc_model::InputError;
 use rc_scope::{NameFault, State};
+use rc_text::Text;
 use rc_tree::Cmd;
 use rc_world::{Stop, World};
 use std::alloc::{AllocError, Global};
@@ -66,11 +68,11 @@ pub(crate) fn enter(machine: &mut Configuration, body: Code, binds: bool) -> Res
 /// Enters a body, with these arguments as its `$*`.
 pub(crate) fn call(
     machine: &mut Configuration,
-    args: Vec<String>,
+    args: Vec<Text>,
     body: Code,
 ) -> Result<(), AllocError>
     ensures { OnOk result (config_of machine.new
-        ≡ called (config_of machine.old) (map string_bytes args.items) (code_of body)) }
+        ≡ called (config_of machine.old) (map text_bytes args.items) (code_of body)) }
 {
     machine.state.push_local("*", args).map_err(|_| AllocError)?;
     machine.scopes.open(Scope::Local)?;

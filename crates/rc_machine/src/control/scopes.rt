@@ -1,6 +1,7 @@
 //! Instructions of loops, and the ends of locals.
 
-ghost use Rattle.std.specs.Prelude.{◌≡◌, IfOk, OnOk, string_bytes};
+ghost use Rattle.std.specs.Prelude.{◌≡◌, IfOk, OnOk};
+ghost use Rattle.rc_text.specs.Texts.{text_bytes};
 ghost use Rattle.rc_model.specs.Code.Layout as op;
 ghost use Rattle.rc_machine.specs.Configurations.{config_of};
 ghost use Rattle.rc_machine.specs.EndOfLocals.{LocalEnds, LocalsEnd, bound_to};
@@ -10,6 +11,7 @@ use crate::configuration::lookups::{take_texts, variable_name};
 use crate::configuration::parts::Scope;
 use crate::configuration::{Configuration, Move};
 use crate::stack::nest::Nest;
+use rc_text::Text;
 use rc_world::{Stop, World};
 use std::alloc::{AllocError, Global};
 
@@ -77,11 +79,11 @@ fn bind(
     machine: &mut Configuration,
     alloc: Global,
     name: &str,
-    member: String,
+    member: Text,
     bound: bool,
 ) -> Result<(), AllocError>
     ensures { OnOk result
-        (config_of machine.new ≡ bound_to (config_of machine.old) name.now (string_bytes member) bound) }
+        (config_of machine.new ≡ bound_to (config_of machine.old) name.now (text_bytes member) bound) }
 {
     let set = if bound {
         machine.state.set_one(name, member)

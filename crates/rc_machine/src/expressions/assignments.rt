@@ -15,7 +15,7 @@ use crate::configuration::lookups::{
 use crate::configuration::parts::Scope;
 use crate::configuration::{Configuration, Move};
 use crate::stack::Stack;
-use rc_text::Word;
+use rc_text::{Text, Word};
 use rc_world::{Stop, World};
 use std::alloc::{AllocError, Global};
 
@@ -56,7 +56,7 @@ pub(crate) fn count<W: World>(
     let Some(value) = read(&machine.state, words) else {
         return machine.fail_bad_name(alloc, world);
     };
-    let count = value.len().to_string(alloc)?;
+    let count = Text::from_string(alloc, value.len().to_string(alloc)?)?;
     machine.words.drop_top();
     put_text(&mut machine.words, count)?;
     Ok(Move::On)
@@ -78,7 +78,7 @@ pub(crate) fn flat<W: World>(
     let Some(value) = read(&machine.state, words) else {
         return machine.fail_bad_name(alloc, world);
     };
-    let text = rc_text::flat(alloc, value)?;
+    let text = Text::from_string(alloc, rc_text::flat(alloc, value)?)?;
     machine.words.drop_top();
     put_text(&mut machine.words, text)?;
     Ok(Move::On)
@@ -115,7 +115,7 @@ fn name_on_top(words: &Stack<Word>) -> Option<&str>
 }
 
 /// Assigns if the two lists on top are the name of a variable and one text, which are taken off then.
-fn assign_one(machine: &mut Configuration, alloc: Global) -> Result<Option<Move>, AllocError>
+fn assign_one(machine: &mut Configuration) -> Result<Option<Move>, AllocError>
     ensures { IfOk result (λ assigned. MatchOption assigned (config_of machine.new ≡ config_of machine.old)
         (Moves op.Assign machine.old machine.new)) }
 {
@@ -128,7 +128,7 @@ fn assign_one(machine: &mut Configuration, alloc: Global) -> Result<Option<Move>
     let Some((name, word)) = machine.words.take_pair() else {
         return Ok(None);
     };
-    let text = word.into_text(alloc)?;
+    let text = word.into_text()?;
     let Ok(()) = machine.state.set_one(name.text(), text) else {
         return Err(AllocError);
     };
@@ -169,7 +169,7 @@ pub(crate) fn assign<W: World>(
 ) -> Result<Move, Stop>
     ensures { Executes (W.events world.old) (W.events world.new) op.Assign machine.old machine.new result }
 {
-    if let Some(moved) = assign_one(machine, alloc)? {
+    if let Some(moved) = assign_one(machine)? {
         return Ok(moved);
     }
     assign_list(machine, alloc, world)

@@ -11,17 +11,13 @@ use rc_glob::matched;
 use rc_text::{Word, spaced_unmarked};
 use std::alloc::{AllocError, Global};
 
-/// Pops the top list as one word with no marks, its words joined by spaces. A single word is moved.
-#[tactic(auto, using(crate::proofs::Subjects::one_taken, crate::proofs::Subjects::all_taken))]
+/// Pops the top list as one word with no marks, its words joined by spaces. A single word shares its text.
 fn take_subject(alloc: Global, words: &mut Stack<Word>) -> Result<Option<Word>, AllocError>
     ensures { IfOk result (λ subject. TakesSubject words.old words.new subject) }
 {
     let subject = match words.top() {
         None => return Ok(None),
-        Some([_]) => match words.take_last() {
-            Some(word) => word.unmarked(alloc)?,
-            None => return Ok(None),
-        },
+        Some([word]) => word.copy()?.unmarked()?,
         Some(list) => spaced_unmarked(alloc, list)?,
     };
     words.drop_top();

@@ -1,4 +1,5 @@
-use Rattle.std.proofs.Common.{◌≡◌, drop, map, string_bytes}
+use Rattle.std.proofs.Common.{◌≡◌, drop, map}
+use Rattle.rc_text.specs.Texts.{text_bytes}
 use Rattle.rc_model.specs.Run.Builtins.{without_functions}
 use Rattle.rc_model.specs.declared.call.Slots.{Slots}
 use Rattle.rc_builtin.proofs.builtins.leading_builtins.Given as goal
@@ -7,4 +8,4 @@ use Rattle.rc_builtin.proofs.builtins.leading_builtins.Given as goal
 abbrev pub invariant-loop-word : goal.invariant-loop-word
 invariant-loop-word l =
     (l.count ≡ l.word-index)
-    × ((slots : Slots) → without_functions slots (map string_bytes l.words) ≡ without_functions slots (map string_bytes (drop l.word-index l.words)))
+    × ((slots : Slots) → without_functions slots (map text_bytes l.words) ≡ without_functions slots (map text_bytes (drop l.word-index l.words)))

@@ -1,4 +1,5 @@
-use Rattle.std.proofs.Common.{rules, ◌≡◌, ◌∙◌, ap, Ok, map, string_bytes, sym}
+use Rattle.std.proofs.Common.{rules, ◌≡◌, ◌∙◌, ap, Ok, map, sym}
+use Rattle.rc_text.specs.Texts.{text_bytes}
 use Rattle.rc_model.specs.Run.Builtins.{run_builtin}
 use Rattle.rc_model.specs.declared.builtin.Builtin.TheVariants.{Eval}
 use Rattle.rc_scope.specs.States.{state_of}
@@ -13,5 +14,5 @@ returns-in-Eval-clause-runs g c again =
     let lent : c.deref.result.now ≡ c.args.args.items = search rules in
     let recorded = g.W.World.events c.args.world.now in
     words_as recorded recorded _ _ (state_of c.eval.new.state) (Ok c.in_ok-eval-in-Eval.field-0)
-    (ap (λ b. run_builtin again slots b (map string_bytes c.args.args.items) s) is ∙ ap (λ ws. run_builtin again slots Eval (map string_bytes ws) s) (sym lent))
+    (ap (λ b. run_builtin again slots b (map text_bytes c.args.args.items) s) is ∙ ap (λ ws. run_builtin again slots Eval (map text_bytes ws) s) (sym lent))
     (c.in_ok-eval-in-Eval.ensures.ok recorded)

@@ -1,5 +1,6 @@
 use Rattle.std.proofs.Common.{rules, ◌≡◌, [], ◌∷◌, ap, ◌∙◌, map, string_bytes}
 use Rattle.std.specs.Prelude.{codes}
+use Rattle.rc_text.specs.Texts.{text_bytes}
 use Rattle.rc_model.specs.Run.Builtins.{dirs_of, first_dir, first_member}
 use Rattle.rc_model.specs.Run.State.{value_of}
 use Rattle.rc_world.specs.declared.starts.Stop.TheVariants.{NoMemory}
@@ -27,12 +28,12 @@ returns-clause-does g c =
     elim c.if-words-lt1.branch [
       | in-empty+in_ok-dirs-in-empty w ↦
           let home = dirs_of s (first_member (value_of s (codes "home"))) in
-          let dirs : map string_bytes c.deref-2.result.now ≡ home = ap (map string_bytes) c.deref-2.ensures.value ∙ ap (λ v. map string_bytes v.items) w.dirs-is ∙ w.in_ok-dirs-in-empty.ensures in
+          let dirs : map string_bytes c.deref.result.now ≡ home = ap (map string_bytes) c.deref.ensures.value ∙ ap (λ v. map string_bytes v.items) w.dirs-is ∙ w.in_ok-dirs-in-empty.ensures in
           comes_as _ _ _ _ _ _ (cd_home words s w.in-empty.len_below) (comes_finished _ _ (first_dir home) s _ c.first_dir.result (rw dirs at c.first_dir.ensures.does))
       | in-len1+in_ok-dirs-in-len1 w ↦
-          let own = dirs_of s (string_bytes w.dir-item.result ∷ []) in
-          let dir : w.deref.result.now ≡ string_bytes w.dir-item.result = search rules in
+          let own = dirs_of s (text_bytes w.dir-item.result ∷ []) in
+          let dir : w.as_str.result.now ≡ text_bytes w.dir-item.result = search rules in
           let tried : map string_bytes w.in_ok-dirs-in-len1.dirs.items ≡ own = rw dir at w.in_ok-dirs-in-len1.ensures in
-          let dirs : map string_bytes c.deref-2.result.now ≡ own = ap (map string_bytes) c.deref-2.ensures.value ∙ ap (λ v. map string_bytes v.items) w.dirs-is ∙ tried in
+          let dirs : map string_bytes c.deref.result.now ≡ own = ap (map string_bytes) c.deref.ensures.value ∙ ap (λ v. map string_bytes v.items) w.dirs-is ∙ tried in
           comes_as _ _ _ _ _ _ (cd_one words w.dir-item.result s w.in-len1.len_at_least w.in-len1.len_below w.dir-item.is) (comes_finished _ _ (first_dir own) s _ c.first_dir.result (rw dirs at c.first_dir.ensures.does))
     ]

@@ -8,7 +8,7 @@ use Rattle.rc_builtin.proofs.directories.first_dir.Goals as goal
 
 pub returns-in_err-chdir-clause-does : goal.returns-in_err-chdir-clause-does
 returns-in_err-chdir-clause-does g c =
-    let left = texts_left c.args.dirs.now c.loop-dir.dir-index c.dir-item.result c.loop-dir-test.true c.dir-item.is in
+    let left = texts_left string_bytes c.args.dirs.now c.loop-dir.dir-index c.dir-item.result c.loop-dir-test.true c.dir-item.is in
     let path : c.deref.result.now ≡ string_bytes c.dir-item.result = search rules in
     let rest = map string_bytes (drop (c.loop-dir.dir-index + 1) c.args.dirs.now) in
     passed_up _ _ _ _ c.from_residual.result c.in_err-chdir.field-0.0 c.from_residual.ensures.1
@@ -17,7 +17,7 @@ returns-in_err-chdir-clause-does g c =
 
 pub returns-then-branch-clause-does : goal.returns-then-branch-clause-does
 returns-then-branch-clause-does g c =
-    let left = texts_left c.args.dirs.now c.loop-dir.dir-index c.dir-item.result c.loop-dir-test.true c.dir-item.is in
+    let left = texts_left string_bytes c.args.dirs.now c.loop-dir.dir-index c.dir-item.result c.loop-dir-test.true c.dir-item.is in
     let path : c.deref.result.now ≡ string_bytes c.dir-item.result = search rules in
     let changed : c.in_ok-chdir.field-0 ≡ true = search rules in
     let rest = map string_bytes (drop (c.loop-dir.dir-index + 1) c.args.dirs.now) in
@@ -26,7 +26,7 @@ returns-then-branch-clause-does g c =
 
 pub loop-dir-preserved : goal.loop-dir-preserved
 loop-dir-preserved g c =
-    let left = texts_left c.args.dirs.now c.loop-dir.dir-index c.dir-item.result c.loop-dir-test.true c.dir-item.is in
+    let left = texts_left string_bytes c.args.dirs.now c.loop-dir.dir-index c.dir-item.result c.loop-dir-test.true c.dir-item.is in
     let path : c.deref.result.now ≡ string_bytes c.dir-item.result = search rules in
     let refused : c.in_ok-chdir.field-0 ≡ false = search rules in
     let rest = map string_bytes (drop (c.loop-dir.dir-index + 1) c.args.dirs.now) in (

@@ -1,7 +1,7 @@
-use Rattle.std.proofs.Common.{rules, ◌≡◌, List, [], ◌∷◌, length, map, string_bytes, refl, ap, arith}
+use Rattle.std.proofs.Common.{rules, ◌≡◌, List, [], ◌∷◌, length, map, refl, ap, arith}
 use Rattle.std.specs.Prelude.{codes}
-use Rattle.std.specs.declared.alloc.Global.{Global}
-use Rattle.std.specs.declared.string.String.{String}
+use Rattle.rc_text.specs.declared.texts.Text.{Text}
+use Rattle.rc_text.specs.Texts.{text_bytes}
 use Rattle.rc_model.specs.Run.Acts.{runtime_error}
 use Rattle.rc_model.specs.Run.Builtins.{run_words}
 use Rattle.rc_model.specs.Run.Shell.{exits, leaves}
@@ -12,7 +12,7 @@ use Rattle.rc_scope.specs.States.{state_of}
 use Rattle.rc_builtin.proofs.Left.{words_left}
 use Rattle.rc_builtin.proofs.simple_commands.run_words.Goals as goal
 
-no_texts : (ss : List (String Global)) → length ss ≡ 0 → map string_bytes ss ≡ []
+no_texts : (ss : List (Text)) → length ss ≡ 0 → map text_bytes ss ≡ []
 no_texts [] h = refl
 no_texts (s ∷ ss) h = absurd (omega (arith, h))
 

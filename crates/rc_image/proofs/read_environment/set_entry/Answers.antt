@@ -1,5 +1,6 @@
-use Rattle.std.proofs.Common.{ap, sym, ◌∙◌, codes, map, string_bytes}
+use Rattle.std.proofs.Common.{ap, sym, ◌∙◌, codes, map}
 use Rattle.std.proofs.lemmas.Result.{on_ok_weaker}
+use Rattle.rc_text.specs.Texts.{text_bytes}
 use Rattle.rc_model.specs.Handed.Environment.{with_cut}
 use Rattle.rc_scope.specs.States.{state_of}
 use Rattle.rc_image.specs.Entries.{values_state}
@@ -27,6 +28,6 @@ pub returns : goal.returns
 returns c =
     on_ok_weaker c.set_value.result
     (λ d bs h.
-    entry_set c.args.own c.in-Some.name.now c.in-Some.text.now c.args.entry.now bs (state_of c.args.state.now) (state_of c.set_value.new.state) (map string_bytes c.in_ok-members.field-0.items)
+    entry_set c.args.own c.in-Some.name.now c.in-Some.text.now c.args.entry.now bs (state_of c.args.state.now) (state_of c.set_value.new.state) (map text_bytes c.in_ok-members.field-0.items)
     c.in-Some.ensures (sym c.is_ignored.ensures ∙ c.if-is_ignored.false) c.in_ok-members.ensures h d)
     c.set_value.ensures

@@ -15,5 +15,5 @@ pub returns : goal.returns
 returns c =
     let some : length c.args.args.now ≡ 0 → ⊥ = λ z. grind (arith, common_steps, z) in
     on_ok_weaker c.set_value.result
-    (λ d. d ∙ ap (set_value (state_of c.args.state.now) (codes "*")) c.in_ok-copy_texts.ensures ∙ some_arguments (state_of c.args.state.now) c.args.args.now some)
+    (λ d. d ∙ ap (set_value (state_of c.args.state.now) (codes "*")) c.in_ok-texts_of.ensures ∙ some_arguments (state_of c.args.state.now) c.args.args.now some)
     c.set_value.ensures

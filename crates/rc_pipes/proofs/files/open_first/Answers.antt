@@ -7,7 +7,7 @@ use Rattle.rc_pipes.proofs.files.open_first.Goals as goal
 
 pub returns-in_err-file : goal.returns-in_err-file
 returns-in_err-file g c =
-    let left = texts_left c.args.paths.now c.loop-path.path-index c.path-item.result c.loop-path-test.true c.path-item.is in
+    let left = texts_left string_bytes c.args.paths.now c.loop-path.path-index c.path-item.result c.loop-path-test.true c.path-item.is in
     let path : c.deref.result.now ≡ string_bytes c.path-item.result = search rules in
     let rest = map string_bytes (drop (c.loop-path.path-index + 1) c.args.paths.now) in
     λ s. passed_up _ _ _ _ c.from_residual.result c.in_err-file.field-0.0 c.from_residual.ensures.1
@@ -16,7 +16,7 @@ returns-in_err-file g c =
 
 pub returns-in-Some : goal.returns-in-Some
 returns-in-Some g c =
-    let left = texts_left c.args.paths.now c.loop-path.path-index c.path-item.result c.loop-path-test.true c.path-item.is in
+    let left = texts_left string_bytes c.args.paths.now c.loop-path.path-index c.path-item.result c.loop-path-test.true c.path-item.is in
     let path : c.deref.result.now ≡ string_bytes c.path-item.result = search rules in
     let rest = map string_bytes (drop (c.loop-path.path-index + 1) c.args.paths.now) in
     λ s. ran_join _ _ _ _ _ _ (rw left at (c.loop-path.invariant s))
@@ -24,7 +24,7 @@ returns-in-Some g c =
 
 pub loop-path-preserved : goal.loop-path-preserved
 loop-path-preserved g c =
-    let left = texts_left c.args.paths.now c.loop-path.path-index c.path-item.result c.loop-path-test.true c.path-item.is in
+    let left = texts_left string_bytes c.args.paths.now c.loop-path.path-index c.path-item.result c.loop-path-test.true c.path-item.is in
     let path : c.deref.result.now ≡ string_bytes c.path-item.result = search rules in
     let rest = map string_bytes (drop (c.loop-path.path-index + 1) c.args.paths.now) in
     λ s. ran_join _ _ _ _ _ _ (rw left at (c.loop-path.invariant s))

@@ -13,7 +13,7 @@ returns c =
     at_ok c.in_ok-push_text.was c.push_text.ensures
     ∙ ap (λ t. written t true ++ unmarked c.in-Some.first.now) c.new-joined.ensures.bytes
     ∙ ap (λ cs. map (λ x. (x, false)) cs ++ unmarked c.in-Some.first.now) chars-nil in
-    c.plain.ensures ∙ c.loop-word.invariant
+    c.plain.ensures ∙ ap (λ t. written t true) c.in_ok-from_string.ensures ∙ c.loop-word.invariant
     ∙ ap (λ ws. written (string_bytes c.push_text.new.joined) true ++ flat_map (λ v. (32, false) ∷ unmarked v) ws) (take_all c.loop-word.word-index c.in-Some.others.now c.loop-word-test.false)
     ∙ ap (λ t. t ++ flat_map (λ v. (32, false) ∷ unmarked v) c.in-Some.others.now) begun
     ∙ spaced_others c.in-Some.first.now c.in-Some.others.now

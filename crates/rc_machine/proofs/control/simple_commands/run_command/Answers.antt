@@ -1,4 +1,5 @@
-use Rattle.std.proofs.Common.{rules, ◌≡◌, ◌+◌, [], Some, false, map, string_bytes, refl, ap, sym, subst, ◌∙◌}
+use Rattle.std.proofs.Common.{rules, ◌≡◌, ◌+◌, [], Some, false, map, refl, ap, sym, subst, ◌∙◌}
+use Rattle.rc_text.specs.Texts.{text_bytes}
 use Rattle.rc_model.specs.Code.Layout as op
 use Rattle.rc_model.specs.Code.Machine.{On, act, enter, unwind}
 use Rattle.rc_model.specs.Code.Layout.{code}
@@ -33,7 +34,7 @@ returns-in_err-run_words g c place counted =
     let rest = c.take_texts.new.words in
     let there : is_none c.top.result ≡ false = search rules in
     let top : top_of m.words ≡ Some v = top_is m.words c.top.result c.top.ensures there in
-    let texts : map string_bytes c.in_ok-texts.texts.items ≡ word_texts v = search rules in
+    let texts : map text_bytes c.in_ok-texts.texts.items ≡ word_texts v = search rules in
     let own : c.slots.result ≡ m.redirs.slots = search rules in
     step_left _ _ _ _ c.from_residual-in_err-run_words.result c.in_err-run_words.field-0.0 c.from_residual-in_err-run_words.ensures.1
     (left_as _ _ _ _ _ (runs_top start m.words refl top rest c.in_ok-texts.ensures.below)
@@ -48,7 +49,7 @@ returns-in-Finished g c place counted =
     let rest = c.take_texts.new.words in
     let there : is_none c.top.result ≡ false = search rules in
     let top : top_of m.words ≡ Some v = top_is m.words c.top.result c.top.ensures there in
-    let texts : map string_bytes c.in_ok-texts.texts.items ≡ word_texts v = search rules in
+    let texts : map text_bytes c.in_ok-texts.texts.items ≡ word_texts v = search rules in
     let own : c.slots.result ≡ m.redirs.slots = search rules in
     rw counted (ran_as _ _ _ _ _ (runs_top start m.words refl top rest c.in_ok-texts.ensures.below)
     (ran_next _ _ _ (run_words m.redirs.slots (word_texts v) (state_of m.state)) Finished (state_of c.run_words.new.state) (λ d s. enter start rest d s) (unwind start.scopes) _
@@ -62,7 +63,7 @@ returns-in-Exit g c place counted =
     let rest = c.take_texts.new.words in
     let there : is_none c.top.result ≡ false = search rules in
     let top : top_of m.words ≡ Some v = top_is m.words c.top.result c.top.ensures there in
-    let texts : map string_bytes c.in_ok-texts.texts.items ≡ word_texts v = search rules in
+    let texts : map text_bytes c.in_ok-texts.texts.items ≡ word_texts v = search rules in
     let own : c.slots.result ≡ m.redirs.slots = search rules in
     let t = state_of c.run_words.new.state in
     let before = g.W.World.events c.args.world.now in
@@ -82,7 +83,7 @@ returns-in_ok-enter-in-Body g c place counted =
     let rest = c.take_texts.new.words in
     let there : is_none c.top.result ≡ false = search rules in
     let top : top_of m.words ≡ Some v = top_is m.words c.top.result c.top.ensures there in
-    let texts : map string_bytes c.in_ok-texts.texts.items ≡ word_texts v = search rules in
+    let texts : map text_bytes c.in_ok-texts.texts.items ≡ word_texts v = search rules in
     let own : c.slots.result ≡ m.redirs.slots = search rules in
     let f = rw (c.in-Body.is, texts, own) at c.in_ok-run_words.ensures.runs in
     let t = state_of c.run_words.new.state in
@@ -105,7 +106,7 @@ returns-in_err-enter-in-Body g c place counted =
     let rest = c.take_texts.new.words in
     let there : is_none c.top.result ≡ false = search rules in
     let top : top_of m.words ≡ Some v = top_is m.words c.top.result c.top.ensures there in
-    let texts : map string_bytes c.in_ok-texts.texts.items ≡ word_texts v = search rules in
+    let texts : map text_bytes c.in_ok-texts.texts.items ≡ word_texts v = search rules in
     let own : c.slots.result ≡ m.redirs.slots = search rules in
     let f = rw (c.in-Body.is, texts, own) at c.in_ok-run_words.ensures.runs in
     step_left _ _ _ _ c.from_residual-in_err-enter-in-Body.result NoMemory c.from_residual-in_err-enter-in-Body.ensures.1
@@ -121,11 +122,11 @@ returns-in_ok-call-in-Call g c place counted =
     let rest = c.take_texts.new.words in
     let there : is_none c.top.result ≡ false = search rules in
     let top : top_of m.words ≡ Some v = top_is m.words c.top.result c.top.ensures there in
-    let texts : map string_bytes c.in_ok-texts.texts.items ≡ word_texts v = search rules in
+    let texts : map text_bytes c.in_ok-texts.texts.items ≡ word_texts v = search rules in
     let own : c.slots.result ≡ m.redirs.slots = search rules in
     let f = rw (c.in-Call.is, texts, own) at c.in_ok-run_words.ensures.runs in
     let t = state_of c.run_words.new.state in
-    let args = map string_bytes c.in-Call.args.items in
+    let args = map text_bytes c.in-Call.args.items in
     let d = record (config_of m) { place = place + 1; words = rest; state = t } in
     let left : config_of c.call.new.machine ≡ called (record d { place = m.place }) args (code_of c.in-Call.body) = search rules in
     let now : config_of c.call.new.machine ≡ called d args (code_of c.in-Call.body) =
@@ -145,10 +146,10 @@ returns-in_err-call-in-Call g c place counted =
     let rest = c.take_texts.new.words in
     let there : is_none c.top.result ≡ false = search rules in
     let top : top_of m.words ≡ Some v = top_is m.words c.top.result c.top.ensures there in
-    let texts : map string_bytes c.in_ok-texts.texts.items ≡ word_texts v = search rules in
+    let texts : map text_bytes c.in_ok-texts.texts.items ≡ word_texts v = search rules in
     let own : c.slots.result ≡ m.redirs.slots = search rules in
     let f = rw (c.in-Call.is, texts, own) at c.in_ok-run_words.ensures.runs in
-    let args = map string_bytes c.in-Call.args.items in
+    let args = map text_bytes c.in-Call.args.items in
     step_left _ _ _ _ c.from_residual-in_err-call-in-Call.result NoMemory c.from_residual-in_err-call-in-Call.ensures.1
     (for_memory _ (ran_as _ _ _ _ _ (runs_top start m.words refl top rest c.in_ok-texts.ensures.below)
     (ran_next _ _ _ (run_words m.redirs.slots (word_texts v) (state_of m.state)) (BodyWith args f.0) (state_of c.run_words.new.state) (λ x s. enter start rest x s)

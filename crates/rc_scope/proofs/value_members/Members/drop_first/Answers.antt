@@ -1,11 +1,10 @@
 use Rattle.std.proofs.Common.{rules, ◌≡◌, ◌+◌, ◌-◌, ℕ, List, drop, length, min, ap, sym, ◌∙◌}
 use Rattle.std.proofs.lemmas.List.{drop-drop, drop_min, length-drop}
-use Rattle.std.specs.declared.alloc.Global.{Global}
-use Rattle.std.specs.declared.string.String.{String}
+use Rattle.rc_text.specs.declared.texts.Text.{Text}
 use Rattle.rc_scope.proofs.value_members.Members.drop_first.Goals as goal
 
 -- the members from a place on, which may be past the end
-from_place : (n first more : ℕ) (xs : List (String Global)) → more ≡ min n (length xs - first) → drop (first + more) xs ≡ drop n (drop first xs)
+from_place : (n first more : ℕ) (xs : List Text) → more ≡ min n (length xs - first) → drop (first + more) xs ≡ drop n (drop first xs)
 from_place n first more xs e =
     ap (λ k. drop (first + k) xs) e
     ∙ sym (drop-drop (min n (length xs - first)) first xs)

@@ -1,9 +1,9 @@
-use Rattle.std.proofs.Common.{◌∷◌, [], refl, map, reverse, string_bytes, List, ℕ, ap, ◌∙◌}
+use Rattle.std.proofs.Common.{◌∷◌, [], refl, map, reverse, List, ℕ, ap, ◌∙◌}
 use Rattle.std.proofs.lemmas.Result.{on_ok_weaker}
 use Rattle.std.specs.Map.{lookup}
-use Rattle.std.specs.declared.alloc.Global.{Global}
-use Rattle.std.specs.declared.string.String.{String}
 use Rattle.rc_model.specs.Run.State.{covered, put_values}
+use Rattle.rc_text.specs.Texts.{text_bytes}
+use Rattle.rc_text.specs.declared.texts.Text.{Text}
 use Rattle.rc_scope.specs.Rows.{is_named}
 use Rattle.rc_scope.specs.declared.value_rows.Value.{Value}
 use Rattle.rc_scope.specs.Stacks.{stacks_of, stack_in, variable_of, covers_in}
@@ -26,7 +26,7 @@ returns-clause-ok c =
     let locals = reverse c.args.self.now.log.items in
     let q = c.args.name.now in
     let es = c.args.self.now.values in
-    let put = λ (vs : List (List ℕ × List (List (List ℕ)))) (ts : List (String Global)). put_values vs q (map string_bytes ts ∷ covered (stack_in vs q)) in
+    let put = λ (vs : List (List ℕ × List (List (List ℕ)))) (ts : List Text). put_values vs q (map text_bytes ts ∷ covered (stack_in vs q)) in
     on_ok_weaker c.set.result
     (λ h. h ∙ ap (λ fs. put (map (variable_of locals) fs) c.in_ok-texts.texts) c.in-Err.ensures.same
     ∙ ap (put (map (variable_of locals) es)) (c.in_ok-texts.ensures ∙ ap (λ t. t ∷ []) c.in-Err.ensures.back))

@@ -1,22 +1,23 @@
-use Rattle.std.proofs.Common.{◌≡◌, ℕ, Bool, List, ap, sym, subst, ◌∙◌, refl, string_bytes}
+use Rattle.std.proofs.Common.{◌≡◌, ℕ, Bool, List, ap, sym, subst, ◌∙◌, refl}
 use Rattle.std.specs.Str.{chars, IsUtf8}
+use Rattle.rc_text.specs.Texts.{text_bytes}
 use Rattle.rc_text.specs.declared.words.MixedText.{MixedText}
 use Rattle.rc_text.proofs.Marks.{alike_characters, literal_characters, mixed_characters, text_of_word}
 use Rattle.rc_text.proofs.words.Word.text.Goals as goal
 
 pub returns-in-Mixed-clause-text : goal.returns-in-Mixed-clause-text
 returns-in-Mixed-clause-text c =
-    let e : c.as_str.result.now ≡ string_bytes c.in-Mixed.mixed.value.text = c.as_str.ensures.value ∙ ap (λ (m : MixedText). string_bytes m.text) c.deref.ensures in
+    let e : c.as_str.result.now ≡ text_bytes c.in-Mixed.mixed.value.text = c.as_str.ensures ∙ ap (λ (m : MixedText). text_bytes m.text) c.deref.ensures in
     e ∙ text_of_word _ _ _ (subst IsUtf8 e c.as_str.utf8) (mixed_characters _ _ c.in-Mixed.is c.self.invariant) c.self.view_is
 
 pub returns-in-Plain-clause-text : goal.returns-in-Plain-clause-text
 returns-in-Plain-clause-text c =
-    let e = c.as_str-in-Plain.ensures.value in
+    let e = c.as_str-in-Plain.ensures in
     e ∙ text_of_word _ _ _ (subst IsUtf8 e c.as_str-in-Plain.utf8) (alike_characters _ _ c.in-Plain.is) c.self.view_is
 
 pub returns-in-Plain-clause-characters : goal.returns-in-Plain-clause-characters
 returns-in-Plain-clause-characters c =
-    ap chars c.as_str-in-Plain.ensures.value ∙ sym (alike_characters _ _ c.in-Plain.is) ∙ cc
+    ap chars c.as_str-in-Plain.ensures ∙ sym (alike_characters _ _ c.in-Plain.is) ∙ cc
 
 pub returns-in-Literal-clause-text : goal.returns-in-Literal-clause-text
 returns-in-Literal-clause-text c =

@@ -1,0 +1,152 @@
+//! Texts that their copies share.
+
+ghost use Rattle.std.specs.Prelude.{◌≡◌, ◌++◌, IfSome};
+ghost use Rattle.std.specs.Str.{IsUtf8};
+ghost use Rattle.rc_text.specs.Rooms.{bytes_in};
+
+use crate::words::joined_text;
+use arrayvec::ArrayString;
+use std::alloc::{AllocError, Global};
+use std::rc::Rc;
+
+/// Where a text stands.
+#[derive(Drop)]
+pub(crate) enum Room {
+    InPlace(ArrayString<16>),
+    Shared(Rc<String>),
+}
+
+/// A text. One of up to 16 bytes stands in place, and a longer one is shared by its copies.
+#[derive(Drop)]
+pub struct Text {
+    room: Room,
+    ghost ok: { ∥ IsUtf8 (bytes_in room) ∥₁ },
+}
+
+/// Joins two texts in place, if there is room.
+fn joined_in_place(left: &str, right: &str) -> Option<ArrayString<16>>
+    ensures { IfSome result (λ text. text.bytes ≡ left.now ++ right.now) }
+{
+    let mut text = ArrayString::from(left).ok()?;
+    text.try_push_str(right).ok()?;
+    Some(text)
+}
+
+impl Clone for Text {
+    ghost use Rattle.rc_text.specs.Texts.{text_bytes};
+
+    ghost is_clone = { λ t u. text_bytes u ≡ text_bytes t };
+
+    /// Copies the text, or shares it. It fails only if a shared text has too many owners.
+    fn clone(&self) -> Result<Text, AllocError> {
+        let room = match &self.room {
+            Room::InPlace(text) => Room::InPlace(*text),
+            Room::Shared(text) => Room::Shared(text.clone()?),
+        };
+        Ok(Text { room })
+    }
+}
+
+impl Text {
+    ghost use Rattle.std.specs.Prelude.{[], IfOk, string_bytes};
+    ghost use Rattle.rc_text.specs.Texts.{text_bytes};
+
+    /// The empty text.
+    pub fn new() -> Text
+        ensures { text_bytes result ≡ [] }
+    {
+        Text {
+            room: Room::InPlace(ArrayString::new()),
+        }
+    }
+
+    /// Copies a text.
+    pub fn of(alloc: Global, text: &str) -> Result<Text, AllocError>
+        ensures { IfOk result (λ copy. text_bytes copy ≡ text.now) }
+    {
+        if let Ok(short) = ArrayString::from(text) {
+            return Ok(Text {
+                room: Room::InPlace(short),
+            });
+        }
+        Text::shared(alloc, String::from_str(alloc, text)?)
+    }
+
+    /// The text of a string, whose room a long one keeps.
+    pub fn from_string(alloc: Global, string: String) -> Result<Text, AllocError>
+        ensures { IfOk result (λ text. text_bytes text ≡ string_bytes string) }
+    {
+        if let Ok(short) = ArrayString::from(string.as_str()) {
+            return Ok(Text {
+                room: Room::InPlace(short),
+            });
+        }
+        Text::shared(alloc, string)
+    }
+
+    /// A text that its copies share.
+    fn shared(alloc: Global, string: String) -> Result<Text, AllocError>
+        ensures { IfOk result (λ text. text_bytes text ≡ string_bytes string) }
+    {
+        Ok(Text {
+            room: Room::Shared(Rc::new(alloc, string)?),
+        })
+    }
+
+    pub fn as_str(&self) -> &str
+        ensures { result.now ≡ text_bytes self.now }
+    {
+        match &self.room {
+            Room::InPlace(text) => text.as_str(),
+            Room::Shared(text) => text.as_str(),
+        }
+    }
+
+    /// Where the text stands.
+    fn into_room(self) -> Room
+        ensures { bytes_in result ≡ text_bytes self }
+    {
+        self.room
+    }
+
+    /// Returns the text as a string. It is copied if it stands in place or has other owners.
+    pub fn into_string(self, alloc: Global) -> Result<String, AllocError>
+        ensures { IfOk result (λ string. string_bytes string ≡ text_bytes self) }
+    {
+        match self.into_room() {
+            Room::InPlace(text) => String::from_str(alloc, text.as_str()),
+            Room::Shared(text) => match Rc::try_unwrap(text) {
+                Ok(string) => Ok(string),
+                Err(text) => String::from_str(alloc, text.as_str()),
+            },
+        }
+    }
+
+    /// Joins two texts.
+    pub(crate) fn joined(alloc: Global, left: &str, right: &str) -> Result<Text, AllocError>
+        ensures { IfOk result (λ text. text_bytes text ≡ left.now ++ right.now) }
+    {
+        if let Some(short) = joined_in_place(left, right) {
+            return Ok(Text {
+                room: Room::InPlace(short),
+            });
+        }
+        Text::shared(alloc, joined_text(alloc, left, right)?)
+    }
+
+    /// Appends a text: in place, if there is room, or else to the string, if it has no other owner.
+    pub(crate) fn followed_by(self, alloc: Global, next: &str) -> Result<Text, AllocError>
+        ensures { IfOk result (λ text. text_bytes text ≡ text_bytes self ++ next.now) }
+    {
+        match self.into_room() {
+            Room::InPlace(text) => Text::joined(alloc, text.as_str(), next),
+            Room::Shared(text) => match Rc::try_unwrap(text) {
+                Ok(mut own) => {
+                    own.push_str(next)?;
+                    Text::shared(alloc, own)
+                }
+                Err(text) => Text::shared(alloc, joined_text(alloc, text.as_str(), next)?),
+            },
+        }
+    }
+}
