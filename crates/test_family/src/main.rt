@@ -1,20 +1,23 @@
 //! Makes the steps of each row of `families.rows` in this folder, and runs families to their ends, in orders that must
 //! not matter. It prints what differs, and for the rows and for each kind of run whether they are as wanted.
+//! `test_family SHELLS COMMANDS` measures the steps of a family of this size instead.
 #![tactic(auto)]
 
 mod accounts;
 mod fault;
+mod measure;
 mod orders;
 mod rows;
 mod runs;
 mod scripts;
 
 use anyhow::Result;
+use measure::measure;
 use orders::{check_both_orders, check_orders};
 use rows::difference;
 use scripts::SCRIPTS;
-use std::fs;
 use std::process::ExitCode;
+use std::{env, fs};
 
 /// Prints whether something is as wanted.
 fn report(rt: HostRuntime, what: &str, are_well: bool) -> Result<()> {
@@ -54,14 +57,24 @@ fn check_scripts(rt: HostRuntime) -> Result<bool> {
     Ok(are_well)
 }
 
-fn main(rt: HostRuntime) -> Result<ExitCode> {
+/// Checks the rows and the orders, and returns whether all are as wanted.
+fn check_all(rt: HostRuntime) -> Result<bool> {
     let rows = check_rows(rt)?;
     report(rt, "families.rows", rows)?;
     let both = check_both_orders(rt.alloc())?;
     report(rt, "the greatest first and the least first", both)?;
     let scripts = check_scripts(rt)?;
     report(rt, "the scripts in many orders", scripts)?;
-    Ok(if rows && both && scripts {
+    Ok(rows && both && scripts)
+}
+
+fn main(rt: HostRuntime) -> Result<ExitCode> {
+    let mut args = env::args(&rt)?.skip(1);
+    if let (Some(shells), Some(commands)) = (args.next(), args.next()) {
+        measure(rt, &shells, &commands)?;
+        return Ok(ExitCode::SUCCESS);
+    }
+    Ok(if check_all(rt)? {
         ExitCode::SUCCESS
     } else {
         ExitCode::FAILURE

@@ -1,5 +1,5 @@
 //! Compares the results for scripts, and for what a shell is handed, with the expected ones, row by row, and reads the
-//! examples in this folder.
+//! examples in this folder. `test_texts lex|parse KIND BYTES` measures one reading instead.
 #![tactic(auto)]
 
 mod cuts;
@@ -8,6 +8,7 @@ mod examples;
 mod handed_layers;
 mod handed_rows;
 mod images;
+mod measure;
 mod options;
 mod random_cuts;
 mod row_error;
@@ -19,7 +20,8 @@ mod tokens;
 mod trees;
 
 use anyhow::Result;
-use std::fs;
+use measure::measure;
+use std::{env, fs};
 use test_rows::Tally;
 
 /// Compares the rows of scripts.
@@ -65,11 +67,20 @@ fn compare_handed(rt: &HostRuntime, out: &mut String) -> Result<()> {
     Ok(())
 }
 
-fn main(rt: HostRuntime) -> Result<()> {
+/// Compares all rows, and reads the examples.
+fn compare_all(rt: HostRuntime) -> Result<()> {
     let mut out = String::new(rt.alloc());
     compare_scripts(&rt, &mut out)?;
     compare_cuts(&rt, &mut out)?;
     compare_handed(&rt, &mut out)?;
     print!(rt; "{out}")?;
     examples::read_all(&rt)
+}
+
+fn main(rt: HostRuntime) -> Result<()> {
+    let mut args = env::args(&rt)?.skip(1);
+    match (args.next(), args.next(), args.next()) {
+        (Some(what), Some(kind), Some(size)) => measure(rt, &what, &kind, &size),
+        _ => compare_all(rt),
+    }
 }

@@ -1,6 +1,4 @@
-//! Measures the steps of a family: `bench_family SHELLS COMMANDS` runs this many shells with this many commands each,
-//! one step of each shell after the other. It prints the microseconds of processor time for each thousand steps.
-#![tactic(auto)]
+//! Measures the steps of a family, one step of each shell after the other.
 
 ghost use Rattle.std.specs.Prelude.{IfOk};
 ghost use Rattle.rc_model.specs.Handed.Proper.{IsProperTree};
@@ -13,7 +11,6 @@ use rc_shell::Family;
 use rc_tree::Cmd;
 use rc_world::{Answer, Call, ChildNo, Ending, Handle, Kind};
 use std::alloc::{AllocError, Global};
-use std::env;
 use std::time::CpuClock;
 
 /// Enough instructions for each shell.
@@ -106,8 +103,11 @@ impl Run {
     }
 }
 
-/// Runs this many shells with this many commands each.
-fn measure(rt: HostRuntime, shells: usize, commands: usize) -> Result<()> {
+/// Runs this many shells with this many commands each, and prints the microseconds of processor time that each thousand
+/// steps take.
+pub(crate) fn measure(rt: HostRuntime, shells: &str, commands: &str) -> Result<()> {
+    let shells = shells.parse().context("no number of shells")?;
+    let commands = commands.parse().context("no number of commands")?;
     let alloc = rt.alloc();
     let text = script(alloc, shells, commands)?;
     let tree = tree_of(alloc, text.as_str())?;
@@ -127,17 +127,4 @@ fn measure(rt: HostRuntime, shells: usize, commands: usize) -> Result<()> {
     let (steps, count) = (run.steps, run.family.count());
     println!(run.rt; "{steps} steps of {count} shells")?;
     Ok(())
-}
-
-fn main(rt: HostRuntime) -> Result<()> {
-    let mut args = env::args(&rt)?.skip(1);
-    let (Some(shells), Some(commands)) = (args.next(), args.next()) else {
-        return Ok(());
-    };
-    let shells = shells.parse::<usize>().context("no number of shells")?;
-    measure(
-        rt,
-        shells,
-        commands.parse::<usize>().context("no number of commands")?,
-    )
 }

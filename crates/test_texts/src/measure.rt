@@ -1,11 +1,9 @@
-//! Measures reading: `bench_syntax lex|parse KIND BYTES` reads one text, and prints the microseconds of processor time.
-#![tactic(auto)]
+//! Measures how long the lexer or the parser takes for one text of a kind.
 
 use anyhow::{Context, bail};
 use rc_lexer::lex;
 use rc_parser::parse;
 use std::alloc::{AllocError, Global};
-use std::env;
 use std::time::CpuClock;
 
 /// The pieces of the texts. The last five are accepted whatever their length.
@@ -64,14 +62,11 @@ fn time(rt: &impl CpuClock, alloc: Global, what: &str, text: &str) -> anyhow::Re
     Ok(rt.thread_cpu_time()?.saturating_sub(start).as_micros())
 }
 
-fn main(rt: HostRuntime) -> anyhow::Result<()> {
-    let mut args = env::args(&rt)?.skip(1);
-    let (Some(what), Some(kind), Some(size)) = (args.next(), args.next(), args.next()) else {
-        return Ok(());
-    };
-    let piece = piece(kind.as_str()).context("no such kind of text")?;
-    let text = text(rt.alloc(), piece, size.as_str().parse()?)?;
-    let micros = time(&rt, rt.alloc(), what.as_str(), text.as_str())?;
+/// Lexes or parses a text of this kind and of about this many bytes, and prints the microseconds of processor time.
+pub(crate) fn measure(rt: HostRuntime, what: &str, kind: &str, size: &str) -> anyhow::Result<()> {
+    let piece = piece(kind).context("no such kind of text")?;
+    let text = text(rt.alloc(), piece, size.parse()?)?;
+    let micros = time(&rt, rt.alloc(), what, text.as_str())?;
     println!(rt; "{micros}")?;
     Ok(())
 }
