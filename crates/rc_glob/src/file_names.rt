@@ -1,6 +1,8 @@
 //! The names that a component matches.
 ghost use Rattle.std.specs.Prelude.{◌≡◌, ◌==◌, ◌||◌, ◌&&◌, not, true, map, string_bytes, Some};
 ghost use Rattle.std.specs.List.{list_any};
+ghost use Rattle.std.specs.List.Sorted.{IsPermutation, IsSorted};
+ghost use Rattle.std.specs.String.{string_cmp};
 ghost use Rattle.std.specs.Str.{chars};
 ghost use Rattle.rc_model.specs.Run.Patterns.{matches};
 ghost use Rattle.rc_model.specs.Run.FileNames.{fitting_names, is_no_name, ordered};
@@ -37,11 +39,23 @@ pub(crate) fn fitting_names(component: &[Ch], mut names: Vec<String>) -> Vec<Str
     ordered(names)
 }
 
+/// Sorts the texts. Names that were found in order stay as they are.
+fn sorted(mut texts: Vec<String>) -> Vec<String>
+    ensures permutation { IsPermutation texts.items result.items }
+    ensures sorted { IsSorted string_cmp result.items }
+{
+    if texts.as_slice().is_sorted() {
+        return texts;
+    }
+    texts.sort_unstable();
+    texts
+}
+
 /// Puts the texts in byte order, each once.
-pub(crate) fn ordered(mut texts: Vec<String>) -> Vec<String>
+pub(crate) fn ordered(texts: Vec<String>) -> Vec<String>
     ensures { map string_bytes result.items ≡ ordered (map string_bytes texts.items) }
 {
-    texts.sort_unstable();
-    texts.dedup();
-    texts
+    let mut names = sorted(texts);
+    names.dedup();
+    names
 }
