@@ -13,7 +13,7 @@ use Rattle.rc_code.specs.declared.code.Code.{Code}
 use Rattle.rc_scope.specs.CompiledTexts.{IsCodeOfText}
 use Rattle.rc_builtin.specs.Outcomes.{RunsWords}
 use Rattle.rc_builtin.specs.Scripts.{Compiles, IsCodeOf, IsCompiled}
-use Rattle.rc_builtin.specs.declared.simple_commands.Outcome.TheVariants as words
+use Rattle.rc_builtin.specs.declared.command_words.Outcome.TheVariants as words
 use Rattle.rc_model.specs.Code.Layout.{code}
 use Rattle.rc_model.specs.Mirrors.TreeOfText.{tree_of}
 use Rattle.rc_model.specs.Run.Builtins.{Body, BodyWith, Finished, as_body, as_body_with, dot, whole_file}
@@ -33,7 +33,7 @@ use Rattle.rc_world.specs.Comes.{Left}
 use Rattle.rc_world.specs.declared.starts.Stop.{Stop}
 use Rattle.rc_world.specs.declared.starts.Stop.TheVariants.{NoMemory}
 use Rattle.rc_world.proofs.Joins.{left_here, ran_as}
-use Rattle.rc_builtin.specs.declared.simple_commands.Outcome.{Outcome}
+use Rattle.rc_builtin.specs.declared.command_words.Outcome.{Outcome}
 use Rattle.rc_builtin.proofs.Left.{words_after}
 
 -- a text that is refused has no tree

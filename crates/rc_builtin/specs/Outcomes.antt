@@ -11,8 +11,8 @@ use Rattle.rc_model.specs.Syntax.Tree.{Node, cmd}
 use Rattle.rc_code.specs.Views.{code_of}
 use Rattle.rc_world.specs.Comes.{Left}
 use Rattle.rc_world.specs.declared.starts.Stop.{Stop}
-use Rattle.rc_builtin.specs.declared.simple_commands.Outcome.{Outcome}
-use Rattle.rc_builtin.specs.declared.simple_commands.Outcome.TheVariants as words
+use Rattle.rc_builtin.specs.declared.command_words.Outcome.{Outcome}
+use Rattle.rc_builtin.specs.declared.command_words.Outcome.TheVariants as words
 
 -- the words of a simple command are finished in this state, or lead to a body that is to be called, or to the end of
 -- the shell

@@ -12,6 +12,7 @@ ghost use Rattle.rc_scope.specs.States.{state_of};
 ghost use Rattle.rc_text.specs.Texts.{text_bytes};
 
 use crate::Builtin;
+use crate::command_words::{Outcome, name_and_args};
 use crate::directories::change_dir;
 use crate::dot::dot;
 use crate::eval::eval;
@@ -19,7 +20,6 @@ use crate::exec::exec;
 use crate::exits::exit_status;
 use crate::known_names::whatis;
 use crate::shifts::shift;
-use crate::simple_commands::{Outcome, name_and_args};
 use crate::wait::wait;
 use rc_pipes::{misuse, run_program};
 use rc_scope::State;

@@ -12,8 +12,8 @@ ghost use Rattle.rc_scope.specs.States.{state_of};
 ghost use Rattle.rc_world.specs.Comes.{GoesOn, Reads};
 ghost use Rattle.rc_text.specs.Texts.{text_bytes};
 
+use crate::command_words::{Outcome, name_and_args};
 use crate::scripts::{compile_read, compiled};
-use crate::simple_commands::{Outcome, name_and_args};
 use rc_parser::Reader;
 use rc_pipes::{misuse, open_file};
 use rc_scope::State;

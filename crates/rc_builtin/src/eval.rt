@@ -9,8 +9,8 @@ ghost use Rattle.rc_builtin.specs.Outcomes.{RunsWords};
 ghost use Rattle.rc_scope.specs.States.{state_of};
 ghost use Rattle.rc_text.specs.Texts.{text_bytes};
 
+use crate::command_words::Outcome;
 use crate::scripts::{compile_script, compiled};
-use crate::simple_commands::Outcome;
 use rc_scope::State;
 use rc_text::{Text, flat};
 use std::alloc::{AllocError, Global};

@@ -6,7 +6,7 @@ ghost use Rattle.rc_builtin.specs.Outcomes.{RunsWords};
 ghost use Rattle.rc_scope.specs.States.{state_of};
 ghost use Rattle.rc_text.specs.Texts.{text_bytes};
 
-use crate::simple_commands::{Outcome, name_and_args};
+use crate::command_words::{Outcome, name_and_args};
 use rc_pipes::{misuse, run_program};
 use rc_scope::State;
 use rc_text::Text;

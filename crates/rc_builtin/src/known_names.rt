@@ -14,7 +14,7 @@ ghost use Rattle.rc_pipes.specs.Starts.{path_of};
 ghost use Rattle.rc_scope.specs.States.{state_of};
 ghost use Rattle.rc_text.specs.Texts.{text_bytes};
 
-use crate::shown::value_line;
+use crate::whatis_lines::value_line;
 use rc_model::{Builtin, InputError};
 use rc_pipes::find_program;
 use rc_print::{PrintFault, print};

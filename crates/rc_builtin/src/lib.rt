@@ -2,6 +2,7 @@
 #![tactic(auto)]
 
 mod builtins;
+mod command_words;
 mod directories;
 mod dot;
 mod eval;
@@ -10,14 +11,13 @@ mod exits;
 mod known_names;
 mod scripts;
 mod shifts;
-mod shown;
-mod simple_commands;
 mod wait;
+mod whatis_lines;
 
+pub use command_words::{Outcome, run_words};
 pub use directories::change_dir;
 pub use exits::exit_status;
 pub use known_names::whatis;
 pub use rc_model::Builtin;
 pub use scripts::compile_script;
 pub use shifts::shift;
-pub use simple_commands::{Outcome, run_words};

@@ -8,8 +8,8 @@ use Rattle.rc_shell.specs.Executed.{Program, text_from}
 use Rattle.rc_cli.specs.Requests.{Request, name_of}
 use Rattle.rc_cli.specs.Runs.{IsScriptOf, IsUnread, RunsInput, RunsProgram, RunsRead}
 use Rattle.rc_cli.specs.Start.{first_state}
-use Rattle.rc_cli.specs.declared.fault.RunError.{RunError}
-use Rattle.rc_cli.specs.declared.fault.RunError.TheVariants.{Usage, CannotRead, NoMemory}
+use Rattle.rc_cli.specs.declared.run_error.RunError.{RunError}
+use Rattle.rc_cli.specs.declared.run_error.RunError.TheVariants.{Usage, CannotRead, NoMemory}
 
 -- an input has a script
 script_of : (known : Option (List ℕ)) → (script : List ℕ) × IsScriptOf known script

@@ -3,9 +3,9 @@ use Rattle.std.specs.Prelude.{ℕ, List, ◌++◌, codes}
 use Rattle.rc_model.specs.declared.call.Fault as call
 use Rattle.rc_model.specs.declared.call.Fault.TheVariants as refusal
 use Rattle.rc_model.specs.Syntax.Faults.{fault_words}
-use Rattle.rc_cli.specs.declared.fault.RunError.{RunError}
-use Rattle.rc_cli.specs.declared.fault.RunError.TheVariants.{Usage, CannotRead, Syntax, BadImage}
-use Rattle.rc_cli.specs.declared.fault.RunError.TheVariants.{NoMemory, Limit, Halted}
+use Rattle.rc_cli.specs.declared.run_error.RunError.{RunError}
+use Rattle.rc_cli.specs.declared.run_error.RunError.TheVariants.{Usage, CannotRead, Syntax, BadImage}
+use Rattle.rc_cli.specs.declared.run_error.RunError.TheVariants.{NoMemory, Limit, Halted}
 
 -- the line that the program prints, without its newline
 abbrev pub error_line : RunError → List ℕ

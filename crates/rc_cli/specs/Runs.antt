@@ -12,9 +12,9 @@ use Rattle.rc_shell.specs.declared.run.ShellFault.TheVariants as shell
 use Rattle.rc_cli.specs.Requests.{Request, Source, Input, Text, File, Image, name_of}
 use Rattle.rc_cli.specs.Start.{first_state}
 use Rattle.rc_cli.specs.Statuses.{IsProcessStatus}
-use Rattle.rc_cli.specs.declared.fault.RunError.{RunError}
-use Rattle.rc_cli.specs.declared.fault.RunError.TheVariants.{CannotRead, Syntax, BadImage}
-use Rattle.rc_cli.specs.declared.fault.RunError.TheVariants.{NoMemory, Limit, Halted}
+use Rattle.rc_cli.specs.declared.run_error.RunError.{RunError}
+use Rattle.rc_cli.specs.declared.run_error.RunError.TheVariants.{CannotRead, Syntax, BadImage}
+use Rattle.rc_cli.specs.declared.run_error.RunError.TheVariants.{NoMemory, Limit, Halted}
 use Rattle.rc_model.specs.declared.limits.TheConstants.{MOST_INSTRUCTIONS}
 
 -- the greatest number of instructions that a script may take

@@ -1,15 +1,15 @@
 //! The program, over any world and any reader.
 #![tactic(auto)]
 
-mod fault;
-mod process;
+mod exit_report;
 mod reading;
 mod request;
+mod run_error;
 mod running;
 mod start;
 mod status;
 
-pub use fault::RunError;
-pub use process::report;
+pub use exit_report::report;
 pub use request::{Request, Source, request_of};
+pub use run_error::RunError;
 pub use running::run_rc;

@@ -1,9 +1,9 @@
 //! Reading a script.
 ghost use Rattle.std.specs.Prelude.{◌≡◌, ◌⊎◌, None, Err, IfOk, IfErr, IfSome};
 ghost use Rattle.rc_cli.specs.Runs.{IsScriptOf};
-ghost use Rattle.rc_cli.specs.declared.fault.RunError.TheVariants.{CannotRead, NoMemory};
+ghost use Rattle.rc_cli.specs.declared.run_error.RunError.TheVariants.{CannotRead, NoMemory};
 
-use crate::fault::RunError;
+use crate::run_error::RunError;
 use rc_model::limits::LONGEST_SCRIPT;
 use std::alloc::Global;
 use std::io::Read;

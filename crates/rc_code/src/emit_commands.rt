@@ -16,9 +16,9 @@ use crate::emit_plain::{
     emit_subject, emit_subshell, emit_undefine, emit_unlocal,
 };
 use crate::forms::{guards, has_no_items};
+use crate::instruction_numbers::in_32_bits;
 use crate::kept::{kept_stages, kept_tree};
 use crate::listing::Listing;
-use crate::numbers::in_32_bits;
 use crate::pipelines::Pipeline;
 use rc_tree::{Arg, Branch, Cmd, Item, Logic, Redir, Stage, is_empty};
 use std::alloc::{AllocError, Global};

@@ -10,9 +10,9 @@ ghost use Rattle.rc_code.specs.Emission.{subject_code, match_code, define_code, 
 
 use crate::code::Op;
 use crate::emit_args::{emit_arg, emit_list};
+use crate::instruction_numbers::in_32_bits;
 use crate::kept::{kept_pieces, kept_tree};
 use crate::listing::Listing;
-use crate::numbers::in_32_bits;
 use rc_tree::{Arg, Cmd, Redir};
 use std::alloc::{AllocError, Global};
 

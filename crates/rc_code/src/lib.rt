@@ -8,12 +8,12 @@ mod emit_commands;
 mod emit_plain;
 mod entries;
 mod forms;
+mod instruction_numbers;
+mod interned_words;
 mod kept;
 mod listing;
-mod numbers;
 mod pipelines;
 mod slots;
-mod words;
 
 ghost use Rattle.std.specs.Prelude.{◌≡◌, false, IfOk, OnOk};
 ghost use Rattle.rc_model.specs.Code.Layout.{code, cmd_code, Do, Return, ◌⨾◌};

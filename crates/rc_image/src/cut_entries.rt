@@ -5,7 +5,7 @@ ghost use Rattle.rc_model.specs.Handed.Environment.{cut_entry, entry_members, un
 ghost use Rattle.rc_image.specs.Entries.{pair_of, function_in};
 ghost use Rattle.rc_text.specs.Texts.{text_bytes};
 
-use crate::marks::has_marks;
+use crate::escaped_bytes::has_marks;
 use crate::text_copies::one;
 use rc_scope::is_function_name;
 use rc_text::Text;

@@ -11,7 +11,7 @@ ghost use Rattle.rc_model.specs.Syntax.Faults.{Gives};
 ghost use Rattle.rc_image.specs.Images.{in_one, in_pieces};
 
 use crate::beginning::{MARK, PIECES_MARK, beginning_fault};
-use crate::pieces::words_of;
+use crate::image_pieces::words_of;
 use crate::{ImageError, ImageFault, InputError, read_boxed};
 use rc_model::limits::LONGEST_ARGUMENT;
 use rc_spelling::read_spelling;

@@ -8,9 +8,9 @@ ghost use Rattle.rc_scope.specs.States.{state_of};
 ghost use Rattle.rc_image.specs.Images.{Writes};
 ghost use Rattle.rc_image.specs.Launches.{ReadsBack, args_with, handed_of, short_entries};
 
+use crate::image_pieces::write_pieces;
 use crate::launch_environment::entries;
 use crate::launch_sizes::are_short;
-use crate::pieces::write_pieces;
 use crate::text_copies::push_copies;
 use crate::{ImageError, ImageFault, InputError};
 use rc_scope::State;

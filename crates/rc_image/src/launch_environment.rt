@@ -10,7 +10,7 @@ ghost use Rattle.rc_scope.specs.States.{state_of};
 ghost use Rattle.rc_image.specs.Additions.{is_handed, handed, PushesBelow};
 ghost use Rattle.rc_text.specs.Texts.{text_bytes};
 
-use crate::marks::has_marks;
+use crate::escaped_bytes::has_marks;
 use rc_scope::{Binding, Definition, Function, Members, State};
 use rc_spelling::push_spelling;
 use rc_text::Text;

@@ -3,13 +3,13 @@
 
 mod beginning;
 mod cut_entries;
+mod escaped_bytes;
+mod image_pieces;
 mod image_words;
 mod kept_entries;
 mod launch;
 mod launch_environment;
 mod launch_sizes;
-mod marks;
-mod pieces;
 mod read_environment;
 mod read_handed;
 mod text_copies;
@@ -21,12 +21,12 @@ ghost use Rattle.rc_model.specs.Syntax.Faults.{Gives};
 ghost use Rattle.rc_image.specs.Images.{Writes, short_image};
 
 use beginning::{MARK, beginning_fault};
+pub use image_pieces::write_pieces;
 pub use image_words::read_pieces;
 pub use kept_entries::keep_entries;
 pub use launch::{Handover, handed, write_env};
 pub use launch_environment::entries;
 pub use launch_sizes::are_short;
-pub use pieces::write_pieces;
 use rc_model::limits::LONGEST_ARGUMENT;
 pub use rc_model::{ImageFault, InputError};
 pub use rc_spelling::ImageError;

@@ -10,11 +10,11 @@ mod ends;
 mod here_docs;
 mod lexer;
 mod lexer_state;
-mod machine;
 mod operators;
 mod pieces;
 mod previous;
 mod tokens;
+mod transitions;
 mod word_bytes;
 
 pub use lexer::{Lexer, lex};

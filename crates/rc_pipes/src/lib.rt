@@ -4,7 +4,7 @@
 
 mod backquotes;
 mod child_statuses;
-mod files;
+mod command_files;
 mod jobs;
 mod launches;
 mod output_reading;
@@ -14,7 +14,7 @@ mod statuses;
 
 pub use backquotes::backquote;
 pub use child_statuses::{end_refused, end_stages, wait_stages};
-pub use files::open_file;
+pub use command_files::open_file;
 pub use jobs::{background, wait_for};
 pub use launches::subshell;
 pub use programs::{find_program, is_path, run_program, runtime_error};

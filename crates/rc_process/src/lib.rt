@@ -4,7 +4,7 @@
 ghost use Rattle.std.specs.Prelude.{◌≡◌, ◌≢◌, Err, IfOk, None, map, string_bytes};
 ghost use Rattle.std.specs.Process.{exit_status};
 ghost use Rattle.rc_cli.specs.Requests.{request_of};
-ghost use Rattle.rc_cli.specs.declared.fault.RunError.TheVariants.{NoMemory, Usage};
+ghost use Rattle.rc_cli.specs.declared.run_error.RunError.TheVariants.{NoMemory, Usage};
 
 use rc_cli::{Request, RunError, Source, report, request_of, run_rc};
 use rc_covering::covering_of;

@@ -24,10 +24,10 @@ use Rattle.rc_shell.specs.Held.{Held}
 use Rattle.rc_shell.specs.Made.{BeginsNot, IsAnswering, PendingAt, StepsNot, answering, first_process, processes, waits, ended, no_process}
 use Rattle.rc_shell.specs.Reached.{IsReached, ComesTo, ComesNot}
 use Rattle.rc_shell.specs.Standings.{StandsAt, StandsFor, StartsAs, StartsNot, step_of}
-use Rattle.rc_shell.specs.declared.family.fault.FamilyFault.{FamilyFault}
-use Rattle.rc_shell.specs.declared.family.fault.FamilyFault.TheVariants as fault
-use Rattle.rc_shell.specs.declared.family.process.Change.{Change}
-use Rattle.rc_shell.specs.declared.family.process.Process.{Process}
+use Rattle.rc_shell.specs.declared.family.family_fault.FamilyFault.{FamilyFault}
+use Rattle.rc_shell.specs.declared.family.family_fault.FamilyFault.TheVariants as fault
+use Rattle.rc_shell.specs.declared.family.process_steps.Change.{Change}
+use Rattle.rc_shell.specs.declared.family.process_steps.Process.{Process}
 use Rattle.rc_shell.specs.declared.family.replaying.Reached.TheVariants.{Limit}
 
 -- ** a process whose code was run again over its answers

@@ -10,7 +10,7 @@ use Rattle.law_family.proofs.Grow.{answers_at_more}
 use Rattle.rc_world.specs.Views.{answer_of}
 use Rattle.rc_world.specs.declared.event.Answer.{Answer as WorldAnswer}
 use Rattle.rc_shell.specs.Standings.{step_of}
-use Rattle.rc_shell.specs.declared.family.process.Step.{Step}
+use Rattle.rc_shell.specs.declared.family.process_steps.Step.{Step}
 
 at_false : {X : Type 0} (b : Bool) (x y : X) → b ≡ false → (if b then x else y) ≡ y
 at_false b x y e = ap (λ t. if t then x else y) e

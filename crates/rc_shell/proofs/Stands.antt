@@ -26,9 +26,9 @@ use Rattle.rc_shell.specs.Families.{Holds, held, made_of, first_tree, first_stat
 use Rattle.rc_shell.specs.Held.{Held}
 use Rattle.rc_shell.specs.Made.{Made, Steps, answering, first_process, processes, with_step}
 use Rattle.rc_shell.specs.Standings.{StandsFor, Stand, StartsAs, step_of}
-use Rattle.rc_shell.specs.declared.family.process.Change.{Change}
-use Rattle.rc_shell.specs.declared.family.process.Process.{Process}
-use Rattle.rc_shell.specs.declared.family.process.Step.{Step}
+use Rattle.rc_shell.specs.declared.family.process_steps.Change.{Change}
+use Rattle.rc_shell.specs.declared.family.process_steps.Process.{Process}
+use Rattle.rc_shell.specs.declared.family.process_steps.Step.{Step}
 use Rattle.rc_shell.proofs.Advances.{in_time, some_process, stands_for_child}
 use Rattle.rc_shell.proofs.Launches.{empty_proper}
 

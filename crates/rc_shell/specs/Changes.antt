@@ -11,10 +11,10 @@ use Rattle.rc_shell.specs.Families.{made_of}
 use Rattle.rc_shell.specs.Held.{Held}
 use Rattle.rc_shell.specs.Made.{answering, processes}
 use Rattle.rc_shell.specs.Standings.{StandsAt, StartsAs}
-use Rattle.rc_shell.specs.declared.family.fault.FamilyFault.{FamilyFault}
-use Rattle.rc_shell.specs.declared.family.fault.FamilyFault.TheVariants as fault
-use Rattle.rc_shell.specs.declared.family.process.Process.{Process}
-use Rattle.rc_shell.specs.declared.family.process.Change.{Change}
+use Rattle.rc_shell.specs.declared.family.family_fault.FamilyFault.{FamilyFault}
+use Rattle.rc_shell.specs.declared.family.family_fault.FamilyFault.TheVariants as fault
+use Rattle.rc_shell.specs.declared.family.process_steps.Process.{Process}
+use Rattle.rc_shell.specs.declared.family.process_steps.Change.{Change}
 
 -- process k has this pending call
 abbrev pub WaitsAt : List Process → ℕ → Option Call → Type 0

@@ -10,8 +10,8 @@ use Rattle.rc_tree.specs.View.{cmd_tree}
 use Rattle.rc_shell.specs.Held.{Held}
 use Rattle.rc_shell.specs.Made.{Made, processes}
 use Rattle.rc_shell.specs.Standings.{step_of, Stand}
-use Rattle.rc_shell.specs.declared.family.process.Process.{Process}
-use Rattle.rc_shell.specs.declared.family.process.Step.{Step}
+use Rattle.rc_shell.specs.declared.family.process_steps.Process.{Process}
+use Rattle.rc_shell.specs.declared.family.process_steps.Step.{Step}
 
 -- the tree that the first process was handed
 abbrev pub first_tree : List Process → Node cmd

@@ -1,7 +1,7 @@
 -- A family by the values of its processes and steps.
 use Rattle.std.specs.Prelude.{ℕ, List}
-use Rattle.rc_shell.specs.declared.family.process.Process.{Process}
-use Rattle.rc_shell.specs.declared.family.process.Step.{Step}
+use Rattle.rc_shell.specs.declared.family.process_steps.Process.{Process}
+use Rattle.rc_shell.specs.declared.family.process_steps.Step.{Step}
 
 -- the fields of a family
 pub record Held : Type 0 where

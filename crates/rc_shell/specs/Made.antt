@@ -9,8 +9,8 @@ use Rattle.rc_model.specs.Family.Family.{OneAtATime, first, family, stepped}
 use Rattle.rc_model.specs.Family.Family.{read_launch, AllRead}
 use Rattle.rc_model.specs.Family.Steps.{HitsLimit, IsMade, IsMadeBy, IsRefused, NoProcess, AtEnd, WrongKind, AtLimit}
 use Rattle.rc_model.specs.Family.Steps.{IsPromised}
-use Rattle.rc_shell.specs.declared.family.fault.FamilyFault.{FamilyFault}
-use Rattle.rc_shell.specs.declared.family.fault.FamilyFault.TheVariants as fault
+use Rattle.rc_shell.specs.declared.family.family_fault.FamilyFault.{FamilyFault}
+use Rattle.rc_shell.specs.declared.family.family_fault.FamilyFault.TheVariants as fault
 
 -- the limit of each process, what process 0 was handed, and the steps
 pub record Made : Type 0 where

@@ -9,8 +9,8 @@ use Rattle.rc_machine.specs.declared.machine.Progress.{Progress}
 use Rattle.rc_machine.specs.declared.machine.Progress.TheVariants as progress
 use Rattle.rc_world.specs.Views.{call_of}
 use Rattle.rc_world.specs.declared.event.Call.{Call}
-use Rattle.rc_shell.specs.declared.family.fault.FamilyFault.{FamilyFault}
-use Rattle.rc_shell.specs.declared.family.fault.FamilyFault.TheVariants as fault
+use Rattle.rc_shell.specs.declared.family.family_fault.FamilyFault.{FamilyFault}
+use Rattle.rc_shell.specs.declared.family.family_fault.FamilyFault.TheVariants as fault
 use Rattle.rc_shell.specs.declared.family.replaying.Reached.{Reached}
 use Rattle.rc_shell.specs.declared.family.replaying.Reached.TheVariants.{Waiting, Ended, Limit}
 

@@ -12,10 +12,10 @@ use Rattle.rc_tree.specs.View.{cmd_tree}
 use Rattle.rc_world.specs.Views.{call_of, answer_of}
 use Rattle.rc_world.specs.declared.event.Call.{Call}
 use Rattle.rc_shell.specs.Made.{BeginsNot, first_process}
-use Rattle.rc_shell.specs.declared.family.fault.FamilyFault.{FamilyFault}
-use Rattle.rc_shell.specs.declared.family.fault.FamilyFault.TheVariants as fault
-use Rattle.rc_shell.specs.declared.family.process.Process.{Process}
-use Rattle.rc_shell.specs.declared.family.process.Step.{Step}
+use Rattle.rc_shell.specs.declared.family.family_fault.FamilyFault.{FamilyFault}
+use Rattle.rc_shell.specs.declared.family.family_fault.FamilyFault.TheVariants as fault
+use Rattle.rc_shell.specs.declared.family.process_steps.Process.{Process}
+use Rattle.rc_shell.specs.declared.family.process_steps.Step.{Step}
 
 -- a step
 abbrev pub step_of : Step → family.FamilyEvent

@@ -3,12 +3,12 @@
 #![tactic(auto)]
 
 mod answered;
+mod call_texts;
 mod handing_world;
 mod lines;
 mod refusal;
 mod refusal_world;
 mod shown;
-mod texts;
 mod trace_world;
 mod trail;
 

@@ -1,7 +1,7 @@
 //! The probable mistake behind a token that no script can have at its place.
 
 use crate::faults::advice::Advice;
-use crate::lexed::tokens::{ORDER_MARK, Tokens};
+use crate::lexed::script_tokens::{ORDER_MARK, Tokens};
 use rc_lexer::TokenKind;
 
 /// The words that declare a variable in other shells.

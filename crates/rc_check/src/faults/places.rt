@@ -9,7 +9,7 @@ use crate::faults::advice::Advice;
 use crate::faults::advising::advice_at;
 use crate::faults::line_faults::{Sought, first_on_line, open_quote, valid_length, zero_byte};
 use crate::lexed::contexts::contexts_of;
-use crate::lexed::tokens::{Tokens, tokens_of};
+use crate::lexed::script_tokens::{Tokens, tokens_of};
 use rc_lexer::Token;
 use rc_model::{FaultKind, SyntaxFault};
 use rc_parser::{InputError, Source};

@@ -1,6 +1,6 @@
 //! What is before each token, found in one walk over them.
 
-use crate::lexed::tokens::Tokens;
+use crate::lexed::script_tokens::Tokens;
 use rc_lexer::{Token, TokenKind};
 use rc_model::Mode;
 use std::alloc::{AllocError, Global};

@@ -1,6 +1,6 @@
 //! What the rules of the warnings ask of a script as a whole, found once.
 
-use crate::lexed::tokens::Tokens;
+use crate::lexed::script_tokens::Tokens;
 use rc_lexer::TokenKind;
 use std::alloc::{AllocError, Global};
 

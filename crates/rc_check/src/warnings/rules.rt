@@ -1,6 +1,6 @@
 //! The rules of the warnings. They look only at tokens.
 
-use crate::lexed::tokens::Tokens;
+use crate::lexed::script_tokens::Tokens;
 use crate::warnings::overview::Overview;
 use crate::warnings::warning::WarningKind;
 use crate::warnings::word_rules::word_warning;

@@ -4,7 +4,7 @@ ghost use Rattle.std.specs.Prelude.{◌≤◌, length, IfOk, OnOk};
 ghost use Rattle.rc_check.specs.Warnings.{AreIn};
 
 use crate::lexed::contexts::contexts_of;
-use crate::lexed::tokens::{Tokens, tokens_of};
+use crate::lexed::script_tokens::{Tokens, tokens_of};
 use crate::warnings::comments::Comments;
 use crate::warnings::overview::Overview;
 use crate::warnings::rules::warning_at;

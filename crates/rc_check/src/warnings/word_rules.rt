@@ -1,6 +1,6 @@
 //! The rules of the warnings for words.
 
-use crate::lexed::tokens::{ORDER_MARK, Tokens};
+use crate::lexed::script_tokens::{ORDER_MARK, Tokens};
 use crate::warnings::overview::Overview;
 use crate::warnings::warning::WarningKind;
 use rc_lexer::TokenKind;

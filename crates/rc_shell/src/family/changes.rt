@@ -7,11 +7,11 @@ ghost use Rattle.rc_shell.specs.Families.{Holds, held, made_of};
 ghost use Rattle.rc_shell.specs.Made.{StepsNot};
 
 use crate::family::children::child_of;
-use crate::family::fault::FamilyFault;
+use crate::family::family_fault::FamilyFault;
 use crate::family::fitting::fits;
 use crate::family::given_answers::answers_with;
 use crate::family::next_calls::next_call;
-use crate::family::process::{Change, Process, Step};
+use crate::family::process_steps::{Change, Process, Step};
 use rc_world::{Answer, Call};
 use std::alloc::{AllocError, Global};
 

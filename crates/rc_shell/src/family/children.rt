@@ -8,9 +8,9 @@ ghost use Rattle.rc_tree.specs.View.{cmd_tree};
 ghost use Rattle.rc_world.specs.Views.{answer_of, call_of, launch_of};
 ghost use Rattle.rc_shell.specs.Standings.{StartsAs, StartsNot, words_of};
 
-use crate::family::fault::FamilyFault;
+use crate::family::family_fault::FamilyFault;
 use crate::family::next_calls::begin;
-use crate::family::process::Process;
+use crate::family::process_steps::Process;
 use rc_image::{InputError, read_image};
 use rc_scope::State;
 use rc_tree::Cmd;

@@ -5,7 +5,7 @@ ghost use Rattle.rc_model.specs.Family.Steps.{answers_at};
 ghost use Rattle.rc_world.specs.Views.{answer_of};
 ghost use Rattle.rc_shell.specs.Standings.{step_of};
 
-use crate::family::process::Step;
+use crate::family::process_steps::Step;
 use rc_world::Answer;
 use std::alloc::{AllocError, Global};
 

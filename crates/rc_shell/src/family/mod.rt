@@ -2,11 +2,11 @@
 
 mod changes;
 mod children;
-mod fault;
+mod family_fault;
 mod fitting;
 mod given_answers;
 mod next_calls;
-mod process;
+mod process_steps;
 mod replay_world;
 mod replaying;
 
@@ -18,9 +18,9 @@ ghost use Rattle.rc_tree.specs.View.{cmd_tree};
 ghost use Rattle.rc_world.specs.Views.{answer_of, call_of};
 
 use changes::{change_of, change_processes, make_room};
-pub use fault::FamilyFault;
+pub use family_fault::FamilyFault;
 use next_calls::{alone, begin};
-use process::{Change, Process, Step};
+use process_steps::{Change, Process, Step};
 use rc_scope::State;
 use rc_tree::{Cmd, clone_tree};
 use rc_world::{Answer, Call};
@@ -38,8 +38,8 @@ pub struct Family {
 
 impl Model for Family {
     ghost use Rattle.rc_shell.specs.Held.{Held};
-    ghost use Rattle.rc_shell.specs.contracts.family.process.Process as p;
-    ghost use Rattle.rc_shell.specs.contracts.family.process.Step as q;
+    ghost use Rattle.rc_shell.specs.contracts.family.process_steps.Process as p;
+    ghost use Rattle.rc_shell.specs.contracts.family.process_steps.Step as q;
     ghost use Rattle.std.specs.Coded.{codes};
 
     ghost Value = { Held };

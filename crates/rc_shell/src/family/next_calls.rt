@@ -11,8 +11,8 @@ ghost use Rattle.rc_shell.specs.Made.{BeginsNot, first_process};
 ghost use Rattle.rc_shell.specs.Reached.{ComesNot, ComesTo};
 ghost use Rattle.rc_shell.specs.Standings.{StandsFor};
 
-use crate::family::fault::FamilyFault;
-use crate::family::process::Process;
+use crate::family::family_fault::FamilyFault;
+use crate::family::process_steps::Process;
 use crate::family::replaying::{Reached, replay};
 use rc_scope::State;
 use rc_tree::Cmd;

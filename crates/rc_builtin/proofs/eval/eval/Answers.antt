@@ -8,7 +8,7 @@ use Rattle.std.specs.Prelude.{IfSome}
 use Rattle.rc_scope.specs.CompiledTexts.{IsCodeOfText}
 use Rattle.rc_scope.specs.States.{state_of}
 use Rattle.rc_builtin.specs.Outcomes.{RunsWords}
-use Rattle.rc_builtin.specs.declared.simple_commands.Outcome.TheVariants as words
+use Rattle.rc_builtin.specs.declared.command_words.Outcome.TheVariants as words
 use Rattle.rc_builtin.proofs.Evals.{evaluated, kept_before}
 use Rattle.rc_builtin.proofs.eval.eval.Goals as goal
 

@@ -4,7 +4,7 @@ use Rattle.rc_model.specs.Run.Builtins.{as_body}
 use Rattle.rc_scope.specs.States.{state_of}
 use Rattle.rc_builtin.specs.Outcomes.{RunsWords}
 use Rattle.rc_builtin.specs.Scripts.{Compiles}
-use Rattle.rc_builtin.specs.declared.simple_commands.Outcome.TheVariants as words
+use Rattle.rc_builtin.specs.declared.command_words.Outcome.TheVariants as words
 use Rattle.rc_builtin.proofs.Evals.{evaluated, kept_of, not_evaluated, same_state}
 use Rattle.rc_builtin.proofs.eval.eval_new.Goals as goal
 

@@ -3,7 +3,7 @@ use denote.Text.{Utf8}
 use denote.Shadow.{shadow}
 use Rattle.rc_model.specs.Handed.Pieces.{longest_word, most_pieces, pieces}
 use Rattle.rc_image.proofs.Cuts.{cut_after}
-use Rattle.rc_image.proofs.pieces.cut.Given as goal
+use Rattle.rc_image.proofs.image_pieces.cut.Given as goal
 
 -- what was cut, with the pieces of what is left, is the whole
 abbrev pub invariant-loop-rest : goal.invariant-loop-rest

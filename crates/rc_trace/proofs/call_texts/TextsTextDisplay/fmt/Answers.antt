@@ -1,7 +1,7 @@
 use Rattle.std.proofs.Common.{subst, ℕ, List, Option, string_bytes}
 use Rattle.std.specs.Fmt.{DisplaysOnOk, debug_str}
 use Rattle.rc_trace.proofs.Quotes.{quoted_texts}
-use Rattle.rc_trace.proofs.texts.TextsTextDisplay.fmt.Goals as goal
+use Rattle.rc_trace.proofs.call_texts.TextsTextDisplay.fmt.Goals as goal
 
 pub returns-clause-writes : goal.returns-clause-writes
 returns-clause-writes g c =

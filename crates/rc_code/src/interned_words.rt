@@ -4,7 +4,7 @@ ghost use Rattle.std.specs.Prelude.{◌≡◌, ◌<◌, ◌++◌, ◌∷◌, [],
 ghost use Rattle.rc_code.specs.Words.{IsWordAt, Extends, word_at, words_of};
 
 use crate::entries::Entry;
-use crate::numbers::in_32_bits;
+use crate::instruction_numbers::in_32_bits;
 use crate::slots::{MOST_TRIES, Slots, hash};
 use rc_text::Literal;
 use std::alloc::{AllocError, Global};

@@ -10,7 +10,7 @@ use Rattle.rc_world.proofs.Joins.{left_as, ran_as}
 use Rattle.rc_world.proofs.Shells.{left_under}
 use Rattle.rc_scope.specs.States.{state_of}
 use Rattle.rc_builtin.proofs.Left.{words_left}
-use Rattle.rc_builtin.proofs.simple_commands.run_words.Goals as goal
+use Rattle.rc_builtin.proofs.command_words.run_words.Goals as goal
 
 no_texts : (ss : List (Text)) → length ss ≡ 0 → map text_bytes ss ≡ []
 no_texts [] h = refl

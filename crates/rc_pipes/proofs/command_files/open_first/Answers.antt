@@ -3,7 +3,7 @@ use Rattle.rc_pipes.proofs.Changes.{texts_left}
 use Rattle.rc_world.proofs.Joins.{left_join, passed_up}
 use Rattle.law_plans.proofs.Runs.{ran_join}
 use Rattle.rc_pipes.proofs.Opening.{ran_opened, ran_unopened, left_opening}
-use Rattle.rc_pipes.proofs.files.open_first.Goals as goal
+use Rattle.rc_pipes.proofs.command_files.open_first.Goals as goal
 
 pub returns-in_err-file : goal.returns-in_err-file
 returns-in_err-file g c =

@@ -24,7 +24,7 @@ pub enum FamilyFault {
 
 impl From<AllocError> for FamilyFault {
     ghost use Rattle.std.specs.Prelude.{◌≡◌};
-    ghost use Rattle.rc_shell.specs.declared.family.fault.FamilyFault.TheVariants.{NoMemory};
+    ghost use Rattle.rc_shell.specs.declared.family.family_fault.FamilyFault.TheVariants.{NoMemory};
 
     ghost from_gives = { λ _ f. f ≡ NoMemory };
 

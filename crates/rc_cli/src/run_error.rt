@@ -27,7 +27,7 @@ pub enum RunError<'a> {
 }
 
 impl<'a> From<AllocError> for RunError<'a> {
-    ghost use Rattle.rc_cli.specs.declared.fault.RunError.TheVariants.{NoMemory};
+    ghost use Rattle.rc_cli.specs.declared.run_error.RunError.TheVariants.{NoMemory};
 
     ghost from_gives = { λ _ error. error ≡ NoMemory };
 

@@ -2,7 +2,7 @@ use Rattle.std.proofs.Common.{drop, map, string_bytes}
 use Rattle.rc_model.specs.Run.Builtins.{open_first}
 use Rattle.rc_model.specs.Run.Plans.{Ran}
 use Rattle.rc_model.specs.Run.State.{State}
-use Rattle.rc_pipes.proofs.files.open_first.Given as goal
+use Rattle.rc_pipes.proofs.command_files.open_first.Given as goal
 
 -- none of the paths so far opened, and the others are left
 abbrev pub invariant-loop-path : goal.invariant-loop-path

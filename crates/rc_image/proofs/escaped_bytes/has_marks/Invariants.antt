@@ -1,7 +1,7 @@
 use Rattle.std.proofs.Common.{◌≡◌, take}
 use Rattle.std.specs.List.{list_any}
 use Rattle.rc_image.specs.Additions.{is_mark}
-use Rattle.rc_image.proofs.marks.has_marks.Given as goal
+use Rattle.rc_image.proofs.escaped_bytes.has_marks.Given as goal
 
 -- what the bytes so far have
 abbrev pub invariant-loop-byte : goal.invariant-loop-byte

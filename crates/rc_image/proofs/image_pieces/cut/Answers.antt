@@ -4,7 +4,7 @@ use Rattle.std.proofs.lemmas.Str.{IsUtf8-drop}
 use Rattle.std.proofs.lemmas.Grind.{common_steps}
 use Rattle.rc_model.specs.Handed.Pieces.{longest_word, last_cut}
 use Rattle.rc_image.proofs.Cuts.{cut_is, cut_next}
-use Rattle.rc_image.proofs.pieces.cut.Goals as goal
+use Rattle.rc_image.proofs.image_pieces.cut.Goals as goal
 
 pub loop-rest-preserved : goal.loop-rest-preserved
 loop-rest-preserved c =

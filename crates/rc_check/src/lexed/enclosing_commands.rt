@@ -1,7 +1,7 @@
 //! Finding the command of a token. The search uses tokens alone, so that a newline inside a list of words counts as the
 //! end of a command.
 
-use crate::lexed::tokens::Tokens;
+use crate::lexed::script_tokens::Tokens;
 use rc_lexer::TokenKind;
 
 /// Whether a token of this kind separates commands.

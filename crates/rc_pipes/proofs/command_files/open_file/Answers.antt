@@ -7,7 +7,7 @@ use Rattle.rc_world.specs.declared.starts.Stop.TheVariants.{NoMemory}
 use Rattle.rc_world.proofs.Joins.{given_up, left_here}
 use Rattle.law_plans.proofs.Runs.{ran_none}
 use Rattle.rc_pipes.proofs.Opening.{goes_on}
-use Rattle.rc_pipes.proofs.files.open_file.Goals as goal
+use Rattle.rc_pipes.proofs.command_files.open_file.Goals as goal
 
 pub returns-in_err-paths : goal.returns-in_err-paths
 returns-in_err-paths g c = λ args.

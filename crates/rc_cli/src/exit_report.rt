@@ -2,7 +2,7 @@
 ghost use Rattle.std.specs.Prelude.{◌≡◌, IfOk, OnErr};
 ghost use Rattle.std.specs.Process.{exit_status};
 
-use crate::fault::RunError;
+use crate::run_error::RunError;
 use std::process::ExitCode;
 
 /// Prints the line of an error to descriptor 2, and returns the exit code.
