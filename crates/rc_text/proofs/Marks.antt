@@ -15,7 +15,7 @@ use Rattle.rc_text.proofs.LiteralMarks.{unmarked_patterns}
 use Rattle.std.specs.declared.boxed.Box.{Box}
 use Rattle.std.specs.declared.rc.Rc.{Rc}
 use Rattle.rc_text.specs.declared.words.Letters.{Letters}
-use Rattle.rc_text.specs.declared.words.Letters.TheVariants.{Plain, Marked, Mixed, Literal}
+use Rattle.rc_text.specs.declared.words.Letters.TheVariants.{Plain, Marked, Halves, Mixed, Literal}
 use Rattle.rc_text.specs.declared.words.MixedText.{MixedText}
 use Rattle.rc_text.specs.Texts.{text_bytes}
 use Rattle.rc_text.specs.declared.texts.Text.{Text}
@@ -27,7 +27,7 @@ pushed (Ok u) new more old h = h
 pushed (Err e) new more old h = tt
 
 -- the same mark on each character, and taken away again
-without : (b : Bool) (cs : List ℕ) → map (λ (m : ℕ × Bool). m.0) (map (λ c. (c, b)) cs) ≡ cs
+pub without : (b : Bool) (cs : List ℕ) → map (λ (m : ℕ × Bool). m.0) (map (λ c. (c, b)) cs) ≡ cs
 without b [] = refl
 without b (c ∷ cs) = ap (λ ds. c ∷ ds) (without b cs)
 
@@ -62,6 +62,7 @@ pub no_patterns : (letters : Letters) → AreMarked letters → ((mixed : _) →
     ((literal : _) → letters ≡ Literal literal → ⊥) → has_pattern (word_of letters) ≡ false
 no_patterns (Plain text) h n l = unmarked_patterns (chars (text_bytes text))
 no_patterns (Marked text) h n l = h
+no_patterns (Halves first second cut text) h n l = h.1
 no_patterns (Mixed mixed) h n l = absurd (n mixed refl)
 no_patterns (Literal literal) h n l = absurd (l literal refl)
 
@@ -69,7 +70,7 @@ no_patterns (Literal literal) h n l = absurd (l literal refl)
 abbrev pub HaveOneMark : Bool → Word → Type 0
 HaveOneMark mark w = HaveMark mark w × (has_pattern w ≡ false)
 
-one_mark : (b : Bool) (cs : List ℕ) → HaveMark b (map (λ c. (c, b)) cs)
+pub one_mark : (b : Bool) (cs : List ℕ) → HaveMark b (map (λ c. (c, b)) cs)
 one_mark b cs = ap (map (λ c. (c, b))) (without b cs)
 
 pub plain_mark : (letters : Letters) (text : Text) (w : Word) → letters ≡ Plain text → word_of letters ≡ w → HaveOneMark false w
@@ -100,21 +101,6 @@ module _ (text left right : List ℕ) (u : IsUtf8 left) (e : text ≡ left ++ ri
       ∙ ap (λ z. z ++ map (λ (m : ℕ × Bool). m.0) w) (sym h)
       ∙ ap (λ z. chars left ++ z) (sym k)
       ∙ sym (ap chars e ∙ chars-append left right u)
-
-  -- two words whose characters all have one mark
-  pub joined_marks : (mark : Bool) → chars left ≡ map (λ (m : ℕ × Bool). m.0) v → chars right ≡ map (λ (m : ℕ × Bool). m.0) w →
-      HaveMark mark v → HaveMark mark w → map (λ c. (c, mark)) (chars text) ≡ v ++ w
-  joined_marks mark h k i j =
-      ap (map (λ c. (c, mark))) (sym (joined_characters h k) ∙ map-append (λ (m : ℕ × Bool). m.0) v w)
-      ∙ map-append (λ c. (c, mark)) (map (λ (m : ℕ × Bool). m.0) v) (map (λ (m : ℕ × Bool). m.0) w)
-      ∙ ap (λ z. z ++ map (λ c. (c, mark)) (map (λ (m : ℕ × Bool). m.0) w)) i
-      ∙ ap (λ z. v ++ z) j
-
--- a text whose characters all have one mark, and behind it that of a word whose characters all have that mark
-pub followed : (before after next : List ℕ) (mark : Bool) (w : Word) → IsUtf8 before → after ≡ before ++ next → chars next ≡ map (λ (m : ℕ × Bool). m.0) w →
-    HaveMark mark w → map (λ c. (c, mark)) (chars after) ≡ map (λ c. (c, mark)) (chars before) ++ w
-followed before after next mark w u e k j =
-    joined_marks after before next u e (map (λ c. (c, mark)) (chars before)) w mark (sym (without mark (chars before))) k (one_mark mark (chars before)) j
 
 -- the text of a word at the end of another text, and a space before it
 unmarked_written : (w : Word) → map (λ c. (c, false)) (map (λ (m : ℕ × Bool). m.0) w) ≡ unmarked w

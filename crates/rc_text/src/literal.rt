@@ -114,6 +114,13 @@ impl Literal {
         self.text.as_str()
     }
 
+    /// The text without its quotes, as the literal keeps it.
+    pub(crate) fn as_text(&self) -> &Text
+        ensures { text_bytes result.now ≡ self.now.0 }
+    {
+        &self.text
+    }
+
     /// The text without its quotes, shared. It fails only if it has too many owners.
     pub(crate) fn shared_text(&self) -> Result<Text, AllocError>
         ensures { IfOk result (λ text. text_bytes text ≡ self.now.0) }

@@ -1,6 +1,6 @@
 //! Texts that their copies share.
 
-ghost use Rattle.std.specs.Prelude.{◌≡◌, ◌++◌, IfSome};
+ghost use Rattle.std.specs.Prelude.{◌≡◌, ◌++◌};
 ghost use Rattle.std.specs.Str.{IsUtf8};
 ghost use Rattle.rc_text.specs.Rooms.{bytes_in};
 
@@ -21,15 +21,6 @@ pub(crate) enum Room {
 pub struct Text {
     room: Room,
     ghost ok: { ∥ IsUtf8 (bytes_in room) ∥₁ },
-}
-
-/// Joins two texts in place, if there is room.
-fn joined_in_place(left: &str, right: &str) -> Option<ArrayString<16>>
-    ensures { IfSome result (λ text. text.bytes ≡ left.now ++ right.now) }
-{
-    let mut text = ArrayString::from(left).ok()?;
-    text.try_push_str(right).ok()?;
-    Some(text)
 }
 
 impl Clone for Text {
@@ -122,16 +113,27 @@ impl Text {
         }
     }
 
-    /// Joins two texts.
-    pub(crate) fn joined(alloc: Global, left: &str, right: &str) -> Result<Text, AllocError>
-        ensures { IfOk result (λ text. text_bytes text ≡ left.now ++ right.now) }
+    /// Appends to a text that stands in place. Where there is no room for both, they become a string.
+    fn grown(alloc: Global, mut text: ArrayString<16>, next: &str) -> Result<Text, AllocError>
+        requires { ∥ IsUtf8 text.bytes ∥₁ }
+        ensures { IfOk result (λ grown. text_bytes grown ≡ text.bytes ++ next.now) }
     {
-        if let Some(short) = joined_in_place(left, right) {
-            return Ok(Text {
-                room: Room::InPlace(short),
-            });
+        match text.try_push_str(next) {
+            Ok(()) => Ok(Text {
+                room: Room::InPlace(text),
+            }),
+            Err(_) => Text::shared(alloc, joined_text(alloc, text.as_str(), next)?),
         }
-        Text::shared(alloc, joined_text(alloc, left, right)?)
+    }
+
+    /// Joins two texts.
+    pub(crate) fn joined(&self, alloc: Global, next: &str) -> Result<Text, AllocError>
+        ensures { IfOk result (λ text. text_bytes text ≡ text_bytes self.now ++ next.now) }
+    {
+        match &self.room {
+            Room::InPlace(text) => Text::grown(alloc, *text, next),
+            Room::Shared(text) => Text::shared(alloc, joined_text(alloc, text.as_str(), next)?),
+        }
     }
 
     /// Appends a text: in place, if there is room, or else to the string, if it has no other owner.
@@ -139,7 +141,7 @@ impl Text {
         ensures { IfOk result (λ text. text_bytes text ≡ text_bytes self ++ next.now) }
     {
         match self.into_room() {
-            Room::InPlace(text) => Text::joined(alloc, text.as_str(), next),
+            Room::InPlace(text) => Text::grown(alloc, text, next),
             Room::Shared(text) => match Rc::try_unwrap(text) {
                 Ok(mut own) => {
                     own.push_str(next)?;

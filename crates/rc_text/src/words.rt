@@ -1,10 +1,10 @@
 //! Words: characters, each of them marked or not.
 ghost use Rattle.std.specs.Prelude.{◌≡◌, [], ◌++◌, true, false, map, string_bytes, IfOk, IfSome, OnOk, MatchOption};
-ghost use Rattle.std.specs.Str.{chars};
+ghost use Rattle.std.specs.Str.{chars, IsCharBoundary};
 ghost use Rattle.rc_model.specs.Syntax.Words.{has_pattern, unmarked, word_text, written};
 ghost use Rattle.rc_text.specs.Literals.{marks};
 ghost use Rattle.rc_text.specs.Texts.{text_bytes};
-ghost use Rattle.rc_text.specs.Views.{word_of, AreMarked, HaveMark};
+ghost use Rattle.rc_text.specs.Views.{halves, with_mark, word_of, AreMarked, HaveMark};
 
 use crate::literal::{Ch, Literal, any_pattern, push_text};
 use crate::texts::Text;
@@ -28,6 +28,14 @@ pub(crate) enum Letters {
     Plain(Text),
     /// All characters are marked, and none is a pattern character.
     Marked(Text),
+    /// The characters before the cut, a number of bytes, have one mark, and so have those after it. No marked one is a
+    /// pattern character.
+    Halves {
+        first: bool,
+        second: bool,
+        cut: u32,
+        text: Text,
+    },
     /// Each character has its own mark. Few words are mixed, and the box keeps the others small.
     Mixed(Box<MixedText>),
     /// A word of a script, shared by all its evaluations.
@@ -57,6 +65,21 @@ impl MadeWith<Global> for Word {
     fn made_with(_alloc: Global) -> Word {
         Word::empty()
     }
+}
+
+/// Adds the characters of a text. Those before the cut have one mark, and so have those after it.
+fn push_halves(
+    all: &mut Vec<Ch>,
+    first: bool,
+    second: bool,
+    cut: usize,
+    text: &str,
+) -> Result<(), AllocError>
+    requires { IsCharBoundary text.now cut }
+    ensures { OnOk result (marks all.new.items ≡ marks all.old.items ++ halves first second cut text.now) }
+{
+    push_text(all, &text[..cut], first)?;
+    push_text(all, &text[cut..], second)
 }
 
 /// Joins two texts.
@@ -113,9 +136,12 @@ impl Word {
     pub(crate) fn joined(alloc: Global, left: &Word, right: &Word) -> Result<Word, AllocError>
         ensures { IfOk result (λ word. word ≡ left.now ++ right.now) }
     {
-        let text = Text::joined(alloc, left.text(), right.text())?;
+        let front = left.as_text();
+        let text = front.joined(alloc, right.text())?;
         match (left.common_mark(), right.common_mark()) {
-            (Some(mark), Some(other)) if mark == other => Ok(Word::with_mark(text, mark)),
+            (Some(first), Some(second)) => {
+                Word::halves(alloc, first, second, front.as_str().len(), text)
+            }
             _ => Word::mixed(alloc, text, Word::all_chars(alloc, left, right)?),
         }
     }
@@ -125,22 +151,79 @@ impl Word {
         ensures { IfOk result (λ word. word ≡ self ++ next.now) }
     {
         match (self.0, next.common_mark()) {
-            (Letters::Plain(text), Some(false)) => {
+            (Letters::Plain(text), Some(mark)) => Word::grown(alloc, text, false, next, mark),
+            (Letters::Marked(text), Some(mark)) => Word::grown(alloc, text, true, next, mark),
+            (
+                Letters::Halves {
+                    first,
+                    second,
+                    cut,
+                    text,
+                },
+                Some(mark),
+            ) if second == mark => {
                 let text = text.followed_by(alloc, next.text())?;
-                Ok(Word::plain(text))
-            }
-            (Letters::Marked(text), Some(true)) => {
-                let text = text.followed_by(alloc, next.text())?;
-                Ok(Word(Letters::Marked(text)))
+                Ok(Word(Letters::Halves {
+                    first,
+                    second,
+                    cut,
+                    text,
+                }))
             }
             (letters, _) => Word::joined(alloc, &Word(letters), next),
         }
     }
 
+    /// Appends characters of one mark to a text whose characters have one.
+    fn grown(
+        alloc: Global,
+        text: Text,
+        first: bool,
+        next: &Word,
+        second: bool,
+    ) -> Result<Word, AllocError>
+        requires text { has_pattern (with_mark first (text_bytes text)) ≡ false }
+        requires mark { HaveMark second next.now }
+        requires next { has_pattern next.now ≡ false }
+        ensures { IfOk result (λ word. word ≡ with_mark first (text_bytes text) ++ next.now) }
+    {
+        let cut = text.as_str().len();
+        let text = text.followed_by(alloc, next.text())?;
+        Word::halves(alloc, first, second, cut, text)
+    }
+
+    /// A text in two halves. If the first is too long for the number of its bytes, each character gets its own mark.
+    fn halves(
+        alloc: Global,
+        first: bool,
+        second: bool,
+        cut: usize,
+        text: Text,
+    ) -> Result<Word, AllocError>
+        requires cut { IsCharBoundary (text_bytes text) cut }
+        requires no_pattern { has_pattern (halves first second cut (text_bytes text)) ≡ false }
+        ensures { IfOk result (λ word. word ≡ halves first second cut (text_bytes text)) }
+    {
+        if first == second {
+            return Ok(Word::with_mark(text, first));
+        }
+        if let Ok(cut) = u32::try_from(cut) {
+            return Ok(Word(Letters::Halves {
+                first,
+                second,
+                cut,
+                text,
+            }));
+        }
+        let mut chars = Vec::with_capacity(alloc, text.as_str().len())?;
+        push_halves(&mut chars, first, second, cut, text.as_str())?;
+        Word::mixed(alloc, text, chars)
+    }
+
     /// A text whose characters all have this mark, and none of them is a pattern character.
     fn with_mark(text: Text, mark: bool) -> Word
-        requires { has_pattern (map (λ c. (c, mark)) (chars (text_bytes text))) ≡ false }
-        ensures { result ≡ map (λ c. (c, mark)) (chars (text_bytes text)) }
+        requires { has_pattern (with_mark mark (text_bytes text)) ≡ false }
+        ensures { result ≡ with_mark mark (text_bytes text) }
     {
         if mark {
             Word(Letters::Marked(text))
@@ -156,7 +239,7 @@ impl Word {
         match &self.0 {
             Letters::Plain(_) => Some(false),
             Letters::Marked(_) => Some(true),
-            Letters::Mixed(_) => None,
+            Letters::Halves { .. } | Letters::Mixed(_) => None,
             Letters::Literal(literal) => match literal.pattern() {
                 Some(_) => None,
                 None => Some(!literal.is_quoted()),
@@ -182,6 +265,12 @@ impl Word {
         match &self.0 {
             Letters::Plain(text) => push_text(chars, text.as_str(), false),
             Letters::Marked(text) => push_text(chars, text.as_str(), true),
+            Letters::Halves {
+                first,
+                second,
+                cut,
+                text,
+            } => push_halves(chars, *first, *second, *cut as usize, text.as_str()),
             Letters::Mixed(mixed) => chars.extend_from_slice(mixed.chars.as_slice()),
             Letters::Literal(literal) => push_text(chars, literal.text(), !literal.is_quoted()),
         }
@@ -192,10 +281,19 @@ impl Word {
         ensures text { result.now ≡ word_text self.now }
         ensures characters { chars result.now ≡ map (λ m. m.0) self.now }
     {
+        self.as_text().as_str()
+    }
+
+    /// The characters without their marks, as the word keeps them.
+    fn as_text(&self) -> &Text
+        ensures { chars (text_bytes result.now) ≡ map (λ m. m.0) self.now }
+    {
         match &self.0 {
-            Letters::Plain(text) | Letters::Marked(text) => text.as_str(),
-            Letters::Mixed(mixed) => mixed.text.as_str(),
-            Letters::Literal(literal) => literal.text(),
+            Letters::Plain(text) => text,
+            Letters::Marked(text) => text,
+            Letters::Halves { text, .. } => text,
+            Letters::Mixed(mixed) => &mixed.text,
+            Letters::Literal(literal) => literal.as_text(),
         }
     }
 
@@ -206,6 +304,7 @@ impl Word {
         match self.0 {
             Letters::Plain(text) => Ok(text),
             Letters::Marked(text) => Ok(text),
+            Letters::Halves { text, .. } => Ok(text),
             Letters::Mixed(mixed) => Ok(Box::into_inner(mixed).text),
             Letters::Literal(literal) => literal.shared_text(),
         }
@@ -218,6 +317,7 @@ impl Word {
         match self.0 {
             Letters::Plain(text) => Ok(Word::plain(text)),
             Letters::Marked(text) => Ok(Word::plain(text)),
+            Letters::Halves { text, .. } => Ok(Word::plain(text)),
             Letters::Mixed(mixed) => Ok(Word::plain(Box::into_inner(mixed).text)),
             Letters::Literal(literal) => {
                 let text = literal.shared_text()?;
@@ -254,6 +354,17 @@ impl Word {
         match &self.0 {
             Letters::Plain(text) => Ok(Word::plain(text.clone()?)),
             Letters::Marked(text) => Ok(Word(Letters::Marked(text.clone()?))),
+            Letters::Halves {
+                first,
+                second,
+                cut,
+                text,
+            } => Ok(Word(Letters::Halves {
+                first: *first,
+                second: *second,
+                cut: *cut,
+                text: text.clone()?,
+            })),
             Letters::Mixed(mixed) => {
                 let alloc = *mixed.chars.allocator();
                 Word::mixed(alloc, mixed.text.clone()?, mixed.chars.clone()?)

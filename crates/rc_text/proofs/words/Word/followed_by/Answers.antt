@@ -1,30 +1,34 @@
-use Rattle.std.proofs.Common.{rules, ◌++◌, ◌∙◌, ap, subst, sym, true, false}
+use Rattle.std.proofs.Common.{◌≡◌, rules, ◌++◌, ◌∙◌, ap, subst, sym}
 use Rattle.std.proofs.lemmas.Str.{IsUtf8-had}
 use borrow.Author.Tests.{tests}
-use Rattle.rc_model.specs.Syntax.Words.{has_pattern, written}
+use Rattle.std.specs.Str.{chars}
 use Rattle.rc_text.specs.Texts.{text_bytes}
+use Rattle.rc_text.specs.declared.words.Letters.TheVariants.{Halves}
 use Rattle.rc_text.specs.Views.{word_of, AreMarked, HaveMark}
-use Rattle.rc_text.proofs.Marks.{followed, patterns-append}
+use Rattle.rc_text.proofs.Halves.{followed_boundary, followed_halves, followed_patterns}
+use Rattle.rc_text.proofs.LiteralMarks.{unmarked_patterns}
 use Rattle.rc_text.proofs.words.Word.followed_by.Goals as goal
 
-pub returns-in_ok-text-in-Plain-Some-false : goal.returns-in_ok-text-in-Plain-Some-false
-returns-in_ok-text-in-Plain-Some-false c =
-    let alike : HaveMark false c.args.next.now = search (rules, tests) in
-    c.plain.ensures
-    ∙ followed _ _ _ false c.args.next.now (IsUtf8-had _ c.in-Plain-Some-false.text.ok) c.in_ok-text-in-Plain-Some-false.ensures
-    c.text.ensures.characters alike
-    ∙ ap (λ w. w ++ c.args.next.now) (ap word_of (sym c.in-Plain-Some-false.is-0) ∙ c.self.view_is)
-
-pub returns-in_ok-text-in-Marked-Some-true : goal.returns-in_ok-text-in-Marked-Some-true
-returns-in_ok-text-in-Marked-Some-true c =
-    let alike : HaveMark true c.args.next.now = search (rules, tests) in
-    followed _ _ _ true c.args.next.now (IsUtf8-had _ c.in-Marked-Some-true.text.ok) c.in_ok-text-in-Marked-Some-true.ensures
-    c.text-in-Marked-Some-true.ensures.characters alike
-    ∙ ap (λ w. w ++ c.args.next.now) (ap word_of (sym c.in-Marked-Some-true.is-0) ∙ c.self.view_is)
+pub grown-requires-clause-text : goal.grown-requires-clause-text
+grown-requires-clause-text c = unmarked_patterns (chars (text_bytes c.in-Plain-Some.text))
 
 pub invariant_of-result : goal.invariant_of-result
 invariant_of-result c =
-    let alike : HaveMark true c.args.next.now = search (rules, tests) in
-    ap has_pattern (followed _ _ _ true c.args.next.now (IsUtf8-had _ c.in-Marked-Some-true.text.ok)
-    c.in_ok-text-in-Marked-Some-true.ensures c.text-in-Marked-Some-true.ensures.characters alike)
-    ∙ patterns-append (written (text_bytes c.in-Marked-Some-true.text) false) c.args.next.now (subst AreMarked c.in-Marked-Some-true.is-0 c.self.invariant) c.in-Marked-Some-true.ensures.1
+    let alike : c.in-Halves-Some.mark ≡ c.in-Halves-Some.second = search (rules, tests) in
+    let marked : AreMarked (Halves c.in-Halves-Some.first c.in-Halves-Some.second c.in-Halves-Some.cut c.in-Halves-Some.text) =
+    subst AreMarked c.in-Halves-Some.is-0 c.self.invariant in (
+      followed_boundary _ _ _ c.in_ok-text-in-Halves-Some.ensures _ (IsUtf8-had _ c.in-Halves-Some.text.ok) marked.0 c.text.utf8,
+      followed_patterns _ _ _ c.in_ok-text-in-Halves-Some.ensures _ (IsUtf8-had _ c.in-Halves-Some.text.ok) marked.0
+          c.in-Halves-Some.first c.in-Halves-Some.second c.args.next.now c.text.ensures.characters
+          (subst (λ b. HaveMark b c.args.next.now) alike c.in-Halves-Some.ensures.0) marked.1 c.in-Halves-Some.ensures.1,
+    )
+
+pub returns-in_ok-text-in-Halves-Some : goal.returns-in_ok-text-in-Halves-Some
+returns-in_ok-text-in-Halves-Some c =
+    let alike : c.in-Halves-Some.mark ≡ c.in-Halves-Some.second = search (rules, tests) in
+    let marked : AreMarked (Halves c.in-Halves-Some.first c.in-Halves-Some.second c.in-Halves-Some.cut c.in-Halves-Some.text) =
+    subst AreMarked c.in-Halves-Some.is-0 c.self.invariant in
+    followed_halves _ _ _ c.in_ok-text-in-Halves-Some.ensures _ (IsUtf8-had _ c.in-Halves-Some.text.ok) marked.0
+    c.in-Halves-Some.first c.in-Halves-Some.second c.args.next.now c.text.ensures.characters
+    (subst (λ b. HaveMark b c.args.next.now) alike c.in-Halves-Some.ensures.0)
+    ∙ ap (λ w. w ++ c.args.next.now) (ap word_of (sym c.in-Halves-Some.is-0) ∙ c.self.view_is)

@@ -6,6 +6,7 @@ use Rattle.std.specs.declared.boxed.Box.{Box}
 use Rattle.std.specs.declared.rc.Rc.{Rc}
 use Rattle.rc_text.specs.Texts.{text_bytes}
 use Rattle.rc_text.specs.declared.words.MixedText.{MixedText}
+use Rattle.rc_text.proofs.Halves.{text_of_halves}
 use Rattle.rc_text.proofs.LiteralMarks.{if_ok}
 use Rattle.rc_text.proofs.Marks.{alike_characters, literal_characters, mixed_characters, text_of_word}
 use Rattle.rc_text.proofs.words.Word.into_text.Goals as goal
@@ -24,6 +25,11 @@ pub returns-in-Marked : goal.returns-in-Marked
 returns-in-Marked c =
     ap text_bytes c.in-Marked.text-is
     ∙ text_of_word _ _ _ (IsUtf8-had _ c.in-Marked.text.ok) (alike_characters _ _ (inr c.in-Marked.is)) c.self.view_is
+
+pub returns-in-Halves : goal.returns-in-Halves
+returns-in-Halves c =
+    ap text_bytes c.in-Halves.text-is
+    ∙ text_of_word _ _ _ (IsUtf8-had _ c.in-Halves.text.ok) (text_of_halves _ _ _ _ _ c.in-Halves.is c.self.invariant) c.self.view_is
 
 pub returns-in-Literal : goal.returns-in-Literal
 returns-in-Literal c =

@@ -5,6 +5,7 @@ use Rattle.std.specs.declared.rc.Rc.{Rc}
 use Rattle.rc_model.specs.Syntax.Words.{written}
 use Rattle.rc_text.specs.Texts.{text_bytes}
 use Rattle.rc_text.specs.declared.words.MixedText.{MixedText}
+use Rattle.rc_text.proofs.Halves.{text_of_halves}
 use Rattle.rc_text.proofs.Marks.{alike_characters, literal_characters, mixed_characters, text_unmarked}
 use Rattle.rc_text.proofs.words.Word.unmarked.Goals as goal
 
@@ -17,6 +18,11 @@ pub returns-in-Marked : goal.returns-in-Marked
 returns-in-Marked c =
     c.plain-in-Marked.ensures ∙ ap (λ t. written (text_bytes t) true) c.in-Marked.text-is
     ∙ text_unmarked _ _ _ (alike_characters _ _ (inr c.in-Marked.is)) c.self.view_is
+
+pub returns-in-Halves : goal.returns-in-Halves
+returns-in-Halves c =
+    c.plain-in-Halves.ensures ∙ ap (λ t. written (text_bytes t) true) c.in-Halves.text-is
+    ∙ text_unmarked _ _ _ (text_of_halves _ _ _ _ _ c.in-Halves.is c.self.invariant) c.self.view_is
 
 pub returns-in-Mixed : goal.returns-in-Mixed
 returns-in-Mixed c =
