@@ -1,12 +1,13 @@
 //! The state of a shell.
 
-ghost use Rattle.std.specs.Prelude.{◌≡◌, ◌↔◌, ◌∷◌, [], IfOk, IfSome, OnOk, OnErr, false, map};
+ghost use Rattle.std.specs.Prelude.{◌≡◌, ◌↔◌, ◌∷◌, ◌++◌, [], IfOk, IfSome, OnOk, OnErr, false, map};
 ghost use Rattle.std.specs.Prelude.{string_bytes, option_map, codes, drop, take, length, ◌-◌, IsTrue};
 ghost use Rattle.std.specs.Option.{option_copied};
 ghost use Rattle.std.specs.Result.{IsErrOf};
 ghost use Rattle.rc_model.specs.Run.State.{new_state, value_of, got, set_value, with_status, with_flag, is_name};
 ghost use Rattle.rc_model.specs.Run.State.{push_local, pop_local, is_function_name, define, undefine, function_of};
 ghost use Rattle.rc_model.specs.Run.State.{add_child, drop_child};
+ghost use Rattle.rc_model.specs.Syntax.Text.{spaced};
 ghost use Rattle.rc_model.specs.Handed.Image.{image, value_text};
 ghost use Rattle.rc_model.specs.Handed.Proper.{IsProper, IsProperTree};
 ghost use Rattle.rc_text.specs.Texts.{text_bytes};
@@ -133,6 +134,42 @@ impl State {
         }
         let alloc = *self.background.allocator();
         self.variables.set_one(alloc, variable, text)?;
+        Ok(())
+    }
+
+    /// Appends one text to the value of a variable, whose room it takes if it can. On `Err` nothing has changed.
+    #[tactic(auto, unfolding(crate::specs::States::state_of))]
+    pub fn append(&mut self, variable: &str, text: Text) -> Result<(), InputError<NameFault>>
+        ensures ok { OnOk result (state_of self.new
+            ≡ set_value (state_of self.old) variable.now
+            (value_of (state_of self.old) variable.now ++ text_bytes text ∷ [])) }
+        ensures bad_name { IsErrOf result (InputError.Fault NameFault.BadName) ↔ (is_name variable.now ≡ false) }
+        ensures err { OnErr result (state_of self.new ≡ state_of self.old) }
+    {
+        if !is_name(variable) {
+            return Err(InputError::Fault(NameFault::BadName));
+        }
+        if is_status(variable) {
+            self.append_to_status(text)?;
+            return Ok(());
+        }
+        let alloc = *self.background.allocator();
+        self.variables.append(alloc, variable, text)?;
+        Ok(())
+    }
+
+    /// Joins a text to the status by a space, as an assignment of both does. On `Err` nothing has changed.
+    #[tactic(auto, unfolding(crate::specs::States::state_of))]
+    fn append_to_status(&mut self, text: Text) -> Result<(), AllocError>
+        ensures ok { OnOk result (state_of self.new ≡ with_status (state_of self.old)
+            (spaced ((state_of self.old).status ∷ text_bytes text ∷ []))) }
+        ensures err { OnErr result (state_of self.new ≡ state_of self.old) }
+    {
+        let alloc = *self.background.allocator();
+        let mut members = Vec::with_capacity(alloc, 2)?;
+        members.push(self.status.clone()?)?;
+        members.push(text)?;
+        self.status = Text::from_string(alloc, flat(alloc, members.as_slice())?)?;
         Ok(())
     }
 

@@ -1,6 +1,6 @@
 //! The members of a value, which are dropped from the front, and the text that an environment has for them.
 
-ghost use Rattle.std.specs.Prelude.{◌≡◌, ◌∷◌, [], IfErr, IfOk, IfSome, OnErr, OnOk, drop, map, string_bytes};
+ghost use Rattle.std.specs.Prelude.{◌≡◌, ◌∷◌, ◌++◌, [], IfErr, IfOk, IfSome, OnErr, OnOk, drop, map, string_bytes};
 ghost use Rattle.rc_model.specs.Handed.Image.{value_text};
 ghost use Rattle.rc_text.specs.Texts.{text_bytes};
 
@@ -8,6 +8,7 @@ use crate::texts::copies;
 use rc_text::Text;
 use std::alloc::{AllocError, Global};
 use std::marker::Model;
+use std::mem::take;
 
 /// The members of a value. Those that were dropped from its front stay where they are until the others go.
 #[derive(Drop)]
@@ -105,6 +106,29 @@ impl Members {
         self.first = 0;
         self.kept = None;
         Ok(())
+    }
+
+    /// Adds a member after the others. On `Err` nothing has changed.
+    pub(crate) fn push(&mut self, text: Text) -> Result<(), AllocError>
+        ensures ok { OnOk result (self.new ≡ self.old ++ text ∷ []) }
+        ensures err { OnErr result (self.new ≡ self.old) }
+    {
+        self.close_up();
+        self.texts.push(text)?;
+        self.kept = None;
+        Ok(())
+    }
+
+    /// Moves the members to the front, once as many were dropped there: so a value to which members are added behind,
+    /// while others are dropped, stays within a constant times its greatest length.
+    fn close_up(&mut self)
+        ensures { self.new ≡ self.old }
+    {
+        if self.first == 0 || self.first < self.texts.len() - self.first {
+            return;
+        }
+        let dropped = take(&mut self.first);
+        self.texts.drain(..dropped);
     }
 
     /// The text of the members in an environment, if it is kept.

@@ -1,7 +1,7 @@
 //! The values of variables, by name. Names that begin with the same byte are in the same row.
 
 ghost use Rattle.std.specs.Prelude.{◌≡◌, [], ◌∷◌, ◌<◌, length, None, Some, is_some, true, IfOk, IfErr, IfSome, OnOk};
-ghost use Rattle.std.specs.Prelude.{OnErr, string_bytes};
+ghost use Rattle.std.specs.Prelude.{MatchOption, OnErr, string_bytes};
 ghost use Rattle.rc_model.specs.Handed.Image.{value_text};
 ghost use Rattle.std.specs.Option.{option_copied};
 ghost use Rattle.std.specs.List.Sorted.{IsStrictlySortedBy};
@@ -9,7 +9,7 @@ ghost use Rattle.std.specs.Map.{lookup, set_value, remove_entry, keys_of};
 ghost use Rattle.std.specs.BTreeMap.{insert_entry};
 ghost use Rattle.std.specs.String.{string_cmp};
 ghost use Rattle.rc_scope.specs.Rows.{row_of, is_named, entries_of, Grows};
-ghost use Rattle.rc_scope.specs.Stacks.{covers_in, texts_of};
+ghost use Rattle.rc_scope.specs.Stacks.{covers_in, texts_of, Appends, Returns};
 
 use crate::value_members::Members;
 use rc_text::Text;
@@ -169,6 +169,25 @@ impl Values {
             return value.texts.replace_only(text);
         }
         Err(text)
+    }
+
+    /// Appends one text to the value at a name; or returns it if the name has none. On `Err` nothing has changed.
+    pub(crate) fn append(&mut self, name: &str, text: Text) -> Result<Option<Text>, AllocError>
+        ensures ok { IfOk result (λ left. MatchOption left
+            (Appends name.now text self.old self.new) (Returns name.now text self.old self.new)) }
+        ensures err { OnErr result (self.new ≡ self.old) }
+        ensures ordered { IsStrictlySortedBy string_cmp (keys_of self.old) }
+    {
+        let row = row_of(name);
+        if self.rows.len() <= row {
+            return Ok(Some(text));
+        }
+        let row = &mut self.rows[row];
+        if let Some(value) = row.get_mut(name) {
+            value.texts.push(text)?;
+            return Ok(None);
+        }
+        Ok(Some(text))
     }
 
     /// Keeps the text of the value at a name, where there is one.

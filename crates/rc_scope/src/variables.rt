@@ -146,6 +146,23 @@ impl Variables {
         self.set(alloc, name, texts)
     }
 
+    /// Appends one text to the visible value. An `Err` changes nothing.
+    #[tactic(auto, using(crate::proofs::Stacks::variables), unfolding(crate::specs::Stacks::stacks_of))]
+    pub(crate) fn append(&mut self, alloc: Global, name: &str, text: Text) -> Result<(), AllocError>
+        ensures ok { OnOk result (stacks_of self.new
+            ≡ put_values (stacks_of self.old) name.now
+            ((visible (stack_in (stacks_of self.old) name.now) ++ text_bytes text ∷ [])
+            ∷ covered (stack_in (stacks_of self.old) name.now))) }
+        ensures locals { locals_of self.new ≡ locals_of self.old }
+        ensures err { OnErr result (stacks_of self.new ≡ stacks_of self.old) }
+    {
+        let Some(text) = self.values.append(name, text)? else {
+            return Ok(());
+        };
+        let texts = Members::one(alloc, text)?;
+        self.set(alloc, name, texts)
+    }
+
     /// Keeps the text of the visible value, where there is one.
     #[tactic(auto, using(crate::proofs::Stacks::variables), unfolding(crate::specs::Stacks::stacks_of))]
     pub(crate) fn keep_text(&mut self, name: &str, text: String)

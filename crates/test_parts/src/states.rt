@@ -2,6 +2,7 @@
 
 use crate::support::{empty, list, state_with};
 use rc_scope::State;
+use rc_text::Text;
 use rc_world::ChildNo;
 use std::alloc::Global;
 use std::rc::Rc;
@@ -23,6 +24,46 @@ fn out_of_memory_sets_no_variable(rt: HostRuntime) -> Result<(), Fail> {
     assert_eq!(rt; state.value("y").len(), wanted);
     assert_eq!(rt; state.value("x").len(), 1);
     set?;
+    Ok(())
+}
+
+#[test]
+fn out_of_memory_appends_nothing(rt: HostRuntime) -> Result<(), Fail> {
+    let alloc = rt.alloc();
+    let mut state = state_with(alloc, "x", &["a", "b", "c", "d"])?;
+    let appended = state.append("x", Text::of(alloc, "e")?);
+    if appended.is_err() {
+        assert_eq!(rt; state.value("x").len(), 4);
+        state.append("x", Text::of(alloc, "e")?)?;
+    }
+    let value = state.value("x");
+    assert_eq!(rt; value.len(), 5);
+    assert_eq!(rt; value[4].as_str(), "e");
+    appended?;
+    Ok(())
+}
+
+#[test]
+fn out_of_memory_appends_nothing_to_no_value(rt: HostRuntime) -> Result<(), Fail> {
+    let alloc = rt.alloc();
+    let mut state = state_with(alloc, "x", &["a"])?;
+    let appended = state.append("y", Text::of(alloc, "b")?);
+    let wanted = if appended.is_ok() { 1 } else { 0 };
+    assert_eq!(rt; state.value("y").len(), wanted);
+    assert_eq!(rt; state.value("x").len(), 1);
+    appended?;
+    Ok(())
+}
+
+#[test]
+fn out_of_memory_appends_nothing_to_the_status(rt: HostRuntime) -> Result<(), Fail> {
+    let alloc = rt.alloc();
+    let mut state = State::new(alloc);
+    state.set_status("a")?;
+    let appended = state.append("status", Text::of(alloc, "b")?);
+    let wanted = if appended.is_ok() { "a b" } else { "a" };
+    assert_eq!(rt; state.status(), wanted);
+    appended?;
     Ok(())
 }
 
