@@ -21,10 +21,10 @@ ghost use Rattle.rc_scope.specs.Children.{child_numbers};
 
 use crate::background_children::place_of;
 use crate::functions::{Definition, Function, definitions, names};
-use crate::members::member;
 use crate::names::{NameFault, has_digits, is_function_name, is_name, is_status};
+use crate::positional_members::member;
 use crate::recent_codes::RecentCodes;
-use crate::texts::strings_of;
+use crate::text_lists::strings_of;
 use crate::value_members::Members;
 use crate::variables::{Binding, Variables};
 use rc_code::Code;

@@ -4,7 +4,7 @@ ghost use Rattle.std.specs.Prelude.{◌≡◌, ◌∷◌, ◌++◌, [], IfErr, I
 ghost use Rattle.rc_model.specs.Handed.Image.{value_text};
 ghost use Rattle.rc_text.specs.Texts.{text_bytes};
 
-use crate::texts::copies;
+use crate::text_lists::copies;
 use rc_text::Text;
 use std::alloc::{AllocError, Global};
 use std::marker::Model;

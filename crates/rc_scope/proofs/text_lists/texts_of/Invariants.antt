@@ -1,6 +1,6 @@
 use Rattle.std.proofs.Common.{◌≡◌, map, string_bytes, take}
 use Rattle.rc_text.specs.Texts.{text_bytes}
-use Rattle.rc_scope.proofs.texts.texts_of.Given as goal
+use Rattle.rc_scope.proofs.text_lists.texts_of.Given as goal
 
 abbrev pub invariant-loop-string : goal.invariant-loop-string
 invariant-loop-string l = map text_bytes l.texts.items ≡ map string_bytes (take l.string-index l.strings)

@@ -1,6 +1,6 @@
 use Rattle.std.proofs.Common.{◌≡◌, map, take}
 use Rattle.rc_text.specs.Texts.{text_bytes}
-use Rattle.rc_scope.proofs.texts.copies.Given as goal
+use Rattle.rc_scope.proofs.text_lists.copies.Given as goal
 
 abbrev pub invariant-loop-text : goal.invariant-loop-text
 invariant-loop-text l = map text_bytes l.copy.items ≡ map text_bytes (take l.text-index l.texts)

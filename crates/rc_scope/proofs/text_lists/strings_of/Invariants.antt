@@ -1,6 +1,6 @@
 use Rattle.std.proofs.Common.{◌≡◌, map, string_bytes, take}
 use Rattle.rc_text.specs.Texts.{text_bytes}
-use Rattle.rc_scope.proofs.texts.strings_of.Given as goal
+use Rattle.rc_scope.proofs.text_lists.strings_of.Given as goal
 
 abbrev pub invariant-loop-text : goal.invariant-loop-text
 invariant-loop-text l = map string_bytes l.strings.items ≡ map text_bytes (take l.text-index l.texts)
