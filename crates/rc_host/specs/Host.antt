@@ -1,17 +1,23 @@
 -- What the host holds.
-use Rattle.std.specs.Prelude.{◌≡◌, ◌≢◌, ℕ, ℤ, pos, List, Option, Some, IsSome, IsSomeAnd, string_bytes, ⊤}
+use Rattle.std.specs.Prelude.{◌≡◌, ◌≢◌, ℕ, nat_lt, ℤ, pos, List, [], ◌∷◌, map, Option, None, Some, IsSome, IsSomeAnd}
+use Rattle.std.specs.Prelude.{if◌then◌else◌, option_map, string_bytes, ⊤}
+use Rattle.std.specs.Fd.{file_raw_fd, pipe_reader_raw_fd, pipe_writer_raw_fd}
 use Rattle.std.specs.declared.process.child.Child.{Child}
 use Rattle.std.specs.declared.process.pipes.ChildStdin.{ChildStdin}
 use Rattle.std.specs.declared.process.pipes.ChildStdout.{ChildStdout}
 use Rattle.std.specs.declared.process.pipes.ChildStderr.{ChildStderr}
-use Rattle.std.specs.declared.process.system.SystemProcess.{SystemProcess}
+use Rattle.rc_model.specs.Run.Calls.{Launch}
 use Rattle.rc_model.specs.declared.call.Slot.{Slot}
 use Rattle.rc_model.specs.declared.call.Slot.TheVariants.{Own, To}
 use Rattle.rc_model.specs.declared.call.Slots.{Slots}
 use Rattle.rc_host.specs.Files.{IsFile, IsReadEnd, IsWriteEnd}
+use Rattle.rc_host.specs.Plan.{plan_of}
+use Rattle.rc_host.specs.Requests.{AsksFor}
 use Rattle.rc_host.specs.Table.{held_at, Adds}
 use Rattle.rc_host.specs.declared.files.OpenFile.{OpenFile}
+use Rattle.rc_host.specs.declared.files.OpenFile.TheVariants.{File, ReadEnd, WriteEnd}
 use Rattle.rc_host.specs.declared.host.HostWorld.{HostWorld}
+use Rattle.rc_host.specs.declared.launches.request.Request.{Request}
 
 -- the path of the shell's own program
 abbrev pub shell_of : HostWorld → List ℕ
@@ -21,8 +27,8 @@ shell_of world = string_bytes world.shell
 abbrev pub files_of : HostWorld → List (Option OpenFile)
 files_of world = world.files
 
--- the children that were started and not yet waited for, each at its number
-abbrev pub children_of : HostWorld → List (Option (Child SystemProcess ChildStdin ChildStdout ChildStderr))
+-- the children that were started and not yet waited for, each at its number: Linux has one of its own for it
+abbrev pub children_of : HostWorld → List (Option (Child ℤ ChildStdin ChildStdout ChildStderr))
 children_of world = world.children
 
 -- the same is held as before
@@ -66,10 +72,28 @@ pub record AreThere (files : List (Option OpenFile)) (slots : Slots) : Type 0 wh
   pub output : IsThere files slots.output
   pub errors : IsThere files slots.errors
 
--- an open file is that of a slot
-abbrev pub IsNamed : List (Option OpenFile) → OpenFile → Slot → Type 0
-IsNamed files held (Own n) = ⊥
-IsNamed files held (To file) = held_at files file.0 ≡ Some held
+-- the descriptor of an open file
+abbrev pub descriptor : OpenFile → ℤ
+descriptor (File file) = file_raw_fd file
+descriptor (ReadEnd end) = pipe_reader_raw_fd end
+descriptor (WriteEnd end) = pipe_writer_raw_fd end
+
+-- the descriptor of this process that a slot names: the shell's own, or that of an open file if it is held
+abbrev pub descriptor_at : List (Option OpenFile) → Slot → Option ℤ
+descriptor_at files (Own n) = if nat_lt n 3 then Some (pos n) else None
+descriptor_at files (To file) = option_map descriptor (held_at files file.0)
+
+-- these are the descriptors of this process that the slots name, in order
+abbrev pub AreNamed : List (Option OpenFile) → Slots → List ℤ → Type 0
+AreNamed files slots descriptors =
+    map Some descriptors ≡ descriptor_at files slots.input ∷ descriptor_at files slots.output
+    ∷ descriptor_at files slots.errors ∷ []
+
+-- Linux is asked for the plan of a launch, with the descriptors that the slots of the plan name
+abbrev pub AsksForPlanOf : HostWorld → Launch → Request → (descriptors : List ℤ) → Type 0
+AsksForPlanOf world launch request descriptors =
+    IsSomeAnd (plan_of (shell_of world) launch)
+    (λ plan. AsksFor request plan × AreNamed (files_of world) plan.slots descriptors)
 
 -- a descriptor of this process, by its number, is the shell's own in a slot
 abbrev pub IsOwn : Option ℤ → Slot → Type 0

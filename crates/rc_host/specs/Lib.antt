@@ -1,5 +1,4 @@
 pub mod Answers
-pub mod Commands
 pub mod Files
 pub mod Host
 pub mod Names
@@ -7,3 +6,4 @@ pub mod Plan
 pub mod PlanViews
 pub mod Table
 pub mod Process
+pub mod Requests

@@ -7,6 +7,7 @@ ghost use Rattle.std.specs.Io.KnownBytes.{Appends, Consumes, IsAtEnd, Keeps, Rea
 ghost use Rattle.std.specs.IoError.{error_kind};
 ghost use Rattle.rc_model.specs.declared.call.Fault.TheVariants.{Halt, Other};
 ghost use Rattle.rc_host.specs.Files.{options_of, fresh_options, IsReadEnd, IsWriteEnd};
+ghost use Rattle.rc_host.specs.Host.{descriptor};
 
 use crate::answers::answer;
 use rc_model::limits::LONGEST_READ;
@@ -14,8 +15,8 @@ use rc_world::{Fault, Mode};
 use std::alloc::{AllocError, Global};
 use std::fs::{File, OpenOptions};
 use std::io::{ErrorKind, PipeReader, PipeWriter, Read, Write};
+use std::os::fd::{AsRawFd, RawFd};
 use std::os::unix::fs::OpenOptionsExt;
-use std::process::Stdio;
 use std::random::RandomSource;
 use std::rt::HostRuntime;
 use std::{fs, io};
@@ -32,12 +33,14 @@ pub(crate) enum OpenFile {
 }
 
 impl OpenFile {
-    /// Copies it, for a descriptor of a child.
-    pub(crate) fn copy(&self) -> io::Result<Stdio> {
+    /// Its descriptor, which stays open as long as it is held.
+    pub(crate) fn descriptor(&self) -> RawFd
+        ensures { result ≡ descriptor self.now }
+    {
         match self {
-            OpenFile::File(file) => Ok(Stdio::from(file.try_clone()?)),
-            OpenFile::ReadEnd(end) => Ok(Stdio::from(end.try_clone()?)),
-            OpenFile::WriteEnd(end) => Ok(Stdio::from(end.try_clone()?)),
+            OpenFile::File(file) => file.as_raw_fd(),
+            OpenFile::ReadEnd(end) => end.as_raw_fd(),
+            OpenFile::WriteEnd(end) => end.as_raw_fd(),
         }
     }
 

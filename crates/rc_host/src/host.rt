@@ -2,30 +2,29 @@
 ghost use Rattle.std.specs.Prelude.{◌≡◌, ◌≢◌, ◌↔◌, ℕ, ◌<◌, ◌≤◌, length, string_bytes, vec_len};
 ghost use Rattle.std.specs.Prelude.{None, Some, Ok, Err, IfOk, IfErr, OnOk, OnErr, IsOk, IsSome, IsTrue};
 ghost use Rattle.std.specs.Io.KnownBytes.{Appends};
-ghost use Rattle.std.specs.Process.{SameProgramAndArgs, SameEnv};
 ghost use Rattle.rc_model.specs.declared.call.Fault.TheVariants.{Other, Halt};
 ghost use Rattle.rc_model.specs.declared.limits.TheConstants.{LONGEST_READ};
 ghost use Rattle.rc_world.specs.Faults.{fault_at};
 ghost use Rattle.rc_world.specs.Views.{launch_of};
-ghost use Rattle.rc_host.specs.Commands.{AsksForPlanOf};
 ghost use Rattle.rc_host.specs.Plan.{plan_of};
 ghost use Rattle.rc_host.specs.Table.{held_at, IsLeastFree, AreLeastFree, HoldsTheSame, ChangesOnly};
 ghost use Rattle.rc_host.specs.Host.{shell_of, files_of, children_of, ChangesFilesAlone, ChangesChildrenAlone};
-ghost use Rattle.rc_host.specs.Host.{HoldsAllAlike, AddsFile, AddsPipe, AddsChild, IsThere, AreThere, IsOwn, IsNamed};
+ghost use Rattle.rc_host.specs.Host.{HoldsAllAlike, AddsFile, AddsPipe, AddsChild, IsThere, AreThere, IsOwn};
+ghost use Rattle.rc_host.specs.Host.{descriptor_at, AreNamed, AsksForPlanOf};
 
 use crate::answers::{answer, end_of, kind_found};
 use crate::directory::names_in;
 use crate::files::{OpenFile, here_file, options_of, write_text};
-use crate::launches::command::command_of;
 use crate::launches::planning::plan;
-use crate::launches::streams::{Connected, Stream, own_copy, set_errors, set_input, set_output};
+use crate::launches::request::{Request, request_of};
+use crate::launches::started::{Started, start};
 use crate::leaving::{Leaving, give_up};
 use crate::table::Table;
 use rc_world::{ChildNo, Ending, Fault, Handle, Kind, Launch, Mode, Slot, Slots, World};
 use std::fs::File;
 use std::io::{PipeReader, PipeWriter, Write};
-use std::os::fd::AsRawFd;
-use std::process::{Child, Command};
+use std::os::fd::{AsRawFd, RawFd};
+use std::process::Child;
 use std::rt::HostRuntime;
 use std::{env, fs, io};
 
@@ -38,7 +37,7 @@ pub struct HostWorld {
     rt: HostRuntime,
     shell: String,
     files: Table<OpenFile>,
-    children: Table<Child>,
+    children: Table<Child<Started>>,
     leaving: Leaving,
 }
 
@@ -91,45 +90,29 @@ impl HostWorld {
         }
     }
 
-    /// Sets the descriptors of a command.
-    fn connect(&self, mut command: Command, slots: Slots) -> Result<Connected, Fault>
-        ensures call { IfOk result (λ connected. SameProgramAndArgs command connected.command) }
-        ensures env { IfOk result (λ connected. SameEnv command connected.command) }
-        ensures slots { IfOk result (λ connected. connected.slots ≡ slots) }
+    /// The descriptors of this process that these slots name, in order.
+    fn descriptors(&self, slots: Slots) -> Result<[RawFd; 3], Fault>
+        ensures named { IfOk result (AreNamed (files_of self.now) slots) }
         ensures answered { result ≢ Err Halt }
     {
-        set_input(&mut command, self.stream(slots.input)?, slots);
-        set_output(&mut command, self.stream(slots.output)?, slots);
-        set_errors(&mut command, self.stream(slots.errors)?, slots);
-        Ok(Connected { command, slots })
+        let input = self.descriptor(slots.input)?;
+        let output = self.descriptor(slots.output)?;
+        let errors = self.descriptor(slots.errors)?;
+        Ok([input, output, errors])
     }
 
-    /// Copies the file of a slot, for a descriptor of a child. A child does not inherit the shell's own directly, since
-    /// one that was opened because it was absent is closed there.
-    fn stream(&self, slot: Slot) -> Result<Stream, Fault>
-        ensures made { IfOk result (λ stream. stream.slot ≡ slot) }
+    fn descriptor(&self, slot: Slot) -> Result<RawFd, Fault>
+        ensures named { IfOk result (λ descriptor. descriptor_at (files_of self.now) slot ≡ Some descriptor) }
         ensures answered { result ≢ Err Halt }
     {
-        let copy = match slot {
-            Slot::Own(0) => own_copy(&self.rt.stdin(), slot),
-            Slot::Own(1) => own_copy(&self.rt.stdout(), slot),
-            Slot::Own(2) => own_copy(&self.rt.stderr(), slot),
-            Slot::Own(_) => return Err(Fault::Other),
+        match slot {
+            Slot::Own(own) if own < 3 => Ok(RawFd::from(own)),
+            Slot::Own(_) => Err(Fault::Other),
             Slot::To(named) => match self.files.get(named.0) {
-                Some(file) => self.file_copy(file, slot),
-                None => return Err(Fault::Other),
+                Some(file) => Ok(file.descriptor()),
+                None => Err(Fault::Other),
             },
-        };
-        answer(copy)
-    }
-
-    /// Copies the open file of a slot.
-    fn file_copy(&self, file: &OpenFile, slot: Slot) -> io::Result<Stream>
-        requires { IsNamed (files_of self.now) file.now slot }
-        ensures { IfOk result (λ stream. stream.slot ≡ slot) }
-    {
-        let copy = file.copy()?;
-        Ok(Stream { slot, copy })
+        }
     }
 
     /// Opens the file to be held at this number, for which there is room already.
@@ -157,27 +140,24 @@ impl HostWorld {
         answer(io::pipe(&self.rt))
     }
 
-    /// Starts the command of a launch, whose child is held at this number.
+    /// Starts the program of a launch, whose child is to be held at this number, for which there is room already. The
+    /// child does not inherit the shell's own descriptors but gets copies, since one that was opened because it was
+    /// absent is closed there.
     fn spawn(
-        &mut self,
-        number: u32,
+        &self,
+        _number: u32,
         _launch: &Launch,
-        mut connected: Connected,
-    ) -> Result<ChildNo, Fault>
-        requires place { number < length (children_of self.old) }
-        requires planned { AsksForPlanOf (shell_of self.old) (launch_of _launch.now) connected.command connected.slots }
-        ensures started { IfOk result (λ child. AddsChild self.old self.new child.0) }
-        ensures number { IfOk result (λ child. child.0 ≡ number) }
-        ensures refused { OnErr result (children_of self.new ≡ children_of self.old) }
-        ensures rest { ChangesChildrenAlone self.old self.new }
-        ensures answered { result ≢ Err Halt }
+        request: &Request,
+        descriptors: [RawFd; 3],
+    ) -> io::Result<Child<Started>>
+        requires place { _number < length (children_of self.now) }
+        requires planned { AsksForPlanOf self.now (launch_of _launch.now) request.now descriptors }
     {
-        let said = connected.command.spawn(&self.rt);
-        self.hold(number, said)
+        start(request, descriptors)
     }
 
     /// Holds the child at this number, if Linux started one.
-    fn hold(&mut self, number: u32, said: io::Result<Child>) -> Result<ChildNo, Fault>
+    fn hold(&mut self, number: u32, said: io::Result<Child<Started>>) -> Result<ChildNo, Fault>
         requires { number < length (children_of self.old) }
         ensures held { IfOk said (λ child. (result ≡ Ok (record { 0 = number }))
             × ChangesOnly (children_of self.old) (children_of self.new) number (Some child)) }
@@ -305,11 +285,12 @@ impl World for HostWorld {
         }
         let plan = plan(self.rt.alloc(), launch, &self.shell)?;
         let number = self.children.room()?;
-        let command = command_of(self.rt.alloc(), &plan)?;
+        let request = request_of(self.rt.alloc(), &plan)?;
         let slots = plan.slots;
         drop(plan);
-        let connected = self.connect(command, slots)?;
-        self.spawn(number, launch, connected)
+        let descriptors = self.descriptors(slots)?;
+        let said = self.spawn(number, launch, &request, descriptors);
+        self.hold(number, said)
     }
 
     fn wait(&mut self, child: ChildNo) -> Result<Ending, Fault>

@@ -91,7 +91,7 @@ fn copying_of(output: Slot, errors: Slot) -> Option<Copying>
     })
 }
 
-fn has_equals(program: &str) -> bool
+pub(crate) fn has_equals(program: &str) -> bool
     ensures { result ≡ has_equals program.now }
 {
     program.as_bytes().contains(&b'=')
