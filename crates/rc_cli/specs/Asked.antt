@@ -1,9 +1,9 @@
 -- The request that a `Request` of the program represents.
 use Rattle.std.specs.Prelude.{map, string_bytes}
 use Rattle.rc_cli.specs.Requests as model
-use Rattle.rc_cli.specs.declared.request.Source.{Source}
-use Rattle.rc_cli.specs.declared.request.Source.TheVariants as source
-use Rattle.rc_cli.specs.declared.request.Request.{Request}
+use Rattle.rc_cli.specs.declared.program_request.Source.{Source}
+use Rattle.rc_cli.specs.declared.program_request.Source.TheVariants as source
+use Rattle.rc_cli.specs.declared.program_request.Request.{Request}
 
 -- the source, with its text or its name
 abbrev pub asked_source : Source → model.Source

@@ -4,8 +4,8 @@ ghost use Rattle.rc_cli.specs.Asked.{asked};
 ghost use Rattle.rc_cli.specs.Requests.{request_of, name_of};
 ghost use Rattle.rc_cli.specs.Runs.{Answers, RunsImage, RunsInput, RunsRead, RunsRequest, RunsScript};
 
+use crate::program_request::{Request, Source, request_of};
 use crate::reading::read_script;
-use crate::request::{Request, Source, request_of};
 use crate::run_error::RunError;
 use crate::start::first_state;
 use crate::status::process_status;

@@ -6,7 +6,7 @@ ghost use Rattle.rc_cli.specs.Asked.{asked};
 ghost use Rattle.rc_cli.specs.Start.{first_state, given_state, with_default, with_defaults};
 ghost use Rattle.rc_text.specs.Texts.{text_bytes};
 
-use crate::request::Request;
+use crate::program_request::Request;
 use rc_image::read_state;
 use rc_scope::{State, texts_of};
 use rc_text::Text;

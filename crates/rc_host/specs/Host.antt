@@ -17,7 +17,7 @@ use Rattle.rc_host.specs.Table.{held_at, Adds}
 use Rattle.rc_host.specs.declared.files.OpenFile.{OpenFile}
 use Rattle.rc_host.specs.declared.files.OpenFile.TheVariants.{File, ReadEnd, WriteEnd}
 use Rattle.rc_host.specs.declared.host.HostWorld.{HostWorld}
-use Rattle.rc_host.specs.declared.launches.request.Request.{Request}
+use Rattle.rc_host.specs.declared.launches.launch_request.Request.{Request}
 
 -- the path of the shell's own program
 abbrev pub shell_of : HostWorld → List ℕ

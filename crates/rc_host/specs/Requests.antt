@@ -4,7 +4,7 @@ use Rattle.std.specs.List.{list_any}
 use Rattle.rc_model.specs.declared.call.Fault.{Fault}
 use Rattle.rc_model.specs.declared.call.Fault.TheVariants.{NoMemory, Other}
 use Rattle.rc_host.specs.Plan.{Plan, has_equals}
-use Rattle.rc_host.specs.declared.launches.request.Request.{Request}
+use Rattle.rc_host.specs.declared.launches.launch_request.Request.{Request}
 
 -- texts in a sequence, each terminated by a byte 0
 abbrev pub terminated : List (List ℕ) → List ℕ

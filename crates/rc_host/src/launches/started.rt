@@ -2,7 +2,7 @@
 ghost use Rattle.std.specs.Prelude.{◌≢◌, ℤ, pos, ◌<ℤ◌, IfErr};
 ghost use Rattle.std.specs.IoError.{error_kind};
 
-use crate::launches::request::Request;
+use crate::launches::launch_request::Request;
 use std::io;
 use std::io::ErrorKind;
 use std::marker::Model;

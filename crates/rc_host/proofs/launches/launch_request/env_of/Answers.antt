@@ -2,7 +2,7 @@ use Rattle.std.proofs.Common.{◌≡◌, ◌<◌, [], length, get_or, map, strin
 use Rattle.std.proofs.lemmas.List.{get_or-map, length-map}
 use Rattle.std.proofs.lemmas.Result.{err_from_is_err_and}
 use Rattle.rc_host.proofs.Requests.{not_held_at}
-use Rattle.rc_host.proofs.launches.request.env_of.Goals as goal
+use Rattle.rc_host.proofs.launches.launch_request.env_of.Goals as goal
 
 pub returns-in_err-push_entry-clause-err : goal.returns-in_err-push_entry-clause-err
 returns-in_err-push_entry-clause-err c =

@@ -4,7 +4,7 @@ use Rattle.std.proofs.lemmas.Result.{err_from_is_err_and}
 use Rattle.rc_host.specs.PlanViews.{texts_lent}
 use Rattle.rc_host.specs.Requests.{has_zero}
 use Rattle.rc_host.proofs.Requests.{not_held_at}
-use Rattle.rc_host.proofs.launches.request.args_of.Goals as goal
+use Rattle.rc_host.proofs.launches.launch_request.args_of.Goals as goal
 
 pub returns-in_err-push_text-2-clause-err : goal.returns-in_err-push_text-2-clause-err
 returns-in_err-push_text-2-clause-err c =

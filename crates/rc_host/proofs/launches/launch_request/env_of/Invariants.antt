@@ -1,6 +1,6 @@
 use Rattle.std.proofs.Common.{map, string_bytes, take}
 use Rattle.rc_host.specs.Requests.{Holds, is_no_entry}
-use Rattle.rc_host.proofs.launches.request.env_of.Given as goal
+use Rattle.rc_host.proofs.launches.launch_request.env_of.Given as goal
 
 abbrev pub invariant-loop-entry : goal.invariant-loop-entry
 invariant-loop-entry l = Holds is_no_entry l.texts.items (map string_bytes (take l.entry-index l.entries))
