@@ -2,6 +2,7 @@ pub mod Answers
 pub mod Begun
 pub mod Faults
 pub mod Kept
+pub mod Keywords
 pub mod Parsed
 pub mod Reading
 pub mod Texts

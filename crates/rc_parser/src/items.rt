@@ -1,6 +1,6 @@
 //! The items of a script, which are parsed one after the other, so that no tree holds them all.
 
-ghost use Rattle.std.specs.Prelude.{◌≡◌, ◌≤◌, ◌<◌, IfOk, IsSome, List, length, ℕ};
+ghost use Rattle.std.specs.Prelude.{◌≡◌, ◌≤◌, ◌<◌, IfOk, IsSome, List, Ok, length, ℕ};
 ghost use Rattle.rc_lexer.specs.Views.{tokens_of};
 ghost use Rattle.rc_model.specs.Mirrors.Descent.{script_tree};
 ghost use Rattle.rc_model.specs.Syntax.Accepted.{HasTokens, lexemes, longest_script};
@@ -37,7 +37,8 @@ pub struct Items<'a> {
 }
 
 impl<'a> Items<'a> {
-    ghost use Rattle.rc_parser.specs.ItemReading.{HasRead, ReadsItem, turns_left};
+    ghost use Rattle.rc_parser.specs.ItemReading.{HasRead, ReadsItem, items_after, turns_left};
+    ghost use Rattle.rc_parser.specs.Tokens.{lexemes_of};
 
     /// All items of a script with its tokens.
     pub fn new(alloc: Global, source: &'a Source<'a>) -> Items<'a>
@@ -71,6 +72,22 @@ impl<'a> Items<'a> {
         }
     }
 
+    /// Ends the script after its last item, or refuses it: tokens are left, or an item is too deep.
+    fn end(&self, rest: Tokens<'_>) -> Result<Option<Item>, ScriptError>
+        ensures read { (script : List ℕ) (front : Many t.item) → HasRead script front self.now →
+            items_after 199 self.now.turns self.now.after_if (lexemes_of self.now.rest) front
+            ≡ Ok (front, lexemes_of rest.entry) → ReadsItem script front self.now result }
+        ensures none { IfOk result (λ item. IsSome item → ⊥) }
+    {
+        if rest.len() != 0 {
+            return Err(self.refusal(fault_at(DescentFault::Unexpected, rest)));
+        }
+        if !self.fits {
+            return Err(self.refusal(fault_at(DescentFault::TooDeep, rest)));
+        }
+        Ok(None)
+    }
+
     /// Parses the next item, or returns `None` after the last one. Whether the script has a tree is known only then.
     pub fn next(&mut self) -> Result<Option<Item>, ScriptError>
         ensures read { (script : List ℕ) (front : Many t.item) → HasRead script front self.old →
@@ -89,13 +106,7 @@ impl<'a> Items<'a> {
             Err(error) => return Err(self.refusal(error)),
         };
         let Some(item) = item else {
-            if rest.len() != 0 {
-                return Err(self.refusal(fault_at(DescentFault::Unexpected, rest)));
-            }
-            if !self.fits {
-                return Err(self.refusal(fault_at(DescentFault::TooDeep, rest)));
-            }
-            return Ok(None);
+            return self.end(rest);
         };
         self.rest = rest;
         self.turns = turns;

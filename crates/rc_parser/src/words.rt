@@ -8,6 +8,7 @@ ghost use Rattle.rc_model.specs.Syntax.Tree as t;
 ghost use Rattle.rc_tree.specs.View.{arg_tree, redir_tree};
 ghost use Rattle.rc_parser.specs.Answers.{Gives};
 ghost use Rattle.rc_parser.specs.Reading.{here_doc_by, literal_by};
+ghost use Rattle.rc_parser.specs.Keywords.{begins_keyword};
 ghost use Rattle.rc_parser.specs.Tokens.{lexemes_of};
 
 use crate::here_pieces::pieces;
@@ -21,11 +22,24 @@ use rc_tree::{Arg, Redir};
 use std::alloc::{AllocError, Global};
 use std::str;
 
-/// Which keyword an unquoted word is.
-#[tactic(auto, using(crate::proofs::Keywords::no_keyword))]
+/// Whether a keyword begins with this byte.
+fn begins_keyword(b: u8) -> bool
+    ensures { result ≡ begins_keyword b }
+{
+    match b {
+        b'f' | b'i' | b'w' | b'n' | b's' | b'~' | b'!' | b'@' => true,
+        _ => false,
+    }
+}
+
+/// Which keyword an unquoted word is. Most words are known to be none by their first byte.
+#[tactic(auto, using(crate::proofs::Keywords::no_keywords))]
 pub(crate) fn keyword_of(word: &[u8]) -> Keyword
     ensures { result ≡ keyword word.now }
 {
+    if word.is_empty() || !begins_keyword(word[0]) {
+        return Keyword::Plain;
+    }
     match str::from_utf8(word) {
         Ok(word) => Keyword::named(word),
         Err(_) => Keyword::Plain,

@@ -1,13 +1,13 @@
-use Rattle.std.proofs.Common.{◌≡◌, ◌∙◌, ◌&&◌, nat_le, sym, ap, subst}
-use Rattle.rc_lexer.specs.Views.{tokens_of}
-use Rattle.rc_model.specs.Syntax.Accepted.{lexemes}
+use Rattle.std.proofs.Common.{◌≡◌, ◌∙◌, ◌&&◌, nat_le, Result, Ok, Err, IfOk, sym, ap, subst}
+use Rattle.std.specs.Prelude.{IsSome, Option}
+use Rattle.rc_lexer.specs.Answers.{ScriptError}
 use Rattle.rc_model.specs.Syntax.Tree.{snoc}
 use Rattle.rc_model.specs.Syntax.WellFormed.{depth}
 use Rattle.rc_tree.specs.View.{item_tree}
+use Rattle.rc_tree.specs.declared.types.Item.{Item}
 use Rattle.rc_parser.specs.ItemReading.{after_item, items_after}
 use Rattle.rc_parser.specs.Tokens.{lexemes_of}
-use Rattle.rc_parser.proofs.ReadItems.{all_read, fails_whole, fits_more}
-use Rattle.rc_parser.proofs.Scripts.{script_goes_on, script_unfit}
+use Rattle.rc_parser.proofs.ReadItems.{fails_whole, fits_more}
 use Rattle.rc_parser.proofs.items.Items.next.Goals.{then-self, else-self}
 use Rattle.rc_parser.proofs.items.Items.next.Goals as goal
 
@@ -15,27 +15,19 @@ pub returns-in-Err-clause-read : goal.returns-in-Err-clause-read
 returns-in-Err-clause-read c = λ script front h.
     (rw h.script_is at c.refusal.ensures) h.has (fails_whole _ _ _ h.goes_on (c.in-Err.ensures.found front))
 
-pub returns-then-len-ne0-clause-read : goal.returns-then-len-ne0-clause-read
-returns-then-len-ne0-clause-read c = λ script front h.
-    let rest = lexemes_of c.in-Ok.found.rest in
-    let ts = lexemes (tokens_of script c.args.self.now.source.now.tokens.now) in
-    let at_end = subst (λ o. items_after 199 c.args.self.now.turns c.args.self.now.after_if (lexemes_of c.args.self.now.rest) front ≡ after_item 199 c.in-Ok.found.turns o rest front) c.in_default.is (c.in-Ok.ensures.found front) in
-    (rw h.script_is at c.refusal-then-len-ne0.ensures) h.has
-    (rw c.fault_at.ensures (script_goes_on 200 ts front rest (h.goes_on ∙ at_end) (λ z. c.if-len-ne0.true (c.len.ensures ∙ z))))
-
-pub returns-then-not-self-clause-read : goal.returns-then-not-self-clause-read
-returns-then-not-self-clause-read c = λ script front h.
-    let rest = lexemes_of c.in-Ok.found.rest in
-    let ts = lexemes (tokens_of script c.args.self.now.source.now.tokens.now) in
-    let at_end = subst (λ o. items_after 199 c.args.self.now.turns c.args.self.now.after_if (lexemes_of c.args.self.now.rest) front ≡ after_item 199 c.in-Ok.found.turns o rest front) c.in_default.is (c.in-Ok.ensures.found front) in
-    (rw h.script_is at c.refusal-then-not-self.ensures) h.has
-    (rw c.fault_at-then-not-self.ensures (script_unfit 200 ts front rest (h.goes_on ∙ at_end) (sym c.len.ensures ∙ c.if-len-ne0.false) (sym h.fits_is ∙ c.if-not-self.true)))
-
 pub returns-in_default-clause-read : goal.returns-in_default-clause-read
 returns-in_default-clause-read c = λ script front h.
     let rest = lexemes_of c.in-Ok.found.rest in
-    let at_end = subst (λ o. items_after 199 c.args.self.now.turns c.args.self.now.after_if (lexemes_of c.args.self.now.rest) front ≡ after_item 199 c.in-Ok.found.turns o rest front) c.in_default.is (c.in-Ok.ensures.found front) in
-    all_read script (tokens_of script c.args.self.now.source.now.tokens.now) front rest h.has (h.goes_on ∙ at_end) (sym c.len.ensures ∙ c.if-len-ne0.false) (sym h.fits_is ∙ c.if-not-self.false)
+    c.end.ensures.read script front h
+    (subst (λ o. items_after 199 c.args.self.now.turns c.args.self.now.after_if (lexemes_of c.args.self.now.rest) front ≡ after_item 199 c.in-Ok.found.turns o rest front) c.in_default.is (c.in-Ok.ensures.found front))
+
+-- after the last item nothing is owed
+none_more : (result : Result (Option Item) ScriptError) (P : Type 0) → IfOk result (λ item. IsSome item → ⊥) → IfOk result (λ item. IsSome item → P)
+none_more (Ok item) P last = λ some. absurd (last some)
+none_more (Err e) P last = tt
+
+pub returns-in_default-clause-fewer : goal.returns-in_default-clause-fewer
+returns-in_default-clause-fewer c = none_more _ _ c.end.ensures.none
 
 pub returns-clause-read : goal.returns-clause-read
 returns-clause-read c = λ script front h.
