@@ -8,8 +8,8 @@ use Rattle.rc_model.specs.Mirrors.Descent as d
 use Rattle.rc_model.specs.Mirrors.Descent.{Read, Reader, ◌>>=◌}
 use Rattle.rc_model.specs.declared.fault.DescentFault.TheVariants.{Unexpected}
 use Rattle.rc_tree.specs.View.{cmd_tree, arg_tree}
-use Rattle.rc_parser.specs.declared.descent.stages.Opening.{Opening}
-use Rattle.rc_parser.specs.declared.descent.stages.Opening.TheVariants as o
+use Rattle.rc_parser.specs.declared.descent.openings.Opening.{Opening}
+use Rattle.rc_parser.specs.declared.descent.openings.Opening.TheVariants as o
 
 -- a stage, or the name of an assignment
 abbrev pub opening_of : Opening → d.Opening

@@ -7,7 +7,7 @@ ghost use Rattle.rc_parser.specs.Tokens.{lexemes_of};
 use crate::descent::commands::parse_command;
 use crate::lookahead::{ends, item_end};
 use crate::token_faults::TokenError;
-use crate::tokens::Tokens;
+use crate::token_stream::Tokens;
 use rc_lexer::TokenKind;
 use rc_tree::Item;
 use std::alloc::Global;

@@ -13,7 +13,7 @@ ghost use Rattle.rc_parser.specs.Faults.{Refuses};
 use crate::found_items::{Found, find_item};
 use crate::syntax_faults::syntax_fault;
 use crate::token_faults::{TokenError, fault_at};
-use crate::tokens::{Source, Tokens};
+use crate::token_stream::{Source, Tokens};
 use rc_lexer::ScriptError;
 use rc_model::limits::MOST_LEVELS;
 use rc_model::{DescentFault, InputError};

@@ -7,7 +7,7 @@ ghost use Rattle.rc_model.specs.Syntax.Accepted.{HasTokens, longest_script};
 ghost use Rattle.rc_parser.specs.Faults.{Refuses};
 
 use crate::text::checked;
-use crate::tokens::Source;
+use crate::token_stream::Source;
 use rc_lexer::{ScriptError, Token};
 use std::marker::Model;
 

@@ -8,13 +8,13 @@ mod here_pieces;
 mod items;
 mod lexed_script;
 mod lookahead;
+mod parsed_words;
 mod reader;
 mod syntax_faults;
 mod text;
 mod token_faults;
-mod tokens;
+mod token_stream;
 mod trees;
-mod words;
 
 ghost use Rattle.std.specs.Prelude.{◌≡◌, IfOk, IfErr};
 ghost use Rattle.rc_model.specs.Syntax.Accepted.{IsAccepted};
@@ -30,7 +30,7 @@ use rc_tree::Cmd;
 pub use reader::Reader;
 use std::alloc::Global;
 pub use token_faults::{TokenError, TokenFault};
-pub use tokens::{Source, Tokens};
+pub use token_stream::{Source, Tokens};
 pub use trees::script;
 
 /// Parses a script into its tree, or returns its first fault. The faults come in this order: it is too long, it is not

@@ -8,9 +8,9 @@ ghost use Rattle.rc_model.specs.Mirrors.Descent.{begins_leading, item_end};
 ghost use Rattle.rc_parser.specs.Tokens.{lexemes_of};
 ghost use Rattle.rc_parser.specs.Answers.{Gives};
 
+use crate::parsed_words::{is_case, keyword_of};
 use crate::token_faults::{TokenError, fault_at};
-use crate::tokens::Tokens;
-use crate::words::{is_case, keyword_of};
+use crate::token_stream::Tokens;
 use rc_lexer::TokenKind;
 use rc_model::{DescentFault, Keyword};
 

@@ -12,7 +12,7 @@ ghost use Rattle.rc_tree.specs.View.{cmd_tree};
 
 use crate::lexed_script::LexedScript;
 use crate::syntax_faults::syntax_fault;
-use crate::tokens::{Source, Tokens};
+use crate::token_stream::{Source, Tokens};
 use crate::trees::script;
 use rc_lexer::{Pieces, ScriptError};
 use rc_model::limits::LONGEST_SCRIPT;

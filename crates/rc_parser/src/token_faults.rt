@@ -3,7 +3,7 @@
 ghost use Rattle.std.specs.Prelude.{◌≡◌, length};
 ghost use Rattle.rc_parser.specs.Tokens.{lexemes_of};
 
-use crate::tokens::Tokens;
+use crate::token_stream::Tokens;
 use rc_model::{DescentFault, InputError};
 
 /// A fault of the tokens, with how many of them were left there.

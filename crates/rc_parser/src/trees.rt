@@ -12,7 +12,7 @@ ghost use Rattle.rc_parser.specs.Answers.{Gives, HasFault};
 
 use crate::descent::command_lists::parse_list;
 use crate::token_faults::{TokenError, fault_at};
-use crate::tokens::Tokens;
+use crate::token_stream::Tokens;
 use rc_model::DescentFault;
 use rc_model::limits::MOST_LEVELS;
 use rc_nodes::seq;

@@ -8,7 +8,7 @@ ghost use Rattle.rc_parser.specs.Answers.{Gives};
 use crate::descent::commands::parse_command;
 use crate::lookahead::{ends, item_end};
 use crate::token_faults::{TokenError, fault_at};
-use crate::tokens::Tokens;
+use crate::token_stream::Tokens;
 use rc_lexer::TokenKind;
 use rc_model::DescentFault;
 use rc_nodes::{allows_if_not, push_item, seq};

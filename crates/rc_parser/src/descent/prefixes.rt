@@ -11,11 +11,11 @@ ghost use Rattle.rc_parser.specs.Reading.{made};
 
 use crate::descent::arguments::parse_argument;
 use crate::descent::commands::{parse_inner_operand, parse_leading, parse_pipeline};
+use crate::descent::openings::{Opening, parse_opening};
 use crate::descent::redirections::{parse_redirection, parse_redirections};
-use crate::descent::stages::{Opening, parse_opening};
 use crate::lookahead::{begins_command, begins_leading};
 use crate::token_faults::TokenError;
-use crate::tokens::Tokens;
+use crate::token_stream::Tokens;
 use rc_nodes::{assigned, empty, insert_redir, push_pair, redirected};
 use rc_tree::{Arg, Cmd};
 use std::alloc::{AllocError, Global};

@@ -7,9 +7,9 @@ ghost use Rattle.rc_parser.specs.Tokens.{lexemes_of};
 ghost use Rattle.rc_parser.specs.Answers.{Gives};
 ghost use Rattle.rc_parser.specs.Reading.{made};
 
+use crate::parsed_words::parse_literal;
 use crate::token_faults::{TokenError, fault_at};
-use crate::tokens::Tokens;
-use crate::words::parse_literal;
+use crate::token_stream::Tokens;
 use rc_lexer::TokenKind;
 use rc_model::DescentFault;
 use rc_nodes::{count, flat, variable};

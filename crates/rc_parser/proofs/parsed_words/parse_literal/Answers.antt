@@ -1,5 +1,5 @@
 use Rattle.rc_parser.proofs.Spelled.{word_is_text, quoted_is_text, name_said_is_text}
-use Rattle.rc_parser.proofs.words.parse_literal.Goals as goal
+use Rattle.rc_parser.proofs.parsed_words.parse_literal.Goals as goal
 
 pub plain-requires : goal.plain-requires
 plain-requires c =

@@ -17,9 +17,9 @@ use crate::descent::command_lists::parse_brace;
 use crate::descent::redirections::{parse_redirection, parse_redirections};
 use crate::descent::switches::parse_switch;
 use crate::lookahead::{begins_arg, begins_brace, begins_redir, past_caret};
+use crate::parsed_words::keyword_of;
 use crate::token_faults::{TokenError, fault_at};
-use crate::tokens::Tokens;
-use crate::words::keyword_of;
+use crate::token_stream::Tokens;
 use rc_lexer::TokenKind;
 use rc_model::{DescentFault, Keyword};
 use rc_nodes::{

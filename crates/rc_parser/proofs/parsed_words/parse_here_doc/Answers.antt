@@ -1,7 +1,7 @@
 use Rattle.std.proofs.Common.{sym, subst}
 use Rattle.std.specs.Str.{IsUtf8}
 use Rattle.rc_parser.proofs.Spelled.{body_is_text}
-use Rattle.rc_parser.proofs.words.parse_here_doc.Goals as goal
+use Rattle.rc_parser.proofs.parsed_words.parse_here_doc.Goals as goal
 
 pub here-requires : goal.here-requires
 here-requires c =

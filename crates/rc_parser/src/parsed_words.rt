@@ -13,7 +13,7 @@ ghost use Rattle.rc_parser.specs.Tokens.{lexemes_of};
 
 use crate::here_pieces::pieces;
 use crate::token_faults::{TokenError, fault_at};
-use crate::tokens::Tokens;
+use crate::token_stream::Tokens;
 use rc_lexer::TokenKind;
 use rc_model::{DescentFault, Keyword};
 use rc_nodes::{here_doc, literal};
