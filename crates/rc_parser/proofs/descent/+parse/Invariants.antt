@@ -47,8 +47,8 @@ decreases-arguments::parse_dollar l = 16 * l.below + 4
 abbrev pub decreases-redirections::parse_redirections : goal.decreases-redirections::parse_redirections
 decreases-redirections::parse_redirections l = 16 * l.left + 5
 
-abbrev pub decreases-stages::parse_simple : goal.decreases-stages::parse_simple
-decreases-stages::parse_simple l = 16 * l.left + 5
+abbrev pub decreases-openings::parse_simple : goal.decreases-openings::parse_simple
+decreases-openings::parse_simple l = 16 * l.left + 5
 
 abbrev pub decreases-command_lists::parse_brace : goal.decreases-command_lists::parse_brace
 decreases-command_lists::parse_brace l = 16 * l.below + 1
@@ -71,26 +71,26 @@ decreases-switches::parse_cases l = 16 * l.below + 5
 abbrev pub decreases-switches::parse_switch : goal.decreases-switches::parse_switch
 decreases-switches::parse_switch l = 16 * l.below + 6
 
-abbrev pub decreases-stages::parse_match : goal.decreases-stages::parse_match
-decreases-stages::parse_match l = 16 * l.below + 4
+abbrev pub decreases-openings::parse_match : goal.decreases-openings::parse_match
+decreases-openings::parse_match l = 16 * l.below + 4
 
-abbrev pub decreases-stages::parse_defined : goal.decreases-stages::parse_defined
-decreases-stages::parse_defined l = 16 * l.below + 2
+abbrev pub decreases-openings::parse_defined : goal.decreases-openings::parse_defined
+decreases-openings::parse_defined l = 16 * l.below + 2
 
-abbrev pub decreases-stages::parse_define : goal.decreases-stages::parse_define
-decreases-stages::parse_define l = 16 * l.below + 4
+abbrev pub decreases-openings::parse_define : goal.decreases-openings::parse_define
+decreases-openings::parse_define l = 16 * l.below + 4
 
-abbrev pub decreases-stages::parse_block : goal.decreases-stages::parse_block
-decreases-stages::parse_block l = 16 * l.below + 6
+abbrev pub decreases-openings::parse_block : goal.decreases-openings::parse_block
+decreases-openings::parse_block l = 16 * l.below + 6
 
-abbrev pub decreases-stages::parse_simple_command : goal.decreases-stages::parse_simple_command
-decreases-stages::parse_simple_command l = 16 * l.below + 6
+abbrev pub decreases-openings::parse_simple_command : goal.decreases-openings::parse_simple_command
+decreases-openings::parse_simple_command l = 16 * l.below + 6
 
-abbrev pub decreases-stages::parse_first : goal.decreases-stages::parse_first
-decreases-stages::parse_first l = 16 * l.below + 7
+abbrev pub decreases-openings::parse_first : goal.decreases-openings::parse_first
+decreases-openings::parse_first l = 16 * l.below + 7
 
-abbrev pub decreases-stages::parse_opening : goal.decreases-stages::parse_opening
-decreases-stages::parse_opening l = 16 * l.below + 8
+abbrev pub decreases-openings::parse_opening : goal.decreases-openings::parse_opening
+decreases-openings::parse_opening l = 16 * l.below + 8
 
 abbrev pub decreases-controls::parse_body : goal.decreases-controls::parse_body
 decreases-controls::parse_body l = 16 * l.below + 1
@@ -180,8 +180,8 @@ invariant-redirections::parse_redirections-loop l =
     (lexemes_of l.rest)
     ≡ d.redirs_by (d.read l.left (d.a_part false)) (lexemes_of l.tokens)
 
-abbrev pub invariant-stages::parse_simple-loop : goal.invariant-stages::parse_simple-loop
-invariant-stages::parse_simple-loop l =
+abbrev pub invariant-openings::parse_simple-loop : goal.invariant-openings::parse_simple-loop
+invariant-openings::parse_simple-loop l =
     d.simple_from (d.read l.left (d.a_part false)) (l.turns - l.counter) (args_tree l.words.items)
     (redirs_tree l.redirs.items) (lexemes_of l.rest)
     ≡ d.simple_by (d.read l.left (d.a_part false)) (lexemes_of l.tokens)
