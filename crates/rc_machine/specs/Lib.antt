@@ -11,4 +11,5 @@ pub mod Pipelines
 pub mod Runs
 pub mod Machines
 pub mod Instructions
+pub mod Sequences
 pub mod Standings

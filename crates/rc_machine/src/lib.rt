@@ -6,6 +6,7 @@ mod control;
 mod descriptors;
 mod expressions;
 mod machine;
+mod sequences;
 mod stack;
 mod steps;
 

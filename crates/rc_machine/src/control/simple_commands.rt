@@ -5,7 +5,7 @@ ghost use Rattle.rc_machine.specs.Instructions.{Executes};
 
 use crate::configuration::lookups::take_texts;
 use crate::configuration::{Configuration, Move};
-use crate::control::calls::{call, enter};
+use crate::control::function_calls::{call, enter};
 use rc_builtin::{Outcome, run_words};
 use rc_text::is_true;
 use rc_world::{Stop, World};

@@ -1,4 +1,4 @@
 //! Instructions that redirect, and those that start subshells.
 
-pub(crate) mod redirections;
+pub(crate) mod open_redirections;
 pub(crate) mod shells;

@@ -1,9 +1,8 @@
 //! Instructions that read and assign variables.
 
-ghost use Rattle.std.specs.Prelude.{◌≡◌, IfOk, MatchOption, option_map};
+ghost use Rattle.std.specs.Prelude.{◌≡◌, option_map};
 ghost use Rattle.rc_model.specs.Code.Layout as op;
-ghost use Rattle.rc_machine.specs.Configurations.{config_of};
-ghost use Rattle.rc_machine.specs.Instructions.{Executes, Moves};
+ghost use Rattle.rc_machine.specs.Instructions.{Executes};
 ghost use Rattle.rc_machine.specs.Names.{the_name};
 ghost use Rattle.rc_machine.specs.Tops.{uppermost};
 ghost use Rattle.rc_model.specs.Run.State.{is_name};
@@ -15,9 +14,11 @@ use crate::configuration::lookups::{
 use crate::configuration::parts::Scope;
 use crate::configuration::{Configuration, Move};
 use crate::stack::Stack;
+use rc_model::InputError;
+use rc_scope::NameFault;
 use rc_text::{Text, Word};
 use rc_world::{Stop, World};
-use std::alloc::{AllocError, Global};
+use std::alloc::Global;
 
 /// `$x`.
 #[inline(never)]
@@ -114,27 +115,6 @@ fn name_on_top(words: &Stack<Word>) -> Option<&str>
     variable_name(words.top()?)
 }
 
-/// Assigns if the two lists on top are the name of a variable and one text, which are taken off then.
-fn assign_one(machine: &mut Configuration) -> Result<Option<Move>, AllocError>
-    ensures { IfOk result (λ assigned. MatchOption assigned (config_of machine.new ≡ config_of machine.old)
-        (Moves op.Assign machine.old machine.new)) }
-{
-    let Some((words, [_])) = machine.words.top_two() else {
-        return Ok(None);
-    };
-    let Some(_) = variable_name(words) else {
-        return Ok(None);
-    };
-    let Some((name, word)) = machine.words.take_pair() else {
-        return Ok(None);
-    };
-    let text = word.into_text()?;
-    let Ok(()) = machine.state.set_one(name.text(), text) else {
-        return Err(AllocError);
-    };
-    Ok(Some(Move::On))
-}
-
 /// Assigns whatever the two lists on top are.
 #[tactic(auto, using(crate::proofs::Left::step_refused))]
 fn assign_list<W: World>(
@@ -169,10 +149,15 @@ pub(crate) fn assign<W: World>(
 ) -> Result<Move, Stop>
     ensures { Executes (W.events world.old) (W.events world.new) op.Assign machine.old machine.new result }
 {
-    if let Some(moved) = assign_one(machine)? {
-        return Ok(moved);
+    let Some((name, word)) = machine.words.take_pair() else {
+        return assign_list(machine, alloc, world);
+    };
+    let text = word.into_text()?;
+    match machine.state.set_one(name.text(), text) {
+        Ok(()) => Ok(Move::On),
+        Err(InputError::Fault(NameFault::BadName)) => machine.fail_bad_name(alloc, world),
+        Err(InputError::NoMemory) => Err(Stop::NoMemory),
     }
-    assign_list(machine, alloc, world)
 }
 
 /// `x=.. command`.

@@ -123,10 +123,10 @@ impl<T: Drop> Stack<T> {
         let ([_], [_]) = self.top_two()? else {
             return None;
         };
-        let second = self.take_last()?;
-        self.drop_top();
-        let first = self.take_last()?;
-        self.drop_top();
+        let second = self.items.pop()?;
+        let first = self.items.pop()?;
+        self.starts.pop();
+        self.starts.pop();
         Some((first, second))
     }
 
@@ -147,7 +147,7 @@ impl<T: Drop> Stack<T> {
     pub(crate) fn drop_two(&mut self)
         ensures { self.new ≡ below_two self.old }
     {
-        self.drop_top();
+        self.join();
         self.drop_top();
     }
 }
