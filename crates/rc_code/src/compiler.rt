@@ -47,7 +47,8 @@ impl Compiler {
     /// The code of all items as a script, which ends with a `Return`.
     pub fn finish(self) -> Result<Code, AllocError>
         requires { (items : Many tree.item) × HasCompiled items self × IsProperTree (Seq items) }
-        ensures { (items : Many tree.item) → HasCompiled items self → IfOk result (λ done. code_of done ≡ code (Seq items)) }
+        ensures { (items : Many tree.item) → HasCompiled items self →
+            IfOk result (λ done. code_of done ≡ code (Seq items)) }
     {
         let Compiler { alloc, mut listing } = self;
         let written = listing.put(Op::Return);

@@ -1,7 +1,7 @@
 -- Separators in a text.
 use Rattle.std.proofs.Common.{◌≡◌, ◌<◌, ◌≤◌, ◌+◌, ◌-◌, ℕ, Bool, false, inl, inr, List, [], ◌∷◌, ◌++◌, length, get_or, take, drop, append_assoc, refl, ap, sym, subst, ◌∙◌, arith}
 use Rattle.std.proofs.lemmas.Bool.{cases_lt, ne_eqb}
-use Rattle.std.proofs.Math.Seq.{take-append_seam}
+use Rattle.std.proofs.Math.Seq.{take-append_seam, take-length}
 use Rattle.std.proofs.lemmas.List.{length-append, length-take-le, take-append-drop}
 use Rattle.std.proofs.lemmas.List.Elements.{All-head, All-more, All-tail, All-weaker}
 use Rattle.std.proofs.lemmas.Str.{encode_ascii, encodes-chars, IsCharBoundary-at_seam, IsCharBoundary-before_ascii, IsCharBoundary-end, IsUtf8-take, NoCharPasses-append}
@@ -37,6 +37,14 @@ none_passes : (greatest : ℕ) (separators cs : List ℕ) → greatest < 128 →
 none_passes greatest separators [] small are h = tt
 none_passes greatest separators (c ∷ cs) small are h =
     (none_above greatest c separators are (character_above greatest c (encode_utf8_all cs) small h), none_passes greatest separators cs small are (rest_above greatest (encode_utf8 c) (encode_utf8_all cs) h))
+
+-- with no separators, each text is without them
+none_among_none : (cs : List ℕ) → NonePass (among []) cs
+none_among_none [] = tt
+none_among_none (c ∷ cs) = (refl, none_among_none cs)
+
+pub skip_all : (text : List ℕ) → IsUtf8 text → NoCharPasses (among []) (take (length text) text)
+skip_all text u = subst (NoCharPasses (among [])) (sym (take-length text)) (chars text, encodes-chars text u, none_among_none (chars text))
 
 -- where bytes above all separators end
 pub skip_boundary : (greatest n : ℕ) (text : List ℕ) → greatest < 128 → n ≤ length text → (n < length text → get_or text n 0 ≤ greatest) → IsCharBoundary text n

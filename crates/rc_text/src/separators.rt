@@ -55,13 +55,16 @@ impl Separators {
         c <= self.greatest && self.all.iter().any(|separator| *separator == c)
     }
 
-    /// The length of a prefix that has no separator, because each of its bytes is greater than all separators. It is 0
-    /// if one of those is not ASCII.
+    /// The length of a prefix that has no separator: the whole text if there are none, and else its bytes that are
+    /// greater than all separators. It is 0 if one of those is not ASCII.
     pub(crate) fn skipped(&self, text: &str) -> usize
         ensures bound { result ≤ length text.now }
         ensures boundary { IsCharBoundary text.now result }
         ensures none { NoCharPasses (among self.now) (take result text.now) }
     {
+        if self.all.is_empty() {
+            return text.len();
+        }
         if !self.greatest.is_ascii() {
             return 0;
         }

@@ -3,7 +3,7 @@
 ghost use Rattle.std.specs.Prelude.{◌≡◌, [], ◌∷◌, IfOk, OnOk, map, option_map, string_bytes};
 ghost use Rattle.rc_machine.specs.Names.{read, the_name};
 ghost use Rattle.rc_machine.specs.Tops.{uppermost};
-ghost use Rattle.rc_machine.specs.Lists.{below_top};
+ghost use Rattle.rc_machine.specs.Lists.{TakesLast, below_top};
 ghost use Rattle.rc_model.specs.Run.State.{is_name, is_readable};
 ghost use Rattle.rc_model.specs.Syntax.Words.{plain_words, word_texts};
 ghost use Rattle.rc_scope.specs.States.{state_of};
@@ -25,6 +25,20 @@ pub(crate) fn texts(alloc: Global, words: &[Word]) -> Result<Vec<String>, AllocE
     Ok(texts)
 }
 
+/// After how many words that were popped their room is given back, so that a long list does not take the room of both
+/// its words and its texts.
+const WORDS_AT_ONCE: usize = 65_536;
+
+/// Pops the last word of the top list, if it has one, after so many others, whose room is given back from time to time.
+fn pop_word(words: &mut Stack<Word>, popped: usize) -> Option<Word>
+    ensures { TakesLast words.old words.new result }
+{
+    if popped % WORDS_AT_ONCE == WORDS_AT_ONCE - 1 {
+        words.shrink();
+    }
+    words.take_last()
+}
+
 /// Pops the top list and returns its texts, or none if there is no list.
 pub(crate) fn take_texts(alloc: Global, words: &mut Stack<Word>) -> Result<Vec<Text>, AllocError>
     ensures texts { IfOk result (λ texts. map text_bytes texts.items ≡ word_texts (uppermost words.old)) }
@@ -32,7 +46,7 @@ pub(crate) fn take_texts(alloc: Global, words: &mut Stack<Word>) -> Result<Vec<T
 {
     let count = words.top().map_or(0, |list| list.len());
     let mut texts = Vec::with_capacity(alloc, count)?;
-    while let Some(word) = words.take_last() {
+    while let Some(word) = pop_word(words, texts.len()) {
         texts.push(word.into_text()?)?;
     }
     words.drop_top();

@@ -63,6 +63,13 @@ impl<T: Drop> Stack<T> {
         self.items.reserve(count)
     }
 
+    /// Gives back the room that no element needs.
+    pub(crate) fn shrink(&mut self)
+        ensures { self.new ≡ self.old }
+    {
+        self.items.shrink_to_fit();
+    }
+
     /// Pushes a list.
     pub(crate) fn put(&mut self, mut list: Vec<T>) -> Result<(), AllocError>
         ensures ok { OnOk result (self.new ≡ list.items ∷ self.old) }

@@ -1,12 +1,19 @@
-use Rattle.std.proofs.Common.{◌<◌, take, subst, arith}
+use Rattle.std.proofs.Common.{rules, ◌≡◌, ◌<◌, ◌∙◌, [], length, take, subst, sym, arith}
+use Rattle.std.proofs.lemmas.List.{nil_from_length}
 use Rattle.std.proofs.lemmas.Str.{IsCharBoundary-start}
 use Rattle.std.specs.Str.{NoCharPasses}
 use Rattle.rc_text.specs.Members.{among}
-use Rattle.rc_text.proofs.Cuts.{skip_boundary, skip_none}
+use Rattle.rc_text.proofs.Cuts.{skip_all, skip_boundary, skip_none}
 use Rattle.rc_text.proofs.separators.Separators.skipped.Goals as goal
 
 pub returns-then-not-is_ascii-clause-boundary : goal.returns-then-not-is_ascii-clause-boundary
 returns-then-not-is_ascii-clause-boundary c = IsCharBoundary-start _ c.utf8.text
+
+pub returns-then-is_empty-clause-none : goal.returns-then-is_empty-clause-none
+returns-then-is_empty-clause-none c =
+    let long : length c.self.inside.all.items ≡ 0 = search rules in
+    let nothing : [] ≡ c.args.self.now = sym (nil_from_length _ long) ∙ c.self.view_is in
+    subst (λ cs. NoCharPasses (among cs) (take (length c.args.text.now) c.args.text.now)) nothing (skip_all _ c.utf8.text)
 
 pub returns-clause-none : goal.returns-clause-none
 returns-clause-none c =
