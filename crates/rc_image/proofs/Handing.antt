@@ -1,7 +1,9 @@
 -- The entries of a launch, variable by variable.
-use Rattle.std.proofs.Common.{◌≡◌, ℕ, Bool, true, false, not, cond, List, [], ◌∷◌, ◌++◌, length, map, refl, sym, ap, ◌∙◌, arith, append_assoc, ◌&&◌, ◌==◌, ◌<◌, ◌≤◌, ◌+◌, codes, take, drop, get_or, drop-cons, add-one, subst}
+use Rattle.std.proofs.Common.{◌≡◌, ℕ, Bool, true, false, not, cond, List, [], ◌∷◌, ◌++◌, length, map, refl, sym, ap, ◌∙◌, arith, append_assoc, ◌&&◌, ◌==◌, ◌<◌, ◌+◌, codes, take, drop, get_or, drop-cons, add-one, subst}
 use Rattle.std.proofs.lemmas.Bool.{ne_eqb}
-use Rattle.std.proofs.lemmas.List.{drop_at, length-append, take_at}
+use Rattle.std.proofs.lemmas.List.{drop_at, get_or_at, length-append, take_at}
+use Rattle.std.proofs.lemmas.Str.{IsCharBoundary-before_ascii}
+use Rattle.std.specs.Str.{IsCharBoundary}
 use mathlib.Core.Bool.{true≢false}
 use Rattle.std.specs.declared.cmp.Ordering.TheVariants.{Less, Equal, Greater}
 use Rattle.rc_text.specs.Texts.{text_bytes}
@@ -117,11 +119,13 @@ function_left ds i d lt is = drop-cons ds i d lt ∙ ap (λ n. get_or ds i d ∷
 
 -- ** the name of a function in its entry
 
-pub has_name : (e name image : List ℕ) → e ≡ entry (codes "fn#" ++ name, image) → 3 + length name ≤ length e
+-- it ends before `=`
+pub has_name : (e name image : List ℕ) → e ≡ entry (codes "fn#" ++ name, image) → IsCharBoundary e (3 + length name)
 has_name e name image h =
     let sum : length e ≡ length (codes "fn#" ++ name) + length (61 ∷ image) = ap length h ∙ length-append (codes "fn#" ++ name) (61 ∷ image) in
     let front : length (codes "fn#" ++ name) ≡ 3 + length name = length-append (codes "fn#") name in
-    omega (arith, sum, front)
+    let equals : get_or e (3 + length name) 0 ≡ 61 = ap (λ l. get_or l (3 + length name) 0) h ∙ get_or_at (codes "fn#" ++ name) 61 image 0 (3 + length name) front in
+    IsCharBoundary-before_ascii e (3 + length name) (omega (arith, sum, front)) (omega (arith, equals))
 
 pub name_of : (e name image : List ℕ) → e ≡ entry (codes "fn#" ++ name, image) → take (3 + length name) e ≡ codes "fn#" ++ name
 name_of e name image h =

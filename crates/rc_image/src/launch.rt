@@ -27,11 +27,7 @@ pub struct Handover {
 }
 
 /// The arguments of a shell whose command is in these words.
-fn shell_args(
-    alloc: Global,
-    state: &State,
-    words: Vec<String>,
-) -> Result<Vec<Text>, AllocError>
+fn shell_args(alloc: Global, state: &State, words: Vec<String>) -> Result<Vec<Text>, AllocError>
     ensures { IfOk result (λ args. map text_bytes args.items
         ≡ args_with (map string_bytes words.items) (state_of state.now)) }
 {

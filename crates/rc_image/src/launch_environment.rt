@@ -1,7 +1,8 @@
 //! The environment of a launch.
 
-ghost use Rattle.std.specs.Prelude.{◌≡◌, ◌≤◌, ◌+◌, ◌++◌, ◌∷◌, [], IfOk, OnOk, codes, drop, length, map, string_bytes, take};
+ghost use Rattle.std.specs.Prelude.{◌≡◌, ◌+◌, ◌++◌, ◌∷◌, [], IfOk, OnOk, codes, drop, length, map, string_bytes, take};
 ghost use Rattle.std.specs.Char.{encode_utf8};
+ghost use Rattle.std.specs.Str.{IsCharBoundary};
 ghost use Rattle.rc_model.specs.Handed.Image.{escaped, value_text, entry, entries, image, stays_behind};
 ghost use Rattle.rc_model.specs.Run.State.{status_name};
 ghost use Rattle.rc_tree.specs.View.{cmd_tree};
@@ -89,11 +90,7 @@ fn push_name(out: &mut String, name: &str) -> Result<(), AllocError>
 }
 
 /// NAME=VALUE.
-pub(crate) fn variable_entry(
-    alloc: Global,
-    name: &str,
-    value: &[Text],
-) -> Result<Text, AllocError>
+pub(crate) fn variable_entry(alloc: Global, name: &str, value: &[Text]) -> Result<Text, AllocError>
     ensures { IfOk result (λ text. text_bytes text ≡ entry (name.now, value_text (map text_bytes value.now))) }
 {
     let mut text = entry_room(alloc, name, value)?;
@@ -168,11 +165,12 @@ fn function_entry(alloc: Global, definition: &Definition) -> Result<Text, AllocE
 }
 
 /// The name of a function in its entry, with the mark before it.
-fn function_name<'a>(entry: &'a Text, name: &str) -> &'a [u8]
-    requires { 3 + length name.now ≤ length (text_bytes entry.now) }
+fn function_name<'a>(entry: &'a Text, name: &str) -> &'a str
+    requires { IsCharBoundary (text_bytes entry.now) (3 + length name.now) }
     ensures { result.now ≡ take (3 + length name.now) (text_bytes entry.now) }
 {
-    &entry.as_str().as_bytes()[.."fn#".len() + name.len()]
+    let (name, _) = entry.as_str().split_at("fn#".len() + name.len());
+    name
 }
 
 /// Adds the entries of the variables from `start` that come before this name, and returns the next index. One of the
@@ -182,7 +180,7 @@ fn push_below(
     out: &mut Vec<Text>,
     variables: &[Binding],
     start: usize,
-    bound: &[u8],
+    bound: &str,
 ) -> Result<usize, AllocError>
     ensures { IfOk result (λ place. PushesBelow bound.now (drop start variables.now) (drop place variables.now)
         (map text_bytes out.old.items) (map text_bytes out.new.items)) }
@@ -192,7 +190,7 @@ fn push_below(
         if !is_handed(variable) {
             continue;
         }
-        match bound.cmp(variable.name.as_bytes()) {
+        match bound.cmp(variable.name) {
             Ordering::Less => return Ok(place),
             Ordering::Equal => return Ok(place + 1),
             Ordering::Greater => out.push(entry(alloc, variable)?)?,
@@ -235,7 +233,7 @@ pub fn entries(alloc: Global, state: &State) -> Result<Vec<Text>, AllocError>
         place = push_below(alloc, &mut all, &variables, place, name)?;
         all.push(entry)?;
     }
-    place = push_below(alloc, &mut all, &variables, place, b"status")?;
+    place = push_below(alloc, &mut all, &variables, place, "status")?;
     all.push(status_entry(alloc, state)?)?;
     push_rest(alloc, &mut all, &variables, place)?;
     Ok(all)

@@ -1,5 +1,5 @@
 -- Texts in brackets, which are written one after the other.
-use Rattle.std.proofs.Common.{◌≡◌, refl, sym, ap, subst, ◌∙◌, ℕ, List, [], ◌∷◌, append_assoc, Option, Some, None}
+use Rattle.std.proofs.Common.{◌≡◌, refl, sym, ap, ◌∙◌, ℕ, ◌+◌, ◌<◌, List, [], ◌∷◌, append_assoc, add-one, drop, drop-cons, get_or, length, Option, Some, None}
 use Rattle.std.specs.Prelude.{Result, IfSome}
 use Rattle.std.specs.Result.{IsOk}
 use Rattle.std.specs.declared.fmt.Error.{Error}
@@ -17,6 +17,10 @@ then_assoc (Some a) (Some b) (Some c) = ap (λ bs. Some bs) (append_assoc a b c)
 -- a text after what stands before it, and then the others
 item_first : (lead text items end : Option (List ℕ)) → (lead ++? (text ++? items)) ++? end ≡ (lead ++? text) ++? (items ++? end)
 item_first lead text items end = ap (λ o. o ++? end) (sym (then_assoc lead text items)) ∙ then_assoc (lead ++? text) items end
+
+-- a list from one of its members on
+pub left : {X : Type 0} (xs : List X) (i : ℕ) (x : X) → i < length xs → x ≡ get_or xs i x → drop i xs ≡ x ∷ drop (i + 1) xs
+left xs i x lt is = drop-cons xs i x lt ∙ ap (λ n. get_or xs i x ∷ drop n xs) (sym (add-one i)) ∙ ap (λ y. y ∷ drop (i + 1) xs) (sym is)
 
 module _ {W : Type 0} (took : W → List ℕ → W → Type 0) where
   -- g is f after this text was written
@@ -46,12 +50,6 @@ module _ {W : Type 0} (took : W → List ℕ → W → Type 0) where
         ∙ ap (λ o. so.so_far ++? o) (sym (item_first (Some lead) (debug_str text) (debug_items debug_str comma_space left) (Some (93 ∷ [])))) ∙ so.is;
   }
 
-  displays : (f g : Formatter W) (r : Result (Unit {0}) Error) (o : Option (List ℕ)) → (IsPlainFormatter f → IsOk r → Shows f o g) → DisplaysOnOk took f r o g
-  displays f g r None k = tt
-  displays f g r (Some a) k = k
-
-  pub ends : (f g h : Formatter W) (r : Result (Unit {0}) Error) (lead : List ℕ) (whole : List (List ℕ)) → Goes f g lead [] whole
-      → (IsPlainFormatter g → IsOk r → Shows g (Some (93 ∷ [])) h) → DisplaysOnOk took f r (texts_text whole) h
-  ends f g h r lead whole so last =
-      subst (λ o. DisplaysOnOk took f r o h) so.is
-      (displays f h r (so.so_far ++? Some (93 ∷ [])) (λ p ok. shows_then f g h so.so_far (Some (93 ∷ [])) (so.shows p) (λ q. last q ok)))
+  pub shows_from : (f g : Formatter W) (r : Result (Unit {0}) Error) (o : Option (List ℕ)) → DisplaysOnOk took f r o g → IsPlainFormatter f → IsOk r → Shows f o g
+  shows_from f g r None x p ok = tt
+  shows_from f g r (Some a) x p ok = x p ok

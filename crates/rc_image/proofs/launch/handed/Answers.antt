@@ -1,4 +1,4 @@
-use Rattle.std.proofs.Common.{rules, ◌≡◌, true, false, map}
+use Rattle.std.proofs.Common.{rules, ◌≡◌, true, false, map, string_bytes}
 use Rattle.std.specs.List.{list_all}
 use Rattle.law_image.proofs.Handed.{handed_reads_back}
 use Rattle.rc_model.specs.Handed.Image.{is_short}
@@ -14,7 +14,7 @@ pub returns-then-are_short-2-clause-written : goal.returns-then-are_short-2-clau
 returns-then-are_short-2-clause-written c =
     let args : list_all (λ text. is_short (text_bytes text)) c.in_ok-args.args.items ≡ true = search rules in
     let entries : list_all (λ text. is_short (text_bytes text)) c.in_ok-entries.entries.items ≡ true = search rules in
-    is_handed (map text_bytes c.in_ok-words.words.items) c.in_ok-args.args.items c.in_ok-entries.entries.items (cmd_tree c.args.cmd.now) (state_of c.args.state.now)
+    is_handed (map string_bytes c.in_ok-words.words.items) c.in_ok-args.args.items c.in_ok-entries.entries.items (cmd_tree c.args.cmd.now) (state_of c.args.state.now)
     c.in_ok-words.ensures (search rules) c.in_ok-entries.ensures args entries
 
 pub returns-then-are_short-2-clause-back : goal.returns-then-are_short-2-clause-back
@@ -23,7 +23,7 @@ returns-then-are_short-2-clause-back c =
 
 pub returns-else-are_short-clause-written : goal.returns-else-are_short-clause-written
 returns-else-are_short-clause-written c =
-    let words = map text_bytes c.in_ok-words.words.items in
+    let words = map string_bytes c.in_ok-words.words.items in
     elim c.else-are_short.branch [
       | else-are_short-via-then-are_short+else-are_short-2 w ↦
           let args : list_all (λ text. is_short (text_bytes text)) c.in_ok-args.args.items ≡ true = search rules in

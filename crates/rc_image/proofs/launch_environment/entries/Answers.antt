@@ -24,8 +24,8 @@ loop-definition-init c =
       rw none (all_to_come ds c.in_ok-variables.variables.items s are ordered c.in_ok-variables.ensures),
     )
 
-pub function_name-requires : goal.function_name-requires
-function_name-requires c =
+pub function_name-name-requires : goal.function_name-name-requires
+function_name-name-requires c =
     let d = c.definition-item.result in
     let x : text_bytes c.in_ok-entry.entry ≡ entry (function_text d) = search rules in
     has_name (text_bytes c.in_ok-entry.entry) d.name.now (function_text d).1 x
@@ -42,7 +42,7 @@ loop-definition-preserved c =
     let x : text_bytes c.in_ok-entry.entry ≡ entry (function_text d) = search rules in
     let more : map text_bytes c.push.new.self.items ≡ map text_bytes c.push_below.new.out.items ++ text_bytes c.in_ok-entry.entry ∷ [] = grind (arith, common_steps) in
     let same : c.deref.result.now ≡ vs = search rules in
-    let bound : c.function_name.result.now ≡ codes "fn#" ++ d.name.now = c.function_name.ensures ∙ name_of (text_bytes c.in_ok-entry.entry) d.name.now (function_text d).1 x in
+    let bound : c.function_name-name.result.now ≡ codes "fn#" ++ d.name.now = c.function_name-name.ensures ∙ name_of (text_bytes c.in_ok-entry.entry) d.name.now (function_text d).1 x in
     let pushes : PushesBelow (codes "fn#" ++ d.name.now) (drop c.loop-definition.place vs) (drop c.in_ok-place.place vs) (map text_bytes c.loop-definition.all.items) (map text_bytes c.push_below.new.out.items)
     = rw (same, bound) at c.in_ok-place.ensures in (
       ordered.1,
