@@ -48,10 +48,11 @@ fn print_launch(rt: HostRuntime, launch: &Launch) -> io::Result<()> {
 
 fn print_texts(rt: HostRuntime, texts: &[Text]) -> io::Result<()> {
     print!(rt; "[")?;
-    let mut separator = "";
-    for text in texts {
-        print!(rt; "{separator}{:?}", text.as_str())?;
-        separator = ", ";
+    for (place, text) in texts.iter().enumerate() {
+        if place > 0 {
+            print!(rt; ", ")?;
+        }
+        print!(rt; "{:?}", text.as_str())?;
     }
     print!(rt; "]")
 }
