@@ -1,6 +1,7 @@
 -- The plans that the values of the program represent.
-use Rattle.std.specs.Prelude.{ℕ, List, map, string_bytes}
+use Rattle.std.specs.Prelude.{ℕ, List, map}
 use denote.Ref.{Bor}
+use Rattle.rc_text.specs.Texts.{text_bytes}
 use Rattle.rc_host.specs.declared.launches.planned.Plan.{Plan as HostPlan}
 use Rattle.rc_host.specs.declared.launches.planning.Copying.{Copying as HostCopying}
 use Rattle.rc_host.specs.Plan.{Plan, Copying}
@@ -14,7 +15,7 @@ abbrev pub plan_view : HostPlan → Plan
 plan_view plan = record {
   program = plan.program.now;
   args = texts_lent plan.args.items;
-  env = map string_bytes plan.env.now;
+  env = map text_bytes plan.env.now;
   slots = plan.slots;
 }
 

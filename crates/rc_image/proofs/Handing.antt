@@ -1,6 +1,9 @@
 -- The entries of a launch, variable by variable.
-use Rattle.std.proofs.Common.{◌≡◌, ℕ, Bool, true, false, not, cond, List, [], ◌∷◌, ◌++◌, length, map, refl, sym, ap, ◌∙◌, arith, append_assoc, ◌&&◌, ◌==◌, ◌<◌, ◌+◌, drop, get_or, drop-cons, add-one, subst}
+use Rattle.std.proofs.Common.{◌≡◌, ℕ, Bool, true, false, not, cond, List, [], ◌∷◌, ◌++◌, length, map, refl, sym, ap, ◌∙◌, arith, append_assoc, ◌&&◌, ◌==◌, ◌<◌, ◌+◌, codes, take, drop, get_or, drop-cons, add-one, subst}
 use Rattle.std.proofs.lemmas.Bool.{ne_eqb}
+use Rattle.std.proofs.lemmas.List.{drop_at, get_or_at, length-append, take_at}
+use Rattle.std.proofs.lemmas.Str.{IsCharBoundary-before_ascii}
+use Rattle.std.specs.Str.{IsCharBoundary}
 use mathlib.Core.Bool.{true≢false}
 use Rattle.std.specs.declared.cmp.Ordering.TheVariants.{Less, Equal, Greater}
 use Rattle.rc_text.specs.Texts.{text_bytes}
@@ -113,3 +116,29 @@ turn w v all x b others more bs rest is pushes h after inv =
 
 pub function_left : (ds : List Definition) (i : ℕ) (d : Definition) → i < length ds → d ≡ get_or ds i d → drop i ds ≡ d ∷ drop (i + 1) ds
 function_left ds i d lt is = drop-cons ds i d lt ∙ ap (λ n. get_or ds i d ∷ drop n ds) (sym (add-one i)) ∙ ap (λ e. e ∷ drop (i + 1) ds) (sym is)
+
+-- ** the name of a function in its entry
+
+-- it ends before `=`
+pub has_name : (e name image : List ℕ) → e ≡ entry (codes "fn#" ++ name, image) → IsCharBoundary e (3 + length name)
+has_name e name image h =
+    let sum : length e ≡ length (codes "fn#" ++ name) + length (61 ∷ image) = ap length h ∙ length-append (codes "fn#" ++ name) (61 ∷ image) in
+    let front : length (codes "fn#" ++ name) ≡ 3 + length name = length-append (codes "fn#") name in
+    let equals : get_or e (3 + length name) 0 ≡ 61 = ap (λ l. get_or l (3 + length name) 0) h ∙ get_or_at (codes "fn#" ++ name) 61 image 0 (3 + length name) front in
+    IsCharBoundary-before_ascii e (3 + length name) (omega (arith, sum, front)) (omega (arith, equals))
+
+pub name_of : (e name image : List ℕ) → e ≡ entry (codes "fn#" ++ name, image) → take (3 + length name) e ≡ codes "fn#" ++ name
+name_of e name image h =
+    ap (take (3 + length name)) h ∙ take_at (codes "fn#" ++ name) (61 ∷ image) (3 + length name) (length-append (codes "fn#") name)
+
+-- ** what stands after the name in an entry
+
+pub value_after : (e name text : List ℕ) → e ≡ entry (name, text) → drop (length name + 1) e ≡ text
+value_after e name text h =
+    let one : length (name ++ 61 ∷ []) ≡ length name + 1 = length-append name (61 ∷ []) in
+    ap (drop (length name + 1)) (h ∙ sym (append_assoc name (61 ∷ []) text)) ∙ drop_at (name ++ 61 ∷ []) text (length name + 1) one
+
+pub function_after : (e name image : List ℕ) → e ≡ entry (codes "fn#" ++ name, image) → drop (3 + length name + 1) e ≡ image
+function_after e name image h =
+    let front : length (codes "fn#" ++ name) ≡ 3 + length name = length-append (codes "fn#") name in
+    ap (λ n. drop (n + 1) e) (sym front) ∙ value_after e (codes "fn#" ++ name) image h

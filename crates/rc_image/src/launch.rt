@@ -3,6 +3,7 @@
 ghost use Rattle.std.specs.Prelude.{◌≡◌, IfOk, map, string_bytes};
 ghost use Rattle.rc_model.specs.Handed.Arguments.{handed};
 ghost use Rattle.rc_model.specs.Handed.Proper.{IsProperTree};
+ghost use Rattle.rc_text.specs.Texts.{text_bytes};
 ghost use Rattle.rc_tree.specs.View.{cmd_tree};
 ghost use Rattle.rc_scope.specs.States.{state_of};
 ghost use Rattle.rc_image.specs.Images.{Writes};
@@ -11,43 +12,40 @@ ghost use Rattle.rc_image.specs.Launches.{ReadsBack, args_with, handed_of, short
 use crate::image_pieces::write_pieces;
 use crate::launch_environment::entries;
 use crate::launch_sizes::are_short;
-use crate::text_copies::push_copies;
+use crate::text_copies::{push_copies, push_words};
 use crate::{ImageError, ImageFault, InputError};
 use rc_scope::State;
+use rc_text::Text;
 use rc_tree::Cmd;
 use std::alloc::{AllocError, Global};
 
 /// The arguments and the entries of a launch.
 #[derive(Drop)]
 pub struct Handover {
-    pub args: Vec<String>,
-    pub entries: Vec<String>,
+    pub args: Vec<Text>,
+    pub entries: Vec<Text>,
 }
 
 /// The arguments of a shell whose command is in these words.
-fn shell_args(
-    alloc: Global,
-    state: &State,
-    mut words: Vec<String>,
-) -> Result<Vec<String>, AllocError>
-    ensures { IfOk result (λ args. map string_bytes args.items
+fn shell_args(alloc: Global, state: &State, words: Vec<String>) -> Result<Vec<Text>, AllocError>
+    ensures { IfOk result (λ args. map text_bytes args.items
         ≡ args_with (map string_bytes words.items) (state_of state.now)) }
 {
     let others = state.value("*");
     let count = words.len().saturating_add(others.len());
     let mut args = Vec::with_capacity(alloc, count.saturating_add(2))?;
     if state.strict() {
-        args.push(String::from_str(alloc, "-e")?)?;
+        args.push(Text::of(alloc, "-e")?)?;
     }
-    args.push(String::from_str(alloc, "-S")?)?;
-    args.append(&mut words)?;
+    args.push(Text::of(alloc, "-S")?)?;
+    push_words(&mut args, words)?;
     push_copies(&mut args, others)?;
     Ok(args)
 }
 
 /// The entries of a state. They are too large if one of them would be too long.
-pub fn write_env(alloc: Global, state: &State) -> Result<Vec<String>, ImageError>
-    ensures { Writes (λ all. map string_bytes all.items) result (short_entries (state_of state.now)) }
+pub fn write_env(alloc: Global, state: &State) -> Result<Vec<Text>, ImageError>
+    ensures { Writes (λ all. map text_bytes all.items) result (short_entries (state_of state.now)) }
 {
     let entries = entries(alloc, state)?;
     if are_short(&entries) {

@@ -1,7 +1,8 @@
 //! The environment of a launch.
 
-ghost use Rattle.std.specs.Prelude.{◌≡◌, ◌++◌, ◌∷◌, [], IfOk, OnOk, codes, drop, map, string_bytes};
+ghost use Rattle.std.specs.Prelude.{◌≡◌, ◌+◌, ◌++◌, ◌∷◌, [], IfOk, OnOk, codes, drop, length, map, string_bytes, take};
 ghost use Rattle.std.specs.Char.{encode_utf8};
+ghost use Rattle.std.specs.Str.{IsCharBoundary};
 ghost use Rattle.rc_model.specs.Handed.Image.{escaped, value_text, entry, entries, image, stays_behind};
 ghost use Rattle.rc_model.specs.Run.State.{status_name};
 ghost use Rattle.rc_tree.specs.View.{cmd_tree};
@@ -11,7 +12,7 @@ ghost use Rattle.rc_image.specs.Additions.{is_handed, handed, PushesBelow};
 ghost use Rattle.rc_text.specs.Texts.{text_bytes};
 
 use crate::escaped_bytes::has_marks;
-use rc_scope::{Binding, Definition, Function, Members, State};
+use rc_scope::{Binding, Definition, State};
 use rc_spelling::push_spelling;
 use rc_text::Text;
 use rc_tree::Cmd;
@@ -55,7 +56,7 @@ fn push_member(out: &mut String, member: &str) -> Result<(), AllocError>
 }
 
 /// Writes the text of a value: its members, escaped, with byte 1 between them.
-pub(crate) fn push_value(out: &mut String, value: &[Text]) -> Result<(), AllocError>
+fn push_value(out: &mut String, value: &[Text]) -> Result<(), AllocError>
     ensures { OnOk result (string_bytes out.new ≡ string_bytes out.old ++ value_text (map text_bytes value.now)) }
 {
     let Some((first, others)) = value.split_first() else {
@@ -69,38 +70,44 @@ pub(crate) fn push_value(out: &mut String, value: &[Text]) -> Result<(), AllocEr
     Ok(())
 }
 
-/// Writes the text of a value, as it is kept or anew.
-fn push_text(out: &mut String, value: &Members) -> Result<(), AllocError>
-    ensures { OnOk result (string_bytes out.new
-        ≡ string_bytes out.old ++ value_text (map text_bytes value.now)) }
-{
-    match value.text() {
-        Some(text) => out.push_str(text),
-        None => push_value(out, value.as_slice()),
-    }
-}
-
-/// An empty text with room for an entry: a name of this length, `=`, and the text after it, if that is known.
-fn entry_room(alloc: Global, name: usize, text: Option<&str>) -> Result<String, AllocError>
+/// An empty text with room for a name, `=` and the first member of a value.
+fn entry_room(alloc: Global, name: &str, value: &[Text]) -> Result<String, AllocError>
     ensures { IfOk result (λ room. string_bytes room ≡ []) }
 {
-    let after = match text {
-        Some(text) => text.len(),
+    let after = match value.first() {
+        Some(first) => first.as_str().len(),
         None => 0,
     };
-    String::with_capacity(alloc, name.saturating_add(1).saturating_add(after))
+    String::with_capacity(alloc, name.len().saturating_add(1).saturating_add(after))
+}
+
+/// Writes a name and `=`.
+fn push_name(out: &mut String, name: &str) -> Result<(), AllocError>
+    ensures { OnOk result (string_bytes out.new ≡ string_bytes out.old ++ (name.now ++ 61 ∷ [])) }
+{
+    out.push_str(name)?;
+    out.push('=')
 }
 
 /// NAME=VALUE.
-fn entry(alloc: Global, variable: &Binding) -> Result<String, AllocError>
-    ensures { let value = map text_bytes variable.now.value.now in
-        IfOk result (λ text. string_bytes text ≡ entry (variable.now.name.now, value_text value)) }
+pub(crate) fn variable_entry(alloc: Global, name: &str, value: &[Text]) -> Result<Text, AllocError>
+    ensures { IfOk result (λ text. text_bytes text ≡ entry (name.now, value_text (map text_bytes value.now))) }
 {
-    let mut text = entry_room(alloc, variable.name.len(), variable.value.text())?;
-    text.push_str(variable.name)?;
-    text.push('=')?;
-    push_text(&mut text, variable.value)?;
-    Ok(text)
+    let mut text = entry_room(alloc, name, value)?;
+    push_name(&mut text, name)?;
+    push_value(&mut text, value)?;
+    Text::from_string(alloc, text)
+}
+
+/// The entry of a variable, as it is kept or anew.
+fn entry(alloc: Global, variable: &Binding) -> Result<Text, AllocError>
+    ensures { let value = map text_bytes variable.now.value.now in
+        IfOk result (λ text. text_bytes text ≡ entry (variable.now.name.now, value_text value)) }
+{
+    match variable.value.entry(variable.name) {
+        Some(kept) => kept.clone(),
+        None => variable_entry(alloc, variable.name, variable.value.as_slice()),
+    }
 }
 
 /// Whether no variable of this name is handed over.
@@ -119,65 +126,64 @@ pub(crate) fn is_handed(variable: &Binding) -> bool
 }
 
 /// The entry of the status.
-fn status_entry(alloc: Global, state: &State) -> Result<String, AllocError>
-    ensures { IfOk result (λ text. string_bytes text
+fn status_entry(alloc: Global, state: &State) -> Result<Text, AllocError>
+    ensures { IfOk result (λ text. text_bytes text
         ≡ entry (status_name, value_text ((state_of state.now).status ∷ []))) }
 {
-    let mut text = entry_room(alloc, "status".len(), Some(state.status()))?;
-    text.push_str("status=")?;
+    let mut text = String::from_str(alloc, "status=")?;
     push_member(&mut text, state.status())?;
-    Ok(text)
+    Text::from_string(alloc, text)
 }
 
 /// Writes the image of a function's body.
-pub(crate) fn push_image(out: &mut String, body: &Cmd) -> Result<(), AllocError>
+fn push_image(out: &mut String, body: &Cmd) -> Result<(), AllocError>
     ensures { OnOk result (string_bytes out.new ≡ string_bytes out.old ++ image (cmd_tree body.now)) }
 {
     out.push_str("rc1;")?;
     push_spelling(out, body)
 }
 
-/// Writes the image of a function, as it is kept or anew.
-fn push_function(out: &mut String, function: &Function) -> Result<(), AllocError>
-    ensures { OnOk result (string_bytes out.new ≡ string_bytes out.old ++ image (cmd_tree function.now)) }
+/// fn#NAME=IMAGE.
+pub(crate) fn body_entry(alloc: Global, name: &str, body: &Cmd) -> Result<Text, AllocError>
+    ensures { IfOk result (λ text. text_bytes text ≡ entry (codes "fn#" ++ name.now, image (cmd_tree body.now))) }
 {
-    match function.image() {
-        Some(text) => out.push_str(text),
-        None => push_image(out, function.body()),
+    let mut text = String::from_str(alloc, "fn#")?;
+    push_name(&mut text, name)?;
+    push_image(&mut text, body)?;
+    Text::from_string(alloc, text)
+}
+
+/// The entry of a function, as it is kept or anew.
+fn function_entry(alloc: Global, definition: &Definition) -> Result<Text, AllocError>
+    ensures { let body = cmd_tree definition.now.function.now in
+        IfOk result (λ text. text_bytes text ≡ entry (codes "fn#" ++ definition.now.name.now, image body)) }
+{
+    match definition.function.entry(definition.name) {
+        Some(kept) => kept.clone(),
+        None => body_entry(alloc, definition.name, definition.function.body()),
     }
 }
 
-/// The name that a function has in an environment, with room for the rest of its entry.
-fn function_name(alloc: Global, definition: &Definition) -> Result<String, AllocError>
-    ensures { IfOk result (λ text. string_bytes text ≡ codes "fn#" ++ definition.now.name.now) }
+/// The name of a function in its entry, with the mark before it.
+fn function_name<'a>(entry: &'a Text, name: &str) -> &'a str
+    requires { IsCharBoundary (text_bytes entry.now) (3 + length name.now) }
+    ensures { result.now ≡ take (3 + length name.now) (text_bytes entry.now) }
 {
-    let length = definition.name.len().saturating_add("fn#".len());
-    let mut name = entry_room(alloc, length, definition.function.image())?;
-    name.push_str("fn#")?;
-    name.push_str(definition.name)?;
-    Ok(name)
-}
-
-/// The entry of a function that has this name in an environment.
-fn function_entry(mut name: String, function: &Function) -> Result<String, AllocError>
-    ensures { IfOk result (λ text. string_bytes text ≡ entry (string_bytes name, image (cmd_tree function.now))) }
-{
-    name.push('=')?;
-    push_function(&mut name, function)?;
-    Ok(name)
+    let (name, _) = entry.as_str().split_at("fn#".len() + name.len());
+    name
 }
 
 /// Adds the entries of the variables from `start` that come before this name, and returns the next index. One of the
 /// same name is left out.
 fn push_below(
     alloc: Global,
-    out: &mut Vec<String>,
+    out: &mut Vec<Text>,
     variables: &[Binding],
     start: usize,
     bound: &str,
 ) -> Result<usize, AllocError>
     ensures { IfOk result (λ place. PushesBelow bound.now (drop start variables.now) (drop place variables.now)
-        (map string_bytes out.old.items) (map string_bytes out.new.items)) }
+        (map text_bytes out.old.items) (map text_bytes out.new.items)) }
 {
     for place in start..variables.len() {
         let variable = &variables[place];
@@ -196,12 +202,12 @@ fn push_below(
 /// Adds the entries of the variables from `start`.
 fn push_rest(
     alloc: Global,
-    out: &mut Vec<String>,
+    out: &mut Vec<Text>,
     variables: &[Binding],
     start: usize,
 ) -> Result<(), AllocError>
-    ensures { OnOk result (map string_bytes out.new.items
-        ≡ map string_bytes out.old.items ++ map entry (handed (drop start variables.now))) }
+    ensures { OnOk result (map text_bytes out.new.items
+        ≡ map text_bytes out.old.items ++ map entry (handed (drop start variables.now))) }
 {
     for place in start..variables.len() {
         let variable = &variables[place];
@@ -213,8 +219,8 @@ fn push_rest(
 }
 
 /// The entries of a launch, in byte order of their names.
-pub fn entries(alloc: Global, state: &State) -> Result<Vec<String>, AllocError>
-    ensures { IfOk result (λ all. map string_bytes all.items ≡ entries (state_of state.now)) }
+pub fn entries(alloc: Global, state: &State) -> Result<Vec<Text>, AllocError>
+    ensures { IfOk result (λ all. map text_bytes all.items ≡ entries (state_of state.now)) }
 {
     let variables = state.bindings()?;
     let functions = state.definitions()?;
@@ -222,9 +228,10 @@ pub fn entries(alloc: Global, state: &State) -> Result<Vec<String>, AllocError>
     let mut all = Vec::with_capacity(alloc, count.saturating_add(1))?;
     let mut place = 0;
     for definition in &functions {
-        let name = function_name(alloc, definition)?;
-        place = push_below(alloc, &mut all, &variables, place, &name)?;
-        all.push(function_entry(name, definition.function)?)?;
+        let entry = function_entry(alloc, definition)?;
+        let name = function_name(&entry, definition.name);
+        place = push_below(alloc, &mut all, &variables, place, name)?;
+        all.push(entry)?;
     }
     place = push_below(alloc, &mut all, &variables, place, "status")?;
     all.push(status_entry(alloc, state)?)?;

@@ -15,14 +15,25 @@ pub(crate) fn one<T: Drop>(alloc: Global, item: T) -> Result<Vec<T>, AllocError>
     Ok(list)
 }
 
-/// Adds these texts as strings.
-pub(crate) fn push_copies(out: &mut Vec<String>, texts: &[Text]) -> Result<(), AllocError>
+/// Adds these texts, which are shared.
+pub(crate) fn push_copies(out: &mut Vec<Text>, texts: &[Text]) -> Result<(), AllocError>
     ensures { OnOk result
-        (map string_bytes out.new.items ≡ map string_bytes out.old.items ++ map text_bytes texts.now) }
+        (map text_bytes out.new.items ≡ map text_bytes out.old.items ++ map text_bytes texts.now) }
 {
-    let alloc = *out.allocator();
     for text in texts {
-        out.push(String::from_str(alloc, text.as_str())?)?;
+        out.push(text.clone()?)?;
+    }
+    Ok(())
+}
+
+/// Adds these words, a long one without a copy.
+pub(crate) fn push_words(out: &mut Vec<Text>, words: Vec<String>) -> Result<(), AllocError>
+    ensures { OnOk result
+        (map text_bytes out.new.items ≡ map text_bytes out.old.items ++ map string_bytes words.items) }
+{
+    let alloc = *words.allocator();
+    for word in words {
+        out.push(Text::from_string(alloc, word)?)?;
     }
     Ok(())
 }

@@ -188,17 +188,6 @@ fn wait_started<W: World>(
     Ok(())
 }
 
-/// The texts as strings.
-fn into_strings(alloc: Global, texts: Vec<Text>) -> Result<Vec<String>, AllocError>
-    ensures { IfOk result (λ strings. map string_bytes strings.items ≡ map text_bytes texts.items) }
-{
-    let mut strings = Vec::with_capacity(alloc, texts.len())?;
-    for text in texts {
-        strings.push(text.into_string(alloc)?)?;
-    }
-    Ok(strings)
-}
-
 /// The launch of a program, whose arguments are passed on unchanged.
 fn launch(
     alloc: Global,
@@ -210,7 +199,6 @@ fn launch(
     ensures { IfOk result (λ launch. launch_of launch
         ≡ program_launch slots (string_bytes path) (map text_bytes args.items) (state_of state.now)) }
 {
-    let args = into_strings(alloc, args)?;
     let env = entries(alloc, state)?;
     Ok(Launch {
         program: Program::Path(path),

@@ -1,4 +1,5 @@
 pub mod Rows
+pub mod KeptEntries
 pub mod Locals
 pub mod Stacks
 pub mod Bindings

@@ -1,14 +1,18 @@
 //! The functions of a shell.
 
-ghost use Rattle.std.specs.Prelude.{◌≡◌, map, string_bytes, IfOk, IfSome};
+ghost use Rattle.std.specs.Prelude.{◌≡◌, ◌++◌, codes, map, string_bytes, IfOk, IfSome};
 ghost use Rattle.rc_model.specs.Code.Layout.{code};
-ghost use Rattle.rc_model.specs.Handed.Image.{image};
+ghost use Rattle.rc_model.specs.Handed.Image.{entry, image};
 ghost use Rattle.rc_model.specs.Handed.Proper.{IsProperTree};
+ghost use Rattle.rc_text.specs.Texts.{text_bytes};
 ghost use Rattle.rc_tree.specs.View.{cmd_tree};
 ghost use Rattle.rc_code.specs.Views.{code_of};
+ghost use Rattle.rc_scope.specs.KeptEntries.{kept_text};
 ghost use Rattle.rc_scope.specs.Bodies.{definitions_of, functions_of};
 
+use crate::kept_entries::KeptEntry;
 use rc_code::{Code, compile};
+use rc_text::Text;
 use rc_tree::Cmd;
 use std::alloc::{AllocError, Global};
 use std::collections::BTreeMap;
@@ -21,8 +25,8 @@ pub struct Function {
     body: Rc<Cmd>,
     /// The code of the body, once it has been needed.
     compiled: Option<Code>,
-    /// The image of the body, once a launch has handed it over.
-    image: Option<String>,
+    /// Its entry in an environment, once a launch has handed it over.
+    kept: Option<KeptEntry>,
 }
 
 /// A function with its name.
@@ -33,7 +37,7 @@ pub struct Definition<'a> {
 }
 
 impl Model for Function {
-    ghost use Rattle.std.specs.Prelude.{◌≡◌, IfSome, string_bytes};
+    ghost use Rattle.std.specs.Prelude.{◌≡◌, IfSome};
     ghost use Rattle.std.specs.Coded.{codes};
     ghost use Rattle.rc_model.specs.Code.Layout as layout;
     ghost use Rattle.rc_model.specs.Handed.Image as handed;
@@ -41,6 +45,7 @@ impl Model for Function {
     ghost use Rattle.rc_tree.specs.contracts.types.Cmd as e;
     ghost use Rattle.rc_tree.specs.declared.types.Cmd.{Cmd};
     ghost use Rattle.rc_code.specs.Views.{code_of};
+    ghost use Rattle.rc_scope.specs.KeptEntries.{kept_text};
 
     ghost Value = { Cmd };
 
@@ -49,7 +54,7 @@ impl Model for Function {
     ghost view = { λ f. f.body.value };
 
     ghost invariant = { λ f. IfSome f.compiled (λ done. code_of done ≡ layout.code (cmd_tree f.body.value))
-        × IfSome f.image (λ text. string_bytes text ≡ handed.image (cmd_tree f.body.value)) };
+        × IfSome f.kept (λ kept. kept_text kept ≡ handed.image (cmd_tree f.body.value)) };
 }
 
 impl Clone for Function {
@@ -57,7 +62,7 @@ impl Clone for Function {
 
     ghost is_clone = { λ f g. g ≡ f };
 
-    /// The body and its code are shared. The image is not kept.
+    /// The body and its code are shared. The entry is not kept.
     fn clone(&self) -> Result<Function, AllocError> {
         let compiled = match &self.compiled {
             Some(code) => Some(code.share()?),
@@ -66,7 +71,7 @@ impl Clone for Function {
         Ok(Function {
             body: self.body.clone()?,
             compiled,
-            image: None,
+            kept: None,
         })
     }
 }
@@ -79,7 +84,7 @@ impl Function {
         Function {
             body,
             compiled: None,
-            image: None,
+            kept: None,
         }
     }
 
@@ -104,22 +109,22 @@ impl Function {
         Ok(shared)
     }
 
-    /// The image of the body, if it is kept.
-    pub fn image(&self) -> Option<&str>
-        ensures { IfSome result (λ text. text.now ≡ image (cmd_tree self.now)) }
+    /// The entry of a function of this name that has this body, if it is kept.
+    pub fn entry(&self, name: &str) -> Option<&Text>
+        ensures { IfSome result (λ kept. text_bytes kept.now ≡ entry (codes "fn#" ++ name.now, image (cmd_tree self.now))) }
     {
-        match &self.image {
-            Some(image) => Some(image.as_str()),
+        match &self.kept {
+            Some(kept) => kept.named("fn#", name),
             None => None,
         }
     }
 
-    /// Keeps the image of the body.
-    pub(crate) fn keep_image(&mut self, text: String)
-        requires { string_bytes text ≡ image (cmd_tree self.old) }
+    /// Keeps an entry that an environment has for the function.
+    pub(crate) fn keep(&mut self, kept: KeptEntry)
+        requires { kept_text kept ≡ image (cmd_tree self.old) }
         ensures { self.new ≡ self.old }
     {
-        self.image = Some(text);
+        self.kept = Some(kept);
     }
 }
 

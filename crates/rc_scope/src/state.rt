@@ -15,12 +15,14 @@ ghost use Rattle.rc_tree.specs.View.{cmd_tree};
 ghost use Rattle.rc_scope.specs.Bindings.{bindings_of, visible_values};
 ghost use Rattle.rc_scope.specs.Bodies.{IsCodeOf, definitions_of};
 ghost use Rattle.rc_scope.specs.CompiledTexts.{IsCodeOfText};
+ghost use Rattle.rc_scope.specs.KeptEntries.{kept_text};
 ghost use Rattle.rc_scope.specs.ProperStates.{AreProper, proper_prop, state_with};
 ghost use Rattle.rc_scope.specs.Stacks.{flat_names};
 ghost use Rattle.rc_scope.specs.Children.{child_numbers};
 
 use crate::background_children::place_of;
 use crate::functions::{Definition, Function, definitions, names};
+use crate::kept_entries::KeptEntry;
 use crate::names::{NameFault, has_digits, is_function_name, is_name, is_status};
 use crate::positional_members::member;
 use crate::recent_codes::RecentCodes;
@@ -173,16 +175,16 @@ impl State {
         Ok(())
     }
 
-    /// Keeps the text that an environment has for the value of a variable, until that changes.
+    /// Keeps an entry that an environment has for the value of a variable, until that changes.
     #[tactic(auto, unfolding(crate::specs::States::state_of))]
-    pub fn keep_text(&mut self, name: &str, text: String)
-        requires { string_bytes text ≡ value_text (value_of (state_of self.old) name.now) }
+    pub fn keep_entry(&mut self, name: &str, kept: KeptEntry)
+        requires { kept_text kept ≡ value_text (value_of (state_of self.old) name.now) }
         ensures { state_of self.new ≡ state_of self.old }
     {
         if is_status(name) {
             return;
         }
-        self.variables.keep_text(name, text);
+        self.variables.keep_entry(name, kept);
     }
 
     /// Removes the first members of `$*`; no other is moved. On `Err` nothing has changed.
@@ -338,16 +340,16 @@ impl State {
         self.recent_codes.keep(text, code)
     }
 
-    /// Keeps the image of a function's body, until the function is defined anew or removed.
+    /// Keeps an entry that an environment has for a function, until that is defined anew or removed.
     #[tactic(auto, using(crate::proofs::Bodies::bodies), unfolding(crate::specs::States::state_of))]
-    pub fn keep_image(&mut self, name: &str, text: String)
-        requires { IfSome (function_of (state_of self.old) name.now) (λ body. string_bytes text ≡ image body) }
+    pub fn keep_function(&mut self, name: &str, kept: KeptEntry)
+        requires { IfSome (function_of (state_of self.old) name.now) (λ body. kept_text kept ≡ image body) }
         ensures { state_of self.new ≡ state_of self.old }
     {
         let Some(function) = self.functions.get_mut(name) else {
             return;
         };
-        function.keep_image(text);
+        function.keep(kept);
     }
 
     /// Each function with its name, in byte order of the names.

@@ -1,9 +1,11 @@
-//! The members of a value, which are dropped from the front, and the text that an environment has for them.
+//! The members of a value, which are dropped from the front, and the entry that an environment has for them.
 
-ghost use Rattle.std.specs.Prelude.{◌≡◌, ◌∷◌, ◌++◌, [], IfErr, IfOk, IfSome, OnErr, OnOk, drop, map, string_bytes};
-ghost use Rattle.rc_model.specs.Handed.Image.{value_text};
+ghost use Rattle.std.specs.Prelude.{◌≡◌, ◌∷◌, ◌++◌, [], IfErr, IfOk, IfSome, OnErr, OnOk, drop, map};
+ghost use Rattle.rc_model.specs.Handed.Image.{entry, value_text};
 ghost use Rattle.rc_text.specs.Texts.{text_bytes};
+ghost use Rattle.rc_scope.specs.KeptEntries.{kept_text};
 
+use crate::kept_entries::KeptEntry;
 use crate::text_lists::copies;
 use rc_text::Text;
 use std::alloc::{AllocError, Global};
@@ -16,13 +18,14 @@ pub struct Members {
     texts: Vec<Text>,
     /// The place of the first member.
     first: usize,
-    /// Their text in an environment, once a launch has handed it over.
-    kept: Option<String>,
+    /// Their entry in an environment, once a launch has handed it over.
+    kept: Option<KeptEntry>,
 }
 
 impl Model for Members {
-    ghost use Rattle.std.specs.Prelude.{List, ◌≡◌, ◌≤◌, IfSome, drop, length, map, string_bytes};
+    ghost use Rattle.std.specs.Prelude.{List, ◌≡◌, ◌≤◌, IfSome, drop, length, map};
     ghost use Rattle.rc_model.specs.Handed.Image.{value_text};
+    ghost use Rattle.rc_scope.specs.KeptEntries.{kept_text};
     ghost use Rattle.rc_text.specs.Texts.{text_bytes};
     ghost use Rattle.rc_text.specs.declared.texts.Text.{Text};
 
@@ -31,7 +34,7 @@ impl Model for Members {
     ghost view = { λ m. drop m.first m.texts.items };
 
     ghost invariant = { λ m. (m.first ≤ length m.texts.items)
-        × IfSome m.kept (λ text. string_bytes text ≡ value_text (map text_bytes (drop m.first m.texts.items))) };
+        × IfSome m.kept (λ kept. kept_text kept ≡ value_text (map text_bytes (drop m.first m.texts.items))) };
 }
 
 impl Clone for Members {
@@ -131,21 +134,21 @@ impl Members {
         self.texts.drain(..dropped);
     }
 
-    /// The text of the members in an environment, if it is kept.
-    pub fn text(&self) -> Option<&str>
-        ensures { IfSome result (λ text. text.now ≡ value_text (map text_bytes self.now)) }
+    /// The entry of a variable of this name that has these members, if it is kept.
+    pub fn entry(&self, name: &str) -> Option<&Text>
+        ensures { IfSome result (λ kept. text_bytes kept.now ≡ entry (name.now, value_text (map text_bytes self.now))) }
     {
         match &self.kept {
-            Some(text) => Some(text.as_str()),
+            Some(kept) => kept.named("", name),
             None => None,
         }
     }
 
-    /// Keeps the text of the members in an environment.
-    pub(crate) fn keep(&mut self, text: String)
-        requires { string_bytes text ≡ value_text (map text_bytes self.old) }
+    /// Keeps an entry that an environment has for the members.
+    pub(crate) fn keep(&mut self, kept: KeptEntry)
+        requires { kept_text kept ≡ value_text (map text_bytes self.old) }
         ensures { self.new ≡ self.old }
     {
-        self.kept = Some(text);
+        self.kept = Some(kept);
     }
 }

@@ -1,16 +1,18 @@
 //! The values of variables, by name. Names that begin with the same byte are in the same row.
 
 ghost use Rattle.std.specs.Prelude.{◌≡◌, [], ◌∷◌, ◌<◌, length, None, Some, is_some, true, IfOk, IfErr, IfSome, OnOk};
-ghost use Rattle.std.specs.Prelude.{MatchOption, OnErr, string_bytes};
+ghost use Rattle.std.specs.Prelude.{MatchOption, OnErr};
 ghost use Rattle.rc_model.specs.Handed.Image.{value_text};
 ghost use Rattle.std.specs.Option.{option_copied};
 ghost use Rattle.std.specs.List.Sorted.{IsStrictlySortedBy};
 ghost use Rattle.std.specs.Map.{lookup, set_value, remove_entry, keys_of};
 ghost use Rattle.std.specs.BTreeMap.{insert_entry};
 ghost use Rattle.std.specs.String.{string_cmp};
+ghost use Rattle.rc_scope.specs.KeptEntries.{kept_text};
 ghost use Rattle.rc_scope.specs.Rows.{row_of, is_named, entries_of, Grows};
 ghost use Rattle.rc_scope.specs.Stacks.{covers_in, texts_of, Appends, Returns};
 
+use crate::kept_entries::KeptEntry;
 use crate::value_members::Members;
 use rc_text::Text;
 use std::alloc::{AllocError, Global};
@@ -190,9 +192,9 @@ impl Values {
         Ok(Some(text))
     }
 
-    /// Keeps the text of the value at a name, where there is one.
-    pub(crate) fn keep_text(&mut self, name: &str, text: String)
-        requires { IfSome (lookup (is_named name.now) self.old) (λ v. string_bytes text ≡ value_text (texts_of v)) }
+    /// Keeps an entry for the value at a name, where there is one.
+    pub(crate) fn keep_entry(&mut self, name: &str, kept: KeptEntry)
+        requires { IfSome (lookup (is_named name.now) self.old) (λ v. kept_text kept ≡ value_text (texts_of v)) }
         ensures { self.new ≡ self.old }
     {
         let row = row_of(name);
@@ -203,7 +205,7 @@ impl Values {
         let Some(value) = row.get_mut(name) else {
             return;
         };
-        value.texts.keep(text);
+        value.texts.keep(kept);
     }
 
     /// Inserts the value of a name. On `Err` nothing has changed.

@@ -7,11 +7,13 @@ ghost use Rattle.rc_model.specs.Handed.Image.{value_text};
 ghost use Rattle.std.specs.Map.{lookup, set_value, keys_of};
 ghost use Rattle.std.specs.List.Sorted.{IsStrictlySortedBy};
 ghost use Rattle.std.specs.String.{string_cmp};
+ghost use Rattle.rc_scope.specs.KeptEntries.{kept_text};
 ghost use Rattle.rc_scope.specs.Rows.{is_named};
 ghost use Rattle.rc_scope.specs.Bindings.{bindings_of, bindings_in};
 ghost use Rattle.rc_text.specs.Texts.{text_bytes};
 ghost use Rattle.rc_scope.specs.Stacks.{names_in, uncovered, without_newest, flat_names, is_listed, Covers, Uncovers};
 
+use crate::kept_entries::KeptEntry;
 use crate::locals::{Local, LocalName};
 use crate::names::is_status;
 use crate::value_members::Members;
@@ -163,14 +165,14 @@ impl Variables {
         self.set(alloc, name, texts)
     }
 
-    /// Keeps the text of the visible value, where there is one.
+    /// Keeps an entry for the visible value, where there is one.
     #[tactic(auto, using(crate::proofs::Stacks::variables), unfolding(crate::specs::Stacks::stacks_of))]
-    pub(crate) fn keep_text(&mut self, name: &str, text: String)
-        requires { string_bytes text ≡ value_text (visible (stack_in (stacks_of self.old) name.now)) }
+    pub(crate) fn keep_entry(&mut self, name: &str, kept: KeptEntry)
+        requires { kept_text kept ≡ value_text (visible (stack_in (stacks_of self.old) name.now)) }
         ensures stacks { stacks_of self.new ≡ stacks_of self.old }
         ensures locals { locals_of self.new ≡ locals_of self.old }
     {
-        self.values.keep_text(name, text);
+        self.values.keep_entry(name, kept);
     }
 
     /// Removes the first members of the visible value. On `Err` nothing has changed.

@@ -1,13 +1,14 @@
 -- The processes and steps that the values of a family represent.
-use Rattle.std.specs.Prelude.{◌≡◌, ℕ, ◌<◌, List, length, map, Bool, Option, Some, None, String, string_bytes}
+use Rattle.std.specs.Prelude.{◌≡◌, ℕ, ◌<◌, List, length, map, Bool, Option, Some, None}
 use Rattle.std.specs.Prelude.{slice_index_or}
 use Rattle.std.specs.Borrow.{Bor}
-use Rattle.std.specs.declared.alloc.Global.{Global}
 use Rattle.rc_model.specs.Run.Calls as calls
 use Rattle.rc_model.specs.Family.Family as family
 use Rattle.rc_model.specs.Handed.Proper.{IsProperTree}
 use Rattle.rc_model.specs.Family.Steps.{WaitsInTime, EndsInTime}
 use Rattle.rc_scope.specs.States.{state_of}
+use Rattle.rc_text.specs.Texts.{text_bytes}
+use Rattle.rc_text.specs.declared.texts.Text.{Text}
 use Rattle.rc_tree.specs.View.{cmd_tree}
 use Rattle.rc_world.specs.Views.{call_of, answer_of}
 use Rattle.rc_world.specs.declared.event.Call.{Call}
@@ -22,8 +23,8 @@ abbrev pub step_of : Step → family.FamilyEvent
 step_of e = record { at = e.process; call = call_of e.call; answer = answer_of e.answer }
 
 -- the options of a shell by its arguments
-abbrev pub words_of : Bool × Bor (List (String Global)) → Bool × List (List ℕ)
-words_of o = (o.0, map string_bytes o.1.now)
+abbrev pub words_of : Bool × Bor (List Text) → Bool × List (List ℕ)
+words_of o = (o.0, map text_bytes o.1.now)
 
 -- within the limit a process reaches this call, or its end
 abbrev pub StandsAt : ℕ → family.Process → Option Call → Type 0

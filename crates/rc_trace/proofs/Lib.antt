@@ -1,3 +1,4 @@
+pub mod Lists
 pub mod Made
 pub mod Quotes
 pub mod Walks

@@ -2,6 +2,7 @@
 
 ghost use Rattle.std.specs.Prelude.{◌≡◌, map, string_bytes};
 ghost use Rattle.std.specs.Fmt.{debug_str};
+ghost use Rattle.rc_text.specs.Texts.{text_bytes};
 ghost use Rattle.rc_trace.specs.Texts.{answer_text, call_text, ending_text, kind_name, launch_text, mode_name};
 ghost use Rattle.rc_trace.specs.Texts.{has_quotes, needs_quotes, path_text, program_text, refusal_name, slot_text};
 ghost use Rattle.rc_trace.specs.Texts.{slots_text, texts_text};
@@ -9,6 +10,7 @@ ghost use Rattle.rc_trace.specs.Views.{shown_answer, shown_call};
 ghost use Rattle.rc_world.specs.Views.{launch_of, program_of};
 
 use crate::shown::{ShownAnswer, ShownCall};
+use rc_text::Text;
 use rc_world::{Ending, Fault, Kind, Launch, Mode, Program, Slot, Slots};
 use std::fmt;
 
@@ -177,6 +179,24 @@ impl fmt::Display for TextsText<'_> {
     }
 }
 
+/// Texts that are shared, in quotes.
+#[derive(Drop)]
+struct SharedTexts<'a>(&'a [Text]);
+
+impl fmt::Display for SharedTexts<'_> {
+    ghost output = { λ texts. texts_text (map text_bytes texts.0.now) };
+
+    fn fmt<W: fmt::Write>(&self, f: &mut fmt::Formatter<W>) -> fmt::Result {
+        f.write_str("[")?;
+        let mut separator = "";
+        for text in self.0 {
+            write!(f, "{separator}{:?}", text.as_str())?;
+            separator = ", ";
+        }
+        f.write_str("]")
+    }
+}
+
 /// What is started.
 #[derive(Drop)]
 struct LaunchText<'a>(&'a Launch);
@@ -192,7 +212,7 @@ impl fmt::Display for LaunchText<'_> {
             slots,
         } = self.0;
         let program = ProgramText(program);
-        let (args, env, slots) = (TextsText(args), TextsText(env), SlotsText(*slots));
+        let (args, env, slots) = (SharedTexts(args), SharedTexts(env), SlotsText(*slots));
         write!(f, "start {program} {args} {env} {slots}")
     }
 }

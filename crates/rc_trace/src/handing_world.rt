@@ -1,14 +1,16 @@
 //! A world that hands words to the shells that it starts.
 
-ghost use Rattle.std.specs.Prelude.{◌≡◌, ◌≤◌, IfOk, None, map, string_bytes, vec_len};
+ghost use Rattle.std.specs.Prelude.{◌≡◌, ◌≤◌, IfOk, None, map, vec_len};
 ghost use Rattle.rc_model.specs.Run.Calls.{open_file, here, make_pipe, close, read, write, start, wait};
 ghost use Rattle.rc_model.specs.Run.Calls.{list_names, probe, change_dir};
 ghost use Rattle.rc_model.specs.declared.limits.TheConstants.{LONGEST_READ};
+ghost use Rattle.rc_text.specs.Texts.{text_bytes};
 ghost use Rattle.rc_trace.specs.Handing.{Hands, HandsOn, IsHanded, Passes, handed_on, with_words};
 ghost use Rattle.rc_world.specs.Views.{launch_of};
 ghost use Rattle.rc_world.specs.Views.{file_answer, pair_answer, done_answer, bytes_answer};
 ghost use Rattle.rc_world.specs.Views.{child_answer, ending_answer, names_answer, kind_answer};
 
+use rc_text::Text;
 use rc_world::{ChildNo, Ending, Fault, Handle, Kind, Launch, Mode, Program, Slot, World};
 use std::alloc::{AllocError, Global};
 
@@ -39,10 +41,15 @@ impl<W> HandingWorld<W> {
     }
 
     /// The words for a shell.
-    fn words(&self) -> Result<Vec<String>, AllocError> {
-        let mut words = self.options.clone()?;
+    fn words(&self) -> Result<Vec<Text>, AllocError> {
+        let count = self.options.len().saturating_add(1);
+        let mut words = Vec::with_capacity(self.alloc, count)?;
+        for option in &self.options {
+            words.push(Text::of(self.alloc, option)?)?;
+        }
         let (process, number) = (&self.process, self.started);
-        words.push(format!(in self.alloc; "{process}.{number}")?)?;
+        let name = format!(in self.alloc; "{process}.{number}")?;
+        words.push(Text::from_string(self.alloc, name)?)?;
         Ok(words)
     }
 
@@ -55,9 +62,9 @@ impl<W> HandingWorld<W> {
 }
 
 /// A launch with these words before its own.
-fn with_words(mut words: Vec<String>, launch: &Launch) -> Result<Launch, AllocError>
+fn with_words(mut words: Vec<Text>, launch: &Launch) -> Result<Launch, AllocError>
     ensures { IfOk result (λ handed.
-        launch_of handed ≡ with_words (map string_bytes words.items) (launch_of launch.now)) }
+        launch_of handed ≡ with_words (map text_bytes words.items) (launch_of launch.now)) }
 {
     let mut handed = launch.copy()?;
     words.append(&mut handed.args)?;

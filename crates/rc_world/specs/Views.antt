@@ -8,6 +8,7 @@ use Rattle.rc_model.specs.declared.call.Handle.{Handle}
 use Rattle.rc_model.specs.declared.call.ChildNo.{ChildNo}
 use Rattle.rc_model.specs.declared.call.Kind.{Kind}
 use Rattle.rc_model.specs.declared.call.Ending.{Ending}
+use Rattle.rc_text.specs.Texts.{text_bytes}
 use Rattle.rc_world.specs.declared.starts.Program.{Program}
 use Rattle.rc_world.specs.declared.starts.Program.TheVariants as program
 use Rattle.rc_world.specs.declared.starts.Launch.{Launch}
@@ -25,8 +26,8 @@ program_of (program.Path path) = Some (string_bytes path)
 abbrev pub launch_of : Launch → calls.Launch
 launch_of launch = record {
   program = program_of launch.program;
-  args = map string_bytes launch.args.items;
-  entries = map string_bytes launch.env.items;
+  args = map text_bytes launch.args.items;
+  entries = map text_bytes launch.env.items;
   slots = launch.slots;
 }
 

@@ -62,7 +62,7 @@ pub enum Answer {
 
 impl Answer {
     /// Copies the answer.
-    #[tactic(auto, using(crate::proofs::Copies::same_texts))]
+    #[tactic(auto, using(crate::proofs::Copies::same_strings))]
     pub fn copy(&self) -> Result<Answer, AllocError>
         ensures { IfOk result (λ copy. answer_of copy ≡ answer_of self.now) }
     {

@@ -5,6 +5,7 @@ ghost use Rattle.rc_world.specs.Views.{launch_of};
 ghost use Rattle.rc_world.specs.declared.starts.Stop.TheVariants.{NoMemory};
 
 use rc_model::Slots;
+use rc_text::Text;
 use std::alloc::{AllocError, AllocFailed};
 
 /// The program of a launch: this shell, or the one at a path.
@@ -18,8 +19,8 @@ pub enum Program {
 #[derive(Drop)]
 pub struct Launch {
     pub program: Program,
-    pub args: Vec<String>,
-    pub env: Vec<String>,
+    pub args: Vec<Text>,
+    pub env: Vec<Text>,
     pub slots: Slots,
 }
 

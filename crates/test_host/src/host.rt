@@ -1,5 +1,6 @@
 //! A host, and launches on it.
 use rc_host::{HostWorld, entries, own_path};
+use rc_text::Text;
 use rc_world::{Ending, Fault, Handle, Launch, Mode, PLAIN_SLOTS, Program, Slots, World};
 use std::alloc::{AllocError, Global};
 use std::rt::HostRuntime;
@@ -29,10 +30,10 @@ pub fn granted<T: Drop>(answer: Result<T, Fault>) -> Result<T, Fail> {
     }
 }
 
-pub fn texts(alloc: Global, all: &[&str]) -> Result<Vec<String>, AllocError> {
+pub fn texts(alloc: Global, all: &[&str]) -> Result<Vec<Text>, AllocError> {
     let mut copies = Vec::new(alloc);
     for text in all {
-        copies.push(String::from_str(alloc, text)?)?;
+        copies.push(Text::of(alloc, text)?)?;
     }
     Ok(copies)
 }
@@ -129,7 +130,7 @@ pub fn again(
     let line = contents(alloc, host, "/proc/self/cmdline")?;
     let mut launch = launch(alloc, path, words, &[AGAIN], slots)?;
     for arg in line.as_str().trim_end_matches('\0').split('\0').skip(1) {
-        launch.args.push(String::from_str(alloc, arg)?)?;
+        launch.args.push(Text::of(alloc, arg)?)?;
     }
     Ok(launch)
 }

@@ -3,6 +3,7 @@
 
 use crate::calls::unescaped;
 use anyhow::{Result, anyhow};
+use rc_text::Text;
 use rc_world::{Handle, Launch, Program, Slot, Slots};
 use std::alloc::Global;
 
@@ -38,14 +39,14 @@ pub fn launch(alloc: Global, written: &str) -> Result<Launch> {
     let mut args = Vec::new(alloc);
     for word in words {
         match word.strip_prefix('+') {
-            Some(entry) => env.push(unescaped(alloc, entry)?)?,
-            None => args.push(unescaped(alloc, word)?)?,
+            Some(entry) => env.push(Text::from_string(alloc, unescaped(alloc, entry)?)?)?,
+            None => args.push(Text::from_string(alloc, unescaped(alloc, word)?)?)?,
         }
     }
     if args.is_empty() {
         return Err(anyhow!("a launch without a program"));
     }
-    let path = args.remove(0);
+    let path = args.remove(0).into_string(alloc)?;
     Ok(Launch {
         program: program(path),
         args,

@@ -1,5 +1,6 @@
 //! Printing calls, without allocating.
 
+use rc_text::Text;
 use rc_world::{Call, Launch, Mode, Program, Slot, Slots};
 use std::io;
 
@@ -37,10 +38,23 @@ fn print_launch(rt: HostRuntime, launch: &Launch) -> io::Result<()> {
         Program::Shell => "the shell",
         Program::Path(path) => path.as_str(),
     };
-    let (args, env) = (&launch.args, &launch.env);
-    print!(rt; "start {program} {args:?} {env:?}")?;
+    print!(rt; "start {program} ")?;
+    print_texts(rt, &launch.args)?;
+    print!(rt; " ")?;
+    print_texts(rt, &launch.env)?;
     print_slots(rt, launch.slots)?;
     println!(rt; "")
+}
+
+fn print_texts(rt: HostRuntime, texts: &[Text]) -> io::Result<()> {
+    print!(rt; "[")?;
+    for (place, text) in texts.iter().enumerate() {
+        if place > 0 {
+            print!(rt; ", ")?;
+        }
+        print!(rt; "{:?}", text.as_str())?;
+    }
+    print!(rt; "]")
 }
 
 fn print_slots(rt: HostRuntime, slots: Slots) -> io::Result<()> {

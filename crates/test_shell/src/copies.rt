@@ -1,5 +1,6 @@
 //! Copies of calls and answers.
 
+use rc_text::Text;
 use rc_world::{
     Answer, Call, ChildNo, Ending, Fault, Handle, Kind, Launch, Mode, PLAIN_SLOTS, Program, Slot,
 };
@@ -16,8 +17,8 @@ fn launch(alloc: Global, program: Program) -> Result<Launch, AllocError> {
     slots.output = Slot::To(Handle(4));
     Ok(Launch {
         program,
-        args: vec![in alloc; text(alloc, "a")?, text(alloc, "b")?]?,
-        env: vec![in alloc; text(alloc, "x=1")?]?,
+        args: vec![in alloc; Text::of(alloc, "a")?, Text::of(alloc, "b")?]?,
+        env: vec![in alloc; Text::of(alloc, "x=1")?]?,
         slots,
     })
 }
@@ -68,6 +69,14 @@ fn are_same_texts(some: &[String], others: &[String]) -> bool {
             .all(|(one, other)| one == other)
 }
 
+fn are_same_shared_texts(some: &[Text], others: &[Text]) -> bool {
+    some.len() == others.len()
+        && some
+            .iter()
+            .zip(others.iter())
+            .all(|(one, other)| one.as_str() == other.as_str())
+}
+
 fn are_same_programs(one: &Program, other: &Program) -> bool {
     match (one, other) {
         (Program::Shell, Program::Shell) => true,
@@ -78,8 +87,8 @@ fn are_same_programs(one: &Program, other: &Program) -> bool {
 
 fn are_same_launches(one: &Launch, other: &Launch) -> bool {
     are_same_programs(&one.program, &other.program)
-        && are_same_texts(&one.args, &other.args)
-        && are_same_texts(&one.env, &other.env)
+        && are_same_shared_texts(&one.args, &other.args)
+        && are_same_shared_texts(&one.env, &other.env)
         && one.slots == other.slots
 }
 

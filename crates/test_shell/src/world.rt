@@ -1,6 +1,7 @@
 //! Calls of a tape, which are not made when memory runs out.
 
 use crate::support::refused_after;
+use rc_text::Text;
 use rc_world::{
     Answer, ChildNo, Fault, Kind, Launch, PLAIN_SLOTS, Program, Slot, Stop, Tape, World, calls,
 };
@@ -10,8 +11,8 @@ use std::test::Fail;
 fn echo_hello(alloc: Global) -> Result<Launch, AllocError> {
     Ok(Launch {
         program: Program::Path(String::from_str(alloc, "/bin/echo")?),
-        args: vec![in alloc; String::from_str(alloc, "hello")?]?,
-        env: vec![in alloc; String::from_str(alloc, "path=/bin")?]?,
+        args: vec![in alloc; Text::of(alloc, "hello")?]?,
+        env: vec![in alloc; Text::of(alloc, "path=/bin")?]?,
         slots: PLAIN_SLOTS,
     })
 }

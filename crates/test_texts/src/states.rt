@@ -15,6 +15,7 @@ use rc_image::{
     Handover, ImageError, handed, read_env, read_image, read_state, write_env, write_tree,
 };
 use rc_scope::{State, texts_of};
+use rc_text::Text;
 use rc_tree::Cmd;
 use std::alloc::{AllocError, Global};
 
@@ -86,8 +87,9 @@ fn change(alloc: Global, state: &mut State, option: &str) -> Result<(), RowError
 }
 
 /// Adds texts, each on a line. For a long one the length is shown.
-fn add_texts(out: &mut String, kind: &str, texts: &[String]) -> Result<(), AllocError> {
+fn add_texts(out: &mut String, kind: &str, texts: &[Text]) -> Result<(), AllocError> {
     for text in texts {
+        let text = text.as_str();
         let length = text.len();
         if length <= SHORT_TEXT {
             write!(out, "{kind} {text:?}\n")?;

@@ -1,11 +1,13 @@
 //! What Linux is asked for when a child is started.
-ghost use Rattle.std.specs.Prelude.{◌≡◌, ◌++◌, ◌∷◌, [], false, map, IfOk, IfErr, OnOk, string_bytes};
+ghost use Rattle.std.specs.Prelude.{◌≡◌, ◌++◌, ◌∷◌, [], false, map, IfOk, IfErr, OnOk};
+ghost use Rattle.rc_text.specs.Texts.{text_bytes};
 ghost use Rattle.rc_host.specs.Plan.{has_equals};
 ghost use Rattle.rc_host.specs.PlanViews.{plan_view, texts_lent};
 ghost use Rattle.rc_host.specs.Requests.{AsksFor, Holds, IsNotAsked, IsNotHeld, has_zero, is_no_entry};
 
 use crate::launches::planned::Plan;
 use crate::launches::planning::has_equals;
+use rc_text::Text;
 use rc_world::Fault;
 use std::alloc::Global;
 
@@ -49,13 +51,13 @@ fn args_of(alloc: Global, program: &str, args: &[&str]) -> Result<Vec<u8>, Fault
     Ok(texts)
 }
 
-fn env_of(alloc: Global, entries: &[String]) -> Result<Vec<u8>, Fault>
-    ensures held { IfOk result (λ held. Holds is_no_entry held.items (map string_bytes entries.now)) }
-    ensures err { IfErr result (IsNotHeld is_no_entry (map string_bytes entries.now)) }
+fn env_of(alloc: Global, entries: &[Text]) -> Result<Vec<u8>, Fault>
+    ensures held { IfOk result (λ held. Holds is_no_entry held.items (map text_bytes entries.now)) }
+    ensures err { IfErr result (IsNotHeld is_no_entry (map text_bytes entries.now)) }
 {
     let mut texts = room(alloc)?;
     for entry in entries {
-        push_entry(&mut texts, entry)?;
+        push_entry(&mut texts, entry.as_str())?;
     }
     Ok(texts)
 }

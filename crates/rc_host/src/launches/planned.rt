@@ -1,4 +1,5 @@
 //! The request that starts a child.
+use rc_text::Text;
 use rc_world::Slots;
 
 /// A program with its arguments, its whole environment and its descriptors, each of which is an
@@ -7,6 +8,6 @@ use rc_world::Slots;
 pub struct Plan<'a> {
     pub program: &'a str,
     pub args: Vec<&'a str>,
-    pub env: &'a [String],
+    pub env: &'a [Text],
     pub slots: Slots,
 }

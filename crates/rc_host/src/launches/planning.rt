@@ -1,12 +1,14 @@
 //! The plan of a launch.
 ghost use Rattle.std.specs.Prelude.{◌≡◌, ◌↔◌, ◌⊎◌, ◌++◌, Some, None, Err, IfOk, IfErr, OnOk};
-ghost use Rattle.std.specs.Prelude.{map, string_bytes, option_map, unwrap_or};
+ghost use Rattle.std.specs.Prelude.{map, option_map, unwrap_or};
 ghost use Rattle.rc_model.specs.declared.call.Fault.TheVariants.{NoMemory, Other};
+ghost use Rattle.rc_text.specs.Texts.{text_bytes};
 ghost use Rattle.rc_world.specs.Views.{launch_of, program_of};
 ghost use Rattle.rc_host.specs.Plan.{plan_of, plain_plan, copying_plan, copying_of, is_in_place, has_equals};
 ghost use Rattle.rc_host.specs.PlanViews.{plan_view, copying_view, texts_lent};
 
 use crate::launches::planned::Plan;
+use rc_text::Text;
 use rc_world::{Fault, Launch, Program, Slot, Slots};
 use std::alloc::{AllocError, Global};
 
@@ -145,11 +147,11 @@ fn copying_plan<'a>(
 }
 
 /// Adds these texts, which are lent.
-fn push_texts<'a>(to: &mut Vec<&'a str>, texts: &'a [String]) -> Result<(), AllocError>
-    ensures { OnOk result (texts_lent to.new.items ≡ texts_lent to.old.items ++ map string_bytes texts.now) }
+fn push_texts<'a>(to: &mut Vec<&'a str>, texts: &'a [Text]) -> Result<(), AllocError>
+    ensures { OnOk result (texts_lent to.new.items ≡ texts_lent to.old.items ++ map text_bytes texts.now) }
 {
     for text in texts {
-        to.push(text)?;
+        to.push(text.as_str())?;
     }
     Ok(())
 }

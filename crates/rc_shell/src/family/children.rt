@@ -4,6 +4,7 @@ ghost use Rattle.std.specs.Prelude.{◌≡◌, IfErr, IfOk, map, option_map, str
 ghost use Rattle.rc_model.specs.Family.Family.{read_launch, shell_started};
 ghost use Rattle.rc_model.specs.Handed.Arguments.{after_mark, options};
 ghost use Rattle.rc_scope.specs.States.{state_of};
+ghost use Rattle.rc_text.specs.Texts.{text_bytes};
 ghost use Rattle.rc_tree.specs.View.{cmd_tree};
 ghost use Rattle.rc_world.specs.Views.{answer_of, call_of, launch_of};
 ghost use Rattle.rc_shell.specs.Standings.{StartsAs, StartsNot, words_of};
@@ -13,13 +14,14 @@ use crate::family::next_calls::begin;
 use crate::family::process_steps::Process;
 use rc_image::{InputError, read_image};
 use rc_scope::State;
+use rc_text::Text;
 use rc_tree::Cmd;
 use rc_world::{Answer, Call, Launch, Program};
 use std::alloc::{AllocError, Global};
 
 /// The words after `-S`, and whether the shell is strict.
-fn after_mark(is_strict: bool, args: &[String]) -> Option<(bool, &[String])>
-    ensures { option_map words_of result ≡ after_mark is_strict (map string_bytes args.now) }
+fn after_mark(is_strict: bool, args: &[Text]) -> Option<(bool, &[Text])>
+    ensures { option_map words_of result ≡ after_mark is_strict (map text_bytes args.now) }
 {
     match args {
         [first, words @ ..] if first.as_str() == "-S" => Some((is_strict, words)),
@@ -28,13 +30,24 @@ fn after_mark(is_strict: bool, args: &[String]) -> Option<(bool, &[String])>
 }
 
 /// Whether a shell is strict, and the words of its image, by its arguments.
-fn options(args: &[String]) -> Option<(bool, &[String])>
-    ensures { option_map words_of result ≡ options (map string_bytes args.now) }
+fn options(args: &[Text]) -> Option<(bool, &[Text])>
+    ensures { option_map words_of result ≡ options (map text_bytes args.now) }
 {
     match args {
         [first, others @ ..] if first.as_str() == "-e" => after_mark(true, others),
         _ => after_mark(false, args),
     }
+}
+
+/// The texts as strings.
+fn strings(alloc: Global, texts: &[Text]) -> Result<Vec<String>, AllocError>
+    ensures { IfOk result (λ strings. map string_bytes strings.items ≡ map text_bytes texts.now) }
+{
+    let mut strings = Vec::with_capacity(alloc, texts.len())?;
+    for text in texts {
+        strings.push(String::from_str(alloc, text.as_str())?)?;
+    }
+    Ok(strings)
 }
 
 /// The script and the state that a shell reads from its launch: the empty script if it can't read them.
@@ -44,7 +57,9 @@ fn read_child(alloc: Global, launch: &Launch) -> Result<(Cmd, State), AllocError
     let Some((is_strict, words)) = options(launch.args.as_slice()) else {
         return Ok((Cmd::Empty, State::new(alloc)));
     };
-    match read_image(alloc, is_strict, words, launch.env.as_slice()) {
+    let words = strings(alloc, words)?;
+    let entries = strings(alloc, launch.env.as_slice())?;
+    match read_image(alloc, is_strict, &words, &entries) {
         Ok(read) => Ok(read),
         Err(InputError::Fault(_)) => Ok((Cmd::Empty, State::new(alloc))),
         Err(InputError::NoMemory) => Err(AllocError),

@@ -1,6 +1,7 @@
-use Rattle.std.proofs.Common.{arith, ◌≡◌, refl, sym, ap, [], ◌∷◌, ◌++◌, drop, length, map, string_bytes}
+use Rattle.std.proofs.Common.{arith, ◌≡◌, refl, sym, ap, [], ◌∷◌, ◌++◌, drop, length, map}
 use Rattle.std.proofs.lemmas.Grind.{common_steps}
 use Rattle.std.proofs.lemmas.List.{drop_all}
+use Rattle.rc_text.specs.Texts.{text_bytes}
 use Rattle.rc_image.specs.Additions.{handed}
 use Rattle.rc_image.proofs.Handing.{ends_all, ends_at, ends_before, keeps_on, left_off, left_on}
 use Rattle.rc_image.proofs.launch_environment.push_below.Goals as goal
@@ -27,7 +28,7 @@ pub loop-place-preserved : goal.loop-place-preserved
 loop-place-preserved c =
     let v = c.index-variables-place.result in
     let next = left_on c.args.variables.now c.loop-place.place v c.loop-place-test.true c.index-variables-place.is (sym c.if-not-is_handed.ensures) in
-    let more : map string_bytes c.push.new.self.items ≡ map string_bytes c.loop-place.out.items ++ string_bytes c.in_ok-entry-in-Greater.field-0 ∷ [] = grind (arith, common_steps) in
+    let more : map text_bytes c.push.new.self.items ≡ map text_bytes c.loop-place.out.items ++ text_bytes c.in_ok-entry-in-Greater.field-0 ∷ [] = grind (arith, common_steps) in
     rw more (keeps_on _ _ _ _ _ _ _ _ (sym c.in-Greater.ensures) c.in_ok-entry-in-Greater.ensures next c.loop-place.invariant)
 
 pub returns : goal.returns

@@ -1,6 +1,7 @@
-use Rattle.std.proofs.Common.{rules, arith, ◌≡◌, refl, sym, ap, ◌∙◌, [], ◌∷◌, ◌++◌, map, string_bytes}
+use Rattle.std.proofs.Common.{rules, arith, ◌≡◌, refl, sym, ap, ◌∙◌, [], ◌∷◌, ◌++◌, map}
 use Rattle.std.proofs.lemmas.Grind.{common_steps}
 use Rattle.std.proofs.lemmas.List.{append-nil, drop_all}
+use Rattle.rc_text.specs.Texts.{text_bytes}
 use Rattle.rc_model.specs.Handed.Image.{entry}
 use Rattle.rc_image.specs.Additions.{handed}
 use Rattle.rc_image.proofs.Handing.{entry_on, left_off, left_on}
@@ -13,19 +14,19 @@ loop-place-init c = refl
 pub loop-place-preserved : goal.loop-place-preserved
 loop-place-preserved c =
     let v = c.index-variables-place.result in
-    let w = map string_bytes c.loop-place.out.items in
+    let w = map text_bytes c.loop-place.out.items in
     elim c.if-is_handed.branch [
       | then-is_handed+in_ok-entry+in_ok-push u ↦
           let next = left_on c.args.variables.now c.loop-place.place v c.loop-place-test.true c.index-variables-place.is (search rules) in
-          let more : map string_bytes c.if-is_handed.out.items ≡ w ++ string_bytes u.in_ok-entry.field-0 ∷ [] = grind (arith, common_steps) in
+          let more : map text_bytes c.if-is_handed.out.items ≡ w ++ text_bytes u.in_ok-entry.field-0 ∷ [] = grind (arith, common_steps) in
           rw more (entry_on _ _ _ _ _ _ u.in_ok-entry.ensures next c.loop-place.invariant)
       | else-is_handed u ↦
           let next = left_off c.args.variables.now c.loop-place.place v c.loop-place-test.true c.index-variables-place.is (search rules) in
-          let same : map string_bytes c.if-is_handed.out.items ≡ w = search rules in
+          let same : map text_bytes c.if-is_handed.out.items ≡ w = search rules in
           rw (same, sym next) c.loop-place.invariant
     ]
 
 pub returns : goal.returns
 returns c =
-    sym (append-nil (map string_bytes c.loop-place.out.items)) ∙ ap (λ vs. map string_bytes c.loop-place.out.items ++ map entry (handed vs)) (sym (drop_all c.loop-place.place c.args.variables.now c.loop-place-test.false))
+    sym (append-nil (map text_bytes c.loop-place.out.items)) ∙ ap (λ vs. map text_bytes c.loop-place.out.items ++ map entry (handed vs)) (sym (drop_all c.loop-place.place c.args.variables.now c.loop-place-test.false))
     ∙ c.loop-place.invariant

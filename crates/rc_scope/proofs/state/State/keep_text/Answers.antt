@@ -1,7 +1,0 @@
-use Rattle.rc_scope.proofs.ProperStates.{nothing_set}
-use Rattle.rc_scope.proofs.state.State.keep_text.Goals as goal
-
-pub invariant_of-self : goal.invariant_of-self
-invariant_of-self c =
-    let s = c.args.self.now in
-    record { proper = nothing_set s.variables c.keep_text.new.self s.functions.entries s.proper c.keep_text.ensures.stacks }
