@@ -214,3 +214,13 @@ abbrev pub EndsWord : ByteClass → Type 0
 EndsWord Ordinary = ⊥
 EndsWord Backslash = ⊥
 EndsWord _ = Unit {0}
+
+-- an operator of this kind is a token whatever stands before and after it
+abbrev pub IsWhole : TokenKind → Type 0
+IsWhole tk.Ampersand = Unit {0}
+IsWhole tk.AndAnd = Unit {0}
+IsWhole tk.OrOr = Unit {0}
+IsWhole (tk.Bar slot) = Unit {0}
+IsWhole (tk.Redirection mode slot) = Unit {0}
+IsWhole (tk.CopyTo to from) = Unit {0}
+IsWhole _ = ⊥

@@ -22,6 +22,7 @@ pub(crate) enum ByteClass {
 }
 
 /// Returns the class of a byte.
+#[inline(always)]
 pub(crate) fn class_of(b: u8) -> ByteClass
     ensures { result ≡ byte_class b }
 {

@@ -1,6 +1,6 @@
 use Rattle.std.proofs.Common.{refl, ap, arith}
 use Rattle.rc_lexer.proofs.PlainOn.{word_goes_on}
-use Rattle.rc_lexer.proofs.pieces.word_end.Goals as goal
+use Rattle.rc_lexer.proofs.plain.word_end.Goals as goal
 
 pub loop-place-preserved : goal.loop-place-preserved
 loop-place-preserved c = record {
