@@ -39,6 +39,7 @@ pub(crate) fn class_of(b: u8) -> ByteClass
 }
 
 /// The token of a byte that stands alone.
+#[inline(always)]
 pub(crate) fn alone_kind(b: u8) -> TokenKind
     ensures { result ≡ alone_kind b }
 {

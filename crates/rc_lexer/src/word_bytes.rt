@@ -18,6 +18,7 @@ use std::alloc::AllocError;
 
 impl Reading {
     /// Adds a token of one byte, and returns the context that it leaves.
+    #[inline(always)]
     pub(crate) fn push_one(
         &mut self,
         previous: Previous,
@@ -47,6 +48,7 @@ impl Reading {
     }
 
     /// Adds a newline, which ends a command.
+    #[inline(always)]
     pub(crate) fn push_newline(
         &mut self,
         previous: Previous,
@@ -66,6 +68,7 @@ impl Reading {
     }
 
     /// Begins an operator, and returns where it begins and the context before it.
+    #[inline(always)]
     pub(crate) fn begin_operator(
         &mut self,
         previous: Previous,
