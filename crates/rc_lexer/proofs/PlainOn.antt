@@ -1,5 +1,5 @@
 -- Blanks and words are read on, many bytes at once.
-use Rattle.std.proofs.Common.{◌≡◌, ℕ, ◌+◌, ◌<◌, ◌≤◌, ◌==◌, ◌||◌, Bool, true, false, cond, not, List, [], ◌∷◌, ◌++◌, length, map, drop, get_or, refl, sym, ap, subst, ◌∙◌, arith, append_assoc}
+use Rattle.std.proofs.Common.{◌≡◌, ◌≢◌, ℕ, ◌+◌, ◌<◌, ◌≤◌, ◌==◌, ◌||◌, Bool, true, false, cond, not, List, [], ◌∷◌, ◌++◌, length, map, drop, get_or, refl, sym, ap, subst, ◌∙◌, arith, append_assoc}
 use Rattle.std.specs.Prelude.{Some, None, Result, Ok, Err, IfOk}
 use Rattle.std.specs.declared.alloc.AllocError.{AllocError}
 use Rattle.std.proofs.lemmas.List.{append-nil}
@@ -8,7 +8,7 @@ use Rattle.rc_model.specs.Mirrors.Reading.{follow, without_here}
 use Rattle.law_syntax.specs.ByteReading as bytes
 use Rattle.law_syntax.specs.ByteReading.{after_byte}
 use Rattle.rc_lexer.specs.Spans as spans
-use Rattle.rc_lexer.specs.Spans.{EndsWord, IsWhole, Step, byte_class}
+use Rattle.rc_lexer.specs.Spans.{EndsQuoted, EndsWord, IsWhole, in_quotes, Step, byte_class}
 use Rattle.rc_lexer.specs.Trie.{first_op, next_op, op_kind}
 use Rattle.rc_lexer.specs.SpanLaws.{seen, Stands}
 use Rattle.rc_lexer.specs.Machine.{pending_of, pending_in, dollars_in, appended, Takes, Adds, AddsWord}
@@ -228,3 +228,80 @@ dollar_ends_on text old new start op p b v h e f g i i' w a has =
     (cond (b == 36) (Ok ([], [], state.Operator (spans.starts previous.Dollar p) Dollar0, it, pending_in old)) (spans.emit (spans.bare it) (spans.begin previous.Apart (pending_in old) p b (byte_class b))))))) (sym i ∙ i')
     ∙ ap (appended ts old.bodies.items) (emit_emit (spans.caret start.previous tk.Dollar start.place) it begun)
     ∙ after_adding (spans.caret start.previous tk.Dollar start.place ++ it) old new previous.Dollar p b (byte_class b) (record { tokens = a.tokens; bodies = a.bodies; pending = a.pending })) tt has
+
+-- a quoted word
+stays_in_quotes : (text : List ℕ) (start : TokenStart) (dollars : List Token) (due : List t.PendingHereDoc) (p : Place) (b : ℕ) (c : ByteClass) → c ≢ k.Quote →
+    spans.step text (state.Quoted start) dollars due p b c ≡ spans.goes [] (state.Quoted start) due
+stays_in_quotes text start dollars due p b k.Quote n = absurd (n refl)
+stays_in_quotes text start dollars due p b c n = refl
+
+pub quoted_begins_on : (text : List ℕ) (reading : Reading) (prev : Previous) (p q : Place) (b : ℕ) (c : ByteClass) → p.byte < length text → b ≡ get_or text p.byte 0 → c ≡ byte_class b → c ≡ k.Quote →
+    q ≡ after_byte p b → HasRead text reading (state.Between prev) p → HasRead text reading (state.Quoted (record { previous = prev; place = p })) q
+quoted_begins_on text reading prev p q b c h e f g j has =
+    let start : TokenStart = record { previous = prev; place = p } in
+    class_reads_on text reading reading (state.Between prev) (state.Quoted start) p q b 0 k.Quote h e (sym g ∙ f) j has (goes_takes reading (state.Quoted start) refl)
+
+pub quote_on : (text : List ℕ) (reading : Reading) (start : TokenStart) (v w : Bool) (p q : Place) (b : ℕ) (c : ByteClass) → p.byte < length text → b ≡ get_or text p.byte 0 → c ≡ byte_class b → c ≡ k.Quote →
+    w ≡ not v → q ≡ after_byte p b → HasRead text reading (in_quotes start v) p → HasRead text reading (in_quotes start w) q
+quote_on text reading start true w p q b c h e f g i j has =
+    subst (λ z. HasRead text reading (in_quotes start z) q) (sym i)
+    (class_reads_on text reading reading (state.Closed start) (state.Quoted start) p q b 0 k.Quote h e (sym g ∙ f) j has (goes_takes reading (state.Quoted start) refl))
+quote_on text reading start false w p q b c h e f g i j has =
+    subst (λ z. HasRead text reading (in_quotes start z) q) (sym i)
+    (class_reads_on text reading reading (state.Quoted start) (state.Closed start) p q b 0 k.Quote h e (sym g ∙ f) j has (goes_takes reading (state.Closed start) refl))
+
+pub quoted_goes_on : (text : List ℕ) (reading : Reading) (start : TokenStart) (v w : Bool) (p q : Place) (b : ℕ) (c : ByteClass) → p.byte < length text → b ≡ get_or text p.byte 0 → c ≡ byte_class b → c ≢ k.Quote →
+    v ≡ false → w ≡ v → q ≡ after_byte p b → HasRead text reading (in_quotes start v) p → HasRead text reading (in_quotes start w) q
+quoted_goes_on text reading start true w p q b c h e f n i i' j has = absurd cc
+quoted_goes_on text reading start false w p q b c h e f n i i' j has =
+    subst (λ z. HasRead text reading (in_quotes start z) q) (sym i')
+    (class_reads_on text reading reading (state.Quoted start) (state.Quoted start) p q b 0 c h e f j has
+    (subst (λ z. Takes reading reading (Ok (state.Quoted start)) z) (sym (stays_in_quotes text start [] (pending_in reading) p b c n)) (goes_takes reading (state.Quoted start) refl)))
+
+closed_ends : (text : List ℕ) (start : TokenStart) (dollars : List Token) (due : List t.PendingHereDoc) (p : Place) (b : ℕ) (c : ByteClass) → c ≢ k.Quote →
+    spans.step text (state.Closed start) dollars due p b c ≡ spans.ends_word true text start due p b c
+closed_ends text start dollars due p b k.Quote n = absurd (n refl)
+closed_ends text start dollars due p b c n = refl
+
+pub quoted_ends_on : (text : List ℕ) (old new : Reading) (start : TokenStart) (after : Previous) (v : Bool) (p : Place) (b : ℕ) → p.byte < length text → b ≡ get_or text p.byte 0 → EndsQuoted v b →
+    AddsWord true text start.previous after start.place p old new → HasRead text old (in_quotes start v) p → HasRead text new (state.Between after) p
+quoted_ends_on text old new start after true p b h e n a has =
+    let due' = spans.word_due true text start.previous start.place p (pending_in old) in
+    goes_on_as text old new (state.Closed start) (state.Between after) p b h e
+    (ap (appended old.tokens.items old.bodies.items) (closed_ends text start [] (pending_in old) p b (byte_class b) n.1)
+    ∙ appended_emit old.tokens.items (spans.word_tokens true start.previous start.place p) old.bodies.items (spans.begin (spans.word_after true start.previous) due' p b (byte_class b))
+    ∙ ap (λ z. appended z old.bodies.items (spans.begin (spans.word_after true start.previous) due' p b (byte_class b))) (sym a.tokens)
+    ∙ ap (λ z. appended new.tokens.items z (spans.begin (spans.word_after true start.previous) due' p b (byte_class b))) (sym a.bodies)
+    ∙ ap (λ z. appended new.tokens.items new.bodies.items (spans.begin z due' p b (byte_class b))) (sym a.after_word)
+    ∙ ap (λ z. appended new.tokens.items new.bodies.items (spans.begin after z p b (byte_class b))) (sym a.pending)) tt has
+quoted_ends_on text old new start after false p b h e n a has = absurd cc
+
+-- a comment
+comment_takes : (prev : Previous) (p : Place) (b : ℕ) (old new : Reading) → Adds (spans.bare_here prev) old new → Takes old new (Ok state.Comment) (spans.begin prev (pending_in old) p b k.Hash)
+comment_takes prev p b old new a =
+    ap (λ z. Ok (old.tokens.items ++ spans.bare_here prev, z, state.Comment, [], pending_in old)) (append-nil old.bodies.items ∙ sym a.bodies)
+    ∙ ap (λ z. Ok (z, new.bodies.items, state.Comment, [], pending_in old)) (sym a.tokens)
+    ∙ ap (λ z. Ok (new.tokens.items, new.bodies.items, state.Comment, [], map pending_of z)) (sym a.pending)
+
+pub comment_begins_on : (text : List ℕ) (old new : Reading) (prev : Previous) (p q : Place) (b : ℕ) (c : ByteClass) → p.byte < length text → b ≡ get_or text p.byte 0 → c ≡ byte_class b → c ≡ k.Hash →
+    q ≡ after_byte p b → Adds (spans.bare_here prev) old new → HasRead text old (state.Between prev) p → HasRead text new state.Comment q
+comment_begins_on text old new prev p q b c h e f g j a has =
+    class_reads_on text old new (state.Between prev) state.Comment p q b 0 k.Hash h e (sym g ∙ f) j has (comment_takes prev p b old new a)
+
+stays_in_comment : (text : List ℕ) (dollars : List Token) (due : List t.PendingHereDoc) (p : Place) (b : ℕ) (c : ByteClass) → c ≢ k.LineEnd →
+    spans.step text state.Comment dollars due p b c ≡ spans.goes [] state.Comment due
+stays_in_comment text dollars due p b k.LineEnd n = absurd (n refl)
+stays_in_comment text dollars due p b c n = refl
+
+pub comment_goes_on : (text : List ℕ) (reading : Reading) (p q : Place) (b : ℕ) (c : ByteClass) → p.byte < length text → b ≡ get_or text p.byte 0 → c ≡ byte_class b → c ≢ k.LineEnd →
+    q ≡ after_byte p b → HasRead text reading state.Comment p → HasRead text reading state.Comment q
+comment_goes_on text reading p q b c h e f n j has =
+    class_reads_on text reading reading state.Comment state.Comment p q b 0 c h e f j has
+    (subst (λ z. Takes reading reading (Ok state.Comment) z) (sym (stays_in_comment text [] (pending_in reading) p b c n)) (goes_takes reading state.Comment refl))
+
+pub comment_ends_on : (text : List ℕ) (reading : Reading) (p : Place) (b : ℕ) (c : ByteClass) → p.byte < length text → b ≡ get_or text p.byte 0 → c ≡ byte_class b → c ≡ k.LineEnd →
+    HasRead text reading state.Comment p → HasRead text reading (state.Between previous.Apart) p
+comment_ends_on text reading p b c h e f g has =
+    goes_on_as text reading reading state.Comment (state.Between previous.Apart) p b h e
+    (ap (λ z. appended reading.tokens.items reading.bodies.items (spans.step text state.Comment [] (pending_in reading) p b z)) (sym (sym g ∙ f))
+    ∙ ap (λ z. appended reading.tokens.items reading.bodies.items (spans.begin previous.Apart (pending_in reading) p b z)) (sym g ∙ f)) tt has

@@ -2,7 +2,7 @@
 
 ghost use Rattle.std.specs.Prelude.{◌≡◌, ◌<◌, ◌≤◌, ◌^◌, false, true, None, [], IfOk, length, slice_index};
 ghost use Rattle.rc_model.specs.Syntax.Tokens.{is_name_char};
-ghost use Rattle.rc_lexer.specs.Spans.{EndsWord, IsWhole};
+ghost use Rattle.rc_lexer.specs.Spans.{EndsQuoted, EndsWord, IsWhole, in_quotes};
 ghost use Rattle.rc_lexer.specs.Trie.{next_op};
 ghost use Rattle.rc_lexer.specs.declared.lexer_state.State.TheVariants as state;
 ghost use Rattle.rc_lexer.specs.Reads.{HasRead};
@@ -180,7 +180,76 @@ fn read_operator(
     }
 }
 
-/// Reads a blank or a token, as far as it ends in the text, unless it begins with a quote, a backslash or a `#`.
+/// The end of a quoted word that has begun, if it is in the text yet, and whether a quote is directly before it that ends
+/// the word unless another follows.
+fn quoted_end(
+    reading: &Reading,
+    text: &[u8],
+    start: TokenStart,
+    is_closed: bool,
+    place: Place,
+) -> (bool, Place)
+    requires short { length text.now < 2 ^ 63 }
+    requires read { HasRead text.now reading.now (in_quotes start is_closed) place }
+    ensures read { HasRead text.now reading.now (in_quotes start result.0) result.1 }
+    ensures on { place.byte ≤ result.1.byte }
+    ensures ends { result.1.byte < length text.now → EndsQuoted result.0 (slice_index text.now result.1.byte) }
+{
+    let mut is_closed = is_closed;
+    let mut place = place;
+    while place.byte < text.len() {
+        let b = text[place.byte];
+        match class_of(b) {
+            ByteClass::Quote => is_closed = !is_closed,
+            _ if is_closed => return (is_closed, place),
+            _ => {}
+        }
+        place = after_byte(place, b);
+    }
+    (is_closed, place)
+}
+
+/// Reads the rest of a quoted word, and adds it if it ends in the text.
+fn read_quoted(
+    reading: &mut Reading,
+    text: &[u8],
+    start: TokenStart,
+    place: Place,
+) -> Result<(State, Place), AllocError>
+    requires short { length text.now < 2 ^ 63 }
+    requires read { HasRead text.now reading.old (state.Quoted start) place }
+    ensures { IfOk result (λ x. HasRead text.now reading.new x.0 x.1 × (place.byte ≤ x.1.byte)) }
+{
+    let (is_closed, end) = quoted_end(reading, text, start, false, place);
+    if end.byte < text.len() {
+        let after = reading.push_word(text, true, start, end)?;
+        return Ok((State::Between(after), end));
+    }
+    if is_closed {
+        return Ok((State::Closed(start), end));
+    }
+    Ok((State::Quoted(start), end))
+}
+
+/// Reads the rest of a comment, up to its newline, if that is in the text yet.
+fn read_comment(reading: &Reading, text: &[u8], place: Place) -> (State, Place)
+    requires short { length text.now < 2 ^ 63 }
+    requires read { HasRead text.now reading.now state.Comment place }
+    ensures read { HasRead text.now reading.now result.0 result.1 }
+    ensures on { place.byte ≤ result.1.byte }
+{
+    let mut place = place;
+    while place.byte < text.len() {
+        let b = text[place.byte];
+        match class_of(b) {
+            ByteClass::LineEnd => return (State::Between(Previous::Apart), place),
+            _ => place = after_byte(place, b),
+        }
+    }
+    (State::Comment, place)
+}
+
+/// Reads a blank, a comment or a token, as far as it ends in the text, unless it begins with a backslash.
 #[inline(always)]
 fn read_token(
     reading: &mut Reading,
@@ -211,11 +280,16 @@ fn read_token(
         }
         ByteClass::Ordinary if begins_name(previous, b) => read_name(reading, text, place, next),
         ByteClass::Ordinary => read_word(reading, text, TokenStart { previous, place }, next),
-        _ => Ok((State::Between(previous), place)),
+        ByteClass::Quote => read_quoted(reading, text, TokenStart { previous, place }, next),
+        ByteClass::Hash => {
+            reading.push_bare_here(previous)?;
+            Ok(read_comment(reading, text, next))
+        }
+        ByteClass::Backslash => Ok((State::Between(previous), place)),
     }
 }
 
-/// Reads blanks and tokens, up to one that doesn't end in the text, a quote, a backslash or a `#`.
+/// Reads blanks, comments and tokens, up to one that doesn't end in the text or a backslash.
 pub(crate) fn read_plain(
     reading: &mut Reading,
     text: &[u8],
