@@ -1,4 +1,4 @@
-use Rattle.std.proofs.Common.{refl, ap, sym, subst, ◌∙◌, arith}
+use Rattle.std.proofs.Common.{refl, ap, arith}
 use Rattle.rc_lexer.proofs.PlainOn.{quote_on, quoted_goes_on}
 use Rattle.rc_lexer.proofs.plain.quoted_end.Goals as goal
 use Rattle.rc_lexer.proofs.plain.quoted_end.Goals.{in-Quote, in_default+else-is_closed}

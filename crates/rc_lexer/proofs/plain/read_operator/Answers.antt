@@ -1,7 +1,5 @@
-use Rattle.std.proofs.Common.{refl, sym, ap, subst, ◌∙◌, ◌++◌, ◌∷◌, [], arith}
+use Rattle.std.proofs.Common.{refl, sym, ap, ◌∙◌, ◌++◌, ◌∷◌, [], arith}
 use Rattle.std.specs.Prelude.{Some}
-use Rattle.rc_lexer.specs.Spans as spans
-use Rattle.rc_lexer.specs.declared.TokenKind.TheVariants as tk
 use Rattle.rc_lexer.proofs.PlainOn.{dollar_ends_on, whole_ends_on}
 use Rattle.rc_lexer.proofs.plain.read_operator.Goals as goal
 

@@ -1,4 +1,4 @@
-use Rattle.std.proofs.Common.{refl, arith}
+use Rattle.std.proofs.Common.{refl}
 use Rattle.rc_lexer.proofs.PlainOn.{quoted_ends_on}
 use Rattle.rc_lexer.proofs.plain.read_quoted.Goals as goal
 

@@ -1,8 +1,5 @@
 use Rattle.std.proofs.Common.{refl, ap, arith}
-use Rattle.rc_lexer.specs.Reads.{HasRead}
-use Rattle.rc_lexer.specs.declared.lexer_state.State.TheVariants as state
-use Rattle.rc_lexer.proofs.ReadsOn.{class_reads_on}
-use Rattle.rc_lexer.proofs.PlainOn.{blank_on, alone_on, line_end_on, name_begins_on, word_begins_on, operator_begins_on}
+use Rattle.rc_lexer.proofs.PlainOn.{blank_on, alone_on, line_end_on, comment_begins_on, name_begins_on, quoted_begins_on, word_begins_on, operator_begins_on}
 use Rattle.rc_lexer.proofs.plain.read_token.Goals as goal
 
 pub read_operator-requires-clause-read : goal.read_operator-requires-clause-read
@@ -41,3 +38,13 @@ returns-in_ok-state-in-LineEnd c = (
       c.after_byte-next.ensures c.requires.read c.in_ok-state-in-LineEnd.ensures,
   omega (arith, ap (λ z. z.byte) c.after_byte-next.ensures),
 )
+
+pub read_quoted-requires-clause-read : goal.read_quoted-requires-clause-read
+read_quoted-requires-clause-read c =
+    quoted_begins_on c.args.text.now c.args.reading.now c.args.previous c.args.place c.after_byte-next.result _ c.class_of.result c.requires.within refl c.class_of.ensures c.in-Quote.is
+    c.after_byte-next.ensures c.requires.read
+
+pub read_comment-requires-clause-read : goal.read_comment-requires-clause-read
+read_comment-requires-clause-read c =
+    comment_begins_on c.args.text.now c.args.reading.now c.push_bare_here.new.self c.args.previous c.args.place c.after_byte-next.result _ c.class_of.result c.requires.within refl c.class_of.ensures c.in-Hash.is
+    c.after_byte-next.ensures c.in_ok-push_bare_here-in-Hash.ensures c.requires.read
