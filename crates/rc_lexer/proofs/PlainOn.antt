@@ -93,12 +93,20 @@ goes_on_as text old new s s' p b h e steps stands has = record {
         ∙ ap (λ z. follow (seen (text ++ more) (p.byte + 1) z) (λ s1 d1. bytes.run s1 d1 (after_byte p b) rest)) steps
         ∙ sym (by_step text more rest new s' p b has.within at stands)
 
-pub word_ends_on : (text : List ℕ) (old new : Reading) (start : TokenStart) (after : Previous) (p : Place) (b : ℕ) (c : ByteClass) → p.byte < length text → b ≡ get_or text p.byte 0 → c ≡ byte_class b → EndsWord c →
+pub ends_by : (c c' : ByteClass) → c ≡ c' → c ≢ k.Ordinary → c ≢ k.Backslash → EndsWord c'
+ends_by c c' e n m = subst EndsWord e (by c n m)
+  where
+    by : (d : ByteClass) → d ≢ k.Ordinary → d ≢ k.Backslash → EndsWord d
+    by k.Ordinary n m = absurd (n refl)
+    by k.Backslash n m = absurd (m refl)
+    by d n m = tt
+
+pub word_ends_on : (text : List ℕ) (old new : Reading) (start : TokenStart) (after : Previous) (p : Place) (b : ℕ) → p.byte < length text → b ≡ get_or text p.byte 0 → EndsWord (byte_class b) →
     AddsWord false text start.previous after start.place p old new → HasRead text old (state.Word start) p → HasRead text new (state.Between after) p
-word_ends_on text old new start after p b c h e f w a has =
+word_ends_on text old new start after p b h e w a has =
     let due' = spans.word_due false text start.previous start.place p (pending_in old) in
     goes_on_as text old new (state.Word start) (state.Between after) p b h e
-    (ap (appended old.tokens.items old.bodies.items) (in_word_ends text start (pending_in old) p b (byte_class b) (subst EndsWord f w))
+    (ap (appended old.tokens.items old.bodies.items) (in_word_ends text start (pending_in old) p b (byte_class b) w)
     ∙ appended_emit old.tokens.items (spans.word_tokens false start.previous start.place p) old.bodies.items (spans.begin (spans.word_after false start.previous) due' p b (byte_class b))
     ∙ ap (λ z. appended z old.bodies.items (spans.begin (spans.word_after false start.previous) due' p b (byte_class b))) (sym a.tokens)
     ∙ ap (λ z. appended new.tokens.items z (spans.begin (spans.word_after false start.previous) due' p b (byte_class b))) (sym a.bodies)
@@ -274,6 +282,12 @@ quoted_ends_on text old new start after true p b h e n a has =
     ∙ ap (λ z. appended new.tokens.items new.bodies.items (spans.begin z due' p b (byte_class b))) (sym a.after_word)
     ∙ ap (λ z. appended new.tokens.items new.bodies.items (spans.begin after z p b (byte_class b))) (sym a.pending)) tt has
 quoted_ends_on text old new start after false p b h e n a has = absurd cc
+
+pub backslash_begins_on : (text : List ℕ) (reading : Reading) (prev : Previous) (p q : Place) (b : ℕ) (c : ByteClass) → p.byte < length text → b ≡ get_or text p.byte 0 → c ≡ byte_class b → c ≡ k.Backslash →
+    q ≡ after_byte p b → HasRead text reading (state.Between prev) p → HasRead text reading (state.Backslash (record { previous = prev; place = p })) q
+backslash_begins_on text reading prev p q b c h e f g j has =
+    let start : TokenStart = record { previous = prev; place = p } in
+    class_reads_on text reading reading (state.Between prev) (state.Backslash start) p q b 0 k.Backslash h e (sym g ∙ f) j has (goes_takes reading (state.Backslash start) refl)
 
 -- a comment
 comment_takes : (prev : Previous) (p : Place) (b : ℕ) (old new : Reading) → Adds (spans.bare_here prev) old new → Takes old new (Ok state.Comment) (spans.begin prev (pending_in old) p b k.Hash)

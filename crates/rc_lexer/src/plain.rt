@@ -2,7 +2,7 @@
 
 ghost use Rattle.std.specs.Prelude.{◌≡◌, ◌<◌, ◌≤◌, ◌^◌, false, true, None, [], IfOk, length, slice_index};
 ghost use Rattle.rc_model.specs.Syntax.Tokens.{is_name_char};
-ghost use Rattle.rc_lexer.specs.Spans.{EndsQuoted, EndsWord, IsWhole, in_quotes};
+ghost use Rattle.rc_lexer.specs.Spans.{EndsQuoted, EndsWord, IsWhole, byte_class, in_quotes};
 ghost use Rattle.rc_lexer.specs.Trie.{next_op};
 ghost use Rattle.rc_lexer.specs.declared.lexer_state.State.TheVariants as state;
 ghost use Rattle.rc_lexer.specs.Reads.{HasRead};
@@ -17,32 +17,26 @@ use crate::tokens::{after_byte, token_between};
 use rc_model::{Place, Previous};
 use std::alloc::AllocError;
 
-/// The end of a word that has begun, if it is in the text yet.
-fn word_end(reading: &Reading, text: &[u8], start: TokenStart, place: Place) -> Place
+/// The place up to which a word goes on, and whether it ends there. At a backslash and at the end of the text what
+/// follows decides that.
+fn word_end(reading: &Reading, text: &[u8], start: TokenStart, place: Place) -> (Place, bool)
     requires short { length text.now < 2 ^ 63 }
     requires read { HasRead text.now reading.now (state.Word start) place }
-    ensures read { HasRead text.now reading.now (state.Word start) result }
-    ensures on { place.byte ≤ result.byte }
+    ensures read { HasRead text.now reading.now (state.Word start) result.0 }
+    ensures on { place.byte ≤ result.0.byte }
+    ensures within { result.1 ≡ true → result.0.byte < length text.now }
+    ensures ends { result.1 ≡ true → EndsWord (byte_class (slice_index text.now result.0.byte)) }
 {
     let mut place = place;
     while place.byte < text.len() {
         let b = text[place.byte];
         match class_of(b) {
             ByteClass::Ordinary => place = after_byte(place, b),
-            _ => return place,
+            ByteClass::Backslash => return (place, false),
+            _ => return (place, true),
         }
     }
-    place
-}
-
-/// Whether a byte of this class ends a word.
-fn ends_word(class: ByteClass) -> bool
-    ensures { result ≡ true → EndsWord class }
-{
-    match class {
-        ByteClass::Ordinary | ByteClass::Backslash => false,
-        _ => true,
-    }
+    (place, false)
 }
 
 /// Reads the rest of a word, and adds it if it ends in the text.
@@ -56,8 +50,8 @@ fn read_word(
     requires read { HasRead text.now reading.old (state.Word start) place }
     ensures { IfOk result (λ x. HasRead text.now reading.new x.0 x.1 × (place.byte ≤ x.1.byte)) }
 {
-    let end = word_end(reading, text, start, place);
-    if end.byte >= text.len() || !ends_word(class_of(text[end.byte])) {
+    let (end, is_ended) = word_end(reading, text, start, place);
+    if !is_ended {
         return Ok((State::Word(start), end));
     }
     let after = reading.push_word(text, false, start, end)?;
@@ -249,7 +243,7 @@ fn read_comment(reading: &Reading, text: &[u8], place: Place) -> (State, Place)
     (State::Comment, place)
 }
 
-/// Reads a blank, a comment or a token, as far as it ends in the text, unless it begins with a backslash.
+/// Reads a blank, a comment or a token, as far as the text has it.
 #[inline(always)]
 fn read_token(
     reading: &mut Reading,
@@ -260,7 +254,7 @@ fn read_token(
     requires short { length text.now < 2 ^ 63 }
     requires read { HasRead text.now reading.old (state.Between previous) place }
     requires within { place.byte < length text.now }
-    ensures { IfOk result (λ x. HasRead text.now reading.new x.0 x.1 × (place.byte ≤ x.1.byte)) }
+    ensures { IfOk result (λ x. HasRead text.now reading.new x.0 x.1 × (place.byte < x.1.byte)) }
 {
     let b = text[place.byte];
     let next = after_byte(place, b);
@@ -285,11 +279,11 @@ fn read_token(
             reading.push_bare_here(previous)?;
             Ok(read_comment(reading, text, next))
         }
-        ByteClass::Backslash => Ok((State::Between(previous), place)),
+        ByteClass::Backslash => Ok((State::Backslash(TokenStart { previous, place }), next)),
     }
 }
 
-/// Reads blanks, comments and tokens, up to one that doesn't end in the text or a backslash.
+/// Reads blanks, comments and tokens, up to one that begins with a backslash or doesn't end in the text.
 pub(crate) fn read_plain(
     reading: &mut Reading,
     text: &[u8],
@@ -304,10 +298,10 @@ pub(crate) fn read_plain(
     let mut place = place;
     while place.byte < text.len() {
         let (state, next) = read_token(reading, text, previous, place)?;
-        match state {
-            State::Between(after) if next.byte > place.byte => previous = after,
-            _ => return Ok((state, next)),
-        }
+        let State::Between(after) = state else {
+            return Ok((state, next));
+        };
+        previous = after;
         place = next;
     }
     Ok((State::Between(previous), place))

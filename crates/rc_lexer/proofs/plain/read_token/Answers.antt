@@ -1,5 +1,5 @@
 use Rattle.std.proofs.Common.{refl, ap, arith}
-use Rattle.rc_lexer.proofs.PlainOn.{blank_on, alone_on, line_end_on, comment_begins_on, name_begins_on, quoted_begins_on, word_begins_on, operator_begins_on}
+use Rattle.rc_lexer.proofs.PlainOn.{blank_on, alone_on, line_end_on, backslash_begins_on, comment_begins_on, name_begins_on, quoted_begins_on, word_begins_on, operator_begins_on}
 use Rattle.rc_lexer.proofs.plain.read_token.Goals as goal
 
 pub read_operator-requires-clause-read : goal.read_operator-requires-clause-read
@@ -48,3 +48,10 @@ pub read_comment-requires-clause-read : goal.read_comment-requires-clause-read
 read_comment-requires-clause-read c =
     comment_begins_on c.args.text.now c.args.reading.now c.push_bare_here.new.self c.args.previous c.args.place c.after_byte-next.result _ c.class_of.result c.requires.within refl c.class_of.ensures c.in-Hash.is
     c.after_byte-next.ensures c.in_ok-push_bare_here-in-Hash.ensures c.requires.read
+
+pub returns-in-Backslash : goal.returns-in-Backslash
+returns-in-Backslash c = (
+  backslash_begins_on c.args.text.now c.args.reading.now c.args.previous c.args.place c.after_byte-next.result _ c.class_of.result c.requires.within refl c.class_of.ensures c.in-Backslash.is
+      c.after_byte-next.ensures c.requires.read,
+  omega (arith, ap (λ z. z.byte) c.after_byte-next.ensures),
+)
