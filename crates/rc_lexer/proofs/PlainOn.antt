@@ -289,6 +289,23 @@ backslash_begins_on text reading prev p q b c h e f g j has =
     let start : TokenStart = record { previous = prev; place = p } in
     class_reads_on text reading reading (state.Between prev) (state.Backslash start) p q b 0 k.Backslash h e (sym g ∙ f) j has (goes_takes reading (state.Backslash start) refl)
 
+pub still_some : {X Y : Type 0} (f : X → Y) (xs : List X) (v : Bool) → v ≡ (length xs == 0) → v ≡ false → map f xs ≢ []
+still_some f [] v e g h = absurd cc
+still_some f (x ∷ xs) v e g h = absurd cc
+
+-- the body of a here document
+stays_in_body : (text : List ℕ) (body line : ℕ) (dollars : List Token) (due : List t.PendingHereDoc) (p : Place) (b : ℕ) (c : ByteClass) → due ≢ [] → c ≢ k.LineEnd →
+    spans.step text (state.Body body line) dollars due p b c ≡ spans.goes [] (state.Body body line) due
+stays_in_body text body line dollars [] p b c m n = absurd (m refl)
+stays_in_body text body line dollars (d ∷ due) p b k.LineEnd m n = absurd (n refl)
+stays_in_body text body line dollars (d ∷ due) p b c m n = refl
+
+pub body_goes_on : (text : List ℕ) (reading : Reading) (body line : ℕ) (p q : Place) (b : ℕ) (c : ByteClass) → pending_in reading ≢ [] → p.byte < length text → b ≡ get_or text p.byte 0 → c ≡ byte_class b → c ≢ k.LineEnd →
+    q ≡ after_byte p b → HasRead text reading (state.Body body line) p → HasRead text reading (state.Body body line) q
+body_goes_on text reading body line p q b c m h e f n j has =
+    class_reads_on text reading reading (state.Body body line) (state.Body body line) p q b 0 c h e f j has
+    (subst (λ z. Takes reading reading (Ok (state.Body body line)) z) (sym (stays_in_body text body line [] (pending_in reading) p b c m n)) (goes_takes reading (state.Body body line) refl))
+
 -- a comment
 comment_takes : (prev : Previous) (p : Place) (b : ℕ) (old new : Reading) → Adds (spans.bare_here prev) old new → Takes old new (Ok state.Comment) (spans.begin prev (pending_in old) p b k.Hash)
 comment_takes prev p b old new a =

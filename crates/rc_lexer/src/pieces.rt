@@ -7,7 +7,7 @@ ghost use Rattle.rc_lexer.specs.Reads.{Comes, Finishes, HasRead, IsReading, Read
 
 use crate::byte_classes::class_of;
 use crate::lexer_state::{Reading, State};
-use crate::plain::read_plain;
+use crate::plain::{line_end, read_plain};
 use crate::tokens::after_byte;
 use crate::{ScriptError, Token, fault};
 use rc_model::{FaultKind, InputError, Place, Previous, SyntaxFault};
@@ -31,8 +31,14 @@ fn read_on(
         let b = text[place.byte];
         state = reading.step(text, state, place, b, class_of(b))?;
         place = after_byte(place, b);
-        if let State::Between(previous) = state {
-            (state, place) = read_plain(reading, text, previous, place)?;
+        match state {
+            State::Between(previous) => {
+                (state, place) = read_plain(reading, text, previous, place)?;
+            }
+            State::Body { start, line } => {
+                place = line_end(reading, text, start, line, place);
+            }
+            _ => {}
         }
     }
     Ok((state, place))

@@ -243,6 +243,33 @@ fn read_comment(reading: &Reading, text: &[u8], place: Place) -> (State, Place)
     (State::Comment, place)
 }
 
+/// The end of a line in the body of a here document, if it is in the text yet.
+pub(crate) fn line_end(
+    reading: &Reading,
+    text: &[u8],
+    body: usize,
+    line: usize,
+    place: Place,
+) -> Place
+    requires short { length text.now < 2 ^ 63 }
+    requires read { HasRead text.now reading.now (state.Body body line) place }
+    ensures read { HasRead text.now reading.now (state.Body body line) result }
+    ensures on { place.byte ≤ result.byte }
+{
+    if reading.pending.is_empty() {
+        return place;
+    }
+    let mut place = place;
+    while place.byte < text.len() {
+        let b = text[place.byte];
+        match class_of(b) {
+            ByteClass::LineEnd => return place,
+            _ => place = after_byte(place, b),
+        }
+    }
+    place
+}
+
 /// Reads a blank, a comment or a token, as far as the text has it.
 #[inline(always)]
 fn read_token(
