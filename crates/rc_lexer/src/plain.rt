@@ -174,8 +174,8 @@ fn read_operator(
     }
 }
 
-/// The end of a quoted word that has begun, if it is in the text yet, and whether a quote is directly before it that ends
-/// the word unless another follows.
+/// The end of a quoted word that has begun, if it is in the text yet, and whether a quote is directly before it that
+/// ends the word unless another follows.
 fn quoted_end(
     reading: &Reading,
     text: &[u8],

@@ -75,7 +75,8 @@ impl Reading {
         place: Place,
     ) -> Result<TokenStart, AllocError>
         ensures value { IfOk result (λ start. start ≡ spans.starts (without_here previous) place) }
-        ensures tokens { IfOk result (λ start. self.new.tokens.items ≡ self.old.tokens.items ++ spans.bare_here previous) }
+        ensures tokens { IfOk result (λ start.
+            self.new.tokens.items ≡ self.old.tokens.items ++ spans.bare_here previous) }
         ensures bodies { IfOk result (λ start. self.new.bodies.items ≡ self.old.bodies.items) }
         ensures pending { IfOk result (λ start. self.new.pending.items ≡ self.old.pending.items) }
         ensures dollars { IfOk result (λ start. self.new.dollars.items ≡ []) }
