@@ -1,6 +1,6 @@
 -- The machine over bytes, as the lexer implements it: its tokens and bodies are spans of the text, and its operators
 -- nodes of a trie. Of the text itself it needs the marks of here documents, and the lines of their bodies.
-use Rattle.std.specs.Prelude.{ℕ, ◌+◌, Bool, true, false, if◌then◌else◌, ◌==◌, ◌||◌, List, [], ◌∷◌, ◌++◌, map}
+use Rattle.std.specs.Prelude.{◌≡◌, ◌≢◌, ℕ, ◌+◌, Bool, true, false, if◌then◌else◌, ◌==◌, ◌||◌, List, [], ◌∷◌, ◌++◌, map}
 use Rattle.std.specs.Prelude.{slice_range}
 use Rattle.std.specs.Prelude.{Option, Some, None, Result, Ok, Err}
 use Rattle.std.specs.Str.{bytes_eq}
@@ -214,3 +214,22 @@ abbrev pub EndsWord : ByteClass → Type 0
 EndsWord Ordinary = ⊥
 EndsWord Backslash = ⊥
 EndsWord _ = Unit {0}
+
+-- an operator of this kind is a token whatever stands before and after it
+abbrev pub IsWhole : TokenKind → Type 0
+IsWhole tk.Ampersand = Unit {0}
+IsWhole tk.AndAnd = Unit {0}
+IsWhole tk.OrOr = Unit {0}
+IsWhole (tk.Bar slot) = Unit {0}
+IsWhole (tk.Redirection mode slot) = Unit {0}
+IsWhole (tk.CopyTo to from) = Unit {0}
+IsWhole _ = ⊥
+
+-- in a quoted word, whether a quote is directly before that ends the word unless another follows
+abbrev pub in_quotes : TokenStart → Bool → State
+in_quotes start true = state.Closed start
+in_quotes start false = state.Quoted start
+
+-- the byte after a quote that ends a quoted word
+abbrev pub EndsQuoted : Bool → ℕ → Type 0
+EndsQuoted is_closed b = (is_closed ≡ true) × (byte_class b ≢ Quote)

@@ -22,6 +22,7 @@ pub(crate) enum ByteClass {
 }
 
 /// Returns the class of a byte.
+#[inline(always)]
 pub(crate) fn class_of(b: u8) -> ByteClass
     ensures { result ≡ byte_class b }
 {
@@ -38,6 +39,7 @@ pub(crate) fn class_of(b: u8) -> ByteClass
 }
 
 /// The token of a byte that stands alone.
+#[inline(always)]
 pub(crate) fn alone_kind(b: u8) -> TokenKind
     ensures { result ≡ alone_kind b }
 {

@@ -16,7 +16,7 @@ use rc_model::{FaultKind, Place, Previous};
 use std::alloc::AllocError;
 
 /// Whether the name of `$`s begins with the byte, quoted or not.
-fn begins_dollar_name(b: u8) -> bool
+pub(crate) fn begins_dollar_name(b: u8) -> bool
     ensures { result ≡ (model.is_name_char b || (b == 39)) }
 {
     is_name_byte(b) || b == b'\''

@@ -13,6 +13,7 @@ use rc_model::{Place, Previous};
 
 impl Reading {
     /// The state at the beginning of a line.
+    #[inline(always)]
     pub(crate) fn begin_line(&self, at: usize) -> State
         ensures { result ≡ line_of self.now.pending.items at }
     {

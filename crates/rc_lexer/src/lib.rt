@@ -12,6 +12,7 @@ mod lexer;
 mod lexer_state;
 mod operators;
 mod pieces;
+mod plain;
 mod previous;
 mod tokens;
 mod transitions;

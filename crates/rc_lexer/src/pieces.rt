@@ -1,86 +1,18 @@
 //! A text that comes in pieces, cut anywhere, even within a character.
 
-ghost use Rattle.std.specs.Prelude.{◌≡◌, ◌<◌, ◌≤◌, true, IfOk, ◌^◌, ◌++◌, List, ℕ, [], length};
+ghost use Rattle.std.specs.Prelude.{◌≡◌, ◌<◌, ◌^◌, ◌++◌, List, ℕ, [], length};
 ghost use Rattle.std.specs.Prelude.{MatchOption, Some, None, OnErr, OnOk};
 ghost use Rattle.rc_model.specs.Mirrors.Reading as reading;
-ghost use Rattle.rc_lexer.specs.Spans.{EndsWord};
-ghost use Rattle.rc_lexer.specs.declared.lexer_state.State.TheVariants as state;
 ghost use Rattle.rc_lexer.specs.Reads.{Comes, Finishes, HasRead, IsReading, ReadsOn};
 
-use crate::byte_classes::{ByteClass, class_of};
-use crate::lexer_state::{Reading, State, TokenStart};
-use crate::previous::{after_blank, begins_name};
+use crate::byte_classes::class_of;
+use crate::lexer_state::{Reading, State};
+use crate::plain::{line_end, read_plain};
 use crate::tokens::after_byte;
 use crate::{ScriptError, Token, fault};
 use rc_model::{FaultKind, InputError, Place, Previous, SyntaxFault};
 use std::alloc::{AllocError, Global};
 use std::marker::Model;
-
-/// The end of a word that has begun, if it is in the text yet.
-fn word_end(reading: &Reading, text: &[u8], start: TokenStart, place: Place) -> Place
-    requires short { length text.now < 2 ^ 63 }
-    requires read { HasRead text.now reading.now (state.Word start) place }
-    ensures read { HasRead text.now reading.now (state.Word start) result }
-    ensures on { place.byte ≤ result.byte }
-{
-    let mut place = place;
-    while place.byte < text.len() {
-        let b = text[place.byte];
-        match class_of(b) {
-            ByteClass::Ordinary => place = after_byte(place, b),
-            _ => return place,
-        }
-    }
-    place
-}
-
-/// Whether a byte of this class ends a word.
-fn ends_word(class: ByteClass) -> bool
-    ensures { result ≡ true → EndsWord class }
-{
-    match class {
-        ByteClass::Ordinary | ByteClass::Backslash => false,
-        _ => true,
-    }
-}
-
-/// Reads blanks, words and tokens of one byte, up to anything else.
-fn read_plain(
-    reading: &mut Reading,
-    text: &[u8],
-    previous: Previous,
-    place: Place,
-) -> Result<(State, Place), AllocError>
-    requires short { length text.now < 2 ^ 63 }
-    requires read { HasRead text.now reading.old (state.Between previous) place }
-    ensures { IfOk result (λ x. HasRead text.now reading.new x.0 x.1 × (place.byte ≤ x.1.byte)) }
-{
-    let mut previous = previous;
-    let mut place = place;
-    while place.byte < text.len() {
-        let b = text[place.byte];
-        match class_of(b) {
-            ByteClass::Blank => previous = after_blank(previous),
-            ByteClass::Alone => previous = reading.push_one(previous, place, b)?,
-            ByteClass::Ordinary => {
-                if begins_name(previous, b) {
-                    return Ok((State::Between(previous), place));
-                }
-                let start = TokenStart { previous, place };
-                let end = word_end(reading, text, start, after_byte(place, b));
-                if end.byte >= text.len() || !ends_word(class_of(text[end.byte])) {
-                    return Ok((State::Word(start), end));
-                }
-                previous = reading.push_word(text, false, start, end)?;
-                place = end;
-                continue;
-            }
-            _ => return Ok((State::Between(previous), place)),
-        }
-        place = after_byte(place, b);
-    }
-    Ok((State::Between(previous), place))
-}
 
 /// Reads on to the end of the text.
 fn read_on(
@@ -99,8 +31,14 @@ fn read_on(
         let b = text[place.byte];
         state = reading.step(text, state, place, b, class_of(b))?;
         place = after_byte(place, b);
-        if let State::Between(previous) = state {
-            (state, place) = read_plain(reading, text, previous, place)?;
+        match state {
+            State::Between(previous) => {
+                (state, place) = read_plain(reading, text, previous, place)?;
+            }
+            State::Body { start, line } => {
+                place = line_end(reading, text, start, line, place);
+            }
+            _ => {}
         }
     }
     Ok((state, place))

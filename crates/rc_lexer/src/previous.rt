@@ -10,6 +10,7 @@ use crate::byte_classes::is_name_byte;
 use rc_model::Previous;
 
 /// Whether a `^` is inserted before the token.
+#[inline(always)]
 pub(crate) fn wants_caret(previous: Previous, kind: TokenKind) -> bool
     ensures { result ≡ model.wants_caret previous (shape kind) }
 {
@@ -30,6 +31,7 @@ pub(crate) fn wants_caret(previous: Previous, kind: TokenKind) -> bool
 }
 
 /// The context after a blank.
+#[inline(always)]
 pub(crate) fn after_blank(previous: Previous) -> Previous
     ensures { result ≡ model.after_blank previous }
 {
@@ -40,6 +42,7 @@ pub(crate) fn after_blank(previous: Previous) -> Previous
 }
 
 /// The context if a `<<` gets no mark.
+#[inline(always)]
 pub(crate) fn without_here(previous: Previous) -> Previous
     ensures value { result ≡ reading.without_here previous }
 {
@@ -50,6 +53,7 @@ pub(crate) fn without_here(previous: Previous) -> Previous
 }
 
 /// Whether the byte begins the name of a `$`.
+#[inline(always)]
 pub(crate) fn begins_name(previous: Previous, b: u8) -> bool
     ensures { result ≡ model.begins_name previous b }
 {
@@ -60,6 +64,7 @@ pub(crate) fn begins_name(previous: Previous, b: u8) -> bool
 }
 
 /// The context that a token leaves for the next one.
+#[inline(always)]
 pub(crate) fn after_token(previous: Previous, kind: TokenKind) -> Previous
     ensures { result ≡ model.after_token previous (shape kind) }
 {
@@ -75,6 +80,7 @@ pub(crate) fn after_token(previous: Previous, kind: TokenKind) -> Previous
 }
 
 /// The meaning of an operator in its context, if no name follows.
+#[inline(always)]
 pub(crate) fn meaning_after(previous: Previous, kind: TokenKind) -> TokenKind
     ensures { result ≡ meaning previous kind }
 {

@@ -1,9 +1,10 @@
 //! Adding tokens to those read so far.
 
-ghost use Rattle.std.specs.Prelude.{◌≡◌, ◌<◌, ◌≤◌, ◌+◌, ◌^◌, length, IfOk, OnOk};
+ghost use Rattle.std.specs.Prelude.{◌≡◌, ◌<◌, ◌≤◌, ◌+◌, ◌^◌, ◌++◌, ◌∷◌, [], length, IfOk, OnOk};
 ghost use Rattle.law_syntax.specs.ByteReading as bytes;
 ghost use Rattle.rc_lexer.specs.Spans as spans;
-ghost use Rattle.rc_lexer.specs.Machine.{Adds, AddsWord};
+ghost use Rattle.rc_lexer.specs.Machine.{Adds, AddsWord, pending_in};
+ghost use Rattle.rc_lexer.specs.declared.TokenKind.TheVariants as kind;
 
 use crate::lexer_state::{PendingHereDoc, Reading, TokenStart};
 use crate::previous::{after_token, wants_caret};
@@ -113,7 +114,36 @@ impl Reading {
         word.to_vec(self.alloc)
     }
 
+    /// Adds a here document with its mark, a word, quoted or not, after the place of its `<<`.
+    #[inline(never)]
+    fn push_here_doc(
+        &mut self,
+        word: &[u8],
+        quoted: bool,
+        here: Place,
+        stop: Place,
+    ) -> Result<(), AllocError>
+        ensures tokens { OnOk result (self.new.tokens.items ≡ self.old.tokens.items
+            ++ spans.token (kind.HereDoc quoted (record { start = 0; stop = 0 })) here stop ∷ []) }
+        ensures bodies { OnOk result (self.new.bodies.items ≡ self.old.bodies.items) }
+        ensures pending { OnOk result (pending_in self.new ≡ pending_in self.old
+            ++ record { mark = spans.mark_of quoted word.now; line = here.line } ∷ []) }
+    {
+        let mark = self.mark_of(quoted, word)?;
+        self.pending.push_back(PendingHereDoc {
+            mark,
+            line: here.line,
+        })?;
+        let kind = TokenKind::HereDoc {
+            is_quoted: quoted,
+            body: Span { start: 0, stop: 0 },
+        };
+        self.tokens.push(token_between(kind, here, stop)?)?;
+        Ok(())
+    }
+
     /// Adds a word, quoted or not, and returns the context that it leaves.
+    #[inline(always)]
     pub(crate) fn push_word(
         &mut self,
         script: &[u8],
@@ -127,16 +157,7 @@ impl Reading {
             AddsWord quoted script.now start.previous after start.place stop self.old self.new) }
     {
         if let Previous::Here(here, _) = start.previous {
-            let mark = self.mark_of(quoted, &script[start.place.byte..stop.byte])?;
-            self.pending.push_back(PendingHereDoc {
-                mark,
-                line: here.line,
-            })?;
-            let kind = TokenKind::HereDoc {
-                is_quoted: quoted,
-                body: Span { start: 0, stop: 0 },
-            };
-            self.tokens.push(token_between(kind, here, stop)?)?;
+            self.push_here_doc(&script[start.place.byte..stop.byte], quoted, here, stop)?;
             return Ok(Previous::Apart);
         }
         let kind = if quoted {

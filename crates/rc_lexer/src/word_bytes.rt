@@ -1,6 +1,7 @@
 //! What a byte begins, continues or ends: words, names, quoted words and backslashes.
 
-ghost use Rattle.std.specs.Prelude.{◌≡◌, ◌<◌, ◌≤◌, ◌+◌, ◌^◌, [], length, Ok, IfOk};
+ghost use Rattle.std.specs.Prelude.{◌≡◌, ◌<◌, ◌≤◌, ◌+◌, ◌^◌, ◌++◌, [], length, Ok, IfOk};
+ghost use Rattle.rc_model.specs.Mirrors.Reading.{without_here};
 ghost use Rattle.rc_lexer.specs.Spans as spans;
 ghost use Rattle.rc_lexer.specs.Machine.{Takes, pending_in};
 ghost use Rattle.rc_lexer.specs.declared.lexer_state.State.TheVariants as state;
@@ -17,6 +18,7 @@ use std::alloc::AllocError;
 
 impl Reading {
     /// Adds a token of one byte, and returns the context that it leaves.
+    #[inline(always)]
     pub(crate) fn push_one(
         &mut self,
         previous: Previous,
@@ -46,22 +48,45 @@ impl Reading {
     }
 
     /// Adds a newline, which ends a command.
-    fn push_newline(
+    #[inline(always)]
+    pub(crate) fn push_newline(
         &mut self,
         previous: Previous,
         place: Place,
         b: u8,
-    ) -> Result<State, ScriptError>
+    ) -> Result<State, AllocError>
         requires byte { place.byte < 2 ^ 63 }
         requires line { place.line < 2 ^ 63 + 1 }
-        ensures { Takes self.old self.new result
-            (spans.begin previous (pending_in self.old) place b byte_class.LineEnd) }
+        ensures { IfOk result (λ s. Takes self.old self.new (Ok s)
+            (spans.begin previous (pending_in self.old) place b byte_class.LineEnd)) }
     {
         self.push_bare_here(previous)?;
         let next = after_byte(place, b);
         self.tokens
             .push(token_between(TokenKind::Newline, place, next)?)?;
         Ok(self.begin_line(next.byte))
+    }
+
+    /// Begins an operator, and returns where it begins and the context before it.
+    #[inline(always)]
+    pub(crate) fn begin_operator(
+        &mut self,
+        previous: Previous,
+        place: Place,
+    ) -> Result<TokenStart, AllocError>
+        ensures value { IfOk result (λ start. start ≡ spans.starts (without_here previous) place) }
+        ensures tokens { IfOk result (λ start.
+            self.new.tokens.items ≡ self.old.tokens.items ++ spans.bare_here previous) }
+        ensures bodies { IfOk result (λ start. self.new.bodies.items ≡ self.old.bodies.items) }
+        ensures pending { IfOk result (λ start. self.new.pending.items ≡ self.old.pending.items) }
+        ensures dollars { IfOk result (λ start. self.new.dollars.items ≡ []) }
+    {
+        self.push_bare_here(previous)?;
+        self.dollars.clear();
+        Ok(TokenStart {
+            previous: without_here(previous),
+            place,
+        })
     }
 
     /// Begins a token with this byte.
@@ -87,13 +112,11 @@ impl Reading {
                 Ok(State::Comment)
             }
             ByteClass::Begins => {
-                self.push_bare_here(previous)?;
-                self.dollars.clear();
-                let previous = without_here(previous);
-                Ok(State::Operator(TokenStart { previous, place }, first_op(b)))
+                let start = self.begin_operator(previous, place)?;
+                Ok(State::Operator(start, first_op(b)))
             }
             ByteClass::Alone => self.push_alone(previous, place, b),
-            ByteClass::LineEnd => self.push_newline(previous, place, b),
+            ByteClass::LineEnd => Ok(self.push_newline(previous, place, b)?),
         }
     }
 

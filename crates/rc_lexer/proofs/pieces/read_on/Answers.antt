@@ -10,13 +10,19 @@ returns-in_err-state c =
     class_err_on c.args.text.now c.loop-place.reading c.step.new.self c.loop-place.state c.loop-place.place _ 0 c.class_of.result c.from_residual.result c.in_err-state.field-0.0 e.0 c.loop-place-test.true refl
     c.class_of.ensures c.loop-place.invariant e.1 e.2 c.in_err-state.ensures
 
-pub loop-place-preserved : goal.loop-place-preserved
-loop-place-preserved c =
-    class_reads_on c.args.text.now c.loop-place.reading c.step.new.self c.loop-place.state c.in_ok-state.state c.loop-place.place c.after_byte-place.result _ 0 c.class_of.result c.loop-place-test.true refl
-    c.class_of.ensures c.after_byte-place.ensures c.loop-place.invariant c.in_ok-state.ensures
-
 pub read_plain-requires-clause-read : goal.read_plain-requires-clause-read
 read_plain-requires-clause-read c =
     subst (λ s. HasRead c.args.text.now c.step.new.self s c.after_byte-place.result) c.in-Between.is
     (class_reads_on c.args.text.now c.loop-place.reading c.step.new.self c.loop-place.state c.in_ok-state.state c.loop-place.place c.after_byte-place.result _ 0 c.class_of.result c.loop-place-test.true refl
     c.class_of.ensures c.after_byte-place.ensures c.loop-place.invariant c.in_ok-state.ensures)
+
+pub line_end-place-requires-clause-read : goal.line_end-place-requires-clause-read
+line_end-place-requires-clause-read c =
+    subst (λ s. HasRead c.args.text.now c.step.new.self s c.after_byte-place.result) c.in-Body.is
+    (class_reads_on c.args.text.now c.loop-place.reading c.step.new.self c.loop-place.state c.in_ok-state.state c.loop-place.place c.after_byte-place.result _ 0 c.class_of.result c.loop-place-test.true refl
+    c.class_of.ensures c.after_byte-place.ensures c.loop-place.invariant c.in_ok-state.ensures)
+
+pub loop-place-preserved : goal.loop-place-preserved
+loop-place-preserved c =
+    class_reads_on c.args.text.now c.loop-place.reading c.step.new.self c.loop-place.state c.in_ok-state.state c.loop-place.place c.after_byte-place.result _ 0 c.class_of.result c.loop-place-test.true refl
+    c.class_of.ensures c.after_byte-place.ensures c.loop-place.invariant c.in_ok-state.ensures

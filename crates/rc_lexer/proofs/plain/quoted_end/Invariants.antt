@@ -1,0 +1,10 @@
+use Rattle.std.proofs.Common.{◌-◌, ◌≤◌, length}
+use Rattle.rc_lexer.specs.Spans.{in_quotes}
+use Rattle.rc_lexer.specs.Reads.{HasRead}
+use Rattle.rc_lexer.proofs.plain.quoted_end.Given as goal
+
+abbrev pub invariant-loop-place : goal.invariant-loop-place
+invariant-loop-place l = record { read : HasRead l.text l.reading (in_quotes l.fn.start l.is_closed) l.place; on : l.fn.place.byte ≤ l.place.byte }
+
+abbrev pub decreases-loop-place : goal.decreases-loop-place
+decreases-loop-place l = length l.text - l.place.byte
