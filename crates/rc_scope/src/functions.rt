@@ -111,7 +111,8 @@ impl Function {
 
     /// The entry of a function of this name that has this body, if it is kept.
     pub fn entry(&self, name: &str) -> Option<&Text>
-        ensures { IfSome result (λ kept. text_bytes kept.now ≡ entry (codes "fn#" ++ name.now, image (cmd_tree self.now))) }
+        ensures { IfSome result
+            (λ kept. text_bytes kept.now ≡ entry (codes "fn#" ++ name.now, image (cmd_tree self.now))) }
     {
         match &self.kept {
             Some(kept) => kept.named("fn#", name),
