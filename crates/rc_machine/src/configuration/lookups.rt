@@ -3,7 +3,7 @@
 ghost use Rattle.std.specs.Prelude.{◌≡◌, [], ◌∷◌, IfOk, OnOk, map, option_map, string_bytes};
 ghost use Rattle.rc_machine.specs.Names.{read, the_name};
 ghost use Rattle.rc_machine.specs.Tops.{uppermost};
-ghost use Rattle.rc_machine.specs.Lists.{TakesLast, below_top};
+ghost use Rattle.rc_machine.specs.Lists.{Extends, TakesLast, below_top};
 ghost use Rattle.rc_model.specs.Run.State.{is_name, is_readable};
 ghost use Rattle.rc_model.specs.Syntax.Words.{plain_words, word_texts};
 ghost use Rattle.rc_scope.specs.States.{state_of};
@@ -84,16 +84,24 @@ pub(crate) fn put_members(
     Ok(())
 }
 
+/// Puts a copy of a value on the top list, as words with no marks.
+#[tactic(auto, using(crate::proofs::Stacks::extends))]
+pub(crate) fn extend_by_value(words: &mut Stack<Word>, value: &[Text]) -> Result<(), AllocError>
+    ensures { OnOk result (Extends words.old words.new (plain_words (map text_bytes value.now))) }
+{
+    for text in value {
+        words.push(Word::plain(text.clone()?))?;
+    }
+    Ok(())
+}
+
 /// Pushes a copy of a value as a list of words with no marks.
 #[tactic(auto, using(crate::proofs::Stacks::extends))]
 pub(crate) fn put_value(words: &mut Stack<Word>, value: &[Text]) -> Result<(), AllocError>
     ensures { OnOk result (words.new ≡ plain_words (map text_bytes value.now) ∷ words.old) }
 {
     words.begin()?;
-    for text in value {
-        words.push(Word::plain(text.clone()?))?;
-    }
-    Ok(())
+    extend_by_value(words, value)
 }
 
 /// Pushes a text as a list of one word with no marks.

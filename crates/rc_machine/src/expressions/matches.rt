@@ -1,8 +1,9 @@
 //! Instructions that match a list against patterns.
 
-ghost use Rattle.std.specs.Prelude.{IfOk};
+ghost use Rattle.std.specs.Prelude.{◌≡◌, IfOk};
 ghost use Rattle.rc_model.specs.Code.Layout as op;
 ghost use Rattle.rc_machine.specs.Instructions.{Moves};
+ghost use Rattle.rc_model.specs.Run.Acts.{match_status};
 ghost use Rattle.rc_machine.specs.Subjects.{TakesSubject};
 
 use crate::configuration::{Configuration, Move};
@@ -53,6 +54,17 @@ pub(crate) fn run_case(machine: &mut Configuration, place: usize) -> Move
     Move::On
 }
 
+/// The status of a `~` of this subject and these patterns.
+pub(crate) fn match_status(subject: &[Word], patterns: &[Word]) -> &'static str
+    ensures { result.now ≡ match_status subject.now patterns.now }
+{
+    if matched(subject, patterns) {
+        ""
+    } else {
+        "no match"
+    }
+}
+
 /// `~`.
 #[inline(never)]
 pub(crate) fn run_match(machine: &mut Configuration) -> Result<Move, AllocError>
@@ -61,11 +73,7 @@ pub(crate) fn run_match(machine: &mut Configuration) -> Result<Move, AllocError>
     let Some((subject, patterns)) = machine.words.top_two() else {
         return Ok(Move::Ended);
     };
-    let status = if matched(subject, patterns) {
-        ""
-    } else {
-        "no match"
-    };
+    let status = match_status(subject, patterns);
     machine.state.set_status(status)?;
     machine.words.drop_two();
     Ok(Move::On)
