@@ -1,6 +1,7 @@
 pub mod Rows
 pub mod KeptEntries
 pub mod Locals
+pub mod MemberLists
 pub mod Stacks
 pub mod Bindings
 pub mod Bodies

@@ -224,6 +224,17 @@ impl State {
         Ok(())
     }
 
+    /// Opens a local `$*` with the members that `$*` has: both share one list. On `Err` nothing has changed.
+    #[tactic(auto, unfolding(crate::specs::States::state_of))]
+    pub fn pass_arguments(&mut self) -> Result<(), AllocError>
+        ensures ok { OnOk result (state_of self.new
+            ≡ push_local (state_of self.old) (codes "*") (value_of (state_of self.old) (codes "*"))) }
+        ensures err { OnErr result (state_of self.new ≡ state_of self.old) }
+    {
+        let alloc = *self.background.allocator();
+        self.variables.push_visible(alloc, "*")
+    }
+
     /// Ends the newest local, if one is open. One of the status leaves the status as it is.
     #[tactic(auto, using(crate::proofs::Ends::ended), unfolding(crate::specs::States::state_of))]
     pub fn pop_local(&mut self)

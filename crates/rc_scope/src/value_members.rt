@@ -6,6 +6,7 @@ ghost use Rattle.rc_text.specs.Texts.{text_bytes};
 ghost use Rattle.rc_scope.specs.KeptEntries.{kept_text};
 
 use crate::kept_entries::KeptEntry;
+use crate::member_lists::MemberList;
 use crate::text_lists::copies;
 use rc_text::Text;
 use std::alloc::{AllocError, Global};
@@ -15,7 +16,7 @@ use std::mem::take;
 /// The members of a value. Those that were dropped from its front stay where they are until the others go.
 #[derive(Drop)]
 pub struct Members {
-    texts: Vec<Text>,
+    texts: MemberList,
     /// The place of the first member.
     first: usize,
     /// Their entry in an environment, once a launch has handed it over.
@@ -26,15 +27,16 @@ impl Model for Members {
     ghost use Rattle.std.specs.Prelude.{List, ◌≡◌, ◌≤◌, IfSome, drop, length, map};
     ghost use Rattle.rc_model.specs.Handed.Image.{value_text};
     ghost use Rattle.rc_scope.specs.KeptEntries.{kept_text};
+    ghost use Rattle.rc_scope.specs.MemberLists.{members_in};
     ghost use Rattle.rc_text.specs.Texts.{text_bytes};
     ghost use Rattle.rc_text.specs.declared.texts.Text.{Text};
 
     ghost Value = { List Text };
 
-    ghost view = { λ m. drop m.first m.texts.items };
+    ghost view = { λ m. drop m.first (members_in m.texts) };
 
-    ghost invariant = { λ m. (m.first ≤ length m.texts.items)
-        × IfSome m.kept (λ kept. kept_text kept ≡ value_text (map text_bytes (drop m.first m.texts.items))) };
+    ghost invariant = { λ m. (m.first ≤ length (members_in m.texts))
+        × IfSome m.kept (λ kept. kept_text kept ≡ value_text (map text_bytes (drop m.first (members_in m.texts)))) };
 }
 
 impl Clone for Members {
@@ -45,7 +47,7 @@ impl Clone for Members {
 
     /// The members alone.
     fn clone(&self) -> Result<Members, AllocError> {
-        let texts = copies(*self.texts.allocator(), self.as_slice())?;
+        let texts = copies(self.texts.allocator(), self.as_slice())?;
         Ok(Members::new(texts))
     }
 }
@@ -64,7 +66,7 @@ impl Members {
     {
         let kept = None;
         Members {
-            texts,
+            texts: MemberList::Own(texts),
             first: 0,
             kept,
         }
@@ -83,42 +85,72 @@ impl Members {
     pub fn as_slice(&self) -> &[Text]
         ensures { result.now ≡ self.now }
     {
-        &self.texts[self.first..]
+        &self.texts.as_slice()[self.first..]
     }
 
     /// Drops the first members: as many as the count says, or all if there are fewer. No other member is moved.
     pub(crate) fn drop_first(&mut self, count: usize)
         ensures { self.new ≡ drop count self.old }
     {
-        let left = self.texts.len() - self.first;
+        let left = self.texts.as_slice().len() - self.first;
         self.first += count.min(left);
         self.kept = None;
     }
 
     /// Writes the text over the only one that the list has, dropped or not; or returns it if there is another number of
-    /// them.
+    /// them, or another value shares them.
     pub(crate) fn replace_only(&mut self, text: Text) -> Result<(), Text>
         ensures ok { OnOk result (self.new ≡ text ∷ []) }
         ensures err { OnErr result (self.new ≡ self.old) }
         ensures back { IfErr result (λ given. given ≡ text) }
     {
-        if self.texts.len() != 1 {
+        let MemberList::Own(own) = &mut self.texts else {
+            return Err(text);
+        };
+        if own.len() != 1 {
             return Err(text);
         }
-        self.texts[0] = text;
+        own[0] = text;
         self.first = 0;
         self.kept = None;
         Ok(())
     }
 
-    /// Adds a member after the others. On `Err` nothing has changed.
+    /// Members that share the texts of these. No member is copied, and these stay as they are.
+    pub(crate) fn share(&mut self, alloc: Global) -> Result<Members, AllocError>
+        ensures ok { IfOk result (λ shared. shared ≡ self.old) }
+        ensures same { self.new ≡ self.old }
+    {
+        let texts = MemberList::Shared(self.texts.share(alloc)?);
+        let kept = None;
+        Ok(Members {
+            texts,
+            first: self.first,
+            kept,
+        })
+    }
+
+    /// Adds a member after the others, which are copied if another value shares them. On `Err` nothing has changed.
     pub(crate) fn push(&mut self, text: Text) -> Result<(), AllocError>
-        ensures ok { OnOk result (self.new ≡ self.old ++ text ∷ []) }
+        ensures ok { OnOk result (map text_bytes self.new ≡ map text_bytes self.old ++ text_bytes text ∷ []) }
         ensures err { OnErr result (self.new ≡ self.old) }
     {
         self.close_up();
-        self.texts.push(text)?;
         self.kept = None;
+        match self.texts.push(text)? {
+            Some(text) => self.push_to_copy(text),
+            None => Ok(()),
+        }
+    }
+
+    /// Adds a text to a copy of the members, which takes their place. On `Err` nothing has changed.
+    fn push_to_copy(&mut self, text: Text) -> Result<(), AllocError>
+        ensures ok { OnOk result (map text_bytes self.new ≡ map text_bytes self.old ++ text_bytes text ∷ []) }
+        ensures err { OnErr result (self.new ≡ self.old) }
+    {
+        let mut own = copies(self.texts.allocator(), self.as_slice())?;
+        own.push(text)?;
+        *self = Members::new(own);
         Ok(())
     }
 
@@ -127,11 +159,15 @@ impl Members {
     fn close_up(&mut self)
         ensures { self.new ≡ self.old }
     {
-        if self.first == 0 || self.first < self.texts.len() - self.first {
+        self.texts.take_back();
+        let MemberList::Own(own) = &mut self.texts else {
+            return;
+        };
+        if self.first == 0 || self.first < own.len() - self.first {
             return;
         }
         let dropped = take(&mut self.first);
-        self.texts.drain(..dropped);
+        own.drain(..dropped);
     }
 
     /// The entry of a variable of this name that has these members, if it is kept.

@@ -1,7 +1,7 @@
 //! The values of variables, by name. Names that begin with the same byte are in the same row.
 
 ghost use Rattle.std.specs.Prelude.{◌≡◌, [], ◌∷◌, ◌<◌, length, None, Some, is_some, true, IfOk, IfErr, IfSome, OnOk};
-ghost use Rattle.std.specs.Prelude.{MatchOption, OnErr};
+ghost use Rattle.std.specs.Prelude.{MatchOption, OnErr, option_map};
 ghost use Rattle.rc_model.specs.Handed.Image.{value_text};
 ghost use Rattle.std.specs.Option.{option_copied};
 ghost use Rattle.std.specs.List.Sorted.{IsStrictlySortedBy};
@@ -190,6 +190,23 @@ impl Values {
             return Ok(None);
         }
         Ok(Some(text))
+    }
+
+    /// The members of the value at a name, which both share from now on; or none if the name has no value.
+    pub(crate) fn share(&mut self, alloc: Global, name: &str) -> Result<Option<Members>, AllocError>
+        ensures ok { IfOk result (λ found.
+            found ≡ option_map (λ (v : Value). v.texts) (lookup (is_named name.now) self.old)) }
+        ensures same { self.new ≡ self.old }
+    {
+        let row = row_of(name);
+        if self.rows.len() <= row {
+            return Ok(None);
+        }
+        let row = &mut self.rows[row];
+        let Some(value) = row.get_mut(name) else {
+            return Ok(None);
+        };
+        Ok(Some(value.texts.share(alloc)?))
     }
 
     /// Keeps an entry for the value at a name, where there is one.

@@ -264,6 +264,34 @@ impl Variables {
         Ok(())
     }
 
+    /// Members that share the list of the visible value. Whether it fails or not, nothing has changed.
+    #[tactic(auto, using(crate::proofs::Stacks::variables), unfolding(crate::specs::Stacks::stacks_of))]
+    fn share(&mut self, alloc: Global, name: &str) -> Result<Members, AllocError>
+        ensures ok { IfOk result (λ texts. map text_bytes texts ≡ visible (stack_in (stacks_of self.old) name.now)) }
+        ensures stacks { stacks_of self.new ≡ stacks_of self.old }
+        ensures locals { locals_of self.new ≡ locals_of self.old }
+    {
+        match self.values.share(alloc, name)? {
+            Some(texts) => Ok(texts),
+            None => Ok(Members::none(alloc)),
+        }
+    }
+
+    /// Opens a local with the members of the visible value, which both share. On `Err` nothing has changed.
+    #[tactic(auto, using(crate::proofs::Stacks::variables), unfolding(crate::specs::Stacks::stacks_of))]
+    pub(crate) fn push_visible(&mut self, alloc: Global, name: &str) -> Result<(), AllocError>
+        requires { bytes_eq name.now status_name ≡ false }
+        ensures ok { OnOk result (stacks_of self.new
+            ≡ put_values (stacks_of self.old) name.now (visible (stack_in (stacks_of self.old) name.now)
+            ∷ stack_in (stacks_of self.old) name.now)) }
+        ensures locals { OnOk result (locals_of self.new ≡ name.now ∷ locals_of self.old) }
+        ensures err { OnErr result (stacks_of self.new ≡ stacks_of self.old) }
+        ensures err_locals { OnErr result (locals_of self.new ≡ locals_of self.old) }
+    {
+        let texts = self.share(alloc, name)?;
+        self.push(alloc, name, texts)
+    }
+
     /// Opens a local of the status, which covers nothing. On `Err` nothing has changed.
     #[tactic(auto, using(crate::proofs::Stacks::variables), unfolding(crate::specs::Stacks::stacks_of))]
     pub(crate) fn push_status(&mut self, alloc: Global) -> Result<(), AllocError>

@@ -170,6 +170,35 @@ fn out_of_memory_shifts_nothing(rt: HostRuntime) -> Result<(), Fail> {
 }
 
 #[test]
+fn out_of_memory_passes_no_arguments(rt: HostRuntime) -> Result<(), Fail> {
+    let alloc = rt.alloc();
+    let mut state = state_with(alloc, "*", &["a", "b"])?;
+    let passed = state.pass_arguments();
+    assert_eq!(rt; state.value("*").len(), 2);
+    state.shift(1)?;
+    assert_eq!(rt; state.value("*").len(), 1);
+    state.pop_local();
+    let wanted = if passed.is_ok() { 2 } else { 1 };
+    assert_eq!(rt; state.value("*").len(), wanted);
+    passed?;
+    Ok(())
+}
+
+#[test]
+fn out_of_memory_appends_to_no_arguments_that_are_shared(rt: HostRuntime) -> Result<(), Fail> {
+    let alloc = rt.alloc();
+    let mut state = state_with(alloc, "*", &["a", "b"])?;
+    state.pass_arguments()?;
+    let appended = state.append("*", Text::of(alloc, "c")?);
+    let wanted = if appended.is_ok() { 3 } else { 2 };
+    assert_eq!(rt; state.value("*").len(), wanted);
+    state.pop_local();
+    assert_eq!(rt; state.value("*").len(), 2);
+    appended?;
+    Ok(())
+}
+
+#[test]
 fn out_of_memory_adds_no_child(rt: HostRuntime) -> Result<(), Fail> {
     let mut state = State::new(rt.alloc());
     let added = state.add_child(ChildNo(7));

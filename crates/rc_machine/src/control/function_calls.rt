@@ -1,9 +1,9 @@
 //! Functions: definitions, calls and returns.
 
-ghost use Rattle.std.specs.Prelude.{◌≡◌, OnOk, IfOk, map, string_bytes};
+ghost use Rattle.std.specs.Prelude.{◌≡◌, OnOk, IfOk, codes, map, string_bytes};
 ghost use Rattle.rc_model.specs.Code.Layout as op;
 ghost use Rattle.rc_model.specs.Handed.Proper.{IsProperTree};
-ghost use Rattle.rc_model.specs.Run.State.{undefine};
+ghost use Rattle.rc_model.specs.Run.State.{undefine, value_of};
 ghost use Rattle.rc_code.specs.Views.{code_of};
 ghost use Rattle.rc_scope.specs.States.{state_of};
 ghost use Rattle.rc_text.specs.Texts.{text_bytes};
@@ -75,6 +75,16 @@ pub(crate) fn call(
         ≡ called (config_of machine.old) (map text_bytes args.items) (code_of body)) }
 {
     machine.state.push_local("*", args).map_err(|_| AllocError)?;
+    machine.scopes.open(Scope::Local)?;
+    enter(machine, body, true)
+}
+
+/// Enters a body, whose `$*` shares the members of the one outside.
+pub(crate) fn hand_on(machine: &mut Configuration, body: Code) -> Result<(), AllocError>
+    ensures { let outside = config_of machine.old in OnOk result (config_of machine.new
+        ≡ called outside (value_of outside.state (codes "*")) (code_of body)) }
+{
+    machine.state.pass_arguments()?;
     machine.scopes.open(Scope::Local)?;
     enter(machine, body, true)
 }

@@ -1,6 +1,7 @@
-use Rattle.std.proofs.Common.{rules, ◌≡◌, ◌+◌, ◌-◌, ℕ, List, drop, length, min, ap, sym, ◌∙◌}
+use Rattle.std.proofs.Common.{◌≡◌, ◌+◌, ◌-◌, ℕ, List, drop, length, min, ap, sym, ◌∙◌}
 use Rattle.std.proofs.lemmas.List.{drop-drop, drop_min, length-drop}
 use Rattle.rc_text.specs.declared.texts.Text.{Text}
+use Rattle.rc_scope.specs.MemberLists.{members_in}
 use Rattle.rc_scope.proofs.value_members.Members.drop_first.Goals as goal
 
 -- the members from a place on, which may be past the end
@@ -13,7 +14,7 @@ from_place n first more xs e =
 
 pub returns : goal.returns
 returns c =
-    let xs = c.self.inside.texts.items in
+    let xs = members_in c.self.inside.texts in
     let first = c.self.inside.first in
-    let all : c.len.result ≡ length xs = search rules in
+    let all : length c.as_slice.result.now ≡ length xs = ap length c.as_slice.ensures in
     rw (← c.self.view_is) (from_place c.args.count first c.min.result xs (c.min.ensures ∙ ap (λ k. min c.args.count (k - first)) all))

@@ -9,6 +9,6 @@ only (y ∷ z ∷ ys) x h = absurd (omega (arith, h))
 
 pub returns-clause-ok : goal.returns-clause-ok
 returns-clause-ok c =
-    let xs = c.self.inside.texts.items in
+    let xs = c.in-Own.own.items in
     let one : length xs ≡ 1 = search rules in
     only xs c.args.text one

@@ -58,9 +58,11 @@ returns-in-Some-clause-ok c =
     let found : lookup (is_named q) row.entries ≡ Some old = search rules in
     rw (← c.self.view_is) (
       old,
+      new,
       lookup_row q 0 i rows row w ∙ found,
-      set_row q 0 i rows row w (c.get_mut.follows.lender new) new (c.get_mut.follows.holds new).0
-          ∙ ap (λ ts. set_value (is_named q) (entries_of rows) (record { texts = ts; covers = old.covers })) c.in_ok-push.ensures.ok,
+      c.in_ok-push.ensures.ok,
+      refl,
+      set_row q 0 i rows row w (c.get_mut.follows.lender new) new (c.get_mut.follows.holds new).0,
     )
 
 pub returns-in-Some-clause-ordered : goal.returns-in-Some-clause-ordered
