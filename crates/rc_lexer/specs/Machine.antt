@@ -41,6 +41,11 @@ Takes old new (Ok s) x =
 Takes old new (Err (Fault f)) x = x ≡ Err f
 Takes old new (Err NoMemory) x = Unit {0}
 
+-- what a step that leaves this state comes to
+abbrev pub left : State → Result (Unit {0}) ScriptError → Result State ScriptError
+left s (Ok u) = Ok s
+left s (Err e) = Err e
+
 -- only tokens were added
 pub record Adds (ts : List Token) (old new : Reading) : Type 0 where
   pub tokens : new.tokens.items ≡ old.tokens.items ++ ts

@@ -41,6 +41,11 @@ ReadsOn text reading (Ok x) = HasRead text reading x.0 x.1 × (x.1.byte ≡ leng
 ReadsOn text reading (Err (Fault f)) = (more : List ℕ) → whole (text ++ more) ≡ Err f
 ReadsOn text reading (Err NoMemory) = Unit {0}
 
+-- what a reading that is left in this state at this place comes to
+abbrev pub left_at : State → Place → Result (Unit {0}) ScriptError → Result (State × Place) ScriptError
+left_at s p (Ok u) = Ok (s, p)
+left_at s p (Err e) = Err e
+
 -- a text is being read, or its first fault is found
 abbrev pub IsReading : List ℕ → Reading → State → Place → Option SyntaxFault → Type 0
 IsReading text reading s p None = HasRead text reading s p

@@ -23,6 +23,7 @@ pub(crate) fn begins_dollar_name(b: u8) -> bool
 }
 
 /// Adds the `$`s to the tokens, as bare ones.
+#[inline(always)]
 fn push_as_bare(tokens: &mut Vec<Token>, dollars: &[Token]) -> Result<(), AllocError>
     ensures { OnOk result (tokens.new.items ≡ tokens.old.items ++ spans.bare dollars.now) }
 {
@@ -38,6 +39,7 @@ fn push_as_bare(tokens: &mut Vec<Token>, dollars: &[Token]) -> Result<(), AllocE
 
 impl Reading {
     /// Ends `$`s that have no name.
+    #[inline(always)]
     pub(crate) fn push_bare_dollars(&mut self) -> Result<(), AllocError>
         ensures { OnOk result (PushedDollars spans.bare self.old self.new) }
     {
@@ -85,6 +87,7 @@ impl Reading {
     }
 
     /// Ends an operator at the byte after it.
+    #[inline(always)]
     pub(crate) fn end_operator(
         &mut self,
         start: TokenStart,
@@ -127,6 +130,7 @@ impl Reading {
     }
 
     /// Reads the byte after an operator so far.
+    #[inline(always)]
     pub(crate) fn continue_operator(
         &mut self,
         start: TokenStart,

@@ -28,6 +28,7 @@ impl Reading {
     }
 
     /// Reads a byte in the body of a here document.
+    #[inline(always)]
     pub(crate) fn continue_body(
         &mut self,
         script: &[u8],

@@ -1,9 +1,9 @@
 //! A text that comes in pieces, cut anywhere, even within a character.
 
-ghost use Rattle.std.specs.Prelude.{◌≡◌, ◌<◌, ◌^◌, ◌++◌, List, ℕ, [], length};
+ghost use Rattle.std.specs.Prelude.{◌≡◌, ◌<◌, ◌+◌, ◌^◌, ◌++◌, List, ℕ, [], length};
 ghost use Rattle.std.specs.Prelude.{MatchOption, Some, None, OnErr, OnOk};
 ghost use Rattle.rc_model.specs.Mirrors.Reading as reading;
-ghost use Rattle.rc_lexer.specs.Reads.{Comes, Finishes, HasRead, IsReading, ReadsOn};
+ghost use Rattle.rc_lexer.specs.Reads.{Comes, Finishes, HasRead, IsReading, ReadsOn, left_at};
 
 use crate::byte_classes::class_of;
 use crate::lexer_state::{Reading, State};
@@ -42,6 +42,79 @@ fn read_on(
         }
     }
     Ok((state, place))
+}
+
+/// Reads the one byte that is left of the text. Where a text comes byte by byte, this is all that a byte costs.
+fn read_last(
+    reading: &mut Reading,
+    text: &[u8],
+    state: &mut State,
+    place: &mut Place,
+) -> Result<(), ScriptError>
+    requires short { length text.now < 2 ^ 63 }
+    requires read { HasRead text.now reading.old state.old place.old }
+    requires last { place.old.byte + 1 ≡ length text.now }
+    ensures { ReadsOn text.now reading.new (left_at state.new place.new result) }
+{
+    let b = text[place.byte];
+    reading.step_lightly(text, state, *place, b, class_of(b))?;
+    *place = after_byte(*place, b);
+    Ok(())
+}
+
+/// Reads on to the end of the text, from the state and the place where the reading is.
+fn read_rest(
+    reading: &mut Reading,
+    text: &[u8],
+    state: &mut State,
+    place: &mut Place,
+) -> Result<(), ScriptError>
+    requires short { length text.now < 2 ^ 63 }
+    requires read { HasRead text.now reading.old state.old place.old }
+    ensures { ReadsOn text.now reading.new (left_at state.new place.new result) }
+{
+    let (end_state, end) = read_on(reading, text, *state, *place)?;
+    *state = end_state;
+    *place = end;
+    Ok(())
+}
+
+/// Reads what is left of the text, often one byte.
+fn read_more(
+    reading: &mut Reading,
+    text: &[u8],
+    state: &mut State,
+    place: &mut Place,
+) -> Result<(), ScriptError>
+    requires short { length text.now < 2 ^ 63 }
+    requires read { HasRead text.now reading.old state.old place.old }
+    ensures { ReadsOn text.now reading.new (left_at state.new place.new result) }
+{
+    if place.byte + 1 == text.len() {
+        return read_last(reading, text, state, place);
+    }
+    read_rest(reading, text, state, place)
+}
+
+/// Discards what was read.
+#[inline(never)]
+fn begin_anew(reading: &mut Reading, state: &mut State, place: &mut Place)
+    ensures { (text : List ℕ) → HasRead text reading.new state.new place.new }
+{
+    *reading = Reading::new(reading.alloc);
+    *state = State::Between(Previous::Apart);
+    *place = Place { byte: 0, line: 1 };
+}
+
+/// Adds a piece, often of one byte, to the text.
+fn add(text: &mut Vec<u8>, piece: &[u8]) -> Result<(), AllocError>
+    ensures ok { OnOk result (text.new.items ≡ text.old.items ++ piece.now) }
+    ensures err { OnErr result (text.new.items ≡ text.old.items) }
+{
+    match piece {
+        [b] => Ok(text.push(*b)?),
+        _ => text.extend_from_slice(piece),
+    }
 }
 
 /// Reads the rest of the text, which is complete.
@@ -141,27 +214,22 @@ impl Pieces {
         ensures err { OnErr result (self.new ≡ self.old) }
     {
         let before = self.text.len();
-        self.text.extend_from_slice(piece)?;
+        add(&mut self.text, piece)?;
         if self.fault.is_some() {
             return Ok(());
         }
-        match read_on(
+        match read_more(
             &mut self.reading,
             self.text.as_slice(),
-            self.state,
-            self.place,
+            &mut self.state,
+            &mut self.place,
         ) {
-            Ok((state, place)) => {
-                self.state = state;
-                self.place = place;
-            }
+            Ok(()) => {}
             Err(InputError::Fault(fault)) => self.fault = Some(fault),
             // What was read is discarded, and is read again with the next piece.
             Err(InputError::NoMemory) => {
                 self.text.truncate(before);
-                self.reading = Reading::new(self.reading.alloc);
-                self.state = State::Between(Previous::Apart);
-                self.place = Place { byte: 0, line: 1 };
+                begin_anew(&mut self.reading, &mut self.state, &mut self.place);
                 return Err(AllocError);
             }
         }

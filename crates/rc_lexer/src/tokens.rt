@@ -62,6 +62,7 @@ pub(crate) fn after_byte(place: Place, b: u8) -> Place
 
 impl Reading {
     /// Adds the `<<` whose mark doesn't follow.
+    #[inline(always)]
     pub(crate) fn push_bare_here(&mut self, previous: Previous) -> Result<(), AllocError>
         ensures { OnOk result (Adds (spans.bare_here previous) self.old self.new) }
     {

@@ -3,7 +3,7 @@
 ghost use Rattle.std.specs.Prelude.{◌≡◌, ◌<◌, ◌≤◌, ◌+◌, ◌^◌, length};
 ghost use Rattle.rc_lexer.specs.Spans as spans;
 ghost use Rattle.rc_lexer.specs.SpanLaws.{Stands};
-ghost use Rattle.rc_lexer.specs.Machine.{Takes, dollars_in, pending_in};
+ghost use Rattle.rc_lexer.specs.Machine.{Takes, dollars_in, left, pending_in};
 
 use crate::ScriptError;
 use crate::byte_classes::ByteClass;
@@ -13,6 +13,7 @@ use rc_model::{Place, Previous};
 
 impl Reading {
     /// Reads one more byte.
+    #[inline(always)]
     pub(crate) fn step(
         &mut self,
         script: &[u8],
@@ -54,6 +55,56 @@ impl Reading {
             },
             State::Operator(start, op) => self.continue_operator(start, op, place, b, class),
             State::Body { start, line } => self.continue_body(script, start, line, place, b, class),
+        }
+    }
+
+    /// Reads one more byte, and leaves the state that this leads to.
+    #[inline(never)]
+    fn step_in_place(
+        &mut self,
+        script: &[u8],
+        state: &mut State,
+        place: Place,
+        b: u8,
+        class: ByteClass,
+    ) -> Result<(), ScriptError>
+        requires byte { place.byte < 2 ^ 63 }
+        requires line { place.line < 2 ^ 63 + 1 }
+        requires within { place.byte ≤ length script.now }
+        requires stands { Stands script.now place.byte state.old }
+        ensures { Takes self.old self.new (left state.new result)
+            (spans.step script.now state.old (dollars_in state.old self.old) (pending_in self.old) place b class) }
+    {
+        *state = self.step(script, *state, place, b, class)?;
+        Ok(())
+    }
+
+    /// Reads one more byte, and leaves the state that this leads to, at the least cost between tokens and in words.
+    #[inline(always)]
+    pub(crate) fn step_lightly(
+        &mut self,
+        script: &[u8],
+        state: &mut State,
+        place: Place,
+        b: u8,
+        class: ByteClass,
+    ) -> Result<(), ScriptError>
+        requires byte { place.byte < 2 ^ 63 }
+        requires line { place.line < 2 ^ 63 + 1 }
+        requires within { place.byte ≤ length script.now }
+        requires stands { Stands script.now place.byte state.old }
+        ensures { Takes self.old self.new (left state.new result)
+            (spans.step script.now state.old (dollars_in state.old self.old) (pending_in self.old) place b class) }
+    {
+        match *state {
+            State::Between(previous) => {
+                self.begin_in_place(state, previous, place, b, class)?;
+                Ok(())
+            }
+            State::Word(start) => self.continue_word_in_place(
+                script, state, start, place, b, class,
+            ),
+            _ => self.step_in_place(script, state, place, b, class),
         }
     }
 }

@@ -1,9 +1,9 @@
 //! What a byte begins, continues or ends: words, names, quoted words and backslashes.
 
-ghost use Rattle.std.specs.Prelude.{◌≡◌, ◌<◌, ◌≤◌, ◌+◌, ◌^◌, ◌++◌, [], length, Ok, IfOk};
+ghost use Rattle.std.specs.Prelude.{◌≡◌, ◌<◌, ◌≤◌, ◌+◌, ◌^◌, ◌++◌, [], false, length, Ok, IfOk};
 ghost use Rattle.rc_model.specs.Mirrors.Reading.{without_here};
 ghost use Rattle.rc_lexer.specs.Spans as spans;
-ghost use Rattle.rc_lexer.specs.Machine.{Takes, pending_in};
+ghost use Rattle.rc_lexer.specs.Machine.{Takes, left, pending_in};
 ghost use Rattle.rc_lexer.specs.declared.lexer_state.State.TheVariants as state;
 ghost use Rattle.rc_lexer.specs.declared.byte_classes.ByteClass.TheVariants as byte_class;
 
@@ -35,16 +35,6 @@ impl Reading {
         let kind = meaning_after(before, alone_kind(b));
         self.push_token(before, kind, place, after_byte(place, b))?;
         Ok(after_token(before, kind))
-    }
-
-    /// Adds a token of one byte.
-    fn push_alone(&mut self, previous: Previous, place: Place, b: u8) -> Result<State, ScriptError>
-        requires byte { place.byte < 2 ^ 63 }
-        requires line { place.line < 2 ^ 63 + 1 }
-        ensures { Takes self.old self.new result (spans.begin previous (pending_in self.old) place b byte_class.Alone) }
-    {
-        let after = self.push_one(previous, place, b)?;
-        Ok(State::Between(after))
     }
 
     /// Adds a newline, which ends a command.
@@ -89,7 +79,46 @@ impl Reading {
         })
     }
 
+    /// Begins a token with this byte, and leaves the state that this leads to.
+    #[inline(always)]
+    pub(crate) fn begin_in_place(
+        &mut self,
+        state: &mut State,
+        previous: Previous,
+        place: Place,
+        b: u8,
+        class: ByteClass,
+    ) -> Result<(), AllocError>
+        requires byte { place.byte < 2 ^ 63 }
+        requires line { place.line < 2 ^ 63 + 1 }
+        ensures { IfOk result (λ done. Takes self.old self.new (Ok state.new)
+            (spans.begin previous (pending_in self.old) place b class)) }
+    {
+        match class {
+            ByteClass::Blank => *state = State::Between(after_blank(previous)),
+            ByteClass::Quote => *state = State::Quoted(TokenStart { previous, place }),
+            ByteClass::Backslash => *state = State::Backslash(TokenStart { previous, place }),
+            ByteClass::Ordinary if begins_name(previous, b) => *state = State::Name(place),
+            ByteClass::Ordinary => *state = State::Word(TokenStart { previous, place }),
+            ByteClass::Hash => {
+                self.push_bare_here(previous)?;
+                *state = State::Comment;
+            }
+            ByteClass::Begins => {
+                let start = self.begin_operator(previous, place)?;
+                *state = State::Operator(start, first_op(b));
+            }
+            ByteClass::Alone => {
+                let after = self.push_one(previous, place, b)?;
+                *state = State::Between(after);
+            }
+            ByteClass::LineEnd => *state = self.push_newline(previous, place, b)?,
+        }
+        Ok(())
+    }
+
     /// Begins a token with this byte.
+    #[inline(never)]
     pub(crate) fn begin_token(
         &mut self,
         previous: Previous,
@@ -101,23 +130,58 @@ impl Reading {
         requires line { place.line < 2 ^ 63 + 1 }
         ensures { Takes self.old self.new result (spans.begin previous (pending_in self.old) place b class) }
     {
+        let mut state = State::Between(previous);
+        self.begin_in_place(&mut state, previous, place, b, class)?;
+        Ok(state)
+    }
+
+    /// Reads the byte after a word so far, and leaves the state that this leads to.
+    #[inline(never)]
+    pub(crate) fn continue_word_in_place(
+        &mut self,
+        script: &[u8],
+        state: &mut State,
+        start: TokenStart,
+        place: Place,
+        b: u8,
+        class: ByteClass,
+    ) -> Result<(), ScriptError>
+        requires byte { place.byte < 2 ^ 63 }
+        requires line { place.line < 2 ^ 63 + 1 }
+        requires order { start.place.byte ≤ place.byte }
+        requires within { place.byte ≤ length script.now }
+        ensures { Takes self.old self.new (left state.new result)
+            (spans.in_word script.now start (pending_in self.old) place b class) }
+    {
         match class {
-            ByteClass::Blank => Ok(State::Between(after_blank(previous))),
-            ByteClass::Quote => Ok(State::Quoted(TokenStart { previous, place })),
-            ByteClass::Backslash => Ok(State::Backslash(TokenStart { previous, place })),
-            ByteClass::Ordinary if begins_name(previous, b) => Ok(State::Name(place)),
-            ByteClass::Ordinary => Ok(State::Word(TokenStart { previous, place })),
-            ByteClass::Hash => {
-                self.push_bare_here(previous)?;
-                Ok(State::Comment)
-            }
-            ByteClass::Begins => {
-                let start = self.begin_operator(previous, place)?;
-                Ok(State::Operator(start, first_op(b)))
-            }
-            ByteClass::Alone => self.push_alone(previous, place, b),
-            ByteClass::LineEnd => Ok(self.push_newline(previous, place, b)?),
+            ByteClass::Ordinary => *state = State::Word(start),
+            ByteClass::Backslash => *state = State::WordBackslash(start, place),
+            _ => return self.end_word_in_place(script, state, start, place, b, class),
         }
+        Ok(())
+    }
+
+    /// Ends a word at the byte after it, and leaves the state that this leads to.
+    #[inline(always)]
+    fn end_word_in_place(
+        &mut self,
+        script: &[u8],
+        state: &mut State,
+        start: TokenStart,
+        place: Place,
+        b: u8,
+        class: ByteClass,
+    ) -> Result<(), ScriptError>
+        requires byte { place.byte < 2 ^ 63 }
+        requires line { place.line < 2 ^ 63 + 1 }
+        requires order { start.place.byte ≤ place.byte }
+        requires within { place.byte ≤ length script.now }
+        ensures { Takes self.old self.new (left state.new result)
+            (spans.ends_word false script.now start (pending_in self.old) place b class) }
+    {
+        let after = self.push_word(script, false, start, place)?;
+        self.begin_in_place(state, after, place, b, class)?;
+        Ok(())
     }
 
     /// Ends a word, quoted or not, at the byte after it.
@@ -165,6 +229,7 @@ impl Reading {
     }
 
     /// Ends a word at a backslash and newline, which are a blank.
+    #[inline(always)]
     pub(crate) fn end_continued(
         &mut self,
         script: &[u8],
@@ -184,6 +249,7 @@ impl Reading {
     }
 
     /// Reads the byte after a name so far.
+    #[inline(always)]
     pub(crate) fn continue_name(
         &mut self,
         start: Place,
