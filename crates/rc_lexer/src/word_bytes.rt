@@ -136,7 +136,7 @@ impl Reading {
     }
 
     /// Reads the byte after a word so far, and leaves the state that this leads to.
-    #[inline(never)]
+    #[inline(always)]
     pub(crate) fn continue_word_in_place(
         &mut self,
         script: &[u8],
