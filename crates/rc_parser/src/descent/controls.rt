@@ -19,13 +19,12 @@ use crate::token_faults::{TokenError, fault_at};
 use crate::token_stream::Tokens;
 use rc_lexer::TokenKind;
 use rc_model::{DescentFault, Keyword};
-use rc_nodes::{conditional, empty, for_all, for_each, if_not, not, repeated, subshell};
 use rc_tree::{Arg, Cmd};
 use std::alloc::Global;
 
 /// Parses the body of a control form, which may be absent.
 #[cycle(parse)]
-#[tactic(auto, using(std::proofs::lemmas::Grind::common_steps), unfolding(rc_model::specs::Mirrors::Descent::body_by))]
+#[tactic(auto, using(rc_tree::specs::View::tree_walks), unfolding(rc_model::specs::Mirrors::Descent::body_by))]
 fn parse_body(
     alloc: Global,
     below: usize,
@@ -40,7 +39,7 @@ fn parse_body(
     } else if begins_link(rest) {
         Err(fault_at(DescentFault::Unexpected, rest))
     } else {
-        Ok((empty(alloc)?, rest))
+        Ok((Box::new(alloc, Cmd::Empty)?, rest))
     }
 }
 
@@ -70,7 +69,7 @@ fn parse_if(
 
 /// Parses what follows `if not`: a body.
 #[cycle(parse)]
-#[tactic(auto, using(std::proofs::lemmas::Grind::common_steps))]
+#[tactic(auto, using(rc_tree::specs::View::tree_IfNot, std::proofs::lemmas::Grind::common_steps))]
 fn parse_if_not(
     alloc: Global,
     below: usize,
@@ -80,12 +79,12 @@ fn parse_if_not(
         (if_not_by (read below) true keyword.Not (lexemes_of tokens.entry)) }
 {
     let (body, rest) = parse_body(alloc, below, past_caret(tokens))?;
-    Ok((if_not(alloc, body)?, rest))
+    Ok((Box::new(alloc, Cmd::IfNot(body))?, rest))
 }
 
 /// Parses what follows `if`, if that is a condition: it, and a body.
 #[cycle(parse)]
-#[tactic(auto, using(std::proofs::lemmas::Grind::common_steps))]
+#[tactic(auto, using(rc_tree::specs::View::tree_If, std::proofs::lemmas::Grind::common_steps))]
 fn parse_condition(
     alloc: Global,
     below: usize,
@@ -96,12 +95,12 @@ fn parse_condition(
 {
     let (condition, rest) = parse_paren(alloc, below, tokens)?;
     let (body, rest) = parse_body(alloc, below, rest)?;
-    Ok((conditional(alloc, condition, body)?, rest))
+    Ok((Box::new(alloc, Cmd::If(condition, body))?, rest))
 }
 
 /// Parses what follows `while`.
 #[cycle(parse)]
-#[tactic(auto, using(std::proofs::lemmas::Grind::common_steps), unfolding(rc_model::specs::Mirrors::Descent::while_by))]
+#[tactic(auto, using(rc_tree::specs::View::tree_walks), unfolding(rc_model::specs::Mirrors::Descent::while_by))]
 fn parse_while(
     alloc: Global,
     below: usize,
@@ -112,7 +111,7 @@ fn parse_while(
 {
     let (condition, rest) = parse_paren(alloc, below, tokens)?;
     let (body, rest) = parse_body(alloc, below, rest)?;
-    Ok((repeated(alloc, condition, body)?, rest))
+    Ok((Box::new(alloc, Cmd::While(condition, body))?, rest))
 }
 
 /// Parses what follows the name of a `for`.
@@ -121,11 +120,11 @@ fn parse_while(
 fn parse_over(
     alloc: Global,
     below: usize,
-    name: Box<Arg>,
+    name: Arg,
     tokens: Tokens<'_>,
 ) -> Result<(Box<Cmd>, Tokens<'_>), TokenError>
     ensures { Gives (λ x. (cmd_tree x.0.value, lexemes_of x.1)) result
-        (over_by (read below) (arg_tree name.value) (lexemes_of tokens.entry)) }
+        (over_by (read below) (arg_tree name) (lexemes_of tokens.entry)) }
 {
     match tokens.first() {
         Some((TokenKind::RightParen, _, rest)) => parse_for_all(alloc, below, name, rest),
@@ -143,35 +142,35 @@ fn parse_over(
 /// when a list follows.
 #[inline(never)]
 #[cycle(parse)]
-#[tactic(auto, using(std::proofs::lemmas::Grind::common_steps))]
+#[tactic(auto, using(rc_tree::specs::View::tree_ForAll, std::proofs::lemmas::Grind::common_steps))]
 fn parse_for_all(
     alloc: Global,
     below: usize,
-    name: Box<Arg>,
+    name: Arg,
     tokens: Tokens<'_>,
 ) -> Result<(Box<Cmd>, Tokens<'_>), TokenError>
     ensures { Gives (λ x. (cmd_tree x.0.value, lexemes_of x.1)) result
-        (made (t.ForAll (arg_tree name.value)) (body_by (read below) (lexemes_of tokens.entry))) }
+        (made (t.ForAll (arg_tree name)) (body_by (read below) (lexemes_of tokens.entry))) }
 {
     let (body, rest) = parse_body(alloc, below, tokens)?;
-    Ok((for_all(alloc, name, body)?, rest))
+    Ok((Box::new(alloc, Cmd::ForAll(name, body))?, rest))
 }
 
 /// Parses what follows the `in` of a `for`: a list and a body.
 #[cycle(parse)]
-#[tactic(auto, using(std::proofs::lemmas::Grind::common_steps))]
+#[tactic(auto, using(rc_tree::specs::View::tree_For, std::proofs::lemmas::Grind::common_steps))]
 fn parse_for_each(
     alloc: Global,
     below: usize,
-    name: Box<Arg>,
+    name: Arg,
     tokens: Tokens<'_>,
 ) -> Result<(Box<Cmd>, Tokens<'_>), TokenError>
     ensures { Gives (λ x. (cmd_tree x.0.value, lexemes_of x.1)) result
-        (for_each_by (read below) (arg_tree name.value) keyword.In (lexemes_of tokens.entry)) }
+        (for_each_by (read below) (arg_tree name) keyword.In (lexemes_of tokens.entry)) }
 {
     let (words, rest) = parse_members(alloc, below, past_caret(tokens))?;
     let (body, rest) = parse_body(alloc, below, rest)?;
-    Ok((for_each(alloc, name, words, body)?, rest))
+    Ok((Box::new(alloc, Cmd::For(name, words, body))?, rest))
 }
 
 /// Parses what follows `for`.
@@ -194,7 +193,7 @@ fn parse_for(
 
 /// Parses what follows `!`.
 #[cycle(parse)]
-#[tactic(auto, using(std::proofs::lemmas::Grind::common_steps))]
+#[tactic(auto, using(rc_tree::specs::View::tree_Not, std::proofs::lemmas::Grind::common_steps))]
 fn parse_not(
     alloc: Global,
     below: usize,
@@ -204,12 +203,12 @@ fn parse_not(
         (made t.Not (read below an_operand (lexemes_of tokens.entry))) }
 {
     let (cmd, rest) = parse_inner_operand(alloc, below, tokens)?;
-    Ok((not(alloc, cmd)?, rest))
+    Ok((Box::new(alloc, Cmd::Not(cmd))?, rest))
 }
 
 /// Parses what follows `@`.
 #[cycle(parse)]
-#[tactic(auto, using(std::proofs::lemmas::Grind::common_steps))]
+#[tactic(auto, using(rc_tree::specs::View::tree_Subshell, std::proofs::lemmas::Grind::common_steps))]
 fn parse_subshell(
     alloc: Global,
     below: usize,
@@ -219,7 +218,7 @@ fn parse_subshell(
         (made t.Subshell (read below an_operand (lexemes_of tokens.entry))) }
 {
     let (cmd, rest) = parse_inner_operand(alloc, below, tokens)?;
-    Ok((subshell(alloc, cmd)?, rest))
+    Ok((Box::new(alloc, Cmd::Subshell(cmd))?, rest))
 }
 
 /// Parses what follows `!`, `@` and the control words.
