@@ -119,6 +119,24 @@ pub(crate) fn parse_argument(
     Ok((concat(first, others)?, rest))
 }
 
+/// Parses an argument that is held while commands inside are parsed. It is in a box, so that it takes little stack at
+/// each level of nesting.
+#[inline(never)]
+#[cycle(parse)]
+#[tactic(auto, using(std::proofs::lemmas::Grind::common_steps))]
+pub(crate) fn parse_boxed_argument(
+    alloc: Global,
+    left: usize,
+    inside: bool,
+    tokens: Tokens<'_>,
+) -> Result<(Box<Arg>, Tokens<'_>), TokenError>
+    ensures { Gives (λ x. (arg_tree x.0.value, lexemes_of x.1)) result
+        (arg_by (read left (a_part inside)) inside (lexemes_of tokens.entry)) }
+{
+    let (arg, rest) = parse_argument(alloc, left, inside, tokens)?;
+    Ok((Box::new(alloc, arg)?, rest))
+}
+
 /// Parses the parts after carets.
 #[cycle(parse)]
 #[tactic(auto, using(crate::proofs::Turns::parts))]

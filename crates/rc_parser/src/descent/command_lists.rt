@@ -6,7 +6,7 @@ ghost use Rattle.rc_parser.specs.Tokens.{lexemes_of};
 ghost use Rattle.rc_parser.specs.Answers.{Gives};
 
 use crate::descent::commands::parse_command;
-use crate::joined_nodes::allows_if_not;
+use crate::joined_nodes::{allows_if_not, push_item};
 use crate::lookahead::{ends, item_end};
 use crate::token_faults::{TokenError, fault_at};
 use crate::token_stream::Tokens;
@@ -42,10 +42,7 @@ fn parse_items(
                 let (cmd, after) = parse_command(alloc, below, after_if, rest)?;
                 let (background, after) = item_end(after)?;
                 after_if = allows_if_not(background, &cmd);
-                items.push(Item {
-                    cmd: Box::into_inner(cmd),
-                    background,
-                })?;
+                push_item(&mut items, cmd, background)?;
                 rest = after;
             }
         }

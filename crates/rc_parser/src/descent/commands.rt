@@ -9,14 +9,14 @@ ghost use Rattle.rc_parser.specs.Answers.{Gives};
 use crate::descent::controls::parse_control;
 use crate::descent::openings::{Opening, parse_opening};
 use crate::descent::prefixes::{parse_assigned, parse_redirected};
-use crate::joined_nodes::{allows_stage, and_or, pipeline};
+use crate::joined_nodes::{allows_stage, and_or, pipeline, push_link, push_stage};
 use crate::lookahead::{begins_leading, past_newlines};
 use crate::parsed_words::keyword_of;
 use crate::token_faults::{TokenError, fault_at};
 use crate::token_stream::Tokens;
 use rc_lexer::TokenKind;
 use rc_model::{DescentFault, Keyword, Logic};
-use rc_tree::{Cmd, Stage};
+use rc_tree::Cmd;
 use std::alloc::Global;
 
 /// Parses the pipeline that begins with this stage.
@@ -42,10 +42,7 @@ pub(crate) fn parse_pipeline(
         if !allows_stage(&stages) {
             return Err(fault_at(DescentFault::TooManyStages, rest));
         }
-        stages.push(Stage {
-            cmd: Box::into_inner(last),
-            slot,
-        })?;
+        push_stage(&mut stages, last, slot)?;
         let ((next, is_stage), after) = parse_piped(alloc, below, past_newlines(after))?;
         last = next;
         rest = after;
@@ -170,7 +167,7 @@ fn parse_links(
             _ => break,
         };
         let (cmd, after) = parse_operand(alloc, below, false, past_newlines(after))?;
-        links.push((logic, Box::into_inner(cmd)))?;
+        push_link(&mut links, logic, cmd)?;
         rest = after;
     }
     Ok((links, rest))

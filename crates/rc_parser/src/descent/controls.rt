@@ -10,7 +10,7 @@ ghost use Rattle.rc_parser.specs.Tokens.{lexemes_of};
 ghost use Rattle.rc_parser.specs.Answers.{Gives};
 ghost use Rattle.rc_parser.specs.Reading.{made};
 
-use crate::descent::arguments::{parse_argument, parse_members};
+use crate::descent::arguments::{parse_boxed_argument, parse_members};
 use crate::descent::command_lists::parse_paren;
 use crate::descent::commands::{parse_command, parse_inner_operand};
 use crate::lookahead::{begins_command, begins_link, past_caret, past_newlines};
@@ -120,11 +120,11 @@ fn parse_while(
 fn parse_over(
     alloc: Global,
     below: usize,
-    name: Arg,
+    name: Box<Arg>,
     tokens: Tokens<'_>,
 ) -> Result<(Box<Cmd>, Tokens<'_>), TokenError>
     ensures { Gives (λ x. (cmd_tree x.0.value, lexemes_of x.1)) result
-        (over_by (read below) (arg_tree name) (lexemes_of tokens.entry)) }
+        (over_by (read below) (arg_tree name.value) (lexemes_of tokens.entry)) }
 {
     match tokens.first() {
         Some((TokenKind::RightParen, _, rest)) => parse_for_all(alloc, below, name, rest),
@@ -146,14 +146,17 @@ fn parse_over(
 fn parse_for_all(
     alloc: Global,
     below: usize,
-    name: Arg,
+    name: Box<Arg>,
     tokens: Tokens<'_>,
 ) -> Result<(Box<Cmd>, Tokens<'_>), TokenError>
     ensures { Gives (λ x. (cmd_tree x.0.value, lexemes_of x.1)) result
-        (made (t.ForAll (arg_tree name)) (body_by (read below) (lexemes_of tokens.entry))) }
+        (made (t.ForAll (arg_tree name.value)) (body_by (read below) (lexemes_of tokens.entry))) }
 {
     let (body, rest) = parse_body(alloc, below, tokens)?;
-    Ok((Box::new(alloc, Cmd::ForAll(name, body))?, rest))
+    Ok((
+        Box::new(alloc, Cmd::ForAll(Box::into_inner(name), body))?,
+        rest,
+    ))
 }
 
 /// Parses what follows the `in` of a `for`: a list and a body.
@@ -162,15 +165,18 @@ fn parse_for_all(
 fn parse_for_each(
     alloc: Global,
     below: usize,
-    name: Arg,
+    name: Box<Arg>,
     tokens: Tokens<'_>,
 ) -> Result<(Box<Cmd>, Tokens<'_>), TokenError>
     ensures { Gives (λ x. (cmd_tree x.0.value, lexemes_of x.1)) result
-        (for_each_by (read below) (arg_tree name) keyword.In (lexemes_of tokens.entry)) }
+        (for_each_by (read below) (arg_tree name.value) keyword.In (lexemes_of tokens.entry)) }
 {
     let (words, rest) = parse_members(alloc, below, past_caret(tokens))?;
     let (body, rest) = parse_body(alloc, below, rest)?;
-    Ok((Box::new(alloc, Cmd::For(name, words, body))?, rest))
+    Ok((
+        Box::new(alloc, Cmd::For(Box::into_inner(name), words, body))?,
+        rest,
+    ))
 }
 
 /// Parses what follows `for`.
@@ -187,7 +193,7 @@ fn parse_for(
     let Some((TokenKind::LeftParen, _, rest)) = tokens.first() else {
         return Err(fault_at(DescentFault::Unexpected, tokens));
     };
-    let (name, rest) = parse_argument(alloc, below, true, past_newlines(rest))?;
+    let (name, rest) = parse_boxed_argument(alloc, below, true, past_newlines(rest))?;
     parse_over(alloc, below, name, past_newlines(rest))
 }
 

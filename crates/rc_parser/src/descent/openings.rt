@@ -32,7 +32,7 @@ pub(crate) enum Opening {
     /// A stage of a pipeline.
     Staged(Box<Cmd>),
     /// The name of an assignment. The `=` follows it.
-    Named(Arg),
+    Named(Box<Arg>),
 }
 
 /// Parses as many words and redirections as there are.
@@ -148,7 +148,7 @@ fn parse_first(
 {
     let (first, rest) = parse_argument(alloc, below, false, tokens)?;
     match rest.first() {
-        Some((TokenKind::Equals, _, rest)) => Ok((Opening::Named(first), rest)),
+        Some((TokenKind::Equals, _, rest)) => Ok((Opening::Named(Box::new(alloc, first)?), rest)),
         _ => parse_simple_command(alloc, below, first, rest),
     }
 }

@@ -13,6 +13,7 @@ use crate::descent::arguments::parse_argument;
 use crate::descent::commands::{parse_inner_operand, parse_leading, parse_pipeline};
 use crate::descent::openings::{Opening, parse_opening};
 use crate::descent::redirections::{parse_redirection, parse_redirections};
+use crate::joined_nodes::push_pair;
 use crate::lookahead::{begins_command, begins_leading};
 use crate::token_faults::TokenError;
 use crate::token_stream::Tokens;
@@ -61,15 +62,15 @@ pub(crate) fn parse_redirected(
 pub(crate) fn parse_assigned(
     alloc: Global,
     below: usize,
-    name: Arg,
+    name: Box<Arg>,
     tokens: Tokens<'_>,
 ) -> Result<(Box<Cmd>, Tokens<'_>), TokenError>
     ensures { Gives (λ x. (cmd_tree x.0.value, lexemes_of x.1)) result
-        (assigned_by (read below) (arg_tree name) (lexemes_of tokens.entry)) }
+        (assigned_by (read below) (arg_tree name.value) (lexemes_of tokens.entry)) }
 {
     let (value, rest) = parse_argument(alloc, below, false, tokens)?;
     let mut pairs = Vec::new(alloc);
-    pairs.push((name, value))?;
+    push_pair(&mut pairs, name, value)?;
     parse_values(alloc, below, pairs, rest)
 }
 
@@ -98,7 +99,7 @@ fn parse_values(
         match opening {
             Opening::Named(name) => {
                 let (value, after) = parse_argument(alloc, below, false, after)?;
-                pairs.push((name, value))?;
+                push_pair(&mut pairs, name, value)?;
                 rest = after;
             }
             Opening::Staged(first) => {

@@ -5,7 +5,7 @@ ghost use Rattle.rc_tree.specs.View.{cmd_tree, branches_tree, branch_tree};
 ghost use Rattle.rc_parser.specs.Tokens.{lexemes_of};
 ghost use Rattle.rc_parser.specs.Answers.{Gives};
 
-use crate::descent::arguments::{parse_argument, parse_words};
+use crate::descent::arguments::{parse_boxed_argument, parse_words};
 use crate::descent::command_lists::parse_list;
 use crate::descent::redirections::parse_redirections;
 use crate::joined_nodes::redirect;
@@ -82,9 +82,9 @@ pub(crate) fn parse_switch(
     ensures { Gives (λ x. (cmd_tree x.0.value, lexemes_of x.1)) result
         (switch_by (read below) (lexemes_of tokens.entry)) }
 {
-    let (subject, rest) = parse_argument(alloc, below, false, tokens)?;
+    let (subject, rest) = parse_boxed_argument(alloc, below, false, tokens)?;
     let (branches, rest) = parse_cases(alloc, below, past_newlines(rest))?;
-    let command = Box::new(alloc, Cmd::Switch(subject, branches))?;
+    let command = Box::new(alloc, Cmd::Switch(Box::into_inner(subject), branches))?;
     let (redirs, rest) = parse_redirections(alloc, below, rest)?;
     Ok((redirect(alloc, redirs, command)?, rest))
 }
