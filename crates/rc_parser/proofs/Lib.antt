@@ -1,3 +1,4 @@
+pub mod Joined
 pub mod Steps
 pub mod Turns
 pub mod Texts

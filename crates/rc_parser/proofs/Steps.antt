@@ -5,7 +5,7 @@ use Rattle.rc_model.specs.Syntax.Tokens.{Lexeme}
 use Rattle.rc_model.specs.Mirrors.Descent as d
 use Rattle.rc_model.specs.Mirrors.Descent.{Nested}
 use Rattle.rc_model.specs.declared.fault.DescentFault.TheVariants as descent
-use Rattle.rc_tree.specs.View.{tree_lists}
+use Rattle.rc_tree.specs.View.{tree_lists, tree_walks, tree_Var}
 
 pub read_none : (left : ℕ) (n : Nested) (ts : List Lexeme) → left ≡ 0 → d.read left n ts ≡ Err descent.TooDeep
 unfolding d.read
@@ -38,10 +38,10 @@ pub read_list : (left : ℕ) (s : Bool) (ts : List Lexeme) → 0 < left → d.re
 unfolding d.read d.read_by
 read_list left s ts h = ap (λ k. d.read k (d.a_list s) ts) (left_is left h)
 
-pub ruleset levels = (read_none, read_name, read_part, read_operand, read_piped, read_command, read_list, common_steps)
+pub ruleset levels = (read_none, read_name, read_part, read_operand, read_piped, read_command, read_list, tree_Var, common_steps)
 
 -- a step of a function whose lists are made by others
-pub ruleset steps = (common_steps)
+pub ruleset steps = (tree_walks)
 
 -- a step at which a list grows
 pub ruleset lists = (tree_lists)

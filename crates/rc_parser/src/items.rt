@@ -11,13 +11,13 @@ ghost use Rattle.rc_parser.specs.Answers.{Fails};
 ghost use Rattle.rc_parser.specs.Faults.{Refuses};
 
 use crate::found_items::{Found, find_item};
+use crate::joined_nodes::allows_if_not;
 use crate::syntax_faults::syntax_fault;
 use crate::token_faults::{TokenError, fault_at};
 use crate::token_stream::{Source, Tokens};
 use rc_lexer::ScriptError;
 use rc_model::limits::MOST_LEVELS;
 use rc_model::{DescentFault, InputError};
-use rc_nodes::allows_if_not;
 use rc_tree::{Item, is_within};
 use std::alloc::Global;
 

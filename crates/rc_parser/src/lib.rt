@@ -6,6 +6,7 @@ mod descent;
 mod found_items;
 mod here_pieces;
 mod items;
+mod joined_nodes;
 mod lexed_script;
 mod lookahead;
 mod parsed_words;

@@ -16,7 +16,6 @@ use crate::token_faults::{TokenError, fault_at};
 use crate::token_stream::Tokens;
 use rc_lexer::TokenKind;
 use rc_model::{DescentFault, Keyword};
-use rc_nodes::{here_doc, literal};
 use rc_text::unquote;
 use rc_tree::{Arg, Redir};
 use std::alloc::{AllocError, Global};
@@ -69,21 +68,29 @@ fn string(bytes: Vec<u8>) -> String
 }
 
 /// The node of an unquoted word, or of a name.
-fn plain(alloc: Global, word: &[u8]) -> Result<Box<Arg>, AllocError>
+#[tactic(auto, using(rc_tree::specs::View::tree_Lit, std::proofs::lemmas::Grind::common_steps))]
+fn plain(alloc: Global, word: &[u8]) -> Result<Arg, AllocError>
     requires { IsUtf8 word.now }
-    ensures { IfOk result (λ b. arg_tree b.value ≡ t.Lit word.now false) }
+    ensures { IfOk result (λ b. arg_tree b ≡ t.Lit word.now false) }
 {
     let bytes = word.to_vec(alloc)?;
-    literal(alloc, string(bytes), false)
+    Ok(Arg::Lit {
+        text: string(bytes),
+        quoted: false,
+    })
 }
 
 /// The node of a quoted word.
-fn quoted(alloc: Global, word: &[u8]) -> Result<Box<Arg>, AllocError>
+#[tactic(auto, using(rc_tree::specs::View::tree_Lit, std::proofs::lemmas::Grind::common_steps))]
+fn quoted(alloc: Global, word: &[u8]) -> Result<Arg, AllocError>
     requires { IsUtf8 (unquoted_text word.now) }
-    ensures { IfOk result (λ b. arg_tree b.value ≡ t.Lit (unquoted_text word.now) true) }
+    ensures { IfOk result (λ b. arg_tree b ≡ t.Lit (unquoted_text word.now) true) }
 {
     let bytes = unquote(alloc, word)?;
-    literal(alloc, string(bytes), true)
+    Ok(Arg::Lit {
+        text: string(bytes),
+        quoted: true,
+    })
 }
 
 /// A word, quoted or not, or a name.
@@ -91,8 +98,8 @@ fn quoted(alloc: Global, word: &[u8]) -> Result<Box<Arg>, AllocError>
 pub(crate) fn parse_literal(
     alloc: Global,
     tokens: Tokens<'_>,
-) -> Result<(Box<Arg>, Tokens<'_>), TokenError>
-    ensures { Gives (λ x. (arg_tree x.0.value, lexemes_of x.1)) result (literal_by (lexemes_of tokens.entry)) }
+) -> Result<(Arg, Tokens<'_>), TokenError>
+    ensures { Gives (λ x. (arg_tree x.0, lexemes_of x.1)) result (literal_by (lexemes_of tokens.entry)) }
 {
     match tokens.first() {
         Some((TokenKind::Word, text, rest)) => Ok((plain(alloc, text)?, rest)),
@@ -103,15 +110,16 @@ pub(crate) fn parse_literal(
 }
 
 /// The node of a here document, whose mark is quoted or not.
-fn here(alloc: Global, quoted: bool, body: &[u8]) -> Result<Box<Redir>, AllocError>
+#[tactic(auto, using(rc_tree::specs::View::tree_Here, std::proofs::lemmas::Grind::common_steps))]
+fn here(alloc: Global, quoted: bool, body: &[u8]) -> Result<Redir, AllocError>
     requires { IsUtf8 body.now }
-    ensures { IfOk result (λ b. redir_tree b.value ≡ t.Here (pieces_of quoted body.now)) }
+    ensures { IfOk result (λ b. redir_tree b ≡ t.Here (pieces_of quoted body.now)) }
 {
     let Ok(body) = str::from_utf8(body) else {
         unreachable!()
     };
     let pieces = pieces(alloc, quoted, body)?;
-    here_doc(alloc, pieces)
+    Ok(Redir::Here(pieces))
 }
 
 /// A here document.
@@ -119,8 +127,8 @@ fn here(alloc: Global, quoted: bool, body: &[u8]) -> Result<Box<Redir>, AllocErr
 pub(crate) fn parse_here_doc(
     alloc: Global,
     tokens: Tokens<'_>,
-) -> Result<(Box<Redir>, Tokens<'_>), TokenError>
-    ensures { Gives (λ x. (redir_tree x.0.value, lexemes_of x.1)) result (here_doc_by (lexemes_of tokens.entry)) }
+) -> Result<(Redir, Tokens<'_>), TokenError>
+    ensures { Gives (λ x. (redir_tree x.0, lexemes_of x.1)) result (here_doc_by (lexemes_of tokens.entry)) }
 {
     match tokens.first() {
         Some((TokenKind::HereDoc { is_quoted, body }, _, rest)) => {

@@ -15,7 +15,6 @@ use crate::token_faults::{TokenError, fault_at};
 use crate::token_stream::Tokens;
 use rc_model::DescentFault;
 use rc_model::limits::MOST_LEVELS;
-use rc_nodes::seq;
 use rc_tree::{Cmd, is_within};
 use std::alloc::Global;
 
@@ -48,7 +47,7 @@ fn parse_script(alloc: Global, tokens: Tokens<'_>) -> Result<Cmd, TokenError>
     if rest.len() != 0 {
         return Err(fault_at(DescentFault::Unexpected, rest));
     }
-    let tree = seq(alloc, items)?;
+    let tree = Box::new(alloc, Cmd::Seq(items))?;
     if !is_within(&tree, MOST_LEVELS) {
         return Err(fault_at(DescentFault::TooDeep, tokens));
     }

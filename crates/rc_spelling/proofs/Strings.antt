@@ -8,6 +8,7 @@ use Rattle.std.proofs.lemmas.Grind.{common_steps}
 use Rattle.rc_model.specs.Syntax.Text.{without_zero}
 use Rattle.rc_model.specs.Syntax.WellFormed.{has_text}
 use Rattle.rc_tree.proofs.Fitting.{zero_sought}
+use Rattle.rc_tree.specs.View.{tree_Lit}
 use Rattle.rc_spelling.specs.Steps.{string_by}
 use Rattle.rc_model.specs.declared.fault.ImageFault.{ImageFault}
 use Rattle.rc_model.specs.declared.fault.ImageFault.TheVariants.{BadLength}
@@ -81,4 +82,4 @@ pub text_some : (text : List ℕ) → 0 < length text → has_text text ≡ true
 text_some [] h = absurd (omega arith)
 text_some (b ∷ bs) h = refl
 
-pub ruleset words = (text_none, text_some, common_steps)
+pub ruleset words = (text_none, text_some, tree_Lit, common_steps)

@@ -9,7 +9,6 @@ ghost use Rattle.rc_spelling.specs.Steps.{slot_by, background_by, logic_by, list
 use crate::image_error::ImageError;
 use crate::image_numbers::{count_at, count_from, first};
 use rc_model::{ImageFault, InputError, Logic};
-use rc_nodes::{copying, here_doc, literal};
 use rc_tree::{Arg, Piece, Redir};
 use std::alloc::{AllocError, Global};
 
@@ -42,23 +41,29 @@ fn text_at(alloc: Global, bytes: &[u8]) -> Result<(String, &[u8]), ImageError>
 
 /// An unquoted word, which isn't empty.
 #[tactic(auto, using(crate::proofs::Strings::words), unfolding(crate::specs::Steps::word_by))]
-pub(crate) fn word(alloc: Global, bytes: &[u8]) -> Result<(Box<Arg>, &[u8]), ImageError>
-    ensures { Gives (λ x. (arg_tree x.0.value, x.1.now)) result (word_by bytes.now) }
+pub(crate) fn word(alloc: Global, bytes: &[u8]) -> Result<(Arg, &[u8]), ImageError>
+    ensures { Gives (λ x. (arg_tree x.0, x.1.now)) result (word_by bytes.now) }
 {
     let (text, rest) = text_at(alloc, bytes)?;
     if text.is_empty() {
         return Err(InputError::Fault(ImageFault::BadLength));
     }
-    Ok((literal(alloc, text, false)?, rest))
+    Ok((
+        Arg::Lit {
+            text,
+            quoted: false,
+        },
+        rest,
+    ))
 }
 
 /// A quoted word.
-#[tactic(auto, unfolding(crate::specs::Steps::quoted_by))]
-pub(crate) fn quoted(alloc: Global, bytes: &[u8]) -> Result<(Box<Arg>, &[u8]), ImageError>
-    ensures { Gives (λ x. (arg_tree x.0.value, x.1.now)) result (quoted_by bytes.now) }
+#[tactic(auto, using(rc_tree::specs::View::tree_walks), unfolding(crate::specs::Steps::quoted_by))]
+pub(crate) fn quoted(alloc: Global, bytes: &[u8]) -> Result<(Arg, &[u8]), ImageError>
+    ensures { Gives (λ x. (arg_tree x.0, x.1.now)) result (quoted_by bytes.now) }
 {
     let (text, rest) = text_at(alloc, bytes)?;
-    Ok((literal(alloc, text, true)?, rest))
+    Ok((Arg::Lit { text, quoted: true }, rest))
 }
 
 /// The descriptor that a command writes to.
@@ -88,19 +93,19 @@ fn only(mark: u8, bytes: &[u8]) -> Result<(u8, &[u8]), ImageError>
 }
 
 /// A copy of one such descriptor to the other.
-#[tactic(auto, unfolding(crate::specs::Steps::copy_by))]
-pub(crate) fn copy(alloc: Global, bytes: &[u8]) -> Result<(Box<Redir>, &[u8]), ImageError>
-    ensures { Gives (λ x. (redir_tree x.0.value, x.1.now)) result (copy_by bytes.now) }
+#[tactic(auto, using(rc_tree::specs::View::tree_walks), unfolding(crate::specs::Steps::copy_by))]
+pub(crate) fn copy(bytes: &[u8]) -> Result<(Redir, &[u8]), ImageError>
+    ensures { Gives (λ x. (redir_tree x.0, x.1.now)) result (copy_by bytes.now) }
 {
     let (to, rest) = first(bytes)?;
     match to {
         b'1' => {
             let (_, rest) = only(b'2', rest)?;
-            Ok((copying(alloc, 1, 2)?, rest))
+            Ok((Redir::Copy { to: 1, from: 2 }, rest))
         }
         b'2' => {
             let (_, rest) = only(b'1', rest)?;
-            Ok((copying(alloc, 2, 1)?, rest))
+            Ok((Redir::Copy { to: 2, from: 1 }, rest))
         }
         _ => Err(InputError::Fault(ImageFault::BadTag)),
     }
@@ -168,9 +173,9 @@ fn pieces(alloc: Global, bytes: &[u8]) -> Result<(Vec<Piece>, &[u8]), ImageError
 
 /// A here document.
 #[tactic(auto, using(crate::proofs::Turns::here_docs), unfolding(crate::specs::Steps::here_by))]
-pub(crate) fn here(alloc: Global, bytes: &[u8]) -> Result<(Box<Redir>, &[u8]), ImageError>
-    ensures { Gives (λ x. (redir_tree x.0.value, x.1.now)) result (here_by bytes.now) }
+pub(crate) fn here(alloc: Global, bytes: &[u8]) -> Result<(Redir, &[u8]), ImageError>
+    ensures { Gives (λ x. (redir_tree x.0, x.1.now)) result (here_by bytes.now) }
 {
     let (pieces, rest) = pieces(alloc, bytes)?;
-    Ok((here_doc(alloc, pieces)?, rest))
+    Ok((Redir::Here(pieces), rest))
 }

@@ -13,14 +13,9 @@ use crate::image_error::ImageError;
 use crate::image_numbers::{count_from, stage_count};
 use crate::leaves::{background, copy, here, logic, quoted, slot, word};
 use crate::marks::{arg_mark, cmd_mark, redir_mark};
-use crate::nodes::{and_or, concat, pipeline, with_bodies, with_body, with_name, with_words};
+use crate::nodes::{with_bodies, with_body, with_name, with_words};
 use crate::shape::{ArgShape, CmdShape, FrontShape, RedirShape, SubjectShape};
 use rc_model::{ImageFault, InputError, Logic, Mode};
-use rc_nodes::{
-    assigned, back, defined, empty, for_all, for_each, matching, opening, paren, push_arg,
-    push_branch, push_item, push_link, push_pair, push_redir, push_stage, redirected, seq,
-    subscripted, switched,
-};
 use rc_tree::{Arg, Branch, Cmd, Item, Redir, Stage};
 use std::alloc::Global;
 
@@ -43,7 +38,7 @@ pub(crate) fn read_cmd(
 
 /// A command by its shape. Its parts have at most this many levels.
 #[cycle(read)]
-#[tactic(auto, using(std::proofs::lemmas::Grind::common_steps), unfolding(crate::specs::Reading::cmd_of))]
+#[tactic(auto, using(rc_tree::specs::View::tree_walks), unfolding(crate::specs::Reading::cmd_of))]
 fn read_cmd_of(
     alloc: Global,
     below: usize,
@@ -53,15 +48,15 @@ fn read_cmd_of(
     ensures { Gives (λ x. (cmd_tree x.0.value, x.1.now)) result (cmd_of below shape rest.now) }
 {
     match shape {
-        CmdShape::Empty => Ok((empty(alloc)?, rest)),
+        CmdShape::Empty => Ok((Box::new(alloc, Cmd::Empty)?, rest)),
         CmdShape::Seq => {
             let (items, rest) = read_items(alloc, below, rest)?;
-            Ok((seq(alloc, items)?, rest))
+            Ok((Box::new(alloc, Cmd::Seq(items))?, rest))
         }
         CmdShape::AndOr => {
             let (first, rest) = read_cmd(alloc, below, rest)?;
             let (links, rest) = read_links(alloc, below, rest)?;
-            Ok((and_or(alloc, first, links)?, rest))
+            Ok((Box::new(alloc, Cmd::AndOr(first, links))?, rest))
         }
         CmdShape::Body(shape) => {
             let (body, rest) = read_cmd(alloc, below, rest)?;
@@ -86,7 +81,7 @@ fn read_cmd_of(
 
 /// A list and a command.
 #[cycle(read)]
-#[tactic(auto, using(std::proofs::lemmas::Grind::common_steps), unfolding(crate::specs::Reading::front_by))]
+#[tactic(auto, using(rc_tree::specs::View::tree_walks), unfolding(crate::specs::Reading::front_by))]
 fn read_front(
     alloc: Global,
     left: usize,
@@ -99,56 +94,56 @@ fn read_front(
         FrontShape::Assign => {
             let (pairs, rest) = read_pairs(alloc, left, bytes)?;
             let (body, rest) = read_cmd(alloc, left, rest)?;
-            Ok((assigned(alloc, pairs, body)?, rest))
+            Ok((Box::new(alloc, Cmd::Assign(pairs, body))?, rest))
         }
         FrontShape::Redirect => {
             let (redirs, rest) = read_redirs(alloc, left, bytes)?;
             let (body, rest) = read_cmd(alloc, left, rest)?;
-            Ok((redirected(alloc, redirs, body)?, rest))
+            Ok((Box::new(alloc, Cmd::Redirect(redirs, body))?, rest))
         }
         FrontShape::Pipeline => {
             let (stages, rest) = read_stages(alloc, left, bytes)?;
             let (last, rest) = read_cmd(alloc, left, rest)?;
-            Ok((pipeline(alloc, stages, last)?, rest))
+            Ok((Box::new(alloc, Cmd::Pipeline(stages, last))?, rest))
         }
         FrontShape::Define => {
             let (names, rest) = read_args(alloc, left, 1, bytes)?;
             let (body, rest) = read_cmd(alloc, left, rest)?;
-            Ok((defined(alloc, names, body)?, rest))
+            Ok((Box::new(alloc, Cmd::Define(names, body))?, rest))
         }
     }
 }
 
 /// Reads what follows an argument that was read.
 #[cycle(read)]
-#[tactic(auto, using(std::proofs::lemmas::Grind::common_steps), unfolding(crate::specs::Reading::subject_by))]
+#[tactic(auto, using(rc_tree::specs::View::tree_walks), unfolding(crate::specs::Reading::subject_by))]
 fn read_subject(
     alloc: Global,
     left: usize,
     shape: SubjectShape,
-    subject: Box<Arg>,
+    subject: Arg,
     bytes: &[u8],
 ) -> Result<(Box<Cmd>, &[u8]), ImageError>
     ensures { Gives (λ x. (cmd_tree x.0.value, x.1.now)) result
-        (subject_by left shape (arg_tree subject.value) bytes.now) }
+        (subject_by left shape (arg_tree subject) bytes.now) }
 {
     match shape {
         SubjectShape::ForAll => {
             let (body, rest) = read_cmd(alloc, left, bytes)?;
-            Ok((for_all(alloc, subject, body)?, rest))
+            Ok((Box::new(alloc, Cmd::ForAll(subject, body))?, rest))
         }
         SubjectShape::For => {
             let (words, rest) = read_args(alloc, left, 0, bytes)?;
             let (body, rest) = read_cmd(alloc, left, rest)?;
-            Ok((for_each(alloc, subject, words, body)?, rest))
+            Ok((Box::new(alloc, Cmd::For(subject, words, body))?, rest))
         }
         SubjectShape::Switch => {
             let (branches, rest) = read_branches(alloc, left, bytes)?;
-            Ok((switched(alloc, subject, branches)?, rest))
+            Ok((Box::new(alloc, Cmd::Switch(subject, branches))?, rest))
         }
         SubjectShape::Match => {
             let (patterns, rest) = read_args(alloc, left, 0, bytes)?;
-            Ok((matching(alloc, subject, patterns)?, rest))
+            Ok((Box::new(alloc, Cmd::Match(subject, patterns))?, rest))
         }
     }
 }
@@ -156,8 +151,8 @@ fn read_subject(
 /// An argument with at most this many levels.
 #[cycle(read)]
 #[tactic(auto, using(crate::proofs::Mirror::levels))]
-fn read_arg(alloc: Global, left: usize, bytes: &[u8]) -> Result<(Box<Arg>, &[u8]), ImageError>
-    ensures { Gives (λ x. (arg_tree x.0.value, x.1.now)) result (arg_at true left bytes.now) }
+fn read_arg(alloc: Global, left: usize, bytes: &[u8]) -> Result<(Arg, &[u8]), ImageError>
+    ensures { Gives (λ x. (arg_tree x.0, x.1.now)) result (arg_at true left bytes.now) }
 {
     if left == 0 {
         return Err(InputError::Fault(ImageFault::TooDeep));
@@ -168,60 +163,68 @@ fn read_arg(alloc: Global, left: usize, bytes: &[u8]) -> Result<(Box<Arg>, &[u8]
 
 /// An argument by its shape.
 #[cycle(read)]
-#[tactic(auto, using(std::proofs::lemmas::Grind::common_steps), unfolding(crate::specs::Reading::arg_of))]
+#[tactic(auto, using(rc_tree::specs::View::tree_walks), unfolding(crate::specs::Reading::arg_of))]
 fn read_arg_of(
     alloc: Global,
     below: usize,
     shape: ArgShape,
     rest: &[u8],
-) -> Result<(Box<Arg>, &[u8]), ImageError>
-    ensures { Gives (λ x. (arg_tree x.0.value, x.1.now)) result (arg_of below shape rest.now) }
+) -> Result<(Arg, &[u8]), ImageError>
+    ensures { Gives (λ x. (arg_tree x.0, x.1.now)) result (arg_of below shape rest.now) }
 {
     match shape {
         ArgShape::Word => word(alloc, rest),
         ArgShape::Quoted => quoted(alloc, rest),
         ArgShape::Concat => {
             let (parts, rest) = read_args(alloc, below, 2, rest)?;
-            Ok((concat(alloc, parts)?, rest))
+            Ok((Arg::Concat(parts), rest))
         }
         ArgShape::Paren => {
             let (words, rest) = read_args(alloc, below, 0, rest)?;
-            Ok((paren(alloc, words)?, rest))
+            Ok((Arg::Paren(words), rest))
         }
         ArgShape::Name(shape) => {
             let (name, rest) = read_arg(alloc, below, rest)?;
-            Ok((with_name(alloc, shape, name)?, rest))
+            Ok((with_name(shape, Box::new(alloc, name)?), rest))
         }
         ArgShape::Sub => {
             let (name, rest) = read_arg(alloc, below, rest)?;
+            let name = Box::new(alloc, name)?;
             let (subscripts, rest) = read_args(alloc, below, 0, rest)?;
-            Ok((subscripted(alloc, name, subscripts)?, rest))
+            Ok((Arg::Sub(name, subscripts), rest))
         }
         ArgShape::Back => {
             let (body, rest) = read_cmd(alloc, below, rest)?;
-            Ok((back(alloc, body)?, rest))
+            Ok((Arg::Back(body), rest))
         }
     }
 }
 
 /// A redirection.
 #[cycle(read)]
-#[tactic(auto, using(std::proofs::lemmas::Grind::common_steps), unfolding(crate::specs::Reading::redir_by))]
-fn read_redir(alloc: Global, left: usize, bytes: &[u8]) -> Result<(Box<Redir>, &[u8]), ImageError>
-    ensures { Gives (λ x. (redir_tree x.0.value, x.1.now)) result (redir_by left bytes.now) }
+#[tactic(auto, using(rc_tree::specs::View::tree_walks), unfolding(crate::specs::Reading::redir_by))]
+fn read_redir(alloc: Global, left: usize, bytes: &[u8]) -> Result<(Redir, &[u8]), ImageError>
+    ensures { Gives (λ x. (redir_tree x.0, x.1.now)) result (redir_by left bytes.now) }
 {
     let (shape, rest) = redir_mark(bytes)?;
     match shape {
         RedirShape::Input => {
             let (file, rest) = read_arg(alloc, left, rest)?;
-            Ok((opening(alloc, Mode::Read, 0, file)?, rest))
+            Ok((
+                Redir::Open {
+                    mode: Mode::Read,
+                    slot: 0,
+                    file,
+                },
+                rest,
+            ))
         }
         RedirShape::Output(mode) => {
             let (slot, rest) = slot(rest)?;
             let (file, rest) = read_arg(alloc, left, rest)?;
-            Ok((opening(alloc, mode, slot, file)?, rest))
+            Ok((Redir::Open { mode, slot, file }, rest))
         }
-        RedirShape::Copy => copy(alloc, rest),
+        RedirShape::Copy => copy(rest),
         RedirShape::Here => here(alloc, rest),
     }
 }
@@ -241,7 +244,7 @@ fn read_args(
     let mut args = Vec::new(alloc);
     for _ in 0..count {
         let (arg, after) = read_arg(alloc, left, rest)?;
-        push_arg(&mut args, arg)?;
+        args.push(arg)?;
         rest = after;
     }
     Ok((args, rest))
@@ -257,7 +260,10 @@ fn read_items(alloc: Global, left: usize, bytes: &[u8]) -> Result<(Vec<Item>, &[
     for _ in 0..count {
         let (background, after) = background(rest)?;
         let (cmd, after) = read_cmd(alloc, left, after)?;
-        push_item(&mut items, cmd, background)?;
+        items.push(Item {
+            cmd: Box::into_inner(cmd),
+            background,
+        })?;
         rest = after;
     }
     Ok((items, rest))
@@ -277,7 +283,7 @@ fn read_pairs(
     for _ in 0..count {
         let (name, after) = read_arg(alloc, left, rest)?;
         let (value, after) = read_arg(alloc, left, after)?;
-        push_pair(&mut pairs, name, value)?;
+        pairs.push((name, value))?;
         rest = after;
     }
     Ok((pairs, rest))
@@ -292,7 +298,7 @@ fn read_redirs(alloc: Global, left: usize, bytes: &[u8]) -> Result<(Vec<Redir>, 
     let mut redirs = Vec::new(alloc);
     for _ in 0..count {
         let (redir, after) = read_redir(alloc, left, rest)?;
-        push_redir(&mut redirs, redir)?;
+        redirs.push(redir)?;
         rest = after;
     }
     Ok((redirs, rest))
@@ -309,7 +315,10 @@ fn read_stages(alloc: Global, left: usize, bytes: &[u8]) -> Result<(Vec<Stage>, 
     for _ in 0..count {
         let (slot, after) = slot(rest)?;
         let (cmd, after) = read_cmd(alloc, left, after)?;
-        push_stage(&mut stages, cmd, slot)?;
+        stages.push(Stage {
+            cmd: Box::into_inner(cmd),
+            slot,
+        })?;
         rest = after;
     }
     Ok((stages, rest))
@@ -330,7 +339,7 @@ fn read_links(
     for _ in 0..count {
         let (logic, after) = logic(rest)?;
         let (cmd, after) = read_cmd(alloc, left, after)?;
-        push_link(&mut links, logic, cmd)?;
+        links.push((logic, Box::into_inner(cmd)))?;
         rest = after;
     }
     Ok((links, rest))
@@ -351,7 +360,7 @@ fn read_branches(
     for _ in 0..count {
         let (patterns, after) = read_args(alloc, left, 0, rest)?;
         let (body, after) = read_cmd(alloc, left, after)?;
-        push_branch(&mut branches, patterns, body)?;
+        branches.push(Branch { patterns, body })?;
         rest = after;
     }
     Ok((branches, rest))

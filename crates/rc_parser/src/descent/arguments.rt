@@ -12,13 +12,13 @@ ghost use Rattle.rc_parser.specs.Reading.{made};
 
 use crate::descent::command_lists::parse_brace;
 use crate::descent::variable_names::{parse_count, parse_flat, parse_name};
+use crate::joined_nodes::concat;
 use crate::lookahead::{after_caret, begins_arg, past_blanks};
 use crate::parsed_words::parse_literal;
 use crate::token_faults::{TokenError, fault_at};
 use crate::token_stream::Tokens;
 use rc_lexer::TokenKind;
 use rc_model::DescentFault;
-use rc_nodes::{back, concat, paren, push_arg, subscripted, variable};
 use rc_tree::Arg;
 use std::alloc::Global;
 
@@ -30,8 +30,8 @@ fn parse_part(
     left: usize,
     inside: bool,
     tokens: Tokens<'_>,
-) -> Result<(Box<Arg>, Tokens<'_>), TokenError>
-    ensures { Gives (λ x. (arg_tree x.0.value, lexemes_of x.1)) result
+) -> Result<(Arg, Tokens<'_>), TokenError>
+    ensures { Gives (λ x. (arg_tree x.0, lexemes_of x.1)) result
         (read left (a_part inside) (lexemes_of tokens.entry)) }
 {
     if left == 0 {
@@ -51,33 +51,33 @@ fn parse_part(
 
 /// Parses what follows a `(`: a list of arguments.
 #[cycle(parse)]
-#[tactic(auto, using(std::proofs::lemmas::Grind::common_steps))]
+#[tactic(auto, using(rc_tree::specs::View::tree_Paren, std::proofs::lemmas::Grind::common_steps))]
 fn parse_group(
     alloc: Global,
     below: usize,
     tokens: Tokens<'_>,
-) -> Result<(Box<Arg>, Tokens<'_>), TokenError>
-    ensures { Gives (λ x. (arg_tree x.0.value, lexemes_of x.1)) result
+) -> Result<(Arg, Tokens<'_>), TokenError>
+    ensures { Gives (λ x. (arg_tree x.0, lexemes_of x.1)) result
         (made t.Paren (members_by (read below (a_part true)) (lexemes_of tokens.entry))) }
 {
     let (words, rest) = parse_members(alloc, below, tokens)?;
-    Ok((paren(alloc, words)?, rest))
+    Ok((Arg::Paren(words), rest))
 }
 
 /// Parses what follows a backquote: a list of commands in braces. Inside parentheses newlines before it are blanks.
 #[cycle(parse)]
-#[tactic(auto, using(std::proofs::lemmas::Grind::common_steps))]
+#[tactic(auto, using(rc_tree::specs::View::tree_Back, std::proofs::lemmas::Grind::common_steps))]
 fn parse_backquote(
     alloc: Global,
     below: usize,
     inside: bool,
     tokens: Tokens<'_>,
-) -> Result<(Box<Arg>, Tokens<'_>), TokenError>
-    ensures { Gives (λ x. (arg_tree x.0.value, lexemes_of x.1)) result
+) -> Result<(Arg, Tokens<'_>), TokenError>
+    ensures { Gives (λ x. (arg_tree x.0, lexemes_of x.1)) result
         (made t.Back (brace_by (read below) (past_blanks inside (lexemes_of tokens.entry)))) }
 {
     let (body, rest) = parse_brace(alloc, below, past_blanks(inside, tokens))?;
-    Ok((back(alloc, body)?, rest))
+    Ok((Arg::Back(body), rest))
 }
 
 /// Parses what follows a `$`: a name, perhaps with subscripts.
@@ -87,17 +87,18 @@ fn parse_dollar(
     alloc: Global,
     below: usize,
     tokens: Tokens<'_>,
-) -> Result<(Box<Arg>, Tokens<'_>), TokenError>
-    ensures { Gives (λ x. (arg_tree x.0.value, lexemes_of x.1)) result
+) -> Result<(Arg, Tokens<'_>), TokenError>
+    ensures { Gives (λ x. (arg_tree x.0, lexemes_of x.1)) result
         (dollar_by (read below) (lexemes_of tokens.entry)) }
 {
     let (inner, rest) = parse_name(alloc, below, tokens)?;
+    let name = Box::new(alloc, inner)?;
     match rest.first() {
         Some((TokenKind::Subscript, _, rest)) => {
             let (subscripts, rest) = parse_members(alloc, below, rest)?;
-            Ok((subscripted(alloc, inner, subscripts)?, rest))
+            Ok((Arg::Sub(name, subscripts), rest))
         }
-        _ => Ok((variable(alloc, inner)?, rest)),
+        _ => Ok((Arg::Var(name), rest)),
     }
 }
 
@@ -109,13 +110,31 @@ pub(crate) fn parse_argument(
     left: usize,
     inside: bool,
     tokens: Tokens<'_>,
-) -> Result<(Box<Arg>, Tokens<'_>), TokenError>
-    ensures { Gives (λ x. (arg_tree x.0.value, lexemes_of x.1)) result
+) -> Result<(Arg, Tokens<'_>), TokenError>
+    ensures { Gives (λ x. (arg_tree x.0, lexemes_of x.1)) result
         (arg_by (read left (a_part inside)) inside (lexemes_of tokens.entry)) }
 {
     let (first, rest) = parse_part(alloc, left, inside, tokens)?;
     let (others, rest) = parse_parts(alloc, left, inside, rest)?;
-    Ok((concat(alloc, first, others)?, rest))
+    Ok((concat(first, others)?, rest))
+}
+
+/// Parses an argument that is held while commands inside are parsed. It is in a box, so that it takes little stack at
+/// each level of nesting.
+#[inline(never)]
+#[cycle(parse)]
+#[tactic(auto, using(std::proofs::lemmas::Grind::common_steps))]
+pub(crate) fn parse_boxed_argument(
+    alloc: Global,
+    left: usize,
+    inside: bool,
+    tokens: Tokens<'_>,
+) -> Result<(Box<Arg>, Tokens<'_>), TokenError>
+    ensures { Gives (λ x. (arg_tree x.0.value, lexemes_of x.1)) result
+        (arg_by (read left (a_part inside)) inside (lexemes_of tokens.entry)) }
+{
+    let (arg, rest) = parse_argument(alloc, left, inside, tokens)?;
+    Ok((Box::new(alloc, arg)?, rest))
 }
 
 /// Parses the parts after carets.
@@ -138,7 +157,7 @@ fn parse_parts(
             break;
         };
         let (other, after) = parse_part(alloc, left, inside, past_blanks(inside, next))?;
-        push_arg(&mut others, other)?;
+        others.push(other)?;
         rest = after;
     }
     Ok((others, rest))
@@ -164,7 +183,7 @@ pub(crate) fn parse_members(
             Some((TokenKind::Newline, _, after)) => rest = after,
             _ => {
                 let (word, after) = parse_argument(alloc, left, true, rest)?;
-                push_arg(&mut words, word)?;
+                words.push(word)?;
                 rest = after;
             }
         }
@@ -191,7 +210,7 @@ pub(crate) fn parse_words(
             break;
         }
         let (word, after) = parse_argument(alloc, left, false, rest)?;
-        push_arg(&mut words, word)?;
+        words.push(word)?;
         rest = after;
     }
     Ok((words, rest))

@@ -6,12 +6,12 @@ ghost use Rattle.rc_parser.specs.Tokens.{lexemes_of};
 ghost use Rattle.rc_parser.specs.Answers.{Gives};
 
 use crate::descent::commands::parse_command;
+use crate::joined_nodes::{allows_if_not, push_item};
 use crate::lookahead::{ends, item_end};
 use crate::token_faults::{TokenError, fault_at};
 use crate::token_stream::Tokens;
 use rc_lexer::TokenKind;
 use rc_model::DescentFault;
-use rc_nodes::{allows_if_not, push_item, seq};
 use rc_tree::{Cmd, Item};
 use std::alloc::Global;
 
@@ -70,7 +70,7 @@ pub(crate) fn parse_list(
 
 /// Parses a list in braces.
 #[cycle(parse)]
-#[tactic(auto, using(std::proofs::lemmas::Grind::common_steps), unfolding(rc_model::specs::Mirrors::Descent::brace_by))]
+#[tactic(auto, using(rc_tree::specs::View::tree_walks), unfolding(rc_model::specs::Mirrors::Descent::brace_by))]
 pub(crate) fn parse_brace(
     alloc: Global,
     below: usize,
@@ -84,14 +84,14 @@ pub(crate) fn parse_brace(
     };
     let (items, rest) = parse_list(alloc, below, false, rest)?;
     match rest.first() {
-        Some((TokenKind::RightBrace, _, rest)) => Ok((seq(alloc, items)?, rest)),
+        Some((TokenKind::RightBrace, _, rest)) => Ok((Box::new(alloc, Cmd::Seq(items))?, rest)),
         _ => Err(fault_at(DescentFault::Unexpected, rest)),
     }
 }
 
 /// Parses a list in parentheses.
 #[cycle(parse)]
-#[tactic(auto, using(std::proofs::lemmas::Grind::common_steps), unfolding(rc_model::specs::Mirrors::Descent::paren_by))]
+#[tactic(auto, using(rc_tree::specs::View::tree_walks), unfolding(rc_model::specs::Mirrors::Descent::paren_by))]
 pub(crate) fn parse_paren(
     alloc: Global,
     below: usize,
@@ -105,7 +105,7 @@ pub(crate) fn parse_paren(
     };
     let (items, rest) = parse_list(alloc, below, false, rest)?;
     match rest.first() {
-        Some((TokenKind::RightParen, _, rest)) => Ok((seq(alloc, items)?, rest)),
+        Some((TokenKind::RightParen, _, rest)) => Ok((Box::new(alloc, Cmd::Seq(items))?, rest)),
         _ => Err(fault_at(DescentFault::Unexpected, rest)),
     }
 }

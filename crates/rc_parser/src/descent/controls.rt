@@ -10,7 +10,7 @@ ghost use Rattle.rc_parser.specs.Tokens.{lexemes_of};
 ghost use Rattle.rc_parser.specs.Answers.{Gives};
 ghost use Rattle.rc_parser.specs.Reading.{made};
 
-use crate::descent::arguments::{parse_argument, parse_members};
+use crate::descent::arguments::{parse_boxed_argument, parse_members};
 use crate::descent::command_lists::parse_paren;
 use crate::descent::commands::{parse_command, parse_inner_operand};
 use crate::lookahead::{begins_command, begins_link, past_caret, past_newlines};
@@ -19,13 +19,12 @@ use crate::token_faults::{TokenError, fault_at};
 use crate::token_stream::Tokens;
 use rc_lexer::TokenKind;
 use rc_model::{DescentFault, Keyword};
-use rc_nodes::{conditional, empty, for_all, for_each, if_not, not, repeated, subshell};
 use rc_tree::{Arg, Cmd};
 use std::alloc::Global;
 
 /// Parses the body of a control form, which may be absent.
 #[cycle(parse)]
-#[tactic(auto, using(std::proofs::lemmas::Grind::common_steps), unfolding(rc_model::specs::Mirrors::Descent::body_by))]
+#[tactic(auto, using(rc_tree::specs::View::tree_walks), unfolding(rc_model::specs::Mirrors::Descent::body_by))]
 fn parse_body(
     alloc: Global,
     below: usize,
@@ -40,7 +39,7 @@ fn parse_body(
     } else if begins_link(rest) {
         Err(fault_at(DescentFault::Unexpected, rest))
     } else {
-        Ok((empty(alloc)?, rest))
+        Ok((Box::new(alloc, Cmd::Empty)?, rest))
     }
 }
 
@@ -70,7 +69,7 @@ fn parse_if(
 
 /// Parses what follows `if not`: a body.
 #[cycle(parse)]
-#[tactic(auto, using(std::proofs::lemmas::Grind::common_steps))]
+#[tactic(auto, using(rc_tree::specs::View::tree_IfNot, std::proofs::lemmas::Grind::common_steps))]
 fn parse_if_not(
     alloc: Global,
     below: usize,
@@ -80,12 +79,12 @@ fn parse_if_not(
         (if_not_by (read below) true keyword.Not (lexemes_of tokens.entry)) }
 {
     let (body, rest) = parse_body(alloc, below, past_caret(tokens))?;
-    Ok((if_not(alloc, body)?, rest))
+    Ok((Box::new(alloc, Cmd::IfNot(body))?, rest))
 }
 
 /// Parses what follows `if`, if that is a condition: it, and a body.
 #[cycle(parse)]
-#[tactic(auto, using(std::proofs::lemmas::Grind::common_steps))]
+#[tactic(auto, using(rc_tree::specs::View::tree_If, std::proofs::lemmas::Grind::common_steps))]
 fn parse_condition(
     alloc: Global,
     below: usize,
@@ -96,12 +95,12 @@ fn parse_condition(
 {
     let (condition, rest) = parse_paren(alloc, below, tokens)?;
     let (body, rest) = parse_body(alloc, below, rest)?;
-    Ok((conditional(alloc, condition, body)?, rest))
+    Ok((Box::new(alloc, Cmd::If(condition, body))?, rest))
 }
 
 /// Parses what follows `while`.
 #[cycle(parse)]
-#[tactic(auto, using(std::proofs::lemmas::Grind::common_steps), unfolding(rc_model::specs::Mirrors::Descent::while_by))]
+#[tactic(auto, using(rc_tree::specs::View::tree_walks), unfolding(rc_model::specs::Mirrors::Descent::while_by))]
 fn parse_while(
     alloc: Global,
     below: usize,
@@ -112,7 +111,7 @@ fn parse_while(
 {
     let (condition, rest) = parse_paren(alloc, below, tokens)?;
     let (body, rest) = parse_body(alloc, below, rest)?;
-    Ok((repeated(alloc, condition, body)?, rest))
+    Ok((Box::new(alloc, Cmd::While(condition, body))?, rest))
 }
 
 /// Parses what follows the name of a `for`.
@@ -143,7 +142,7 @@ fn parse_over(
 /// when a list follows.
 #[inline(never)]
 #[cycle(parse)]
-#[tactic(auto, using(std::proofs::lemmas::Grind::common_steps))]
+#[tactic(auto, using(rc_tree::specs::View::tree_ForAll, std::proofs::lemmas::Grind::common_steps))]
 fn parse_for_all(
     alloc: Global,
     below: usize,
@@ -154,12 +153,15 @@ fn parse_for_all(
         (made (t.ForAll (arg_tree name.value)) (body_by (read below) (lexemes_of tokens.entry))) }
 {
     let (body, rest) = parse_body(alloc, below, tokens)?;
-    Ok((for_all(alloc, name, body)?, rest))
+    Ok((
+        Box::new(alloc, Cmd::ForAll(Box::into_inner(name), body))?,
+        rest,
+    ))
 }
 
 /// Parses what follows the `in` of a `for`: a list and a body.
 #[cycle(parse)]
-#[tactic(auto, using(std::proofs::lemmas::Grind::common_steps))]
+#[tactic(auto, using(rc_tree::specs::View::tree_For, std::proofs::lemmas::Grind::common_steps))]
 fn parse_for_each(
     alloc: Global,
     below: usize,
@@ -171,7 +173,10 @@ fn parse_for_each(
 {
     let (words, rest) = parse_members(alloc, below, past_caret(tokens))?;
     let (body, rest) = parse_body(alloc, below, rest)?;
-    Ok((for_each(alloc, name, words, body)?, rest))
+    Ok((
+        Box::new(alloc, Cmd::For(Box::into_inner(name), words, body))?,
+        rest,
+    ))
 }
 
 /// Parses what follows `for`.
@@ -188,13 +193,13 @@ fn parse_for(
     let Some((TokenKind::LeftParen, _, rest)) = tokens.first() else {
         return Err(fault_at(DescentFault::Unexpected, tokens));
     };
-    let (name, rest) = parse_argument(alloc, below, true, past_newlines(rest))?;
+    let (name, rest) = parse_boxed_argument(alloc, below, true, past_newlines(rest))?;
     parse_over(alloc, below, name, past_newlines(rest))
 }
 
 /// Parses what follows `!`.
 #[cycle(parse)]
-#[tactic(auto, using(std::proofs::lemmas::Grind::common_steps))]
+#[tactic(auto, using(rc_tree::specs::View::tree_Not, std::proofs::lemmas::Grind::common_steps))]
 fn parse_not(
     alloc: Global,
     below: usize,
@@ -204,12 +209,12 @@ fn parse_not(
         (made t.Not (read below an_operand (lexemes_of tokens.entry))) }
 {
     let (cmd, rest) = parse_inner_operand(alloc, below, tokens)?;
-    Ok((not(alloc, cmd)?, rest))
+    Ok((Box::new(alloc, Cmd::Not(cmd))?, rest))
 }
 
 /// Parses what follows `@`.
 #[cycle(parse)]
-#[tactic(auto, using(std::proofs::lemmas::Grind::common_steps))]
+#[tactic(auto, using(rc_tree::specs::View::tree_Subshell, std::proofs::lemmas::Grind::common_steps))]
 fn parse_subshell(
     alloc: Global,
     below: usize,
@@ -219,7 +224,7 @@ fn parse_subshell(
         (made t.Subshell (read below an_operand (lexemes_of tokens.entry))) }
 {
     let (cmd, rest) = parse_inner_operand(alloc, below, tokens)?;
-    Ok((subshell(alloc, cmd)?, rest))
+    Ok((Box::new(alloc, Cmd::Subshell(cmd))?, rest))
 }
 
 /// Parses what follows `!`, `@` and the control words.

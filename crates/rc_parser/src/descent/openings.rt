@@ -16,15 +16,13 @@ use crate::descent::arguments::{parse_argument, parse_words};
 use crate::descent::command_lists::parse_brace;
 use crate::descent::redirections::{parse_redirection, parse_redirections};
 use crate::descent::switches::parse_switch;
+use crate::joined_nodes::redirect;
 use crate::lookahead::{begins_arg, begins_brace, begins_redir, past_caret};
 use crate::parsed_words::keyword_of;
 use crate::token_faults::{TokenError, fault_at};
 use crate::token_stream::Tokens;
 use rc_lexer::TokenKind;
 use rc_model::{DescentFault, Keyword};
-use rc_nodes::{
-    block, defined, insert_arg, matching, push_arg, push_redir, redirect, simple, undefined,
-};
 use rc_tree::{Arg, Cmd, Redir};
 use std::alloc::Global;
 
@@ -55,11 +53,11 @@ fn parse_simple(
     for _ in 0..turns {
         if begins_arg(rest) {
             let (word, after) = parse_argument(alloc, left, false, rest)?;
-            push_arg(&mut words, word)?;
+            words.push(word)?;
             rest = after;
         } else if begins_redir(rest) {
             let (redir, after) = parse_redirection(alloc, left, rest)?;
-            push_redir(&mut redirs, redir)?;
+            redirs.push(redir)?;
             rest = after;
         } else {
             break;
@@ -70,7 +68,7 @@ fn parse_simple(
 
 /// Parses what follows `~`.
 #[cycle(parse)]
-#[tactic(auto, using(std::proofs::lemmas::Grind::common_steps), unfolding(rc_model::specs::Mirrors::Descent::match_by))]
+#[tactic(auto, using(rc_tree::specs::View::tree_walks), unfolding(rc_model::specs::Mirrors::Descent::match_by))]
 fn parse_match(
     alloc: Global,
     below: usize,
@@ -81,7 +79,7 @@ fn parse_match(
 {
     let (subject, rest) = parse_argument(alloc, below, false, tokens)?;
     let (patterns, rest) = parse_words(alloc, below, rest)?;
-    Ok((matching(alloc, subject, patterns)?, rest))
+    Ok((Box::new(alloc, Cmd::Match(subject, patterns))?, rest))
 }
 
 /// Parses what follows `fn`.
@@ -97,13 +95,13 @@ fn parse_define(
 {
     let (first, rest) = parse_argument(alloc, below, false, tokens)?;
     let (mut names, rest) = parse_words(alloc, below, rest)?;
-    insert_arg(&mut names, first)?;
+    names.insert(0, first)?;
     parse_defined(alloc, below, names, rest)
 }
 
 /// Parses what follows the names of `fn`: the body that they get, or nothing if they are removed.
 #[cycle(parse)]
-#[tactic(auto, using(std::proofs::lemmas::Grind::common_steps))]
+#[tactic(auto, using(rc_tree::specs::View::tree_walks))]
 fn parse_defined(
     alloc: Global,
     below: usize,
@@ -114,15 +112,15 @@ fn parse_defined(
         (defined_by (read below) (args_tree names.items) (lexemes_of tokens.entry)) }
 {
     if !begins_brace(tokens) {
-        return Ok((undefined(alloc, names)?, tokens));
+        return Ok((Box::new(alloc, Cmd::Undefine(names))?, tokens));
     }
     let (body, rest) = parse_brace(alloc, below, tokens)?;
-    Ok((defined(alloc, names, body)?, rest))
+    Ok((Box::new(alloc, Cmd::Define(names, body))?, rest))
 }
 
 /// Parses a list in braces as a command.
 #[cycle(parse)]
-#[tactic(auto, using(std::proofs::lemmas::Grind::common_steps), unfolding(rc_model::specs::Mirrors::Descent::block_by))]
+#[tactic(auto, using(rc_tree::specs::View::tree_walks), unfolding(rc_model::specs::Mirrors::Descent::block_by))]
 fn parse_block(
     alloc: Global,
     below: usize,
@@ -132,7 +130,7 @@ fn parse_block(
         (block_by (read below) (lexemes_of tokens.entry)) }
 {
     let (body, rest) = parse_brace(alloc, below, tokens)?;
-    let body = block(alloc, body)?;
+    let body = Box::new(alloc, Cmd::Brace(body))?;
     let (redirs, rest) = parse_redirections(alloc, below, rest)?;
     Ok((redirect(alloc, redirs, body)?, rest))
 }
@@ -150,27 +148,28 @@ fn parse_first(
 {
     let (first, rest) = parse_argument(alloc, below, false, tokens)?;
     match rest.first() {
-        Some((TokenKind::Equals, _, rest)) => Ok((Opening::Named(first), rest)),
+        Some((TokenKind::Equals, _, rest)) => Ok((Opening::Named(Box::new(alloc, first)?), rest)),
         _ => parse_simple_command(alloc, below, first, rest),
     }
 }
 
 /// Parses the simple command that begins with this argument.
 #[cycle(parse)]
-#[tactic(auto, using(std::proofs::lemmas::Grind::common_steps))]
+#[tactic(auto, using(rc_tree::specs::View::tree_Simple, std::proofs::lemmas::Grind::common_steps))]
 fn parse_simple_command(
     alloc: Global,
     below: usize,
-    first: Box<Arg>,
+    first: Arg,
     tokens: Tokens<'_>,
 ) -> Result<(Opening, Tokens<'_>), TokenError>
     ensures { Gives (λ x. (opening_of x.0, lexemes_of x.1)) result
-        (made (λ x. d.Staged (redirect x.1 (t.Simple (more (arg_tree first.value) x.0))))
+        (made (λ x. d.Staged (redirect x.1 (t.Simple (more (arg_tree first) x.0))))
         (simple_by (read below (a_part false)) (lexemes_of tokens.entry))) }
 {
     let ((mut words, redirs), rest) = parse_simple(alloc, below, tokens)?;
-    insert_arg(&mut words, first)?;
-    let command = redirect(alloc, redirs, simple(alloc, words)?)?;
+    words.insert(0, first)?;
+    let command = Box::new(alloc, Cmd::Simple(words))?;
+    let command = redirect(alloc, redirs, command)?;
     Ok((Opening::Staged(command), rest))
 }
 

@@ -13,10 +13,10 @@ use crate::descent::arguments::parse_argument;
 use crate::descent::commands::{parse_inner_operand, parse_leading, parse_pipeline};
 use crate::descent::openings::{Opening, parse_opening};
 use crate::descent::redirections::{parse_redirection, parse_redirections};
+use crate::joined_nodes::push_pair;
 use crate::lookahead::{begins_command, begins_leading};
 use crate::token_faults::TokenError;
 use crate::token_stream::Tokens;
-use rc_nodes::{assigned, empty, insert_redir, push_pair, redirected};
 use rc_tree::{Arg, Cmd};
 use std::alloc::{AllocError, Global};
 
@@ -34,7 +34,7 @@ fn parse_optional_operand(
     if begins_command(tokens) {
         parse_inner_operand(alloc, below, tokens)
     } else {
-        Ok((empty(alloc)?, tokens))
+        Ok((Box::new(alloc, Cmd::Empty)?, tokens))
     }
 }
 
@@ -51,9 +51,9 @@ pub(crate) fn parse_redirected(
 {
     let (first, rest) = parse_redirection(alloc, below, tokens)?;
     let (mut redirs, rest) = parse_redirections(alloc, below, rest)?;
-    insert_redir(&mut redirs, first)?;
+    redirs.insert(0, first)?;
     let (body, rest) = parse_optional_operand(alloc, below, rest)?;
-    Ok((redirected(alloc, redirs, body)?, rest))
+    Ok((Box::new(alloc, Cmd::Redirect(redirs, body))?, rest))
 }
 
 /// Parses the value after a `=`, further assignments and the command after them.
@@ -112,7 +112,7 @@ fn parse_values(
 
 /// Parses the command after assignments, if it begins with `!`, `@`, a control word or a redirection.
 #[cycle(parse)]
-#[tactic(auto, using(std::proofs::lemmas::Grind::common_steps))]
+#[tactic(auto, using(rc_tree::specs::View::tree_Assign, std::proofs::lemmas::Grind::common_steps))]
 fn parse_assigned_leading(
     alloc: Global,
     below: usize,
@@ -123,12 +123,12 @@ fn parse_assigned_leading(
         (made (t.Assign (pairs_tree pairs.items)) (leading_by (read below) false (lexemes_of tokens.entry))) }
 {
     let (body, rest) = parse_leading(alloc, below, false, tokens)?;
-    Ok((assigned(alloc, pairs, body)?, rest))
+    Ok((Box::new(alloc, Cmd::Assign(pairs, body))?, rest))
 }
 
 /// Parses the command after assignments that begins with this stage.
 #[cycle(parse)]
-#[tactic(auto, using(std::proofs::lemmas::Grind::common_steps))]
+#[tactic(auto, using(rc_tree::specs::View::tree_Assign, std::proofs::lemmas::Grind::common_steps))]
 fn parse_assigned_pipeline(
     alloc: Global,
     below: usize,
@@ -141,13 +141,14 @@ fn parse_assigned_pipeline(
         (pipe_by (read below) (cmd_tree first.value) (lexemes_of tokens.entry))) }
 {
     let (body, rest) = parse_pipeline(alloc, below, first, tokens)?;
-    Ok((assigned(alloc, pairs, body)?, rest))
+    Ok((Box::new(alloc, Cmd::Assign(pairs, body))?, rest))
 }
 
 /// Assignments without a command after them.
-#[tactic(auto, using(std::proofs::lemmas::Grind::common_steps))]
+#[tactic(auto, using(rc_tree::specs::View::tree_walks))]
 fn assigned_alone(alloc: Global, pairs: Vec<(Arg, Arg)>) -> Result<Box<Cmd>, AllocError>
     ensures { IfOk result (λ b. cmd_tree b.value ≡ t.Assign (pairs_tree pairs.items) t.Empty) }
 {
-    assigned(alloc, pairs, empty(alloc)?)
+    let body = Box::new(alloc, Cmd::Empty)?;
+    Ok(Box::new(alloc, Cmd::Assign(pairs, body))?)
 }

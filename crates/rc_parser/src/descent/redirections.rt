@@ -15,26 +15,25 @@ use crate::token_faults::{TokenError, fault_at};
 use crate::token_stream::Tokens;
 use rc_lexer::TokenKind;
 use rc_model::{DescentFault, Mode};
-use rc_nodes::{copying, opening, push_redir};
 use rc_tree::Redir;
 use std::alloc::Global;
 
 /// Parses a redirection.
 #[cycle(parse)]
-#[tactic(auto, using(std::proofs::lemmas::Grind::common_steps), unfolding(rc_model::specs::Mirrors::Descent::redir_by))]
+#[tactic(auto, using(rc_tree::specs::View::tree_walks), unfolding(rc_model::specs::Mirrors::Descent::redir_by))]
 pub(crate) fn parse_redirection(
     alloc: Global,
     left: usize,
     tokens: Tokens<'_>,
-) -> Result<(Box<Redir>, Tokens<'_>), TokenError>
-    ensures { Gives (λ x. (redir_tree x.0.value, lexemes_of x.1)) result
+) -> Result<(Redir, Tokens<'_>), TokenError>
+    ensures { Gives (λ x. (redir_tree x.0, lexemes_of x.1)) result
         (redir_by (read left (a_part false)) (lexemes_of tokens.entry)) }
 {
     match tokens.first() {
         Some((TokenKind::Redirection(mode, slot), _, rest)) => {
             parse_file_redirection(alloc, left, mode, slot, rest)
         }
-        Some((TokenKind::CopyTo { to, from }, _, rest)) => Ok((copying(alloc, to, from)?, rest)),
+        Some((TokenKind::CopyTo { to, from }, _, rest)) => Ok((Redir::Copy { to, from }, rest)),
         Some((TokenKind::HereDoc { .. }, _, _)) => parse_here_doc(alloc, tokens),
         _ => Err(fault_at(DescentFault::Unexpected, tokens)),
     }
@@ -42,19 +41,19 @@ pub(crate) fn parse_redirection(
 
 /// Parses what follows the operator of a redirection to a file, or from one.
 #[cycle(parse)]
-#[tactic(auto, using(std::proofs::lemmas::Grind::common_steps))]
+#[tactic(auto, using(rc_tree::specs::View::tree_Open, std::proofs::lemmas::Grind::common_steps))]
 fn parse_file_redirection(
     alloc: Global,
     left: usize,
     mode: Mode,
     slot: u8,
     tokens: Tokens<'_>,
-) -> Result<(Box<Redir>, Tokens<'_>), TokenError>
-    ensures { Gives (λ x. (redir_tree x.0.value, lexemes_of x.1)) result
+) -> Result<(Redir, Tokens<'_>), TokenError>
+    ensures { Gives (λ x. (redir_tree x.0, lexemes_of x.1)) result
         (made (t.Open mode slot) (arg_by (read left (a_part false)) false (lexemes_of tokens.entry))) }
 {
     let (file, rest) = parse_argument(alloc, left, false, tokens)?;
-    Ok((opening(alloc, mode, slot, file)?, rest))
+    Ok((Redir::Open { mode, slot, file }, rest))
 }
 
 /// Parses as many redirections as there are.
@@ -76,7 +75,7 @@ pub(crate) fn parse_redirections(
             break;
         }
         let (redir, after) = parse_redirection(alloc, left, rest)?;
-        push_redir(&mut redirs, redir)?;
+        redirs.push(redir)?;
         rest = after;
     }
     Ok((redirs, rest))

@@ -5,16 +5,16 @@ ghost use Rattle.rc_tree.specs.View.{cmd_tree, branches_tree, branch_tree};
 ghost use Rattle.rc_parser.specs.Tokens.{lexemes_of};
 ghost use Rattle.rc_parser.specs.Answers.{Gives};
 
-use crate::descent::arguments::{parse_argument, parse_words};
+use crate::descent::arguments::{parse_boxed_argument, parse_words};
 use crate::descent::command_lists::parse_list;
 use crate::descent::redirections::parse_redirections;
+use crate::joined_nodes::redirect;
 use crate::lookahead::{ends_case, past_caret, past_newlines};
 use crate::parsed_words::is_case;
 use crate::token_faults::{TokenError, fault_at};
 use crate::token_stream::Tokens;
 use rc_lexer::TokenKind;
 use rc_model::DescentFault;
-use rc_nodes::{redirect, seq, switched};
 use rc_tree::{Branch, Cmd};
 use std::alloc::Global;
 
@@ -34,7 +34,7 @@ fn parse_case(
         return Err(fault_at(DescentFault::Unexpected, rest));
     }
     let (items, rest) = parse_list(alloc, below, true, rest)?;
-    let body = seq(alloc, items)?;
+    let body = Box::new(alloc, Cmd::Seq(items))?;
     Ok((Branch { patterns, body }, rest))
 }
 
@@ -82,9 +82,9 @@ pub(crate) fn parse_switch(
     ensures { Gives (λ x. (cmd_tree x.0.value, lexemes_of x.1)) result
         (switch_by (read below) (lexemes_of tokens.entry)) }
 {
-    let (subject, rest) = parse_argument(alloc, below, false, tokens)?;
+    let (subject, rest) = parse_boxed_argument(alloc, below, false, tokens)?;
     let (branches, rest) = parse_cases(alloc, below, past_newlines(rest))?;
-    let command = switched(alloc, subject, branches)?;
+    let command = Box::new(alloc, Cmd::Switch(Box::into_inner(subject), branches))?;
     let (redirs, rest) = parse_redirections(alloc, below, rest)?;
     Ok((redirect(alloc, redirs, command)?, rest))
 }

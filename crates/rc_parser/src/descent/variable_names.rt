@@ -12,7 +12,6 @@ use crate::token_faults::{TokenError, fault_at};
 use crate::token_stream::Tokens;
 use rc_lexer::TokenKind;
 use rc_model::DescentFault;
-use rc_nodes::{count, flat, variable};
 use rc_tree::Arg;
 use std::alloc::Global;
 
@@ -22,8 +21,8 @@ pub(crate) fn parse_name(
     alloc: Global,
     left: usize,
     tokens: Tokens<'_>,
-) -> Result<(Box<Arg>, Tokens<'_>), TokenError>
-    ensures { Gives (λ x. (arg_tree x.0.value, lexemes_of x.1)) result (read left a_name (lexemes_of tokens.entry)) }
+) -> Result<(Arg, Tokens<'_>), TokenError>
+    ensures { Gives (λ x. (arg_tree x.0, lexemes_of x.1)) result (read left a_name (lexemes_of tokens.entry)) }
 {
     if left == 0 {
         return Err(fault_at(DescentFault::TooDeep, tokens));
@@ -33,36 +32,36 @@ pub(crate) fn parse_name(
         Some((TokenKind::Quoted, _, _)) => parse_literal(alloc, tokens),
         Some((TokenKind::Dollar, _, rest)) => {
             let (inner, rest) = parse_name(alloc, left - 1, rest)?;
-            Ok((variable(alloc, inner)?, rest))
+            Ok((Arg::Var(Box::new(alloc, inner)?), rest))
         }
         _ => Err(fault_at(DescentFault::Unexpected, tokens)),
     }
 }
 
 /// Parses what follows `$#`: the name of the variable whose values are counted.
-#[tactic(auto, using(std::proofs::lemmas::Grind::common_steps))]
+#[tactic(auto, using(rc_tree::specs::View::tree_Count, std::proofs::lemmas::Grind::common_steps))]
 pub(crate) fn parse_count(
     alloc: Global,
     left: usize,
     tokens: Tokens<'_>,
-) -> Result<(Box<Arg>, Tokens<'_>), TokenError>
-    ensures { Gives (λ x. (arg_tree x.0.value, lexemes_of x.1)) result
+) -> Result<(Arg, Tokens<'_>), TokenError>
+    ensures { Gives (λ x. (arg_tree x.0, lexemes_of x.1)) result
         (made t.Count (read left a_name (lexemes_of tokens.entry))) }
 {
     let (name, rest) = parse_name(alloc, left, tokens)?;
-    Ok((count(alloc, name)?, rest))
+    Ok((Arg::Count(Box::new(alloc, name)?), rest))
 }
 
 /// Parses what follows `$"`: the name of the variable whose values are joined.
-#[tactic(auto, using(std::proofs::lemmas::Grind::common_steps))]
+#[tactic(auto, using(rc_tree::specs::View::tree_Flat, std::proofs::lemmas::Grind::common_steps))]
 pub(crate) fn parse_flat(
     alloc: Global,
     left: usize,
     tokens: Tokens<'_>,
-) -> Result<(Box<Arg>, Tokens<'_>), TokenError>
-    ensures { Gives (λ x. (arg_tree x.0.value, lexemes_of x.1)) result
+) -> Result<(Arg, Tokens<'_>), TokenError>
+    ensures { Gives (λ x. (arg_tree x.0, lexemes_of x.1)) result
         (made t.Flat (read left a_name (lexemes_of tokens.entry))) }
 {
     let (name, rest) = parse_name(alloc, left, tokens)?;
-    Ok((flat(alloc, name)?, rest))
+    Ok((Arg::Flat(Box::new(alloc, name)?), rest))
 }

@@ -26,6 +26,9 @@ decreases-arguments::parse_parts l = 16 * l.left + 1
 abbrev pub decreases-arguments::parse_argument : goal.decreases-arguments::parse_argument
 decreases-arguments::parse_argument l = 16 * l.left + 2
 
+abbrev pub decreases-arguments::parse_boxed_argument : goal.decreases-arguments::parse_boxed_argument
+decreases-arguments::parse_boxed_argument l = 16 * l.left + 3
+
 abbrev pub decreases-arguments::parse_members : goal.decreases-arguments::parse_members
 decreases-arguments::parse_members l = 16 * l.left + 3
 
