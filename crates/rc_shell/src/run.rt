@@ -53,7 +53,8 @@ pub(crate) fn run_code<W: World>(
     limit: u64,
 ) -> Result<Ran, ShellFault>
     ensures { (t : tree.Node tree.cmd) → code_of code ≡ layout.code t →
-        Recorded (W.events world.old) (W.events world.new) (λ trace. RunsAsMeant limit t (state_of state) trace result) }
+        Recorded (W.events world.old) (W.events world.new)
+        (λ trace. RunsAsMeant limit t (state_of state) trace result) }
 {
     let mut machine = Machine::new(alloc, code, state);
     let progress = machine.run(alloc, world, limit);
