@@ -13,7 +13,10 @@ use crate::image_error::ImageError;
 use crate::image_numbers::{count_from, stage_count};
 use crate::leaves::{background, copy, here, logic, quoted, slot, word};
 use crate::marks::{arg_mark, cmd_mark, redir_mark};
-use crate::nodes::{with_bodies, with_body, with_name, with_words};
+use crate::nodes::{
+    and_or, assigned, defined, for_all, for_each, matching, pipeline, push_item, push_link,
+    push_stage, redirected, seq, switched, with_bodies, with_body, with_name, with_words,
+};
 use crate::shape::{ArgShape, CmdShape, FrontShape, RedirShape, SubjectShape};
 use rc_model::{ImageFault, InputError, Logic, Mode};
 use rc_tree::{Arg, Branch, Cmd, Item, Redir, Stage};
@@ -51,12 +54,12 @@ fn read_cmd_of(
         CmdShape::Empty => Ok((Box::new(alloc, Cmd::Empty)?, rest)),
         CmdShape::Seq => {
             let (items, rest) = read_items(alloc, below, rest)?;
-            Ok((Box::new(alloc, Cmd::Seq(items))?, rest))
+            Ok((seq(alloc, items)?, rest))
         }
         CmdShape::AndOr => {
             let (first, rest) = read_cmd(alloc, below, rest)?;
             let (links, rest) = read_links(alloc, below, rest)?;
-            Ok((Box::new(alloc, Cmd::AndOr(first, links))?, rest))
+            Ok((and_or(alloc, first, links)?, rest))
         }
         CmdShape::Body(shape) => {
             let (body, rest) = read_cmd(alloc, below, rest)?;
@@ -74,7 +77,7 @@ fn read_cmd_of(
         CmdShape::Front(shape) => read_front(alloc, below, shape, rest),
         CmdShape::Subject(shape) => {
             let (subject, rest) = read_arg(alloc, below, rest)?;
-            read_subject(alloc, below, shape, subject, rest)
+            read_subject(alloc, below, shape, Box::new(alloc, subject)?, rest)
         }
     }
 }
@@ -94,22 +97,22 @@ fn read_front(
         FrontShape::Assign => {
             let (pairs, rest) = read_pairs(alloc, left, bytes)?;
             let (body, rest) = read_cmd(alloc, left, rest)?;
-            Ok((Box::new(alloc, Cmd::Assign(pairs, body))?, rest))
+            Ok((assigned(alloc, pairs, body)?, rest))
         }
         FrontShape::Redirect => {
             let (redirs, rest) = read_redirs(alloc, left, bytes)?;
             let (body, rest) = read_cmd(alloc, left, rest)?;
-            Ok((Box::new(alloc, Cmd::Redirect(redirs, body))?, rest))
+            Ok((redirected(alloc, redirs, body)?, rest))
         }
         FrontShape::Pipeline => {
             let (stages, rest) = read_stages(alloc, left, bytes)?;
             let (last, rest) = read_cmd(alloc, left, rest)?;
-            Ok((Box::new(alloc, Cmd::Pipeline(stages, last))?, rest))
+            Ok((pipeline(alloc, stages, last)?, rest))
         }
         FrontShape::Define => {
             let (names, rest) = read_args(alloc, left, 1, bytes)?;
             let (body, rest) = read_cmd(alloc, left, rest)?;
-            Ok((Box::new(alloc, Cmd::Define(names, body))?, rest))
+            Ok((defined(alloc, names, body)?, rest))
         }
     }
 }
@@ -121,29 +124,29 @@ fn read_subject(
     alloc: Global,
     left: usize,
     shape: SubjectShape,
-    subject: Arg,
+    subject: Box<Arg>,
     bytes: &[u8],
 ) -> Result<(Box<Cmd>, &[u8]), ImageError>
     ensures { Gives (λ x. (cmd_tree x.0.value, x.1.now)) result
-        (subject_by left shape (arg_tree subject) bytes.now) }
+        (subject_by left shape (arg_tree subject.value) bytes.now) }
 {
     match shape {
         SubjectShape::ForAll => {
             let (body, rest) = read_cmd(alloc, left, bytes)?;
-            Ok((Box::new(alloc, Cmd::ForAll(subject, body))?, rest))
+            Ok((for_all(alloc, subject, body)?, rest))
         }
         SubjectShape::For => {
             let (words, rest) = read_args(alloc, left, 0, bytes)?;
             let (body, rest) = read_cmd(alloc, left, rest)?;
-            Ok((Box::new(alloc, Cmd::For(subject, words, body))?, rest))
+            Ok((for_each(alloc, subject, words, body)?, rest))
         }
         SubjectShape::Switch => {
             let (branches, rest) = read_branches(alloc, left, bytes)?;
-            Ok((Box::new(alloc, Cmd::Switch(subject, branches))?, rest))
+            Ok((switched(alloc, subject, branches)?, rest))
         }
         SubjectShape::Match => {
             let (patterns, rest) = read_args(alloc, left, 0, bytes)?;
-            Ok((Box::new(alloc, Cmd::Match(subject, patterns))?, rest))
+            Ok((matching(alloc, subject, patterns)?, rest))
         }
     }
 }
@@ -260,10 +263,7 @@ fn read_items(alloc: Global, left: usize, bytes: &[u8]) -> Result<(Vec<Item>, &[
     for _ in 0..count {
         let (background, after) = background(rest)?;
         let (cmd, after) = read_cmd(alloc, left, after)?;
-        items.push(Item {
-            cmd: Box::into_inner(cmd),
-            background,
-        })?;
+        push_item(&mut items, cmd, background)?;
         rest = after;
     }
     Ok((items, rest))
@@ -315,10 +315,7 @@ fn read_stages(alloc: Global, left: usize, bytes: &[u8]) -> Result<(Vec<Stage>, 
     for _ in 0..count {
         let (slot, after) = slot(rest)?;
         let (cmd, after) = read_cmd(alloc, left, after)?;
-        stages.push(Stage {
-            cmd: Box::into_inner(cmd),
-            slot,
-        })?;
+        push_stage(&mut stages, cmd, slot)?;
         rest = after;
     }
     Ok((stages, rest))
@@ -339,7 +336,7 @@ fn read_links(
     for _ in 0..count {
         let (logic, after) = logic(rest)?;
         let (cmd, after) = read_cmd(alloc, left, after)?;
-        links.push((logic, Box::into_inner(cmd)))?;
+        push_link(&mut links, logic, cmd)?;
         rest = after;
     }
     Ok((links, rest))
