@@ -2,7 +2,7 @@ use Rattle.std.proofs.Common.{rules, ◌≡◌, None, Some, Result, Ok, Err, OnE
 use Rattle.std.proofs.lemmas.Grind.{common_steps}
 use Rattle.std.proofs.lemmas.Map.Steps.{set_value_same}
 use Rattle.std.specs.Map.{lookup, set_value}
-use Rattle.rc_scope.specs.Rows.{is_named, entries_of}
+use Rattle.rc_scope.specs.Rows.{is_named}
 use Rattle.rc_scope.specs.declared.value_rows.Value.{Value}
 use Rattle.rc_scope.proofs.Rows.{around, rows_sorted, lookup_row, lookup_at, lookup_past, rows_at, set_row, same_row}
 use Rattle.rc_scope.proofs.value_rows.Values.append.Goals as goal
