@@ -1,5 +1,4 @@
-//! Nodes of several parts, or of one that stands alone, and one more node in a list of commands. What adds to a list is
-//! never inlined into the descent, so that a node by value takes no stack at each level of nesting.
+//! Nodes of several parts, or of one that stands alone, and one more assignment in a list.
 
 ghost use Rattle.std.specs.Prelude.{◌≡◌, suc, nat_lt, not, ◌&&◌, IfOk, OnOk};
 ghost use Rattle.rc_model.specs.Syntax.Tree.{count, snoc};
@@ -7,12 +6,12 @@ ghost use Rattle.rc_model.specs.Syntax.Tree as t;
 ghost use Rattle.rc_model.specs.Syntax.Grammar.{concat_of, redirect, and_or, is_if};
 ghost use Rattle.rc_model.specs.Mirrors.Descent.{pipeline_of};
 ghost use Rattle.rc_model.specs.declared.limits.TheConstants.{MOST_STAGES};
-ghost use Rattle.rc_tree.specs.View.{cmd_tree, arg_tree, args_tree, items_tree, pairs_tree};
+ghost use Rattle.rc_tree.specs.View.{cmd_tree, arg_tree, args_tree, pairs_tree};
 ghost use Rattle.rc_tree.specs.View.{redirs_tree, stages_tree, links_tree};
 
 use rc_model::Logic;
 use rc_model::limits::MOST_STAGES;
-use rc_tree::{Arg, Cmd, Item, Redir, Stage};
+use rc_tree::{Arg, Cmd, Redir, Stage};
 use std::alloc::{AllocError, Global};
 
 /// One part stands alone, and several are joined.
@@ -114,51 +113,7 @@ fn is_if(cmd: &Cmd) -> bool
     }
 }
 
-/// One more item.
-#[inline(never)]
-#[tactic(auto, using(rc_tree::specs::View::tree_lists))]
-pub(crate) fn push_item(
-    items: &mut Vec<Item>,
-    cmd: Box<Cmd>,
-    background: bool,
-) -> Result<(), AllocError>
-    ensures { OnOk result (items_tree items.new.items
-        ≡ snoc (items_tree items.old.items) (t.Item (cmd_tree cmd.value) background)) }
-{
-    Ok(items.push(Item {
-        cmd: Box::into_inner(cmd),
-        background,
-    })?)
-}
-
-/// One more stage.
-#[inline(never)]
-#[tactic(auto, using(rc_tree::specs::View::tree_lists))]
-pub(crate) fn push_stage(stages: &mut Vec<Stage>, cmd: Box<Cmd>, slot: u8) -> Result<(), AllocError>
-    ensures { OnOk result (stages_tree stages.new.items
-        ≡ snoc (stages_tree stages.old.items) (t.Stage (cmd_tree cmd.value) slot)) }
-{
-    Ok(stages.push(Stage {
-        cmd: Box::into_inner(cmd),
-        slot,
-    })?)
-}
-
-/// One more operand.
-#[inline(never)]
-#[tactic(auto, using(rc_tree::specs::View::tree_lists))]
-pub(crate) fn push_link(
-    links: &mut Vec<(Logic, Cmd)>,
-    logic: Logic,
-    cmd: Box<Cmd>,
-) -> Result<(), AllocError>
-    ensures { OnOk result (links_tree links.new.items
-        ≡ snoc (links_tree links.old.items) (t.Link logic (cmd_tree cmd.value))) }
-{
-    Ok(links.push((logic, Box::into_inner(cmd)))?)
-}
-
-/// One more assignment.
+/// One more assignment. It is never inlined into the descent, so that its parts take no stack at each level of nesting.
 #[inline(never)]
 #[tactic(auto, using(rc_tree::specs::View::tree_lists))]
 pub(crate) fn push_pair(

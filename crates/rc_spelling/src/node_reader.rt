@@ -14,12 +14,12 @@ use crate::image_numbers::{count_from, stage_count};
 use crate::leaves::{background, copy, here, logic, quoted, slot, word};
 use crate::marks::{arg_mark, cmd_mark, redir_mark};
 use crate::nodes::{
-    and_or, assigned, defined, for_all, for_each, matching, pipeline, push_item, push_link,
-    push_stage, redirected, seq, switched, with_bodies, with_body, with_name, with_words,
+    and_or, assigned, defined, for_all, for_each, matching, pipeline, redirected, seq, switched,
+    with_bodies, with_body, with_name, with_words,
 };
 use crate::shape::{ArgShape, CmdShape, FrontShape, RedirShape, SubjectShape};
 use rc_model::{ImageFault, InputError, Logic, Mode};
-use rc_tree::{Arg, Branch, Cmd, Item, Redir, Stage};
+use rc_tree::{Arg, Branch, Cmd, Item, Redir, Stage, push_item, push_link, push_stage};
 use std::alloc::Global;
 
 /// A command with at most this many levels.

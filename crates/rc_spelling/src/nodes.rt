@@ -1,9 +1,8 @@
-//! The nodes of commands, by their shape or by their parts, names by their shape, and lists one command longer. What is
-//! for several parts is never inlined into the reader, so that a command by value takes no stack at each level.
+//! The nodes of commands, by their shape or by their parts, and names by their shape. What is for several parts is never
+//! inlined into the reader, so that a command by value takes no stack at each level.
 
-ghost use Rattle.std.specs.Prelude.{◌≡◌, IfOk, OnOk};
+ghost use Rattle.std.specs.Prelude.{◌≡◌, IfOk};
 ghost use Rattle.rc_model.specs.Syntax.Tree as t;
-ghost use Rattle.rc_model.specs.Syntax.Tree.{snoc};
 ghost use Rattle.rc_tree.specs.View.{cmd_tree, arg_tree, args_tree, items_tree, pairs_tree, redirs_tree};
 ghost use Rattle.rc_tree.specs.View.{stages_tree, links_tree, branches_tree};
 ghost use Rattle.rc_spelling.specs.Nodes.{body_node, bodies_node, words_node, name_node};
@@ -195,48 +194,4 @@ pub(crate) fn and_or(
     ensures { IfOk result (λ b. cmd_tree b.value ≡ t.AndOr (cmd_tree first.value) (links_tree links.items)) }
 {
     Ok(Box::new(alloc, Cmd::AndOr(first, links))?)
-}
-
-/// One more item.
-#[inline(never)]
-#[tactic(auto, using(rc_tree::specs::View::tree_lists))]
-pub(crate) fn push_item(
-    items: &mut Vec<Item>,
-    cmd: Box<Cmd>,
-    background: bool,
-) -> Result<(), AllocError>
-    ensures { OnOk result (items_tree items.new.items
-        ≡ snoc (items_tree items.old.items) (t.Item (cmd_tree cmd.value) background)) }
-{
-    Ok(items.push(Item {
-        cmd: Box::into_inner(cmd),
-        background,
-    })?)
-}
-
-/// One more stage.
-#[inline(never)]
-#[tactic(auto, using(rc_tree::specs::View::tree_lists))]
-pub(crate) fn push_stage(stages: &mut Vec<Stage>, cmd: Box<Cmd>, slot: u8) -> Result<(), AllocError>
-    ensures { OnOk result (stages_tree stages.new.items
-        ≡ snoc (stages_tree stages.old.items) (t.Stage (cmd_tree cmd.value) slot)) }
-{
-    Ok(stages.push(Stage {
-        cmd: Box::into_inner(cmd),
-        slot,
-    })?)
-}
-
-/// One more operand.
-#[inline(never)]
-#[tactic(auto, using(rc_tree::specs::View::tree_lists))]
-pub(crate) fn push_link(
-    links: &mut Vec<(Logic, Cmd)>,
-    logic: Logic,
-    cmd: Box<Cmd>,
-) -> Result<(), AllocError>
-    ensures { OnOk result (links_tree links.new.items
-        ≡ snoc (links_tree links.old.items) (t.Link logic (cmd_tree cmd.value))) }
-{
-    Ok(links.push((logic, Box::into_inner(cmd)))?)
 }

@@ -4,12 +4,14 @@
 mod clone;
 mod depth;
 mod empty;
+mod nodes;
 mod soundness;
 mod types;
 
 pub use clone::clone_tree;
 pub use depth::is_within;
 pub use empty::is_empty;
+pub use nodes::{push_item, push_link, push_stage};
 pub use rc_model::{InputError, Logic, Mode};
 pub use soundness::well_formed;
 pub use types::{Arg, Branch, Cmd, Item, Piece, Redir, Stage};

@@ -6,13 +6,13 @@ ghost use Rattle.rc_parser.specs.Tokens.{lexemes_of};
 ghost use Rattle.rc_parser.specs.Answers.{Gives};
 
 use crate::descent::commands::parse_command;
-use crate::joined_nodes::{allows_if_not, push_item};
+use crate::joined_nodes::allows_if_not;
 use crate::lookahead::{ends, item_end};
 use crate::token_faults::{TokenError, fault_at};
 use crate::token_stream::Tokens;
 use rc_lexer::TokenKind;
 use rc_model::DescentFault;
-use rc_tree::{Cmd, Item};
+use rc_tree::{Cmd, Item, push_item};
 use std::alloc::Global;
 
 /// Parses the commands of a list. In a switch it also ends before a case line.

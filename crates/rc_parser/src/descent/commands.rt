@@ -9,14 +9,14 @@ ghost use Rattle.rc_parser.specs.Answers.{Gives};
 use crate::descent::controls::parse_control;
 use crate::descent::openings::{Opening, parse_opening};
 use crate::descent::prefixes::{parse_assigned, parse_redirected};
-use crate::joined_nodes::{allows_stage, and_or, pipeline, push_link, push_stage};
+use crate::joined_nodes::{allows_stage, and_or, pipeline};
 use crate::lookahead::{begins_leading, past_newlines};
 use crate::parsed_words::keyword_of;
 use crate::token_faults::{TokenError, fault_at};
 use crate::token_stream::Tokens;
 use rc_lexer::TokenKind;
 use rc_model::{DescentFault, Keyword, Logic};
-use rc_tree::Cmd;
+use rc_tree::{Cmd, push_link, push_stage};
 use std::alloc::Global;
 
 /// Parses the pipeline that begins with this stage.
