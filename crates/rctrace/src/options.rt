@@ -4,7 +4,7 @@ use rc_cli::{Request, Source, request_of};
 
 /// Which call of the first process is refused.
 #[derive(Clone, Copy)]
-pub enum Refused {
+pub(crate) enum Refused {
     None,
     /// The one of this number, from 1 on.
     One(u64),
@@ -14,21 +14,21 @@ pub enum Refused {
 
 /// What the arguments ask for.
 #[derive(Clone, Copy)]
-pub struct Asked<'a> {
+pub(crate) struct Asked<'a> {
     /// The file that the calls are shown in; descriptor 2 if there is none.
-    pub out: Option<&'a str>,
-    pub refused: Refused,
+    pub(crate) out: Option<&'a str>,
+    pub(crate) refused: Refused,
     /// The directory that the script runs in.
-    pub directory: Option<&'a str>,
+    pub(crate) directory: Option<&'a str>,
     /// The name of this process, if another one has started it.
-    pub process: Option<&'a str>,
+    pub(crate) process: Option<&'a str>,
     /// The arguments of the shell.
-    pub arguments: &'a [String],
+    pub(crate) arguments: &'a [String],
 }
 
 impl<'a> Asked<'a> {
     /// What these arguments ask for, with the request of the shell: `None` for a wrong use.
-    pub fn of(arguments: &'a [String]) -> Option<(Asked<'a>, Request<'a>)> {
+    pub(crate) fn of(arguments: &'a [String]) -> Option<(Asked<'a>, Request<'a>)> {
         let mut asked = Asked {
             out: None,
             refused: Refused::None,

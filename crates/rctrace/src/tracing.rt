@@ -13,11 +13,11 @@ use std::io::Write;
 use std::{env, fmt, fs, io};
 
 /// The name of the first process.
-pub const FIRST: &str = "1";
+pub(crate) const FIRST: &str = "1";
 
 /// Why nothing was run, or why the run failed.
 #[derive(Clone, Copy)]
-pub enum TraceError<'a> {
+pub(crate) enum TraceError<'a> {
     Usage,
     /// The file for the calls couldn't be opened.
     CannotOpen(&'a str),
@@ -68,7 +68,7 @@ impl fmt::Display for TraceError<'_> {
 }
 
 /// Runs the request of what is asked for, and returns the number that the process ends with.
-pub fn trace<'a>(
+pub(crate) fn trace<'a>(
     rt: HostRuntime,
     asked: Asked<'a>,
     request: Request<'a>,

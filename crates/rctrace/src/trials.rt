@@ -35,7 +35,7 @@ struct Trials<'a> {
 
 /// Runs the script without a refusal, and then once for each call, until a run meets no refusal. Shows what is
 /// different.
-pub fn try_all(rt: HostRuntime, asked: Asked<'_>) -> Result<()> {
+pub(crate) fn try_all(rt: HostRuntime, asked: Asked<'_>) -> Result<()> {
     let program = own_path(rt.alloc(), env::current_exe(&rt), process::id(rt.process()))?;
     let room = room(&rt)?;
     let trials = Trials {
