@@ -74,7 +74,7 @@ abbrev pub bytes_at : ℕ → Reader (List ℕ)
 bytes_at n bytes =
     if nat_le n (length bytes) && is_text (take n bytes) then Ok (take n bytes, drop n bytes) else Err BadLength
 
--- a text with its length
+-- a text, after its length
 abbrev pub text_at : Reader (List ℕ)
 text_at bytes = count_at 58 bytes >>= λ n. bytes_at n.0 n.1
 
@@ -95,7 +95,7 @@ output_rows = (49, given 1) ∷ (50, given 2) ∷ []
 abbrev pub output_at : Reader ℕ
 output_at = tagged output_rows
 
--- `1` with a `2` after it, and `2` with a `1` after it
+-- `1` followed by `2`, and `2` followed by `1`
 abbrev pub crossing_rows : List (ℕ × Reader (ℕ × ℕ))
 crossing_rows = (49, tagged ((50, given (1, 2)) ∷ [])) ∷ (50, tagged ((49, given (2, 1)) ∷ [])) ∷ []
 
