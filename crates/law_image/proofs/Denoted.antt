@@ -1,6 +1,6 @@
 -- What is read of arguments and entries is the state that they denote, and no other.
 use Rattle.std.specs.Prelude.{Option, Some, None, Ok, map, not, ◌==◌, ◌||◌, if◌then◌else◌, codes, option_map}
-use Rattle.std.proofs.Common.{◌≡◌, ◌≢◌, ◌↔◌, ℕ, List, [], ◌∷◌, ◌++◌, Bool, true, false, ◌&&◌, refl, sym, ap, subst, ◌∙◌}
+use Rattle.std.proofs.Common.{◌≡◌, ◌≢◌, ◌↔◌, ℕ, List, [], ◌∷◌, ◌++◌, Bool, true, false, refl, sym, ap, subst, ◌∙◌}
 use Rattle.std.specs.List.{list_all, slice_split, onto_first}
 use Rattle.std.specs.Str.{bytes_eq}
 use Rattle.std.specs.BTreeMap.{insert_entry}
@@ -10,7 +10,7 @@ use Rattle.rc_model.specs.Syntax.Text.{text_cmp, spaced}
 use Rattle.rc_model.specs.Syntax.Tree.{Node, cmd}
 use Rattle.rc_model.specs.Run.State.{State, status_name, is_function_name}
 use Rattle.rc_model.specs.Handed.Image.{stays_behind}
-use Rattle.rc_model.specs.Handed.TreeReading.{◌>>=◌, read_tree}
+use Rattle.rc_model.specs.Handed.TreeReading.{read_tree}
 use Rattle.rc_model.specs.Handed.Environment.{Bindings, Variables, Functions, unescaped, entry_members, cut_entry, with_first, with_cut, bindings, is_variable, variables_in, status_in, with_args, own_functions, own_status, fresh_state, read_state}
 use Rattle.rc_model.specs.Handed.Proper.{IsProper}
 use Rattle.rc_model.specs.Handed.Denoted.{IsEntryOf, FirstOf, here, later, begins_letter, IsWritten, nothing, one, two, alone, itself, is_part, AreWritten, last, next, HasMembers, from_args, from_entry, HasBody, HasStatus, handed, null, Denotes, ReadsWhatIsDenoted}

@@ -1,6 +1,6 @@
 -- The functions that are read of entries are those that they denote.
-use Rattle.std.specs.Prelude.{Some, Ok, Result, not, ◌==◌, ◌||◌, if◌then◌else◌, codes, drop}
-use Rattle.std.proofs.Common.{◌≡◌, ◌↔◌, ℕ, List, [], ◌∷◌, ◌++◌, Bool, true, false, ◌&&◌, refl, sym, ap, subst, ◌∙◌}
+use Rattle.std.specs.Prelude.{Some, Ok, Result, not, ◌==◌, if◌then◌else◌, codes, drop}
+use Rattle.std.proofs.Common.{◌≡◌, ◌↔◌, ℕ, List, [], ◌∷◌, Bool, true, false, ◌&&◌, refl, sym, ap, subst, ◌∙◌}
 use Rattle.std.specs.List.{list_any}
 use Rattle.std.specs.Str.{bytes_eq}
 use Rattle.std.specs.BTreeMap.{insert_entry}

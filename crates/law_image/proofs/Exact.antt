@@ -53,6 +53,9 @@ if_is t m n h = ap (λ u. if u then m else n) h
 pub seam : (front back text rest : List ℕ) → text ≡ front ++ back → text ++ rest ≡ front ++ (back ++ rest)
 seam front back text rest e = ap (λ z. z ++ rest) e ∙ append_assoc front back rest
 
+pub after_mark : (mark : ℕ) {P : List ℕ → Type 0} (text rest : List ℕ) (j : (Is (mark ∷ []) ⨾ P) text) → text ++ rest ≡ mark ∷ (j.back ++ rest)
+after_mark mark text rest j = seam j.front j.back text rest j.cut ∙ ap (λ z. z ++ (j.back ++ rest)) j.first
+
 module _ {X Y : Type 0} {S : X → List ℕ → Type 0} {T : Y → List ℕ → Type 0} {ok : X → Bool} {ok' : Y → Bool} where
   both_found : (bytes : List ℕ) (x : X) (middle : List ℕ) (y : Y) (rest : List ℕ) → Found S ok bytes x middle → Found T ok' middle y rest
       → Found {X = X × Y} (λ p. S p.0 ⨾ T p.1) (λ p. ok p.0 && ok' p.1) bytes (x, y) rest
@@ -169,52 +172,52 @@ pub text_exact : Exact text_at Texted (λ x. true)
 text_exact = record { accepts = text_accepts; only = text_only }
 
 -- nodes and lists of nodes
-abbrev pub Good : {s : Sort} → Bool → ℕ → Reader (Node s) → Type 0
-Good k d r = Exact r (λ x. Spells x) (λ x. fits k x d)
+abbrev pub Good : {s : Sort} → ℕ → Reader (Node s) → Type 0
+Good d r = Exact r (λ x. Spells x) (λ x. fits x d)
 
 abbrev pub Nodes : {s : Sort} → Many s → List ℕ → Type 0
 Nodes ns = Listed (count ns) (SpellsAll ns)
 
-module _ {s : Sort} (k : Bool) (d : ℕ) {r : Reader (Node s)} (R : Good k d r) where
-  nodes_accept : (ns : Many s) (text rest : List ℕ) → SpellsAll ns text → IsTrue (all_fit k ns d) → nodes_at r (count ns) (text ++ rest) ≡ Ok (ns, rest)
+module _ {s : Sort} (d : ℕ) {r : Reader (Node s)} (R : Good d r) where
+  nodes_accept : (ns : Many s) (text rest : List ℕ) → SpellsAll ns text → IsTrue (all_fit ns d) → nodes_at r (count ns) (text ++ rest) ≡ Ok (ns, rest)
   nodes_accept none text rest e h = ap (λ z. Ok (none, z ++ rest)) e
   nodes_accept (more n ns) text rest j h =
-      let f = and_parts (fits k n d) (all_fit k ns d) h in
+      let f = and_parts (fits n d) (all_fit ns d) h in
       bind_on (r (text ++ rest)) _ (n, j.back ++ rest) _ (ap r (seam j.front j.back text rest j.cut) ∙ R.accepts n j.front (j.back ++ rest) j.first f.0) (bind_on (nodes_at r (count ns) (j.back ++ rest)) _ (ns, rest) _ (nodes_accept ns j.back rest j.second f.1) refl)
 
   abbrev CountedAs : ℕ → Many s → List ℕ → Type 0
   CountedAs n ns text = SpellsAll ns text × (count ns ≡ n)
 
-  more_found : (n : ℕ) (bytes : List ℕ) (x : Node s) (middle : List ℕ) (ns : Many s) (rest : List ℕ) → Found (λ x. Spells x) (λ x. fits k x d) bytes x middle → Found (CountedAs n) (λ ns. all_fit k ns d) middle ns rest
-      → Found (CountedAs (suc n)) (λ ns. all_fit k ns d) bytes (more x ns) rest
+  more_found : (n : ℕ) (bytes : List ℕ) (x : Node s) (middle : List ℕ) (ns : Many s) (rest : List ℕ) → Found (λ x. Spells x) (λ x. fits x d) bytes x middle → Found (CountedAs n) (λ ns. all_fit ns d) middle ns rest
+      → Found (CountedAs (suc n)) (λ ns. all_fit ns d) bytes (more x ns) rest
   more_found n bytes x middle ns rest f g = record {
     text = f.text ++ g.text;
     cut = f.cut ∙ ap (λ z. f.text ++ z) g.cut ∙ sym (append_assoc f.text g.text rest);
     spelled = (record { front = f.text; back = g.text; cut = refl; first = f.spelled; second = g.spelled.0 }, ap suc g.spelled.1);
-    fine = and_from (fits k x d) _ f.fine g.fine;
+    fine = and_from (fits x d) _ f.fine g.fine;
   }
 
-  nodes_only : (n : ℕ) (bytes : List ℕ) (ns : Many s) (rest : List ℕ) → nodes_at r n bytes ≡ Ok (ns, rest) → Found (CountedAs n) (λ ns. all_fit k ns d) bytes ns rest
-  nodes_only zero bytes ns rest h = subst (λ (z : Many s × List ℕ). Found (CountedAs 0) (λ ns. all_fit k ns d) bytes z.0 z.1) (ok_inj _ _ h) (record { text = []; cut = refl; spelled = (refl, refl); fine = refl })
+  nodes_only : (n : ℕ) (bytes : List ℕ) (ns : Many s) (rest : List ℕ) → nodes_at r n bytes ≡ Ok (ns, rest) → Found (CountedAs n) (λ ns. all_fit ns d) bytes ns rest
+  nodes_only zero bytes ns rest h = subst (λ (z : Many s × List ℕ). Found (CountedAs 0) (λ ns. all_fit ns d) bytes z.0 z.1) (ok_inj _ _ h) (record { text = []; cut = refl; spelled = (refl, refl); fine = refl })
   nodes_only (suc n) bytes ns rest h =
       let u = bind_back (r bytes) _ _ h in
       let v = bind_back (nodes_at r n u.0.1) _ _ u.2 in
-      subst (λ (z : Many s × List ℕ). Found (CountedAs (suc n)) (λ ns. all_fit k ns d) bytes z.0 z.1) (ok_inj _ _ v.2)
+      subst (λ (z : Many s × List ℕ). Found (CountedAs (suc n)) (λ ns. all_fit ns d) bytes z.0 z.1) (ok_inj _ _ v.2)
       (more_found n bytes u.0.0 u.0.1 v.0.0 v.0.1 (R.only bytes u.0.0 u.0.1 u.1) (nodes_only n u.0.1 v.0.0 v.0.1 v.1))
 
   module _ (test : ℕ → Bool) where
     counted : Exact (tested test (count_at 44)) (λ n. Number n ⨾ Is (codes ",")) (λ n. test n && true)
     counted = tested_exact test (count_exact 44 refl)
 
-    listed_accepts : (ns : Many s) (text rest : List ℕ) → Nodes ns text → IsTrue (test (count ns) && all_fit k ns d) → listed test r (text ++ rest) ≡ Ok (ns, rest)
+    listed_accepts : (ns : Many s) (text rest : List ℕ) → Nodes ns text → IsTrue (test (count ns) && all_fit ns d) → listed test r (text ++ rest) ≡ Ok (ns, rest)
     listed_accepts ns text rest j h =
-        let f = and_parts (test (count ns)) (all_fit k ns d) h in
+        let f = and_parts (test (count ns)) (all_fit ns d) h in
         let one : tested test (count_at 44) (text ++ rest) ≡ Ok (count ns, j.back ++ rest) =
         ap (tested test (count_at 44)) (seam j.front j.back text rest j.cut) ∙ counted.accepts (count ns) j.front (j.back ++ rest) j.first (and_from (test (count ns)) true f.0 refl) in
         bind_on (tested test (count_at 44) (text ++ rest)) _ (count ns, j.back ++ rest) _ one (nodes_accept ns j.back rest j.second f.1)
 
-    listed_found : (bytes : List ℕ) (n : ℕ) (middle : List ℕ) (ns : Many s) (rest : List ℕ) → Found (λ n. Number n ⨾ Is (codes ",")) (λ n. test n && true) bytes n middle → Found (CountedAs n) (λ ns. all_fit k ns d) middle ns rest
-        → Found Nodes (λ ns. test (count ns) && all_fit k ns d) bytes ns rest
+    listed_found : (bytes : List ℕ) (n : ℕ) (middle : List ℕ) (ns : Many s) (rest : List ℕ) → Found (λ n. Number n ⨾ Is (codes ",")) (λ n. test n && true) bytes n middle → Found (CountedAs n) (λ ns. all_fit ns d) middle ns rest
+        → Found Nodes (λ ns. test (count ns) && all_fit ns d) bytes ns rest
     listed_found bytes n middle ns rest f g = record {
       text = f.text ++ g.text;
       cut = f.cut ∙ ap (λ z. f.text ++ z) g.cut ∙ sym (append_assoc f.text g.text rest);
@@ -222,12 +225,12 @@ module _ {s : Sort} (k : Bool) (d : ℕ) {r : Reader (Node s)} (R : Good k d r) 
       fine = and_from (test (count ns)) _ (ap test g.spelled.1 ∙ (and_parts (test n) true f.fine).0) g.fine;
     }
 
-    listed_only : (bytes : List ℕ) (ns : Many s) (rest : List ℕ) → listed test r bytes ≡ Ok (ns, rest) → Found Nodes (λ ns. test (count ns) && all_fit k ns d) bytes ns rest
+    listed_only : (bytes : List ℕ) (ns : Many s) (rest : List ℕ) → listed test r bytes ≡ Ok (ns, rest) → Found Nodes (λ ns. test (count ns) && all_fit ns d) bytes ns rest
     listed_only bytes ns rest h =
         let u = bind_back (tested test (count_at 44) bytes) _ _ h in
         listed_found bytes u.0.0 u.0.1 ns rest (counted.only bytes u.0.0 u.0.1 u.1) (nodes_only u.0.0 u.0.1 ns rest u.2)
 
-    pub listed_exact : Exact (listed test r) Nodes (λ ns. test (count ns) && all_fit k ns d)
+    pub listed_exact : Exact (listed test r) Nodes (λ ns. test (count ns) && all_fit ns d)
     listed_exact = record { accepts = listed_accepts; only = listed_only }
 
 -- tables
@@ -276,5 +279,4 @@ module _ {Y : Type 0} (T : Y → List ℕ → Type 0) (good : Y → Bool) where
 pub row_accepts : {X Y : Type 0} {r : Reader X} {S : X → List ℕ → Type 0} {ok : X → Bool} → Exact r S ok → (tag : ℕ) (f : X → Y) (rows : List (ℕ × Reader Y)) → ((bytes : List ℕ) → chosen rows tag bytes ≡ made f r bytes) → (x : X) (text rest : List ℕ) → (Is (tag ∷ []) ⨾ S x) text → IsTrue (ok x)
     → tagged rows (text ++ rest) ≡ Ok (f x, rest)
 row_accepts {r = r} R tag f rows at x text rest j h =
-    let e : text ++ rest ≡ tag ∷ (j.back ++ rest) = seam j.front j.back text rest j.cut ∙ ap (λ z. z ++ (j.back ++ rest)) j.first in
-    ap (tagged rows) e ∙ at (j.back ++ rest) ∙ bind_on (r (j.back ++ rest)) _ (x, rest) _ (R.accepts x j.back rest j.second h) refl
+    ap (tagged rows) (after_mark tag text rest j) ∙ at (j.back ++ rest) ∙ bind_on (r (j.back ++ rest)) _ (x, rest) _ (R.accepts x j.back rest j.second h) refl

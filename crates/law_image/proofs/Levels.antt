@@ -11,7 +11,7 @@ use Rattle.rc_model.specs.declared.syntax.Logic.TheVariants.{And, Or}
 use Rattle.rc_model.specs.Syntax.Tree as t
 use Rattle.rc_model.specs.Syntax.WellFormed.{is_output, copies, has_text}
 use Rattle.rc_model.specs.Handed.TreeSpelling.{◌⨾◌, Is, Output, Crossing, Plainly, Spells}
-use Rattle.rc_model.specs.Handed.TreeReading.{Reader, made, tagged, given, output_at, crossing_at, any, some, several, few, need, output_rows, crossing_rows, item_rows, link_rows, piece_rows, redir_rows, item_at, pair_at, stage_at, link_at, branch_at, piece_at, redir_at, cmd_rows, arg_rows, cmd_at, arg_at}
+use Rattle.rc_model.specs.Handed.TreeReading.{Reader, made, tagged, given, output_at, crossing_at, any, some, several, few, output_rows, crossing_rows, item_rows, link_rows, piece_rows, redir_rows, item_at, pair_at, stage_at, link_at, branch_at, piece_at, redir_at, cmd_rows, arg_rows, cmd_at, arg_at}
 use Rattle.law_image.proofs.Fits.{fits}
 use Rattle.law_image.proofs.Exact.{Found, Exact, ok_inj, bind_back, bind_on, both_exact, tested_exact, text_exact, Good, listed_exact, RowOnly, ◌▹◌, tagged_only, row_only, row_accepts, given_only}
 use Rattle.rc_model.specs.declared.fault.ImageFault.TheVariants.{TooDeep}
@@ -48,13 +48,13 @@ output_text n text rest h = ⊎_elim
     (λ (e : n ≡ 2). ap (λ z. output_at (z ++ rest)) (h.digit ∙ ap (λ m. (48 + m) ∷ []) e) ∙ ap (λ m. Ok (m, rest)) (sym e))
     (output_cases n h.number)
 
-output_exact : Exact output_at Output always
+pub output_exact : Exact output_at Output always
 output_exact = record {
   accepts = λ n text rest h g. output_text n text rest h;
   only = tagged_only Output always output_rows (given_only Output always 49 1 (record { number = refl; digit = refl }) refl ▹ given_only Output always 50 2 (record { number = refl; digit = refl }) refl ▹ tt);
 }
 
-abbrev Cross : ℕ × ℕ → List ℕ → Type 0
+abbrev pub Cross : ℕ × ℕ → List ℕ → Type 0
 Cross p = Crossing p.0 p.1
 
 crossing_cases : (to from : ℕ) → IsTrue (copies to from) → ((to ≡ 1) × (from ≡ 2)) ⊎ ((to ≡ 2) × (from ≡ 1))
@@ -77,61 +77,61 @@ crossing_row to from h bytes y rest e =
     let f = tagged_only (λ p text. Cross p ((48 + to) ∷ text)) always ((48 + from, given (to, from)) ∷ []) (second to from h, tt) bytes y rest e in
     record { text = (48 + to) ∷ f.text; cut = ap (λ z. (48 + to) ∷ z) f.cut; spelled = f.spelled; fine = f.fine }
 
-crossing_exact : Exact crossing_at Cross always
+pub crossing_exact : Exact crossing_at Cross always
 crossing_exact = record {
   accepts = λ p text rest h g. crossing_text p.0 p.1 text rest h;
   only = tagged_only Cross always crossing_rows (crossing_row 1 2 refl ▹ crossing_row 2 1 refl ▹ tt);
 }
 
 -- pieces
-piece_accepts : (k : Bool) (d : ℕ) (x : Node piece) (text rest : List ℕ) → Spells x text → IsTrue (fits k x d) → piece_at (text ++ rest) ≡ Ok (x, rest)
-piece_accepts k d (t.Text x) text rest j h = row_accepts text_exact 116 t.Text piece_rows (λ bytes. refl) x text rest j refl
-piece_accepts k d (t.Name x) text rest j h = row_accepts text_exact 118 t.Name piece_rows (λ bytes. refl) x text rest j refl
+piece_accepts : (d : ℕ) (x : Node piece) (text rest : List ℕ) → Spells x text → IsTrue (fits x d) → piece_at (text ++ rest) ≡ Ok (x, rest)
+piece_accepts d (t.Text x) text rest j h = row_accepts text_exact 116 t.Text piece_rows (λ bytes. refl) x text rest j refl
+piece_accepts d (t.Name x) text rest j h = row_accepts text_exact 118 t.Name piece_rows (λ bytes. refl) x text rest j refl
 
-pieces : (k : Bool) (d : ℕ) → Good k d piece_at
-pieces k d = record {
-  accepts = piece_accepts k d;
-  only = tagged_only One (λ x. fits k x d) piece_rows (row_only _ _ text_exact 116 t.Text (λ x text h. h) (λ x h. h) ▹ row_only _ _ text_exact 118 t.Name (λ x text h. h) (λ x h. h) ▹ tt);
+pieces : (d : ℕ) → Good d piece_at
+pieces d = record {
+  accepts = piece_accepts d;
+  only = tagged_only One (λ x. fits x d) piece_rows (row_only _ _ text_exact 116 t.Text (λ x text h. h) (λ x h. h) ▹ row_only _ _ text_exact 118 t.Name (λ x text h. h) (λ x h. h) ▹ tt);
 }
 
-module _ (k : Bool) (d : ℕ) {c : Reader (Node cmd)} {a : Reader (Node arg)} (C : Good k d c) (A : Good k d a) where
-  item_accepts : (x : Node item) (text rest : List ℕ) → Spells x text → IsTrue (fits k x d) → item_at c (text ++ rest) ≡ Ok (x, rest)
+module _ (d : ℕ) {c : Reader (Node cmd)} {a : Reader (Node arg)} (C : Good d c) (A : Good d a) where
+  item_accepts : (x : Node item) (text rest : List ℕ) → Spells x text → IsTrue (fits x d) → item_at c (text ++ rest) ≡ Ok (x, rest)
   item_accepts (t.Item x false) text rest j h = row_accepts C 59 (λ x. t.Item x false) (item_rows c) (λ bytes. refl) x text rest j h
   item_accepts (t.Item x true) text rest j h = row_accepts C 38 (λ x. t.Item x true) (item_rows c) (λ bytes. refl) x text rest j h
 
-  items : Good k d (item_at c)
+  items : Good d (item_at c)
   items = record {
     accepts = item_accepts;
-    only = tagged_only One (λ x. fits k x d) (item_rows c) (row_only _ _ C 59 (λ x. t.Item x false) (λ x text h. h) (λ x h. h) ▹ row_only _ _ C 38 (λ x. t.Item x true) (λ x text h. h) (λ x h. h) ▹ tt);
+    only = tagged_only One (λ x. fits x d) (item_rows c) (row_only _ _ C 59 (λ x. t.Item x false) (λ x text h. h) (λ x h. h) ▹ row_only _ _ C 38 (λ x. t.Item x true) (λ x text h. h) (λ x h. h) ▹ tt);
   }
 
-  link_accepts : (x : Node link) (text rest : List ℕ) → Spells x text → IsTrue (fits k x d) → link_at c (text ++ rest) ≡ Ok (x, rest)
+  link_accepts : (x : Node link) (text rest : List ℕ) → Spells x text → IsTrue (fits x d) → link_at c (text ++ rest) ≡ Ok (x, rest)
   link_accepts (t.Link And x) text rest j h = row_accepts C 38 (t.Link And) (link_rows c) (λ bytes. refl) x text rest j h
   link_accepts (t.Link Or x) text rest j h = row_accepts C 124 (t.Link Or) (link_rows c) (λ bytes. refl) x text rest j h
 
-  links : Good k d (link_at c)
+  links : Good d (link_at c)
   links = record {
     accepts = link_accepts;
-    only = tagged_only One (λ x. fits k x d) (link_rows c) (row_only _ _ C 38 (t.Link And) (λ x text h. h) (λ x h. h) ▹ row_only _ _ C 124 (t.Link Or) (λ x text h. h) (λ x h. h) ▹ tt);
+    only = tagged_only One (λ x. fits x d) (link_rows c) (row_only _ _ C 38 (t.Link And) (λ x text h. h) (λ x h. h) ▹ row_only _ _ C 124 (t.Link Or) (λ x text h. h) (λ x h. h) ▹ tt);
   }
 
-  pair_accepts : (x : Node pair) (text rest : List ℕ) → Spells x text → IsTrue (fits k x d) → pair_at a (text ++ rest) ≡ Ok (x, rest)
+  pair_accepts : (x : Node pair) (text rest : List ℕ) → Spells x text → IsTrue (fits x d) → pair_at a (text ++ rest) ≡ Ok (x, rest)
   pair_accepts (t.Pair x y) text rest j h = made_accepts (both_exact A A) (λ x. t.Pair x.0 x.1) (x, y) text rest j h
 
-  pairs : Good k d (pair_at a)
+  pairs : Good d (pair_at a)
   pairs = made_exact (λ x. t.Pair x.0 x.1) (λ x text h. h) (λ x h. h) (both_exact A A) pair_accepts
 
-  stage_accepts : (x : Node stage) (text rest : List ℕ) → Spells x text → IsTrue (fits k x d) → stage_at c (text ++ rest) ≡ Ok (x, rest)
+  stage_accepts : (x : Node stage) (text rest : List ℕ) → Spells x text → IsTrue (fits x d) → stage_at c (text ++ rest) ≡ Ok (x, rest)
   stage_accepts (t.Stage x n) text rest j h = made_accepts (both_exact output_exact C) (λ x. t.Stage x.1 x.0) (n, x) text rest j h
 
-  stages : Good k d (stage_at c)
+  stages : Good d (stage_at c)
   stages = made_exact (λ x. t.Stage x.1 x.0) (λ x text h. h) (λ x h. h) (both_exact output_exact C) stage_accepts
 
-  branch_accepts : (x : Node branch) (text rest : List ℕ) → Spells x text → IsTrue (fits k x d) → branch_at c a (text ++ rest) ≡ Ok (x, rest)
-  branch_accepts (t.Branch x y) text rest j h = made_accepts (both_exact (listed_exact k d A any) C) (λ x. t.Branch x.0 x.1) (x, y) text rest j h
+  branch_accepts : (x : Node branch) (text rest : List ℕ) → Spells x text → IsTrue (fits x d) → branch_at c a (text ++ rest) ≡ Ok (x, rest)
+  branch_accepts (t.Branch x y) text rest j h = made_accepts (both_exact (listed_exact d A any) C) (λ x. t.Branch x.0 x.1) (x, y) text rest j h
 
-  branches : Good k d (branch_at c a)
-  branches = made_exact (λ x. t.Branch x.0 x.1) (λ x text h. h) (λ x h. h) (both_exact (listed_exact k d A any) C) branch_accepts
+  branches : Good d (branch_at c a)
+  branches = made_exact (λ x. t.Branch x.0 x.1) (λ x text h. h) (λ x h. h) (both_exact (listed_exact d A any) C) branch_accepts
 
   unread : (slot : ℕ) (path : Node arg) (text : List ℕ) → (Is (60 ∷ []) ⨾ Plainly slot (Spells path)) text → (Is (60 ∷ []) ⨾ Spells path) text
   unread slot path text j = record { front = j.front; back = j.back; cut = j.cut; first = j.first; second = j.second.rest }
@@ -139,102 +139,102 @@ module _ (k : Bool) (d : ℕ) {c : Reader (Node cmd)} {a : Reader (Node arg)} (C
   reread : (path : Node arg) (text : List ℕ) → (Is (60 ∷ []) ⨾ Spells path) text → (Is (60 ∷ []) ⨾ Plainly 0 (Spells path)) text
   reread path text j = record { front = j.front; back = j.back; cut = j.cut; first = j.first; second = record { input = refl; rest = j.second } }
 
-  redir_accepts : (x : Node redir) (text rest : List ℕ) → Spells x text → IsTrue (fits k x d) → redir_at a (text ++ rest) ≡ Ok (x, rest)
+  redir_accepts : (x : Node redir) (text rest : List ℕ) → Spells x text → IsTrue (fits x d) → redir_at a (text ++ rest) ≡ Ok (x, rest)
   redir_accepts (t.Open Read n x) text rest j h = row_accepts A 60 (t.Open Read 0) (redir_rows a) (λ bytes. refl) x text rest (unread n x text j) h ∙ ap (λ m. Ok (t.Open Read m x, rest)) (sym j.second.input)
   redir_accepts (t.Open Write n x) text rest j h = row_accepts (both_exact output_exact A) 62 (λ x. t.Open Write x.0 x.1) (redir_rows a) (λ bytes. refl) (n, x) text rest j h
   redir_accepts (t.Open Append n x) text rest j h = row_accepts (both_exact output_exact A) 43 (λ x. t.Open Append x.0 x.1) (redir_rows a) (λ bytes. refl) (n, x) text rest j h
   redir_accepts (t.Copy n m) text rest j h = row_accepts crossing_exact 61 (λ x. t.Copy x.0 x.1) (redir_rows a) (λ bytes. refl) (n, m) text rest j refl
-  redir_accepts (t.Here x) text rest j h = row_accepts (listed_exact k d (pieces k d) any) 104 t.Here (redir_rows a) (λ bytes. refl) x text rest j h
+  redir_accepts (t.Here x) text rest j h = row_accepts (listed_exact d (pieces d) any) 104 t.Here (redir_rows a) (λ bytes. refl) x text rest j h
 
-  redirs : Good k d (redir_at a)
+  redirs : Good d (redir_at a)
   redirs = record {
     accepts = redir_accepts;
-    only = tagged_only One (λ x. fits k x d) (redir_rows a) (
+    only = tagged_only One (λ x. fits x d) (redir_rows a) (
         row_only _ _ A 60 (t.Open Read 0) reread (λ x h. h) ▹
         row_only _ _ (both_exact output_exact A) 62 (λ x. t.Open Write x.0 x.1) (λ x text h. h) (λ x h. h) ▹
         row_only _ _ (both_exact output_exact A) 43 (λ x. t.Open Append x.0 x.1) (λ x text h. h) (λ x h. h) ▹
         row_only _ _ crossing_exact 61 (λ x. t.Copy x.0 x.1) (λ x text h. h) (λ x h. h) ▹
-        row_only _ _ (listed_exact k d (pieces k d) any) 104 t.Here (λ x text h. h) (λ x h. h) ▹
+        row_only _ _ (listed_exact d (pieces d) any) 104 t.Here (λ x text h. h) (λ x h. h) ▹
         tt);
   }
 
-module _ (k : Bool) (d : ℕ) {c : Reader (Node cmd)} {a : Reader (Node arg)} (C : Good k d c) (A : Good k d a) where
-  cmd_accepts : (x : Node cmd) (text rest : List ℕ) → Spells x text → IsTrue (fits k x (suc d)) → tagged (cmd_rows k c a) (text ++ rest) ≡ Ok (x, rest)
-  cmd_accepts t.Empty text rest j h = ap (λ z. tagged (cmd_rows k c a) (z ++ rest)) j
-  cmd_accepts (t.Seq x) text rest j h = row_accepts (listed_exact k d (items k d C A) any) 115 (t.Seq) (cmd_rows k c a) (λ bytes. refl) x text rest j h
-  cmd_accepts (t.Simple x) text rest j h = row_accepts (listed_exact k d A (some k)) 99 (t.Simple) (cmd_rows k c a) (λ bytes. refl) x text rest j h
-  cmd_accepts (t.Assign x y) text rest j h = row_accepts (both_exact (listed_exact k d (pairs k d C A) (some k)) C) 61 (λ x. t.Assign x.0 x.1) (cmd_rows k c a) (λ bytes. refl) (x, y) text rest j h
-  cmd_accepts (t.Redirect x y) text rest j h = row_accepts (both_exact (listed_exact k d (redirs k d C A) (some k)) C) 114 (λ x. t.Redirect x.0 x.1) (cmd_rows k c a) (λ bytes. refl) (x, y) text rest j h
-  cmd_accepts (t.Pipeline x y) text rest j h = row_accepts (both_exact (listed_exact k d (stages k d C A) (few k)) C) 112 (λ x. t.Pipeline x.0 x.1) (cmd_rows k c a) (λ bytes. refl) (x, y) text rest j h
-  cmd_accepts (t.AndOr x y) text rest j h = row_accepts (both_exact C (listed_exact k d (links k d C A) (some k))) 97 (λ x. t.AndOr x.0 x.1) (cmd_rows k c a) (λ bytes. refl) (x, y) text rest j h
-  cmd_accepts (t.Not x) text rest j h = row_accepts C 33 (t.Not) (cmd_rows k c a) (λ bytes. refl) x text rest j h
-  cmd_accepts (t.Subshell x) text rest j h = row_accepts C 64 (t.Subshell) (cmd_rows k c a) (λ bytes. refl) x text rest j h
-  cmd_accepts (t.If x y) text rest j h = row_accepts (both_exact C C) 105 (λ x. t.If x.0 x.1) (cmd_rows k c a) (λ bytes. refl) (x, y) text rest j h
-  cmd_accepts (t.IfNot x) text rest j h = row_accepts C 110 (t.IfNot) (cmd_rows k c a) (λ bytes. refl) x text rest j h
-  cmd_accepts (t.While x y) text rest j h = row_accepts (both_exact C C) 119 (λ x. t.While x.0 x.1) (cmd_rows k c a) (λ bytes. refl) (x, y) text rest j h
-  cmd_accepts (t.ForAll x y) text rest j h = row_accepts (both_exact A C) 102 (λ x. t.ForAll x.0 x.1) (cmd_rows k c a) (λ bytes. refl) (x, y) text rest j h
-  cmd_accepts (t.For x y z) text rest j h = row_accepts (both_exact A (both_exact (listed_exact k d A any) C)) 70 (λ x. t.For x.0 x.1.0 x.1.1) (cmd_rows k c a) (λ bytes. refl) (x, (y, z)) text rest j h
-  cmd_accepts (t.Switch x y) text rest j h = row_accepts (both_exact A (listed_exact k d (branches k d C A) any)) 83 (λ x. t.Switch x.0 x.1) (cmd_rows k c a) (λ bytes. refl) (x, y) text rest j h
-  cmd_accepts (t.Match x y) text rest j h = row_accepts (both_exact A (listed_exact k d A any)) 126 (λ x. t.Match x.0 x.1) (cmd_rows k c a) (λ bytes. refl) (x, y) text rest j h
-  cmd_accepts (t.Define x y) text rest j h = row_accepts (both_exact (listed_exact k d A (some k)) C) 100 (λ x. t.Define x.0 x.1) (cmd_rows k c a) (λ bytes. refl) (x, y) text rest j h
-  cmd_accepts (t.Undefine x) text rest j h = row_accepts (listed_exact k d A (some k)) 117 (t.Undefine) (cmd_rows k c a) (λ bytes. refl) x text rest j h
-  cmd_accepts (t.Brace x) text rest j h = row_accepts C 98 (t.Brace) (cmd_rows k c a) (λ bytes. refl) x text rest j h
+module _ (d : ℕ) {c : Reader (Node cmd)} {a : Reader (Node arg)} (C : Good d c) (A : Good d a) where
+  cmd_accepts : (x : Node cmd) (text rest : List ℕ) → Spells x text → IsTrue (fits x (suc d)) → tagged (cmd_rows c a) (text ++ rest) ≡ Ok (x, rest)
+  cmd_accepts t.Empty text rest j h = ap (λ z. tagged (cmd_rows c a) (z ++ rest)) j
+  cmd_accepts (t.Seq x) text rest j h = row_accepts (listed_exact d (items d C A) any) 115 (t.Seq) (cmd_rows c a) (λ bytes. refl) x text rest j h
+  cmd_accepts (t.Simple x) text rest j h = row_accepts (listed_exact d A (some)) 99 (t.Simple) (cmd_rows c a) (λ bytes. refl) x text rest j h
+  cmd_accepts (t.Assign x y) text rest j h = row_accepts (both_exact (listed_exact d (pairs d C A) (some)) C) 61 (λ x. t.Assign x.0 x.1) (cmd_rows c a) (λ bytes. refl) (x, y) text rest j h
+  cmd_accepts (t.Redirect x y) text rest j h = row_accepts (both_exact (listed_exact d (redirs d C A) (some)) C) 114 (λ x. t.Redirect x.0 x.1) (cmd_rows c a) (λ bytes. refl) (x, y) text rest j h
+  cmd_accepts (t.Pipeline x y) text rest j h = row_accepts (both_exact (listed_exact d (stages d C A) (few)) C) 112 (λ x. t.Pipeline x.0 x.1) (cmd_rows c a) (λ bytes. refl) (x, y) text rest j h
+  cmd_accepts (t.AndOr x y) text rest j h = row_accepts (both_exact C (listed_exact d (links d C A) (some))) 97 (λ x. t.AndOr x.0 x.1) (cmd_rows c a) (λ bytes. refl) (x, y) text rest j h
+  cmd_accepts (t.Not x) text rest j h = row_accepts C 33 (t.Not) (cmd_rows c a) (λ bytes. refl) x text rest j h
+  cmd_accepts (t.Subshell x) text rest j h = row_accepts C 64 (t.Subshell) (cmd_rows c a) (λ bytes. refl) x text rest j h
+  cmd_accepts (t.If x y) text rest j h = row_accepts (both_exact C C) 105 (λ x. t.If x.0 x.1) (cmd_rows c a) (λ bytes. refl) (x, y) text rest j h
+  cmd_accepts (t.IfNot x) text rest j h = row_accepts C 110 (t.IfNot) (cmd_rows c a) (λ bytes. refl) x text rest j h
+  cmd_accepts (t.While x y) text rest j h = row_accepts (both_exact C C) 119 (λ x. t.While x.0 x.1) (cmd_rows c a) (λ bytes. refl) (x, y) text rest j h
+  cmd_accepts (t.ForAll x y) text rest j h = row_accepts (both_exact A C) 102 (λ x. t.ForAll x.0 x.1) (cmd_rows c a) (λ bytes. refl) (x, y) text rest j h
+  cmd_accepts (t.For x y z) text rest j h = row_accepts (both_exact A (both_exact (listed_exact d A any) C)) 70 (λ x. t.For x.0 x.1.0 x.1.1) (cmd_rows c a) (λ bytes. refl) (x, (y, z)) text rest j h
+  cmd_accepts (t.Switch x y) text rest j h = row_accepts (both_exact A (listed_exact d (branches d C A) any)) 83 (λ x. t.Switch x.0 x.1) (cmd_rows c a) (λ bytes. refl) (x, y) text rest j h
+  cmd_accepts (t.Match x y) text rest j h = row_accepts (both_exact A (listed_exact d A any)) 126 (λ x. t.Match x.0 x.1) (cmd_rows c a) (λ bytes. refl) (x, y) text rest j h
+  cmd_accepts (t.Define x y) text rest j h = row_accepts (both_exact (listed_exact d A (some)) C) 100 (λ x. t.Define x.0 x.1) (cmd_rows c a) (λ bytes. refl) (x, y) text rest j h
+  cmd_accepts (t.Undefine x) text rest j h = row_accepts (listed_exact d A (some)) 117 (t.Undefine) (cmd_rows c a) (λ bytes. refl) x text rest j h
+  cmd_accepts (t.Brace x) text rest j h = row_accepts C 98 (t.Brace) (cmd_rows c a) (λ bytes. refl) x text rest j h
 
-  cmd_only : (bytes : List ℕ) (x : Node cmd) (rest : List ℕ) → tagged (cmd_rows k c a) bytes ≡ Ok (x, rest) → Found One (λ x. fits k x (suc d)) bytes x rest
-  cmd_only = tagged_only One (λ x. fits k x (suc d)) (cmd_rows k c a) (
-      given_only One (λ x. fits k x (suc d)) 101 t.Empty refl refl ▹
-      row_only One (λ x. fits k x (suc d)) (listed_exact k d (items k d C A) any) 115 (t.Seq) (λ x text h. h) (λ x h. h) ▹
-      row_only One (λ x. fits k x (suc d)) (listed_exact k d A (some k)) 99 (t.Simple) (λ x text h. h) (λ x h. h) ▹
-      row_only One (λ x. fits k x (suc d)) (both_exact (listed_exact k d (pairs k d C A) (some k)) C) 61 (λ x. t.Assign x.0 x.1) (λ x text h. h) (λ x h. h) ▹
-      row_only One (λ x. fits k x (suc d)) (both_exact (listed_exact k d (redirs k d C A) (some k)) C) 114 (λ x. t.Redirect x.0 x.1) (λ x text h. h) (λ x h. h) ▹
-      row_only One (λ x. fits k x (suc d)) (both_exact (listed_exact k d (stages k d C A) (few k)) C) 112 (λ x. t.Pipeline x.0 x.1) (λ x text h. h) (λ x h. h) ▹
-      row_only One (λ x. fits k x (suc d)) (both_exact C (listed_exact k d (links k d C A) (some k))) 97 (λ x. t.AndOr x.0 x.1) (λ x text h. h) (λ x h. h) ▹
-      row_only One (λ x. fits k x (suc d)) C 33 (t.Not) (λ x text h. h) (λ x h. h) ▹
-      row_only One (λ x. fits k x (suc d)) C 64 (t.Subshell) (λ x text h. h) (λ x h. h) ▹
-      row_only One (λ x. fits k x (suc d)) (both_exact C C) 105 (λ x. t.If x.0 x.1) (λ x text h. h) (λ x h. h) ▹
-      row_only One (λ x. fits k x (suc d)) C 110 (t.IfNot) (λ x text h. h) (λ x h. h) ▹
-      row_only One (λ x. fits k x (suc d)) (both_exact C C) 119 (λ x. t.While x.0 x.1) (λ x text h. h) (λ x h. h) ▹
-      row_only One (λ x. fits k x (suc d)) (both_exact A C) 102 (λ x. t.ForAll x.0 x.1) (λ x text h. h) (λ x h. h) ▹
-      row_only One (λ x. fits k x (suc d)) (both_exact A (both_exact (listed_exact k d A any) C)) 70 (λ x. t.For x.0 x.1.0 x.1.1) (λ x text h. h) (λ x h. h) ▹
-      row_only One (λ x. fits k x (suc d)) (both_exact A (listed_exact k d (branches k d C A) any)) 83 (λ x. t.Switch x.0 x.1) (λ x text h. h) (λ x h. h) ▹
-      row_only One (λ x. fits k x (suc d)) (both_exact A (listed_exact k d A any)) 126 (λ x. t.Match x.0 x.1) (λ x text h. h) (λ x h. h) ▹
-      row_only One (λ x. fits k x (suc d)) (both_exact (listed_exact k d A (some k)) C) 100 (λ x. t.Define x.0 x.1) (λ x text h. h) (λ x h. h) ▹
-      row_only One (λ x. fits k x (suc d)) (listed_exact k d A (some k)) 117 (t.Undefine) (λ x text h. h) (λ x h. h) ▹
-      row_only One (λ x. fits k x (suc d)) C 98 (t.Brace) (λ x text h. h) (λ x h. h) ▹
+  cmd_only : (bytes : List ℕ) (x : Node cmd) (rest : List ℕ) → tagged (cmd_rows c a) bytes ≡ Ok (x, rest) → Found One (λ x. fits x (suc d)) bytes x rest
+  cmd_only = tagged_only One (λ x. fits x (suc d)) (cmd_rows c a) (
+      given_only One (λ x. fits x (suc d)) 101 t.Empty refl refl ▹
+      row_only One (λ x. fits x (suc d)) (listed_exact d (items d C A) any) 115 (t.Seq) (λ x text h. h) (λ x h. h) ▹
+      row_only One (λ x. fits x (suc d)) (listed_exact d A (some)) 99 (t.Simple) (λ x text h. h) (λ x h. h) ▹
+      row_only One (λ x. fits x (suc d)) (both_exact (listed_exact d (pairs d C A) (some)) C) 61 (λ x. t.Assign x.0 x.1) (λ x text h. h) (λ x h. h) ▹
+      row_only One (λ x. fits x (suc d)) (both_exact (listed_exact d (redirs d C A) (some)) C) 114 (λ x. t.Redirect x.0 x.1) (λ x text h. h) (λ x h. h) ▹
+      row_only One (λ x. fits x (suc d)) (both_exact (listed_exact d (stages d C A) (few)) C) 112 (λ x. t.Pipeline x.0 x.1) (λ x text h. h) (λ x h. h) ▹
+      row_only One (λ x. fits x (suc d)) (both_exact C (listed_exact d (links d C A) (some))) 97 (λ x. t.AndOr x.0 x.1) (λ x text h. h) (λ x h. h) ▹
+      row_only One (λ x. fits x (suc d)) C 33 (t.Not) (λ x text h. h) (λ x h. h) ▹
+      row_only One (λ x. fits x (suc d)) C 64 (t.Subshell) (λ x text h. h) (λ x h. h) ▹
+      row_only One (λ x. fits x (suc d)) (both_exact C C) 105 (λ x. t.If x.0 x.1) (λ x text h. h) (λ x h. h) ▹
+      row_only One (λ x. fits x (suc d)) C 110 (t.IfNot) (λ x text h. h) (λ x h. h) ▹
+      row_only One (λ x. fits x (suc d)) (both_exact C C) 119 (λ x. t.While x.0 x.1) (λ x text h. h) (λ x h. h) ▹
+      row_only One (λ x. fits x (suc d)) (both_exact A C) 102 (λ x. t.ForAll x.0 x.1) (λ x text h. h) (λ x h. h) ▹
+      row_only One (λ x. fits x (suc d)) (both_exact A (both_exact (listed_exact d A any) C)) 70 (λ x. t.For x.0 x.1.0 x.1.1) (λ x text h. h) (λ x h. h) ▹
+      row_only One (λ x. fits x (suc d)) (both_exact A (listed_exact d (branches d C A) any)) 83 (λ x. t.Switch x.0 x.1) (λ x text h. h) (λ x h. h) ▹
+      row_only One (λ x. fits x (suc d)) (both_exact A (listed_exact d A any)) 126 (λ x. t.Match x.0 x.1) (λ x text h. h) (λ x h. h) ▹
+      row_only One (λ x. fits x (suc d)) (both_exact (listed_exact d A (some)) C) 100 (λ x. t.Define x.0 x.1) (λ x text h. h) (λ x h. h) ▹
+      row_only One (λ x. fits x (suc d)) (listed_exact d A (some)) 117 (t.Undefine) (λ x text h. h) (λ x h. h) ▹
+      row_only One (λ x. fits x (suc d)) C 98 (t.Brace) (λ x text h. h) (λ x h. h) ▹
       tt)
 
-  arg_accepts : (x : Node arg) (text rest : List ℕ) → Spells x text → IsTrue (fits k x (suc d)) → tagged (arg_rows k c a) (text ++ rest) ≡ Ok (x, rest)
-  arg_accepts (t.Lit x false) text rest j h = row_accepts (tested_exact (λ x. need k (has_text x)) text_exact) 119 (λ x. t.Lit x false) (arg_rows k c a) (λ bytes. refl) x text rest j (and_from (need k (has_text x)) true h refl)
-  arg_accepts (t.Lit x true) text rest j h = row_accepts text_exact 113 (λ x. t.Lit x true) (arg_rows k c a) (λ bytes. refl) x text rest j h
-  arg_accepts (t.Concat x) text rest j h = row_accepts (listed_exact k d A (several k)) 94 (t.Concat) (arg_rows k c a) (λ bytes. refl) x text rest j h
-  arg_accepts (t.Paren x) text rest j h = row_accepts (listed_exact k d A any) 40 (t.Paren) (arg_rows k c a) (λ bytes. refl) x text rest j h
-  arg_accepts (t.Var x) text rest j h = row_accepts A 36 (t.Var) (arg_rows k c a) (λ bytes. refl) x text rest j h
-  arg_accepts (t.Count x) text rest j h = row_accepts A 35 (t.Count) (arg_rows k c a) (λ bytes. refl) x text rest j h
-  arg_accepts (t.Flat x) text rest j h = row_accepts A 34 (t.Flat) (arg_rows k c a) (λ bytes. refl) x text rest j h
-  arg_accepts (t.Sub x y) text rest j h = row_accepts (both_exact A (listed_exact k d A any)) 91 (λ x. t.Sub x.0 x.1) (arg_rows k c a) (λ bytes. refl) (x, y) text rest j h
-  arg_accepts (t.Back x) text rest j h = row_accepts C 96 (t.Back) (arg_rows k c a) (λ bytes. refl) x text rest j h
+  arg_accepts : (x : Node arg) (text rest : List ℕ) → Spells x text → IsTrue (fits x (suc d)) → tagged (arg_rows c a) (text ++ rest) ≡ Ok (x, rest)
+  arg_accepts (t.Lit x false) text rest j h = row_accepts (tested_exact has_text text_exact) 119 (λ x. t.Lit x false) (arg_rows c a) (λ bytes. refl) x text rest j (and_from (has_text x) true h refl)
+  arg_accepts (t.Lit x true) text rest j h = row_accepts text_exact 113 (λ x. t.Lit x true) (arg_rows c a) (λ bytes. refl) x text rest j h
+  arg_accepts (t.Concat x) text rest j h = row_accepts (listed_exact d A (several)) 94 (t.Concat) (arg_rows c a) (λ bytes. refl) x text rest j h
+  arg_accepts (t.Paren x) text rest j h = row_accepts (listed_exact d A any) 40 (t.Paren) (arg_rows c a) (λ bytes. refl) x text rest j h
+  arg_accepts (t.Var x) text rest j h = row_accepts A 36 (t.Var) (arg_rows c a) (λ bytes. refl) x text rest j h
+  arg_accepts (t.Count x) text rest j h = row_accepts A 35 (t.Count) (arg_rows c a) (λ bytes. refl) x text rest j h
+  arg_accepts (t.Flat x) text rest j h = row_accepts A 34 (t.Flat) (arg_rows c a) (λ bytes. refl) x text rest j h
+  arg_accepts (t.Sub x y) text rest j h = row_accepts (both_exact A (listed_exact d A any)) 91 (λ x. t.Sub x.0 x.1) (arg_rows c a) (λ bytes. refl) (x, y) text rest j h
+  arg_accepts (t.Back x) text rest j h = row_accepts C 96 (t.Back) (arg_rows c a) (λ bytes. refl) x text rest j h
 
-  arg_only : (bytes : List ℕ) (x : Node arg) (rest : List ℕ) → tagged (arg_rows k c a) bytes ≡ Ok (x, rest) → Found One (λ x. fits k x (suc d)) bytes x rest
-  arg_only = tagged_only One (λ x. fits k x (suc d)) (arg_rows k c a) (
-      row_only One (λ x. fits k x (suc d)) (tested_exact (λ x. need k (has_text x)) text_exact) 119 (λ x. t.Lit x false) (λ x text h. h) (λ x h. (and_parts (need k (has_text x)) true h).0) ▹
-      row_only One (λ x. fits k x (suc d)) text_exact 113 (λ x. t.Lit x true) (λ x text h. h) (λ x h. h) ▹
-      row_only One (λ x. fits k x (suc d)) (listed_exact k d A (several k)) 94 (t.Concat) (λ x text h. h) (λ x h. h) ▹
-      row_only One (λ x. fits k x (suc d)) (listed_exact k d A any) 40 (t.Paren) (λ x text h. h) (λ x h. h) ▹
-      row_only One (λ x. fits k x (suc d)) A 36 (t.Var) (λ x text h. h) (λ x h. h) ▹
-      row_only One (λ x. fits k x (suc d)) A 35 (t.Count) (λ x text h. h) (λ x h. h) ▹
-      row_only One (λ x. fits k x (suc d)) A 34 (t.Flat) (λ x text h. h) (λ x h. h) ▹
-      row_only One (λ x. fits k x (suc d)) (both_exact A (listed_exact k d A any)) 91 (λ x. t.Sub x.0 x.1) (λ x text h. h) (λ x h. h) ▹
-      row_only One (λ x. fits k x (suc d)) C 96 (t.Back) (λ x text h. h) (λ x h. h) ▹
+  arg_only : (bytes : List ℕ) (x : Node arg) (rest : List ℕ) → tagged (arg_rows c a) bytes ≡ Ok (x, rest) → Found One (λ x. fits x (suc d)) bytes x rest
+  arg_only = tagged_only One (λ x. fits x (suc d)) (arg_rows c a) (
+      row_only One (λ x. fits x (suc d)) (tested_exact has_text text_exact) 119 (λ x. t.Lit x false) (λ x text h. h) (λ x h. (and_parts (has_text x) true h).0) ▹
+      row_only One (λ x. fits x (suc d)) text_exact 113 (λ x. t.Lit x true) (λ x text h. h) (λ x h. h) ▹
+      row_only One (λ x. fits x (suc d)) (listed_exact d A (several)) 94 (t.Concat) (λ x text h. h) (λ x h. h) ▹
+      row_only One (λ x. fits x (suc d)) (listed_exact d A any) 40 (t.Paren) (λ x text h. h) (λ x h. h) ▹
+      row_only One (λ x. fits x (suc d)) A 36 (t.Var) (λ x text h. h) (λ x h. h) ▹
+      row_only One (λ x. fits x (suc d)) A 35 (t.Count) (λ x text h. h) (λ x h. h) ▹
+      row_only One (λ x. fits x (suc d)) A 34 (t.Flat) (λ x text h. h) (λ x h. h) ▹
+      row_only One (λ x. fits x (suc d)) (both_exact A (listed_exact d A any)) 91 (λ x. t.Sub x.0 x.1) (λ x text h. h) (λ x h. h) ▹
+      row_only One (λ x. fits x (suc d)) C 96 (t.Back) (λ x text h. h) (λ x h. h) ▹
       tt)
 
 -- no command and no argument fits in no levels
-cmd_shallow : (k : Bool) (x : Node cmd) → fits k x 0 ≡ false
-cmd_shallow k t.Empty = refl
-cmd_shallow k _ = refl
+cmd_shallow : (x : Node cmd) → fits x 0 ≡ false
+cmd_shallow t.Empty = refl
+cmd_shallow _ = refl
 
-arg_shallow : (k : Bool) (x : Node arg) → fits k x 0 ≡ false
-arg_shallow k (t.Var x) = refl
-arg_shallow k _ = refl
+arg_shallow : (x : Node arg) → fits x 0 ≡ false
+arg_shallow (t.Var x) = refl
+arg_shallow _ = refl
 
 too_deep : {X : Type 0} {S : X → List ℕ → Type 0} {ok : X → Bool} (r : Reader X) → ((bytes : List ℕ) → r bytes ≡ Err TooDeep) → ((x : X) → ok x ≡ false) → Exact r S ok
 too_deep r e f = record {
@@ -245,10 +245,10 @@ too_deep r e f = record {
 mutual
   unfolding cmd_at arg_at
 
-  pub cmd_exact : (k : Bool) (d : ℕ) → Good k d (cmd_at k d)
-  cmd_exact k zero = too_deep (cmd_at k 0) (λ bytes. refl) (cmd_shallow k)
-  cmd_exact k (suc d) = record { accepts = cmd_accepts k d (cmd_exact k d) (arg_exact k d); only = cmd_only k d (cmd_exact k d) (arg_exact k d) }
+  pub cmd_exact : (d : ℕ) → Good d (cmd_at d)
+  cmd_exact zero = too_deep (cmd_at 0) (λ bytes. refl) cmd_shallow
+  cmd_exact (suc d) = record { accepts = cmd_accepts d (cmd_exact d) (arg_exact d); only = cmd_only d (cmd_exact d) (arg_exact d) }
 
-  pub arg_exact : (k : Bool) (d : ℕ) → Good k d (arg_at k d)
-  arg_exact k zero = too_deep (arg_at k 0) (λ bytes. refl) (arg_shallow k)
-  arg_exact k (suc d) = record { accepts = arg_accepts k d (cmd_exact k d) (arg_exact k d); only = arg_only k d (cmd_exact k d) (arg_exact k d) }
+  pub arg_exact : (d : ℕ) → Good d (arg_at d)
+  arg_exact zero = too_deep (arg_at 0) (λ bytes. refl) arg_shallow
+  arg_exact (suc d) = record { accepts = arg_accepts d (cmd_exact d) (arg_exact d); only = arg_only d (cmd_exact d) (arg_exact d) }

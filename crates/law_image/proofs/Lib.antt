@@ -4,6 +4,7 @@ pub mod Exact
 pub mod Levels
 pub mod Sound
 pub mod OneSpelling
+pub mod OneTree
 pub mod Trees
 pub mod Members
 pub mod Entries

@@ -1,6 +1,6 @@
 -- Trees and their texts.
-use Rattle.std.specs.Prelude.{Result, Ok, Err, IsTrue, codes, drop, nat_le, max, ◌==◌}
-use Rattle.std.proofs.Common.{◌≡◌, ℕ, ◌≤◌, List, [], ◌∷◌, ◌++◌, length, true, false, refl, sym, ap, subst, ◌∙◌, append-nil, arith}
+use Rattle.std.specs.Prelude.{Result, Ok, Err, IsTrue, codes, drop, nat_le, ◌==◌}
+use Rattle.std.proofs.Common.{◌≡◌, ℕ, ◌≤◌, List, [], ◌∷◌, ◌++◌, length, refl, sym, ap, subst, ◌∙◌, append-nil, arith}
 use Rattle.std.proofs.lemmas.Bool.{and_parts, and_from, leb-true, le-leb, eqb-true, false≢true}
 use Rattle.rc_model.specs.Syntax.Text.{begins_with}
 use Rattle.rc_model.specs.Syntax.Tree.{Node, cmd}
@@ -8,7 +8,7 @@ use Rattle.rc_model.specs.Handed.Image.{image, node_image}
 use Rattle.rc_model.specs.Syntax.WellFormed.{well_formed, is_sound, depth}
 use Rattle.rc_model.specs.Handed.TreeSpelling.{Spells, SpellsImage}
 use Rattle.rc_model.specs.Handed.TreeReading.{read_spelling, read_tree, whole, cmd_at}
-use Rattle.rc_model.specs.Handed.TreeLaws.{OneSpelling, HasSpelling, OneTree, ReadsSpellings, TreesReadBack}
+use Rattle.rc_model.specs.Handed.TreeLaws.{OneSpelling, HasSpelling, ReadsSpellings, TreesReadBack}
 use Rattle.law_image.proofs.Exact.{ok_inj, if_ok}
 use Rattle.law_image.proofs.Levels.{cmd_exact}
 use Rattle.law_image.proofs.Sound.{fits_of, sound_of, Sound}
@@ -20,18 +20,6 @@ one_spelling c text j = joins j (codes "rc1;") (node_image c) j.first (image_of 
 
 pub has_spelling : HasSpelling
 has_spelling c h u w = mark (codes "rc1;") (node_image c) (spelled c (and_parts (is_sound c) (nat_le (depth c) 200) h).0 u w)
-
--- the whole of a text, read without the bounds of well formed trees
-loosely : (c : Node cmd) (d : ℕ) (text : List ℕ) → Spells c text → depth c ≤ d → cmd_at false d text ≡ Ok (c, [])
-loosely c d text s h = ap (cmd_at false d) (sym (append-nil text)) ∙ (cmd_exact false d).accepts c text [] s (fits_of false c d refl h)
-
-pub one_tree : OneTree
-one_tree c d text j k =
-    let same : j.back ≡ k.back = ap (drop 4) (ap (λ z. z ++ j.back) (sym j.first) ∙ sym j.cut ∙ k.cut ∙ ap (λ z. z ++ k.back) k.first) in
-    let n = max (depth c) (depth d) in
-    let one = loosely c n j.back j.second (omega arith) in
-    let two = loosely d n k.back k.second (omega arith) in
-    ap (λ (z : Node cmd × List ℕ). z.0) (ok_inj _ _ (sym one ∙ ap (cmd_at false n) same ∙ two))
 
 pub begins_back : (bs text : List ℕ) → IsTrue (begins_with bs text) → text ≡ bs ++ drop (length bs) text
 begins_back [] text h = refl
@@ -51,14 +39,14 @@ whole_back (Ok x) c h =
 whole_back (Err e) c h = absurd (cc)
 
 -- for any number of levels, so that none of them is unfolded
-found_back : (d : ℕ) (text : List ℕ) (c : Node cmd) → cmd_at true d text ≡ Ok (c, []) → Spells c text × Sound c d
+found_back : (d : ℕ) (text : List ℕ) (c : Node cmd) → cmd_at d text ≡ Ok (c, []) → Spells c text × Sound c d
 found_back d text c h =
-    let f = (cmd_exact true d).only text c [] h in
+    let f = (cmd_exact d).only text c [] h in
     let s = subst (Spells c) (sym (f.cut ∙ append-nil f.text)) f.spelled in
     (s, sound_of c d text s f.fine)
 
-read_back : (d : ℕ) (c : Node cmd) (text : List ℕ) → Spells c text → IsTrue (is_sound c) → depth c ≤ d → whole (cmd_at true d text) ≡ Ok c
-read_back d c text s h l = ap (λ z. whole (cmd_at true d z)) (sym (append-nil text)) ∙ ap whole ((cmd_exact true d).accepts c text [] s (fits_of true c d h l))
+read_back : (d : ℕ) (c : Node cmd) (text : List ℕ) → Spells c text → IsTrue (is_sound c) → depth c ≤ d → whole (cmd_at d text) ≡ Ok c
+read_back d c text s h l = ap (λ z. whole (cmd_at d z)) (sym (append-nil text)) ∙ ap whole ((cmd_exact d).accepts c text [] s (fits_of c d h l))
 
 pub spelling_back : (text : List ℕ) (c : Node cmd) → read_spelling text ≡ Ok c → Spells c text × IsTrue (well_formed c)
 spelling_back text c h =

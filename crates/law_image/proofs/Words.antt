@@ -24,7 +24,8 @@ use Rattle.law_image.proofs.Counts.{own}
 use Rattle.law_image.proofs.Exact.{ok_inj, bind_back, if_ok, if_is}
 use Rattle.law_image.proofs.OneSpelling.{image_of, spelled}
 use Rattle.law_image.proofs.Sizes.{within_of}
-use Rattle.law_image.proofs.Trees.{one_tree, reads_spellings, spelling_back, spelling_read}
+use Rattle.law_image.proofs.OneTree.{one_tree}
+use Rattle.law_image.proofs.Trees.{reads_spellings, spelling_back, spelling_read}
 use Rattle.law_image.proofs.Texts.{text_of}
 use Rattle.law_image.proofs.Cuts.{mapped_back, joined_pieces, pieces_room, words_by_rule}
 use Rattle.rc_model.specs.declared.fault.ImageFault.{ImageFault}

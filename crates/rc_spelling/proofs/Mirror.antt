@@ -121,11 +121,11 @@ any_count : Same (tested m.any (count_at 44)) (count_from 0)
 unfolding count_from number_by
 any_count bytes = followed (count_at 44 bytes) (count_at 44 bytes) _ _ refl (λ x. ap (λ (c : Bool). if c then Ok x else Err BadLength) (sym (le-leb 0 x.0 (omega arith))))
 
-some_count : Same (tested (m.some true) (count_at 44)) (count_from 1)
+some_count : Same (tested m.some (count_at 44)) (count_from 1)
 unfolding count_from number_by
 some_count bytes = refl
 
-several_count : Same (tested (m.several true) (count_at 44)) (count_from 2)
+several_count : Same (tested m.several (count_at 44)) (count_from 2)
 unfolding count_from number_by
 several_count bytes = refl
 
@@ -138,7 +138,7 @@ few_tests : (p : Read-of ℕ) → (p >>= λ x. if nat_lt 0 x.0 && nat_lt x.0 64 
 few_tests (Ok x) = tests (nat_lt 0 x.0) x
 few_tests (Err e) = refl
 
-few_count : Same (tested (m.few true) (count_at 44)) stage_count
+few_count : Same (tested m.few (count_at 44)) stage_count
 unfolding stage_count count_from number_by
 few_count bytes = few_tests (count_at 44 bytes)
 
@@ -149,44 +149,44 @@ picked true e p q k = refl
 picked false true p q k = refl
 picked false false p q k = refl
 
-any_args : (d : ℕ) → Same (listed m.any (arg_at true d)) (args_by 0 d)
+any_args : (d : ℕ) → Same (listed m.any (arg_at d)) (args_by 0 d)
 unfolding args_by
-any_args d bytes = list_is m.any (count_from 0) (arg_at true d) (arg_at true d) any_count (same (arg_at true d)) bytes
+any_args d bytes = list_is m.any (count_from 0) (arg_at d) (arg_at d) any_count (same (arg_at d)) bytes
 
-some_args : (d : ℕ) → Same (listed (m.some true) (arg_at true d)) (args_by 1 d)
+some_args : (d : ℕ) → Same (listed m.some (arg_at d)) (args_by 1 d)
 unfolding args_by
-some_args d bytes = list_is (m.some true) (count_from 1) (arg_at true d) (arg_at true d) some_count (same (arg_at true d)) bytes
+some_args d bytes = list_is m.some (count_from 1) (arg_at d) (arg_at d) some_count (same (arg_at d)) bytes
 
-several_args : (d : ℕ) → Same (listed (m.several true) (arg_at true d)) (args_by 2 d)
+several_args : (d : ℕ) → Same (listed m.several (arg_at d)) (args_by 2 d)
 unfolding args_by
-several_args d bytes = list_is (m.several true) (count_from 2) (arg_at true d) (arg_at true d) several_count (same (arg_at true d)) bytes
+several_args d bytes = list_is m.several (count_from 2) (arg_at d) (arg_at d) several_count (same (arg_at d)) bytes
 
-item_is : (d : ℕ) → Same (m.item_at (cmd_at true d)) (item_by d)
+item_is : (d : ℕ) → Same (m.item_at (cmd_at d)) (item_by d)
 unfolding item_by background_by first_by
 item_is d [] = refl
-item_is d (b ∷ rest) = sym (picked (b == 59) (b == 38) (Ok (false, rest)) (Ok (true, rest)) (λ x. make (λ c. t.Item c x.0) (cmd_at true d x.1)))
+item_is d (b ∷ rest) = sym (picked (b == 59) (b == 38) (Ok (false, rest)) (Ok (true, rest)) (λ x. make (λ c. t.Item c x.0) (cmd_at d x.1)))
 
-pair_is : (d : ℕ) → Same (m.pair_at (arg_at true d)) (pair_by d)
+pair_is : (d : ℕ) → Same (m.pair_at (arg_at d)) (pair_by d)
 unfolding pair_by
-pair_is d bytes = both_is (λ x y. t.Pair x y) (arg_at true d) (arg_at true d) (arg_at true d) (arg_at true d) (same (arg_at true d)) (same (arg_at true d)) bytes
+pair_is d bytes = both_is (λ x y. t.Pair x y) (arg_at d) (arg_at d) (arg_at d) (arg_at d) (same (arg_at d)) (same (arg_at d)) bytes
 
 slot_is : Same m.output_at slot_by
 unfolding slot_by first_by
 slot_is [] = refl
 slot_is (b ∷ rest) = refl
 
-stage_is : (d : ℕ) → Same (m.stage_at (cmd_at true d)) (stage_by d)
+stage_is : (d : ℕ) → Same (m.stage_at (cmd_at d)) (stage_by d)
 unfolding stage_by
-stage_is d bytes = both_is (λ s c. t.Stage c s) m.output_at slot_by (cmd_at true d) (cmd_at true d) slot_is (same (cmd_at true d)) bytes
+stage_is d bytes = both_is (λ s c. t.Stage c s) m.output_at slot_by (cmd_at d) (cmd_at d) slot_is (same (cmd_at d)) bytes
 
-link_is : (d : ℕ) → Same (m.link_at (cmd_at true d)) (link_by d)
+link_is : (d : ℕ) → Same (m.link_at (cmd_at d)) (link_by d)
 unfolding link_by logic_by first_by
 link_is d [] = refl
-link_is d (b ∷ rest) = sym (picked (b == 38) (b == 124) (Ok (And, rest)) (Ok (Or, rest)) (λ x. make (λ c. t.Link x.0 c) (cmd_at true d x.1)))
+link_is d (b ∷ rest) = sym (picked (b == 38) (b == 124) (Ok (And, rest)) (Ok (Or, rest)) (λ x. make (λ c. t.Link x.0 c) (cmd_at d x.1)))
 
-branch_is : (d : ℕ) → Same (m.branch_at (cmd_at true d) (arg_at true d)) (branch_by d)
+branch_is : (d : ℕ) → Same (m.branch_at (cmd_at d) (arg_at d)) (branch_by d)
 unfolding branch_by
-branch_is d bytes = both_is (λ ps c. t.Branch ps c) (listed m.any (arg_at true d)) (args_by 0 d) (cmd_at true d) (cmd_at true d) (any_args d) (same (cmd_at true d)) bytes
+branch_is d bytes = both_is (λ ps c. t.Branch ps c) (listed m.any (arg_at d)) (args_by 0 d) (cmd_at d) (cmd_at d) (any_args d) (same (cmd_at d)) bytes
 
 piece_is : Same m.piece_at piece_by
 unfolding piece_by first_by text_by number_by string_by
@@ -197,8 +197,8 @@ here_is : (bytes : List ℕ) → made t.Here (listed m.any m.piece_at) bytes ≡
 unfolding here_by
 here_is bytes = made_is t.Here (listed m.any m.piece_at) (list_by (count_from 0) piece_by) (list_is m.any (count_from 0) m.piece_at piece_by any_count piece_is) bytes
 
-opened_is : (mode : Mode) (d : ℕ) (bytes : List ℕ) → made (λ x. t.Open mode x.0 x.1) (both m.output_at (arg_at true d)) bytes ≡ opened_by mode d bytes
-opened_is mode d bytes = both_is (λ s x. t.Open mode s x) m.output_at slot_by (arg_at true d) (arg_at true d) slot_is (same (arg_at true d)) bytes
+opened_is : (mode : Mode) (d : ℕ) (bytes : List ℕ) → made (λ x. t.Open mode x.0 x.1) (both m.output_at (arg_at d)) bytes ≡ opened_by mode d bytes
+opened_is mode d bytes = both_is (λ s x. t.Open mode s x) m.output_at slot_by (arg_at d) (arg_at d) slot_is (same (arg_at d)) bytes
 
 abbrev kept : {X : Type 0} → Bool → X → List ℕ → Read-of X
 kept c v rest = if c then Ok (v, rest) else Err BadTag
@@ -222,7 +222,7 @@ copy_is (b ∷ rest) =
     picked (b == 49) (b == 50) (tagged ((50, given (1, 2)) ∷ []) rest) (tagged ((49, given (2, 1)) ∷ []) rest) (λ x. Ok (copied x.0, x.1))
     ∙ either (b == 49) (only_is copied (1, 2) 50 rest) (either (b == 50) (only_is copied (2, 1) 49 rest) refl)
 
-redir_chosen : (d b : ℕ) (rest : List ℕ) → chosen (m.redir_rows (arg_at true d)) b rest ≡ after_shape (redir_of d) rest (redir_shape b)
+redir_chosen : (d b : ℕ) (rest : List ℕ) → chosen (m.redir_rows (arg_at d)) b rest ≡ after_shape (redir_of d) rest (redir_shape b)
 unfolding redir_shape
 redir_chosen d b rest =
     choice (redir_of d) rest (b == 60) _ _ refl (
@@ -231,48 +231,48 @@ redir_chosen d b rest =
     choice (redir_of d) rest (b == 61) _ _ (copy_is rest) (
     choice (redir_of d) rest (b == 104) _ _ (here_is rest) refl))))
 
-redir_is : (d : ℕ) → Same (m.redir_at (arg_at true d)) (redir_by d)
+redir_is : (d : ℕ) → Same (m.redir_at (arg_at d)) (redir_by d)
 unfolding redir_by mark_by first_by
 redir_is d [] = refl
 redir_is d (b ∷ rest) = redir_chosen d b rest ∙ sym (shaped_then (redir_of d) (redir_shape b) rest)
 
 -- the lists of a level
-items_are : (d : ℕ) → Same (listed m.any (m.item_at (cmd_at true d))) (list_by (count_from 0) (item_by d))
-items_are d = list_is m.any (count_from 0) (m.item_at (cmd_at true d)) (item_by d) any_count (item_is d)
+items_are : (d : ℕ) → Same (listed m.any (m.item_at (cmd_at d))) (list_by (count_from 0) (item_by d))
+items_are d = list_is m.any (count_from 0) (m.item_at (cmd_at d)) (item_by d) any_count (item_is d)
 
-pairs_are : (d : ℕ) → Same (listed (m.some true) (m.pair_at (arg_at true d))) (list_by (count_from 1) (pair_by d))
-pairs_are d = list_is (m.some true) (count_from 1) (m.pair_at (arg_at true d)) (pair_by d) some_count (pair_is d)
+pairs_are : (d : ℕ) → Same (listed m.some (m.pair_at (arg_at d))) (list_by (count_from 1) (pair_by d))
+pairs_are d = list_is m.some (count_from 1) (m.pair_at (arg_at d)) (pair_by d) some_count (pair_is d)
 
-redirs_are : (d : ℕ) → Same (listed (m.some true) (m.redir_at (arg_at true d))) (list_by (count_from 1) (redir_by d))
-redirs_are d = list_is (m.some true) (count_from 1) (m.redir_at (arg_at true d)) (redir_by d) some_count (redir_is d)
+redirs_are : (d : ℕ) → Same (listed m.some (m.redir_at (arg_at d))) (list_by (count_from 1) (redir_by d))
+redirs_are d = list_is m.some (count_from 1) (m.redir_at (arg_at d)) (redir_by d) some_count (redir_is d)
 
-stages_are : (d : ℕ) → Same (listed (m.few true) (m.stage_at (cmd_at true d))) (list_by stage_count (stage_by d))
-stages_are d = list_is (m.few true) stage_count (m.stage_at (cmd_at true d)) (stage_by d) few_count (stage_is d)
+stages_are : (d : ℕ) → Same (listed m.few (m.stage_at (cmd_at d))) (list_by stage_count (stage_by d))
+stages_are d = list_is m.few stage_count (m.stage_at (cmd_at d)) (stage_by d) few_count (stage_is d)
 
-links_are : (d : ℕ) → Same (listed (m.some true) (m.link_at (cmd_at true d))) (list_by (count_from 1) (link_by d))
-links_are d = list_is (m.some true) (count_from 1) (m.link_at (cmd_at true d)) (link_by d) some_count (link_is d)
+links_are : (d : ℕ) → Same (listed m.some (m.link_at (cmd_at d))) (list_by (count_from 1) (link_by d))
+links_are d = list_is m.some (count_from 1) (m.link_at (cmd_at d)) (link_by d) some_count (link_is d)
 
-branches_are : (d : ℕ) → Same (listed m.any (m.branch_at (cmd_at true d) (arg_at true d))) (list_by (count_from 0) (branch_by d))
-branches_are d = list_is m.any (count_from 0) (m.branch_at (cmd_at true d) (arg_at true d)) (branch_by d) any_count (branch_is d)
+branches_are : (d : ℕ) → Same (listed m.any (m.branch_at (cmd_at d) (arg_at d))) (list_by (count_from 0) (branch_by d))
+branches_are d = list_is m.any (count_from 0) (m.branch_at (cmd_at d) (arg_at d)) (branch_by d) any_count (branch_is d)
 
 -- three things
-three_is : (d : ℕ) (bytes : List ℕ) → made (λ x. t.For x.0 x.1.0 x.1.1) (both (arg_at true d) (both (listed m.any (arg_at true d)) (cmd_at true d))) bytes ≡
-    (arg_at true d bytes >>= λ x. args_by 0 d x.1 >>= λ y. cmd_at true d y.1 >>= λ z. Ok (t.For x.0 y.0 z.0, z.1))
+three_is : (d : ℕ) (bytes : List ℕ) → made (λ x. t.For x.0 x.1.0 x.1.1) (both (arg_at d) (both (listed m.any (arg_at d)) (cmd_at d))) bytes ≡
+    (arg_at d bytes >>= λ x. args_by 0 d x.1 >>= λ y. cmd_at d y.1 >>= λ z. Ok (t.For x.0 y.0 z.0, z.1))
 three_is d bytes =
-    after_one (λ x (z : Many t.arg × Node t.cmd). t.For x z.0 z.1) (both (listed m.any (arg_at true d)) (cmd_at true d)) (arg_at true d bytes)
-    ∙ followed (arg_at true d bytes) (arg_at true d bytes) _ _ refl
-    (λ x. both_is (λ ws c. t.For x.0 ws c) (listed m.any (arg_at true d)) (args_by 0 d) (cmd_at true d) (cmd_at true d) (any_args d) (same (cmd_at true d)) x.1)
+    after_one (λ x (z : Many t.arg × Node t.cmd). t.For x z.0 z.1) (both (listed m.any (arg_at d)) (cmd_at d)) (arg_at d bytes)
+    ∙ followed (arg_at d bytes) (arg_at d bytes) _ _ refl
+    (λ x. both_is (λ ws c. t.For x.0 ws c) (listed m.any (arg_at d)) (args_by 0 d) (cmd_at d) (cmd_at d) (any_args d) (same (cmd_at d)) x.1)
 
 two_is : {X Y Z : Type 0} (f : X → Y → Z) (r q : Reader X) (u v : Reader Y) → Same r q → Same u v → (bytes : List ℕ) →
     made (λ (z : X × Y). f z.0 z.1) (both r u) bytes ≡ (q bytes >>= λ x. v x.1 >>= λ y. Ok (f x.0 y.0, y.1))
 two_is f r q u v h k bytes = both_is f r q u v h k bytes
 
 -- a node by its mark
-cmd_is : (d b : ℕ) (rest : List ℕ) → chosen (m.cmd_rows true (cmd_at true d) (arg_at true d)) b rest ≡ after_shape (cmd_of d) rest (cmd_shape b)
+cmd_is : (d b : ℕ) (rest : List ℕ) → chosen (m.cmd_rows (cmd_at d) (arg_at d)) b rest ≡ after_shape (cmd_of d) rest (cmd_shape b)
 unfolding cmd_shape cmd_of front_by subject_by body_node bodies_node words_node
 cmd_is d b rest =
-    let c = cmd_at true d in
-    let a = arg_at true d in
+    let c = cmd_at d in
+    let a = arg_at d in
     choice (cmd_of d) rest (b == 101) _ _ refl (
     choice (cmd_of d) rest (b == 115) _ _ (made_is t.Seq _ _ (items_are d) rest) (
     choice (cmd_of d) rest (b == 99) _ _ (made_is t.Simple _ _ (some_args d) rest) (
@@ -299,7 +299,7 @@ worded (Ok ([], rest)) = refl
 worded (Ok (b ∷ bs, rest)) = refl
 worded (Err e) = refl
 
-word_is : (rest : List ℕ) → made (λ x. t.Lit x false) (tested (λ x. m.need true (has_text x)) text_at) rest ≡ word_by rest
+word_is : (rest : List ℕ) → made (λ x. t.Lit x false) (tested has_text text_at) rest ≡ word_by rest
 unfolding word_by text_by number_by string_by
 word_is rest = worded (text_at rest)
 
@@ -307,10 +307,10 @@ quoted_is : (rest : List ℕ) → made (λ x. t.Lit x true) text_at rest ≡ quo
 unfolding quoted_by text_by number_by string_by
 quoted_is rest = refl
 
-arg_is : (d b : ℕ) (rest : List ℕ) → chosen (m.arg_rows true (cmd_at true d) (arg_at true d)) b rest ≡ after_shape (arg_of d) rest (arg_shape b)
+arg_is : (d b : ℕ) (rest : List ℕ) → chosen (m.arg_rows (cmd_at d) (arg_at d)) b rest ≡ after_shape (arg_of d) rest (arg_shape b)
 unfolding arg_shape arg_of name_node
 arg_is d b rest =
-    let a = arg_at true d in
+    let a = arg_at d in
     choice (arg_of d) rest (b == 119) _ _ (word_is rest) (
     choice (arg_of d) rest (b == 113) _ _ (quoted_is rest) (
     choice (arg_of d) rest (b == 94) _ _ (made_is t.Concat _ _ (several_args d) rest) (
@@ -322,45 +322,45 @@ arg_is d b rest =
     choice (arg_of d) rest (b == 96) _ _ refl refl))))))))
 
 -- a level that is left, and none
-pub cmd_none : (left : ℕ) (bytes : List ℕ) → left ≡ 0 → cmd_at true left bytes ≡ Err TooDeep
+pub cmd_none : (left : ℕ) (bytes : List ℕ) → left ≡ 0 → cmd_at left bytes ≡ Err TooDeep
 unfolding cmd_at
-cmd_none left bytes h = ap (λ k. cmd_at true k bytes) h
+cmd_none left bytes h = ap (λ k. cmd_at k bytes) h
 
-pub arg_none : (left : ℕ) (bytes : List ℕ) → left ≡ 0 → arg_at true left bytes ≡ Err TooDeep
+pub arg_none : (left : ℕ) (bytes : List ℕ) → left ≡ 0 → arg_at left bytes ≡ Err TooDeep
 unfolding arg_at
-arg_none left bytes h = ap (λ k. arg_at true k bytes) h
+arg_none left bytes h = ap (λ k. arg_at k bytes) h
 
 left_is : (left : ℕ) → 0 < left → left ≡ suc (left - 1)
 left_is left h = omega arith
 
-cmd_steps : (d : ℕ) (bytes : List ℕ) → cmd_at true (suc d) bytes ≡ (mark_by cmd_shape bytes >>= λ x. cmd_of d x.0 x.1)
+cmd_steps : (d : ℕ) (bytes : List ℕ) → cmd_at (suc d) bytes ≡ (mark_by cmd_shape bytes >>= λ x. cmd_of d x.0 x.1)
 unfolding cmd_at mark_by first_by
 cmd_steps d [] = refl
 cmd_steps d (b ∷ rest) = cmd_is d b rest ∙ sym (shaped_then (cmd_of d) (cmd_shape b) rest)
 
-arg_steps : (d : ℕ) (bytes : List ℕ) → arg_at true (suc d) bytes ≡ (mark_by arg_shape bytes >>= λ x. arg_of d x.0 x.1)
+arg_steps : (d : ℕ) (bytes : List ℕ) → arg_at (suc d) bytes ≡ (mark_by arg_shape bytes >>= λ x. arg_of d x.0 x.1)
 unfolding arg_at mark_by first_by
 arg_steps d [] = refl
 arg_steps d (b ∷ rest) = arg_is d b rest ∙ sym (shaped_then (arg_of d) (arg_shape b) rest)
 
-pub cmd_next : (left : ℕ) (bytes : List ℕ) → 0 < left → cmd_at true left bytes ≡ (mark_by cmd_shape bytes >>= λ x. cmd_of (left - 1) x.0 x.1)
-cmd_next left bytes h = ap (λ k. cmd_at true k bytes) (left_is left h) ∙ cmd_steps (left - 1) bytes
+pub cmd_next : (left : ℕ) (bytes : List ℕ) → 0 < left → cmd_at left bytes ≡ (mark_by cmd_shape bytes >>= λ x. cmd_of (left - 1) x.0 x.1)
+cmd_next left bytes h = ap (λ k. cmd_at k bytes) (left_is left h) ∙ cmd_steps (left - 1) bytes
 
-pub arg_next : (left : ℕ) (bytes : List ℕ) → 0 < left → arg_at true left bytes ≡ (mark_by arg_shape bytes >>= λ x. arg_of (left - 1) x.0 x.1)
-arg_next left bytes h = ap (λ k. arg_at true k bytes) (left_is left h) ∙ arg_steps (left - 1) bytes
+pub arg_next : (left : ℕ) (bytes : List ℕ) → 0 < left → arg_at left bytes ≡ (mark_by arg_shape bytes >>= λ x. arg_of (left - 1) x.0 x.1)
+arg_next left bytes h = ap (λ k. arg_at k bytes) (left_is left h) ∙ arg_steps (left - 1) bytes
 
 pub cmd_given : (left : ℕ) (bytes rest : List ℕ) (shape : CmdShape) → 0 < left → mark_by cmd_shape bytes ≡ Ok (shape, rest) →
-    cmd_at true left bytes ≡ cmd_of (left - 1) shape rest
+    cmd_at left bytes ≡ cmd_of (left - 1) shape rest
 cmd_given left bytes rest shape h e = cmd_next left bytes h ∙ ap (λ (p : Read-of CmdShape). p >>= λ x. cmd_of (left - 1) x.0 x.1) e
 
-pub cmd_bad : (left : ℕ) (bytes : List ℕ) (fault : ImageFault) → 0 < left → mark_by cmd_shape bytes ≡ Err fault → cmd_at true left bytes ≡ Err fault
+pub cmd_bad : (left : ℕ) (bytes : List ℕ) (fault : ImageFault) → 0 < left → mark_by cmd_shape bytes ≡ Err fault → cmd_at left bytes ≡ Err fault
 cmd_bad left bytes fault h e = cmd_next left bytes h ∙ ap (λ (p : Read-of CmdShape). p >>= λ x. cmd_of (left - 1) x.0 x.1) e
 
 pub arg_given : (left : ℕ) (bytes rest : List ℕ) (shape : ArgShape) → 0 < left → mark_by arg_shape bytes ≡ Ok (shape, rest) →
-    arg_at true left bytes ≡ arg_of (left - 1) shape rest
+    arg_at left bytes ≡ arg_of (left - 1) shape rest
 arg_given left bytes rest shape h e = arg_next left bytes h ∙ ap (λ (p : Read-of ArgShape). p >>= λ x. arg_of (left - 1) x.0 x.1) e
 
-pub arg_bad : (left : ℕ) (bytes : List ℕ) (fault : ImageFault) → 0 < left → mark_by arg_shape bytes ≡ Err fault → arg_at true left bytes ≡ Err fault
+pub arg_bad : (left : ℕ) (bytes : List ℕ) (fault : ImageFault) → 0 < left → mark_by arg_shape bytes ≡ Err fault → arg_at left bytes ≡ Err fault
 arg_bad left bytes fault h e = arg_next left bytes h ∙ ap (λ (p : Read-of ArgShape). p >>= λ x. arg_of (left - 1) x.0 x.1) e
 
 pub ruleset levels = (cmd_none, arg_none, cmd_given, cmd_bad, arg_given, arg_bad, common_steps)

@@ -42,27 +42,27 @@ pub nodes_done : {s : Sort} (r : Reader (Node s)) (count i : ℕ) (front : Many 
 unfolding nodes_from
 nodes_done r count i front bytes h = ap (λ k. nodes_from r k front bytes) (none_left count i h)
 
-pub args_are : (least d : ℕ) (bytes : List ℕ) → args_by least d bytes ≡ list_by (count_from least) (arg_at true d) bytes
+pub args_are : (least d : ℕ) (bytes : List ℕ) → args_by least d bytes ≡ list_by (count_from least) (arg_at d) bytes
 unfolding args_by
 args_are least d bytes = refl
 
-pub item_is : (d : ℕ) (bytes : List ℕ) → item_by d bytes ≡ (background_by bytes >>= λ b. cmd_at true d b.1 >>= λ x. Ok (t.Item x.0 b.0, x.1))
+pub item_is : (d : ℕ) (bytes : List ℕ) → item_by d bytes ≡ (background_by bytes >>= λ b. cmd_at d b.1 >>= λ x. Ok (t.Item x.0 b.0, x.1))
 unfolding item_by
 item_is d bytes = refl
 
-pub pair_is : (d : ℕ) (bytes : List ℕ) → pair_by d bytes ≡ (arg_at true d bytes >>= λ x. arg_at true d x.1 >>= λ y. Ok (t.Pair x.0 y.0, y.1))
+pub pair_is : (d : ℕ) (bytes : List ℕ) → pair_by d bytes ≡ (arg_at d bytes >>= λ x. arg_at d x.1 >>= λ y. Ok (t.Pair x.0 y.0, y.1))
 unfolding pair_by
 pair_is d bytes = refl
 
-pub stage_is : (d : ℕ) (bytes : List ℕ) → stage_by d bytes ≡ (slot_by bytes >>= λ s. cmd_at true d s.1 >>= λ x. Ok (t.Stage x.0 s.0, x.1))
+pub stage_is : (d : ℕ) (bytes : List ℕ) → stage_by d bytes ≡ (slot_by bytes >>= λ s. cmd_at d s.1 >>= λ x. Ok (t.Stage x.0 s.0, x.1))
 unfolding stage_by
 stage_is d bytes = refl
 
-pub link_is : (d : ℕ) (bytes : List ℕ) → link_by d bytes ≡ (logic_by bytes >>= λ l. cmd_at true d l.1 >>= λ x. Ok (t.Link l.0 x.0, x.1))
+pub link_is : (d : ℕ) (bytes : List ℕ) → link_by d bytes ≡ (logic_by bytes >>= λ l. cmd_at d l.1 >>= λ x. Ok (t.Link l.0 x.0, x.1))
 unfolding link_by
 link_is d bytes = refl
 
-pub branch_is : (d : ℕ) (bytes : List ℕ) → branch_by d bytes ≡ (args_by 0 d bytes >>= λ ps. cmd_at true d ps.1 >>= λ x. Ok (t.Branch ps.0 x.0, x.1))
+pub branch_is : (d : ℕ) (bytes : List ℕ) → branch_by d bytes ≡ (args_by 0 d bytes >>= λ ps. cmd_at d ps.1 >>= λ x. Ok (t.Branch ps.0 x.0, x.1))
 unfolding branch_by
 branch_is d bytes = refl
 

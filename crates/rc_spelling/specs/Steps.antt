@@ -110,24 +110,24 @@ logic_by bytes = first_by bytes >>= λ x.
 
 -- arguments of this level, at least this many
 unfoldable pub args_by : (least d : ℕ) → Reader (Many t.arg)
-args_by least d bytes = list_by (count_from least) (arg_at true d) bytes
+args_by least d bytes = list_by (count_from least) (arg_at d) bytes
 
 -- an item
 unfoldable pub item_by : ℕ → Reader (Node t.item)
-item_by d bytes = background_by bytes >>= λ b. cmd_at true d b.1 >>= λ x. Ok (t.Item x.0 b.0, x.1)
+item_by d bytes = background_by bytes >>= λ b. cmd_at d b.1 >>= λ x. Ok (t.Item x.0 b.0, x.1)
 
 -- a name and its value
 unfoldable pub pair_by : ℕ → Reader (Node t.pair)
-pair_by d bytes = arg_at true d bytes >>= λ x. arg_at true d x.1 >>= λ y. Ok (t.Pair x.0 y.0, y.1)
+pair_by d bytes = arg_at d bytes >>= λ x. arg_at d x.1 >>= λ y. Ok (t.Pair x.0 y.0, y.1)
 
 -- a stage
 unfoldable pub stage_by : ℕ → Reader (Node t.stage)
-stage_by d bytes = slot_by bytes >>= λ s. cmd_at true d s.1 >>= λ x. Ok (t.Stage x.0 s.0, x.1)
+stage_by d bytes = slot_by bytes >>= λ s. cmd_at d s.1 >>= λ x. Ok (t.Stage x.0 s.0, x.1)
 
 -- an operand after the first one
 unfoldable pub link_by : ℕ → Reader (Node t.link)
-link_by d bytes = logic_by bytes >>= λ l. cmd_at true d l.1 >>= λ x. Ok (t.Link l.0 x.0, x.1)
+link_by d bytes = logic_by bytes >>= λ l. cmd_at d l.1 >>= λ x. Ok (t.Link l.0 x.0, x.1)
 
 -- a branch of a `switch`
 unfoldable pub branch_by : ℕ → Reader (Node t.branch)
-branch_by d bytes = args_by 0 d bytes >>= λ ps. cmd_at true d ps.1 >>= λ x. Ok (t.Branch ps.0 x.0, x.1)
+branch_by d bytes = args_by 0 d bytes >>= λ ps. cmd_at d ps.1 >>= λ x. Ok (t.Branch ps.0 x.0, x.1)

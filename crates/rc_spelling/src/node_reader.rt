@@ -30,7 +30,7 @@ pub(crate) fn read_cmd(
     left: usize,
     bytes: &[u8],
 ) -> Result<(Box<Cmd>, &[u8]), ImageError>
-    ensures { Gives (λ x. (cmd_tree x.0.value, x.1.now)) result (cmd_at true left bytes.now) }
+    ensures { Gives (λ x. (cmd_tree x.0.value, x.1.now)) result (cmd_at left bytes.now) }
 {
     if left == 0 {
         return Err(InputError::Fault(ImageFault::TooDeep));
@@ -155,7 +155,7 @@ fn read_subject(
 #[cycle(read)]
 #[tactic(auto, using(crate::proofs::Mirror::levels))]
 fn read_arg(alloc: Global, left: usize, bytes: &[u8]) -> Result<(Arg, &[u8]), ImageError>
-    ensures { Gives (λ x. (arg_tree x.0, x.1.now)) result (arg_at true left bytes.now) }
+    ensures { Gives (λ x. (arg_tree x.0, x.1.now)) result (arg_at left bytes.now) }
 {
     if left == 0 {
         return Err(InputError::Fault(ImageFault::TooDeep));

@@ -1,4 +1,5 @@
-use Rattle.law_image.proofs.Trees.{one_spelling, has_spelling, one_tree}
+use Rattle.law_image.proofs.OneTree.{one_tree}
+use Rattle.law_image.proofs.Trees.{one_spelling, has_spelling}
 use Rattle.law_image.proofs.trees_have_one_spelling.Goals as goal
 
 pub returns : goal.returns

@@ -220,12 +220,12 @@ Elsewhere a l a_file = Unit {0}
 Elsewhere a l (read_end q) = a.pipeline q < l
 Elsewhere a l (write_end q) = a.pipeline q < l
 
--- no end is held of the pipes of the pipeline or backquote that a child was started for
+-- no pipe end of the pipeline or backquote that a child was started for, or of a later one, is held
 abbrev pub NoneHeld : Account → Option ℕ → Type 0
 NoneHeld a None = Unit {0}
 NoneHeld a (Some p) = (h : ℕ) → 1 ≤ a.files h → Elsewhere a (a.pipeline p) (a.things h)
 
--- a child is waited for when no end is held of the pipes of its pipeline or backquote
+-- a child is waited for only when no pipe end of its pipeline or backquote, or of a later one, is held
 abbrev pub Apart : Account → Call → Type 0
 Apart a (wait c) = NoneHeld a (a.feeds c)
 Apart a _ = Unit {0}
@@ -265,8 +265,8 @@ AllOneWriteEnd a (e ∷ es) = OneWriteEnd a × AllOneWriteEnd (after a e.call e.
 
 -- nothing is lost by a shell that began in a state and has this trace
 pub record NothingLost (s : State) (trace : List Event) : Type 0 where
-  -- each call names what is held or owed, a new write end comes first, and a wait comes when no end is held of its
-  -- pipeline
+  -- each call names what is held or owed, a new write end comes first, and a wait comes when no pipe end of its
+  -- pipeline is held
   pub each_call : AllAllowed (at_start s) trace
   -- so at most one write end is held at any moment
   pub one_write_end : AllOneWriteEnd (at_start s) trace
@@ -287,7 +287,7 @@ FreshAnswers a (ask c go) (x ∷ given) =
     Unless (is_halt x) (Fresh a c x × FreshAnswers (after a c x) (go (fitting c x)) given)
 FreshAnswers a _ _ = Unit {0}
 
--- such answers for the meaning of a script, with n turns
+-- such answers for the meaning of a script with at most n turns
 pub record AreFreshAnswers (n : ℕ) (c : Node cmd) (s : State) (given : List Answer) : Type 0 where
   pub differ : Differ s.background
   pub fresh : FreshAnswers (at_start s) (whole n c s) given

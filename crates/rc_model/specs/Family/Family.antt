@@ -194,7 +194,7 @@ pub record WaitsFor (f : Family) (k j : ℕ) : Type 0 where
   pub pending : IsPending (f.at k) call
   pub waits : WaitsBy f k call j
 
--- through any number of others, one at least
+-- a process waits for another, directly or through others
 pub data WaitsLong (f : Family) : ℕ → ℕ → Type 0 where
   directly : {k j : ℕ} → WaitsFor f k j → WaitsLong f k j
   through : {k j m : ℕ} → WaitsFor f k j → WaitsLong f j m → WaitsLong f k m

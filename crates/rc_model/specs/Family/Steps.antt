@@ -43,7 +43,7 @@ pub data StepFault : Type 0 where
   WrongKind : StepFault
   AtLimit : StepFault
 
--- a process is appended that satisfies this
+-- a process that satisfies this is appended
 abbrev pub AppendsSuch : (Launch → Node cmd × State) → (Process → Type 0) → ℕ → Process → Option (Launch × ℕ) → Type 0
 AppendsSuch reads P k p None = ⊥
 AppendsSuch reads P k p (Some (l, n)) = P (child_process reads k p l n)

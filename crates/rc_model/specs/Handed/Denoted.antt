@@ -17,7 +17,7 @@ pub record IsEntryOf (name text entry : List ℕ) : Type 0 where
   pub is : entry ≡ name ++ 61 ∷ text
   pub whole : list_all (λ b. not (b == 61)) name ≡ true
 
--- of these entries, the first of this name has this text
+-- the first of these entries with this name has this text
 pub data FirstOf (name text : List ℕ) : List (List ℕ) → Type 0 where
   here : (e : List ℕ) (es : List (List ℕ)) → IsEntryOf name text e → FirstOf name text (e ∷ es)
   later : (e : List ℕ) (es : List (List ℕ)) → ((other : List ℕ) → IsEntryOf name other e → ⊥) →
@@ -71,8 +71,8 @@ pub data HasStatus (own : Bool) (entries : List (List ℕ)) (status : List ℕ) 
   null : (own ≡ true → (text : List ℕ) → FirstOf status_name text entries → ⊥) → status ≡ [] →
       HasStatus own entries status
 
--- Arguments and entries denote this state: it has these variables, functions and status and no other, and each entry of
--- a function that counts has a body.
+-- Arguments and entries denote this state: it has these variables, functions and status and no other, and each function
+-- entry that counts has a body.
 pub record Denotes (own : Bool) (args entries : List (List ℕ)) (s : State) : Type 0 where
   pub variables : (name : List ℕ) (values : List (List (List ℕ))) → (lookup (bytes_eq name) s.variables ≡ Some values)
       ↔ ((members : List (List ℕ)) × (values ≡ members ∷ []) × HasMembers args entries name members)

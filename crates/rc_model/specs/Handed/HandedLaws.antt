@@ -67,7 +67,7 @@ EndsAreProper =
     (n : ℕ) (c : Node cmd) (s t : State) (given left : List Answer) (made : List Call) → IsProperTree c → IsProper s →
     script n c s given ≡ Ends made t left → IsProper t
 
--- the shells started in a trace that is begun as the script means read back what they are handed
+-- the shells started in a trace that begins as the script means read back what they are handed
 abbrev pub TracesReadBack : Type 0
 TracesReadBack =
     (c : Node cmd) (s : State) (trace : List Event) → IsProperTree c → IsProper s → IsBegunAsMeant c s trace →

@@ -9,7 +9,7 @@ use Rattle.rc_model.specs.Syntax.WellFormed.{well_formed}
 use Rattle.rc_model.specs.Run.State.{State, status_name, is_name, is_function_name}
 use Rattle.rc_model.specs.Handed.TreeSpelling.{has_characters}
 
--- a name is before all these names in byte order
+-- a name precedes all these names in byte order
 abbrev pub Above : {X : Type 0} → List ℕ → List (List ℕ × X) → Type 0
 Above k [] = Unit {0}
 Above k (e ∷ es) = (text_cmp k e.0 ≡ Less) × Above k es

@@ -69,7 +69,7 @@ abbrev pub StartsByRule : Node cmd → State → List Event → Type 0
 StartsByRule c s trace = (before later : List Event) (e : Event) → trace ≡ before ++ e ∷ later →
     (turns : ℕ) × CalledByRule State (plan_after (whole turns c s) (answers before)) e.call
 
--- this holds of each trace that is begun as the script means
+-- this holds of each trace that begins as the script means
 abbrev pub TracesStartByRule : Type 0
 TracesStartByRule =
     (c : Node cmd) (s : State) (trace : List Event) → IsProperTree c → IsProper s → IsBegunAsMeant c s trace →

@@ -74,7 +74,7 @@ abbrev pub bytes_at : ℕ → Reader (List ℕ)
 bytes_at n bytes =
     if nat_le n (length bytes) && is_text (take n bytes) then Ok (take n bytes, drop n bytes) else Err BadLength
 
--- a text with its length
+-- a text, after its length
 abbrev pub text_at : Reader (List ℕ)
 text_at bytes = count_at 58 bytes >>= λ n. bytes_at n.0 n.1
 
@@ -95,7 +95,7 @@ output_rows = (49, given 1) ∷ (50, given 2) ∷ []
 abbrev pub output_at : Reader ℕ
 output_at = tagged output_rows
 
--- `1` with a `2` after it, and `2` with a `1` after it
+-- `1` followed by `2`, and `2` followed by `1`
 abbrev pub crossing_rows : List (ℕ × Reader (ℕ × ℕ))
 crossing_rows = (49, tagged ((50, given (1, 2)) ∷ [])) ∷ (50, tagged ((49, given (2, 1)) ∷ [])) ∷ []
 
@@ -103,26 +103,21 @@ crossing_rows = (49, tagged ((50, given (1, 2)) ∷ [])) ∷ (50, tagged ((49, g
 abbrev pub crossing_at : Reader (ℕ × ℕ)
 crossing_at = tagged crossing_rows
 
--- a test that applies only if trees must be well formed
-abbrev pub need : Bool → Bool → Bool
-need true test = test
-need false test = true
-
 -- a list has any number of nodes
 abbrev pub any : ℕ → Bool
 any n = true
 
 -- a list has at least one node
-abbrev pub some : Bool → ℕ → Bool
-some k n = need k (nat_lt 0 n)
+abbrev pub some : ℕ → Bool
+some n = nat_lt 0 n
 
 -- a list has at least two nodes
-abbrev pub several : Bool → ℕ → Bool
-several k n = need k (nat_lt 1 n)
+abbrev pub several : ℕ → Bool
+several n = nat_lt 1 n
 
 -- a list has 1 to 63 nodes
-abbrev pub few : Bool → ℕ → Bool
-few k n = need k (nat_lt 0 n && nat_lt n MOST_STAGES)
+abbrev pub few : ℕ → Bool
+few n = nat_lt 0 n && nat_lt n MOST_STAGES
 
 -- an item of a sequence, by its mark, given the reader of commands
 abbrev pub item_rows : Reader (Node cmd) → List (ℕ × Reader (Node item))
@@ -175,15 +170,15 @@ abbrev pub redir_at : Reader (Node arg) → Reader (Node redir)
 redir_at a = tagged (redir_rows a)
 
 -- a command, by its tag
-abbrev pub cmd_rows : Bool → Reader (Node cmd) → Reader (Node arg) → List (ℕ × Reader (Node cmd))
-cmd_rows k c a =
+abbrev pub cmd_rows : Reader (Node cmd) → Reader (Node arg) → List (ℕ × Reader (Node cmd))
+cmd_rows c a =
     (101, given t.Empty)
     ∷ (115, made t.Seq (listed any (item_at c)))
-    ∷ (99, made t.Simple (listed (some k) a))
-    ∷ (61, made (λ x. t.Assign x.0 x.1) (both (listed (some k) (pair_at a)) c))
-    ∷ (114, made (λ x. t.Redirect x.0 x.1) (both (listed (some k) (redir_at a)) c))
-    ∷ (112, made (λ x. t.Pipeline x.0 x.1) (both (listed (few k) (stage_at c)) c))
-    ∷ (97, made (λ x. t.AndOr x.0 x.1) (both c (listed (some k) (link_at c))))
+    ∷ (99, made t.Simple (listed some a))
+    ∷ (61, made (λ x. t.Assign x.0 x.1) (both (listed some (pair_at a)) c))
+    ∷ (114, made (λ x. t.Redirect x.0 x.1) (both (listed some (redir_at a)) c))
+    ∷ (112, made (λ x. t.Pipeline x.0 x.1) (both (listed few (stage_at c)) c))
+    ∷ (97, made (λ x. t.AndOr x.0 x.1) (both c (listed some (link_at c))))
     ∷ (33, made t.Not c)
     ∷ (64, made t.Subshell c)
     ∷ (105, made (λ x. t.If x.0 x.1) (both c c))
@@ -193,17 +188,17 @@ cmd_rows k c a =
     ∷ (70, made (λ x. t.For x.0 x.1.0 x.1.1) (both a (both (listed any a) c)))
     ∷ (83, made (λ x. t.Switch x.0 x.1) (both a (listed any (branch_at c a))))
     ∷ (126, made (λ x. t.Match x.0 x.1) (both a (listed any a)))
-    ∷ (100, made (λ x. t.Define x.0 x.1) (both (listed (some k) a) c))
-    ∷ (117, made t.Undefine (listed (some k) a))
+    ∷ (100, made (λ x. t.Define x.0 x.1) (both (listed some a) c))
+    ∷ (117, made t.Undefine (listed some a))
     ∷ (98, made t.Brace c)
     ∷ []
 
 -- an argument, by its tag
-abbrev pub arg_rows : Bool → Reader (Node cmd) → Reader (Node arg) → List (ℕ × Reader (Node arg))
-arg_rows k c a =
-    (119, made (λ x. t.Lit x false) (tested (λ x. need k (has_text x)) text_at))
+abbrev pub arg_rows : Reader (Node cmd) → Reader (Node arg) → List (ℕ × Reader (Node arg))
+arg_rows c a =
+    (119, made (λ x. t.Lit x false) (tested has_text text_at))
     ∷ (113, made (λ x. t.Lit x true) text_at)
-    ∷ (94, made t.Concat (listed (several k) a))
+    ∷ (94, made t.Concat (listed several a))
     ∷ (40, made t.Paren (listed any a))
     ∷ (36, made t.Var a)
     ∷ (35, made t.Count a)
@@ -215,14 +210,14 @@ arg_rows k c a =
 -- a node with at most a given number of commands and arguments on one path from it
 unfoldable mutual
   -- a command of at most this depth
-  pub cmd_at : Bool → ℕ → Reader (Node cmd)
-  cmd_at k zero bytes = Err TooDeep
-  cmd_at k (suc d) bytes = tagged (cmd_rows k (cmd_at k d) (arg_at k d)) bytes
+  pub cmd_at : ℕ → Reader (Node cmd)
+  cmd_at zero bytes = Err TooDeep
+  cmd_at (suc d) bytes = tagged (cmd_rows (cmd_at d) (arg_at d)) bytes
 
   -- an argument of at most this depth
-  pub arg_at : Bool → ℕ → Reader (Node arg)
-  arg_at k zero bytes = Err TooDeep
-  arg_at k (suc d) bytes = tagged (arg_rows k (cmd_at k d) (arg_at k d)) bytes
+  pub arg_at : ℕ → Reader (Node arg)
+  arg_at zero bytes = Err TooDeep
+  arg_at (suc d) bytes = tagged (arg_rows (cmd_at d) (arg_at d)) bytes
 
 -- nothing follows the tree
 abbrev pub whole : {X : Type 0} → Result (X × List ℕ) ImageFault → Result X ImageFault
@@ -244,7 +239,7 @@ beginning_fault text =
 
 -- the tree of a spelling
 abbrev pub read_spelling : List ℕ → Result (Node cmd) ImageFault
-read_spelling text = whole (cmd_at true MOST_LEVELS text)
+read_spelling text = whole (cmd_at MOST_LEVELS text)
 
 -- the tree of a text
 abbrev pub read_tree : List ℕ → Result (Node cmd) ImageFault

@@ -11,7 +11,7 @@ use Rattle.rc_model.specs.Syntax.Tree as t
 use Rattle.rc_model.specs.Syntax.WellFormed.{is_output, copies}
 use Rattle.rc_model.specs.Handed.Image.{literal_mark, item_mark, logic_mark}
 
--- a text of the first kind with one of the second after it
+-- a text of the first kind followed by one of the second
 pub record Joined (P Q : List ℕ → Type 0) (text : List ℕ) : Type 0 where
   pub front : List ℕ
   pub back : List ℕ
@@ -19,7 +19,7 @@ pub record Joined (P Q : List ℕ → Type 0) (text : List ℕ) : Type 0 where
   pub first : P front
   pub second : Q back
 
--- texts of one kind, each with one of another kind after it
+-- texts of one kind, each followed by one of another kind
 infixr 30 ◌⨾◌
 abbrev pub ◌⨾◌ : (List ℕ → Type 0) → (List ℕ → Type 0) → List ℕ → Type 0
 (P ⨾ Q) text = Joined P Q text

@@ -36,7 +36,7 @@ from_pieces limit first pieces =
     then counted (suc (length pieces)) (read_spelling (concat pieces))
     else Err BadLength
 
--- the first word tells in how many pieces the tree follows
+-- the first word says in how many pieces the tree follows
 abbrev pub read_words : (limit : ℕ) → List (List ℕ) → Taken
 read_words limit [] = Err BadTag
 read_words limit (first ∷ rest) =

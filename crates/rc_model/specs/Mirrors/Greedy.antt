@@ -42,7 +42,7 @@ abbrev pub star_by : Role → Word → Option Word
 star_by Star w = Some w
 star_by _ w = None
 
--- the rest of a word after the star that it begins with, if it does
+-- the rest of a word after its leading star, if it has one
 abbrev pub after_star : Word → Option Word
 after_star [] = None
 after_star (m ∷ w) = star_by (role m) w

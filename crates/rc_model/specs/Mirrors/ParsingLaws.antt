@@ -52,7 +52,7 @@ HasSoundTrees =
     (ts : List Lexeme) (tree : Node t.cmd) → AreSpelled ts → HaveTree ts tree → most_stages tree ≤ MOST_STAGES →
     is_sound tree ≡ true
 
--- each tree of a text that is well formed and has no here document is that of its print, if that isn't too long
+-- each well formed tree of a text is that of its own print, if it has no here document and the print isn't too long
 abbrev pub RoundTrip : Type 0
 RoundTrip =
     (text : List ℕ) (tokens : List Token) (tree : Node t.cmd) → IsUtf8 text → Lexes text (Ok tokens) →

@@ -25,11 +25,11 @@ use Rattle.rc_model.specs.declared.limits.TheConstants.{LONGEST_OUTPUT, LONGEST_
 
 -- ** redirections
 
--- the words of the runtime error that this name cannot be opened
+-- the words of the runtime error for a name that cannot be opened
 abbrev pub cannot_open : List ℕ → List ℕ
 cannot_open name = codes "cannot open " ++ name
 
--- the words of the runtime error that a redirection doesn't have exactly one word
+-- the words of the runtime error for a redirection that doesn't have exactly one word
 abbrev pub not_one_word : List ℕ
 not_one_word = codes "redirection needs one word"
 
@@ -204,13 +204,13 @@ background slots body = do
 
 -- ** pipelines
 
--- the stages but the last after their starts: they run, and the last one reads from this end, or one could not be
--- started, for this reason. The children are still to be waited for
+-- all stages but the last after their starts: either they run, and the last one reads from this end, or one could not
+-- be started, for this reason. The children are still to be waited for
 pub data LaunchedStages : Type 0 where
   Launched : (read_end : Option ℕ) (children : List ℕ) → LaunchedStages
   NotLaunched : (children why : List ℕ) → LaunchedStages
 
--- the stages but the last, after their start: the read end before the last, and the children; or one was refused
+-- all stages but the last after their starts: the read end before the last, and the children; or one was refused
 pub data StartedStages : Type 0 where
   Running : (read_end : Option ℕ) (children : List ℕ) → StartedStages
   Refused : StartedStages
@@ -230,7 +230,7 @@ abbrev pub from_pipe : Option ℕ → Slots → Slots
 from_pipe None slots = slots
 from_pipe (Some h) slots = with_slot slots 0 (to_file h)
 
--- after the start of a stage closes its write end and the read end before it; a refusal ends the pipeline
+-- once a stage is started, closes its write end and the read end before it; a refusal ends the pipeline
 abbrev pub next_stage : (Option ℕ → List ℕ → Shell LaunchedStages) → Option ℕ → List ℕ → ℕ → ℕ → Started →
     Shell LaunchedStages
 next_stage go before children read_end write_end (Child n) = do
@@ -261,7 +261,7 @@ stages_from slots (more (Stage body slot) stages) before children = do
 abbrev pub launch_stages : Slots → Many stage → Shell LaunchedStages
 launch_stages slots stages = stages_from slots stages None []
 
--- after a refusal the children that were started are waited for, and the status is theirs and the reason
+-- after a refusal, waits for the children that were started; the status is made of theirs and the reason
 abbrev pub settled : LaunchedStages → Shell StartedStages
 settled (Launched read_end children) = pure (Running read_end children)
 settled (NotLaunched children why) = do
@@ -269,7 +269,7 @@ settled (NotLaunched children why) = do
   set_status (stages_status (statuses ++ why ∷ []))
   pure Refused
 
--- the stages of a pipeline but the last are started, or the pipeline has ended
+-- starts all stages of a pipeline but the last, unless one is refused, which ends the pipeline
 abbrev pub start_stages : Slots → Many stage → Shell StartedStages
 start_stages slots stages = do
   launched ← launch_stages slots stages
@@ -301,7 +301,7 @@ read_on again most text (Some (b ∷ bs)) =
     if nat_le (length (text ++ b ∷ bs)) most then again (text ++ b ∷ bs)
     else pure (got_all (text ++ b ∷ bs) (Some (codes "too large")))
 
--- reads up to the empty answer; each read but the last returns a byte, so at most `most` + 1 are made
+-- reads up to the empty answer; each read but the last returns at least one byte, so at most `most` + 1 are made
 abbrev pub reading : ℕ → ℕ → ℕ → List ℕ → Shell Got
 reading zero most h text = pure (got_all text (Some (codes "too large")))
 reading (suc n) most h text = do

@@ -205,7 +205,7 @@ shown_value [] = codes "()"
 shown_value (m ∷ []) = shown m
 shown_value (m ∷ n ∷ ms) = codes "(" ++ (spaced (map shown (m ∷ n ∷ ms)) ++ codes ")")
 
--- what is known of a name: its lines, and a status if something is missing
+-- what is known about a name: its lines, and a status if something is missing
 abbrev pub Known : Type 0
 Known = List ℕ × Option (List ℕ)
 
@@ -242,7 +242,7 @@ command_line name shown (Some body) b = pure (function_line name body)
 command_line name shown None (Some b) = pure (line (codes "builtin " ++ name), None)
 command_line name shown None None = other_line name shown
 
--- all that is known of a name
+-- all that is known about a name
 abbrev pub known_of : List ℕ → Shell Known
 known_of name = do
   s ← get
@@ -254,7 +254,7 @@ abbrev pub later : Option (List ℕ) → Option (List ℕ) → Option (List ℕ)
 later before None = before
 later before (Some status) = Some status
 
--- all that is known of these names
+-- all that is known about these names
 abbrev pub known_each : List (List ℕ) → Shell Known
 known_each [] = pure ([], None)
 known_each (name ∷ names) = do

@@ -79,7 +79,7 @@ pub record Event : Type 0 where
 abbrev pub event : Call → Answer → Event
 event call answer = record { call = call; answer = answer }
 
--- an answer as the kind that its call wants, or nothing if it is another: a file
+-- an answer as the kind that its call wants, or nothing if it is of another kind: a file
 abbrev pub as_file : Answer → Option ℕ
 as_file (file h) = Some h
 as_file _ = None
@@ -89,7 +89,7 @@ abbrev pub as_pair : Answer → Option (ℕ × ℕ)
 as_pair (pair r w) = Some (r, w)
 as_pair _ = None
 
--- whether the call was done
+-- whether the call was carried out
 abbrev pub as_done : Answer → Bool
 as_done done = true
 as_done _ = false
@@ -144,8 +144,8 @@ want (list_names path) = WantsNames
 want (probe path) = WantsKind
 want (change_dir path) = WantsDone
 
--- an answer as a call takes it: one of another kind, a read of over 4096 bytes and out of memory count as another
--- refusal
+-- an answer as a call takes it: one of another kind, a read of over 4096 bytes and out of memory count as a refusal of
+-- the kind `Other`
 abbrev pub taken_as : Want → Answer → Answer
 taken_as WantsFile (file h) = file h
 taken_as WantsPair (pair r w) = pair r w

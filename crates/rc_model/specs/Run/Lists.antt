@@ -8,7 +8,7 @@ use Rattle.rc_model.specs.Run.Numbers.{number_of}
 pub use Rattle.rc_model.specs.declared.fault.ListFault.{ListFault}
 pub use Rattle.rc_model.specs.declared.fault.ListFault.TheVariants.{EmptyConcat, CountMismatch}
 
--- a fault of lists in words
+-- a fault of lists, in words
 abbrev pub list_words : ListFault → List ℕ
 list_words EmptyConcat = codes "empty list in concatenation"
 list_words CountMismatch = codes "list lengths differ in concatenation"
@@ -27,7 +27,7 @@ distributed (a ∷ []) (b ∷ bs) = Ok (map (λ w. a ++ w) (b ∷ bs))
 distributed (a ∷ a' ∷ as') (b ∷ []) = Ok (map (λ w. w ++ b) (a ∷ a' ∷ as'))
 distributed (a ∷ a' ∷ as') (b ∷ b' ∷ bs) = Err CountMismatch
 
--- lists of equal length are joined pairwise, else one with one member goes to each of the other
+-- lists of equal length are joined pairwise; otherwise a list of one member is joined to each member of the other
 abbrev pub concatenated : List Word → List Word → Result (List Word) ListFault
 concatenated xs ys = if length xs == length ys then Ok (pairwise xs ys) else distributed xs ys
 

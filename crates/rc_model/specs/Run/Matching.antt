@@ -42,7 +42,7 @@ pub data IsHeld (c : ℕ) : Word → Type 0 where
 
 -- The word fits the characters. A class that isn't closed fits nothing.
 pub data Fits (explicit : Bool) : Word → List ℕ → Type 0 where
-  -- nothing is left of both
+  -- nothing is left of either
   end : Fits explicit [] []
   -- a character that isn't a pattern character stands for itself
   itself : (m : ℕ × Bool) (word : Word) (c : ℕ) (text : List ℕ) → role m ≡ Plain → m.0 ≡ c → Fits explicit word text →

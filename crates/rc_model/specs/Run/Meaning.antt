@@ -26,7 +26,7 @@ Runner = Shell (Unit {0})
 abbrev pub Caller : Type 0
 Caller = Slots → Node cmd → Runner
 
--- ** scopes: each ends with its command, also if the command ends the shell
+-- ** scopes: each ends with its command, even if the command ends the shell
 
 -- a local
 abbrev pub local_end : Runner → Runner
@@ -58,7 +58,7 @@ called_means call slots (BodyWith args c) = do
 abbrev pub if_true : {A : Type 0} → Shell A → Shell A → Shell A
 if_true m o = λ s. if is_true s.status then m s else o s
 
--- the command after `&&` runs if the status is true, that after `||` if it isn't
+-- the command after `&&` runs if the status is true, the one after `||` if it isn't
 abbrev pub linked : Logic → Runner → Runner
 linked And m = if_true m skip
 linked Or m = if_true skip m
@@ -215,7 +215,7 @@ abbrev mutual
     v ← arg_means a call n slots
     more_parts_mean rest call n slots v
 
-  -- what was joined so far is joined with each further part
+  -- what has been joined so far is joined with each further part
   pub more_parts_mean : Many arg → Caller → ℕ → Slots → List Word → Shell (List Word)
   more_parts_mean none call n slots before = pure before
   more_parts_mean (more a rest) call n slots before = do

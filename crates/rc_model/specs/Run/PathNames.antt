@@ -11,13 +11,13 @@ use Rattle.rc_model.specs.Run.Plans.{Plan, done_with, ask, cut}
 use Rattle.rc_model.specs.Run.Matching.{Matches}
 use Rattle.rc_model.specs.Run.FileNames.{components, is_no_name, directory}
 
--- the value of a plan if each call has this answer
+-- the value of a plan if these are the answers to its calls
 abbrev pub answered_by : {X : Type 0} → (Call → Answer) → Plan X → Option X
 answered_by answers (done_with x) = Some x
 answered_by answers (ask c go) = answered_by answers (go (answers c))
 answered_by answers cut = None
 
--- each call of the trace has the answer that it has in the trace
+-- these answers are those of the trace to each of its calls
 abbrev pub Agreeing : (Call → Answer) → List Event → Type 0
 Agreeing answers trace = AllByRecursion (λ e. answers e.call ≡ e.answer) trace
 
@@ -73,14 +73,13 @@ pub data Expands (answers : Call → Answer) (w : Word) : List Word → Type 0 w
       IsStrictlySortedBy text_cmp paths → paths ≢ [] → Expands answers w (plain_words paths)
   itself : ((p : List ℕ) → Named answers w p → ⊥) → Expands answers w (w ∷ [])
 
--- what a word becomes whatever a world answers to each call, if it answers so to those of the trace; there is such a
--- world
+-- what a word becomes for all answers that agree with those of the trace; there are such answers
 pub record ExpandsAlways (w : Word) (trace : List Event) (vs : List Word) : Type 0 where
   pub some : Call → Answer
   pub agrees : Agreeing some trace
   pub all : (answers : Call → Answer) → Agreeing answers trace → Expands answers w vs
 
--- what one word becomes by the events of its calls: itself without any, if it has no pattern character
+-- what one word becomes by the events of its calls: itself, without any call, if it has no pattern character
 pub data ExpandsBy (w : Word) : List Event → List Word → Type 0 where
   plain : has_pattern w ≡ false → ExpandsBy w [] (w ∷ [])
   names : (trace : List Event) (vs : List Word) → has_pattern w ≡ true → ExpandsAlways w trace vs →

@@ -24,7 +24,7 @@ is_marked c m = m.1 && (m.0 == c)
 abbrev pub is_between : ℕ → ℕ → ℕ → Bool
 is_between low high c = nat_le low c && nat_le c high
 
--- A class from its left: a marked `-` between two members is a range, whose ends belong to no other.
+-- A class, read from the left: a marked `-` between two members is a range, whose ends belong to no other.
 abbrev pub holds : Word → ℕ → Bool
 holds [] c = false
 holds (m ∷ []) c = m.0 == c
@@ -52,7 +52,7 @@ outside m =
 abbrev pub class_begun_by : ℕ × Bool → ClassSoFar
 class_begun_by m = if is_marked 91 m then Inside [] else Outside
 
--- the class that one character inside of it ends, if it does
+-- the class that ends with one more character inside of it, if it does
 abbrev pub inside : Word → ℕ × Bool → List Pattern
 inside members m = if is_marked 93 m then class_of members ∷ [] else []
 

@@ -1,5 +1,5 @@
--- Plans: trees of calls. A plan is done with a value, or it makes a call and goes on with the answer, or it is cut when
--- its turns or instructions are used up.
+-- Plans: trees of calls. A plan ends with a value, makes a call and goes on with the answer, or is cut when its turns
+-- or instructions are used up.
 use Rattle.std.specs.Prelude.{◌≡◌, List, [], ◌∷◌, ◌++◌, Option, if◌then◌else◌, false}
 use Rattle.rc_model.specs.Run.Calls.{Call, Answer, refused, Halt, fitting, is_halt, Event, event, extend}
 
@@ -19,8 +19,8 @@ and_then cut next = cut
 abbrev pub asks : {X : Type 0} → Call → (Answer → X) → Plan X
 asks c view = ask c (λ a. done_with (view a))
 
--- the outcome of a plan over a list of answers: the calls made, and a value with the answers left, or the last call
--- waits for its answer, or the plan was cut
+-- the outcome of a plan over a list of answers: the calls made, and then a value with the answers left, a last call
+-- that waits for its answer, or a cut
 pub data Played (X : Type 0) : Type 0 where
   Ends : (calls : List Call) → X → (left : List Answer) → Played X
   Waits : (calls : List Call) → Played X
@@ -32,7 +32,7 @@ after_call c (Ends calls x left) = Ends (c ∷ calls) x left
 after_call c (Waits calls) = Waits (c ∷ calls)
 after_call c (Cut calls) = Cut (c ∷ calls)
 
--- each call takes the next answer as one that fits it; a halt ends the list
+-- each call takes the next answer, made to fit it; a halt ends the list
 abbrev pub play : {X : Type 0} → Plan X → List Answer → Played X
 play (done_with x) answers = Ends [] x answers
 play (ask c go) [] = Waits (c ∷ [])
@@ -50,7 +50,7 @@ pub record IsAnswered (c : Call) (a : Answer) : Type 0 where
   pub came : is_halt a ≡ false
   pub fits : fitting c a ≡ a
 
--- the plan goes on to another by these events
+-- by these events the plan goes on to another
 abbrev pub Goes : {X : Type 0} → Plan X → List Event → Plan X → Type 0
 Goes p [] q = p ≡ q
 Goes (ask c go) (e ∷ es) q = (e.call ≡ c) × IsAnswered c e.answer × Goes (go e.answer) es q

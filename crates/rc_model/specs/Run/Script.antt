@@ -36,7 +36,8 @@ Within (Ends made x left) p = p ≡ Ends made x left
 Within (Waits made) p = p ≡ Waits made
 Within (Cut made) p = IsPrefix made (calls_made p)
 
--- The code of a script simulates its meaning, and the meaning simulates the code; both only go on.
+-- The code of a script simulates its meaning, and the meaning simulates the code; with more turns or instructions both
+-- only go on.
 pub record Agrees (c : Node cmd) (s : State) (given : List Answer) : Type 0 where
   -- what some instructions do is within the meaning of some turns
   pub code_means : (m : ℕ) → (n : ℕ) × Within (run m c s given) (script n c s given)

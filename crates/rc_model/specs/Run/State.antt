@@ -57,7 +57,7 @@ value_of s name = if bytes_eq name status_name then s.status ∷ [] else visible
 abbrev pub is_name : List ℕ → Bool
 is_name name = list_all is_name_char name && not (list_all is_digit name)
 
--- the name of a variable that is read: it can be all digits, too
+-- the name of a variable that is read: it may also be all digits
 abbrev pub is_readable : List ℕ → Bool
 is_readable name = list_all is_name_char name && not (length name == 0)
 
@@ -75,7 +75,7 @@ abbrev pub put_values : List (List ℕ × List (List (List ℕ))) → List ℕ �
 put_values variables name [] = remove_entry (bytes_eq name) variables
 put_values variables name (v ∷ vs) = insert_entry text_cmp variables name (v ∷ vs)
 
--- an assignment changes the visible value; that of the status joins its members by spaces
+-- an assignment changes the visible value; one to the status joins its members by spaces
 abbrev pub set_value : State → List ℕ → List (List ℕ) → State
 set_value s name value =
     if bytes_eq name status_name
@@ -136,7 +136,7 @@ undefine s (name ∷ names) = undefine (record s { functions = remove_entry (byt
 abbrev pub add_child : State → ℕ → State
 add_child s n = record s { background = s.background ++ n ∷ [] }
 
--- the list without the first of this number
+-- the list without the first child of this number
 abbrev pub without_child : ℕ → List ℕ → List ℕ
 without_child n [] = []
 without_child n (m ∷ ms) = if m == n then ms else m ∷ without_child n ms

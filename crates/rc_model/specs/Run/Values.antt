@@ -34,16 +34,16 @@ fails slots text = do
   runtime_error slots text
   exits
 
--- the words of the runtime error that a name is bad
+-- the words of the runtime error for a bad name
 abbrev pub bad_name : List ℕ
 bad_name = codes "bad name"
 
--- closes an open file first, if there is one
+-- first closes an open file, if there is one
 abbrev pub closing : {X : Type 0} → Option ℕ → Plan X → Plan X
 closing None p = p
 closing (Some h) p = ask (close h) (λ a. p)
 
--- waits for each child that is owed a wait first
+-- first waits for each child that is owed a wait
 abbrev pub waiting : {X : Type 0} → List ℕ → Plan X → Plan X
 waiting [] p = p
 waiting (n ∷ ns) p = ask (wait n) (λ a. waiting ns p)

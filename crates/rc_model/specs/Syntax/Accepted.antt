@@ -40,7 +40,7 @@ line_of script place = suc (count_by (λ b. b == 10) (take place script))
 abbrev pub IsLineOf : List ℕ → List Token → ℕ → Type 0
 IsLineOf script tokens line = (list_any (λ t. t.line == line) tokens ≡ true) ⊎ (line ≡ line_of script (length script))
 
--- Why a script is refused: the first of these that holds. A tree past both limits may give either fault.
+-- Why a script is refused: the first of these that holds. A tree that exceeds both limits may give either fault.
 pub data IsRefused (script : List ℕ) : SyntaxFault → Type 0 where
   too_long : longest_script < length script → IsRefused script (fault TooLong 0)
   not_text : length script ≤ longest_script → is_utf8 script ≡ false →

@@ -141,7 +141,7 @@ abbrev pub redirect : Many t.redir → Node t.cmd → Node t.cmd
 redirect none body = body
 redirect (more r rs) body = t.Redirect (more r rs) body
 
--- the stages but the last, each with the bar after it, of a first stage and the following ones, each with the bar
+-- all stages but the last, each with the bar after it, given a first stage and the following ones, each with the bar
 -- before it
 abbrev pub stages_of : Node t.cmd → Many t.stage → Many t.stage
 stages_of first none = none

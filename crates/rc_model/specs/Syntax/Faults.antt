@@ -40,7 +40,7 @@ abbrev pub Fails : {F Y : Type 0} → InputError F → Result Y F → Type 0
 Fails (Fault fault) read = read ≡ Err fault
 Fails NoMemory read = Unit {0}
 
--- what a function returned, seen by `view`, is what was read, unless memory ran out
+-- what a function returned, seen through `view`, is what was read, unless memory ran out
 abbrev pub Gives : {F X Y : Type 0} → (X → Y) → Result X (InputError F) → Result Y F → Type 0
 Gives view (Ok x) read = read ≡ Ok (view x)
 Gives view (Err error) read = Fails error read

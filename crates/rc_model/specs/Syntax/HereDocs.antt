@@ -6,7 +6,7 @@ use Rattle.rc_model.specs.Syntax.Tokens.{is_name_char}
 use Rattle.rc_model.specs.Syntax.Tree.{Many, none, snoc}
 use Rattle.rc_model.specs.Syntax.Tree as t
 
--- what has begun: a text, a text with a `$` after it, or a name
+-- what has begun: a text, a text followed by a `$`, or a name
 pub data PieceSoFar : Type 0 where
   Plain : (text : List ℕ) → PieceSoFar
   Dollar : (text : List ℕ) → PieceSoFar

@@ -15,7 +15,7 @@ pub use Rattle.rc_model.specs.Syntax.Faults.{SyntaxFault, fault, OpenQuote, Open
 
 -- what a token is
 pub data Lexeme : Type 0 where
-  -- an unquoted word, and what a quoted word says
+  -- an unquoted word, and the text of a quoted word
   Word : (text : List ℕ) → Lexeme
   Quoted : (text : List ℕ) → Lexeme
   -- `;` `&` newline `&&` `||`

@@ -151,7 +151,7 @@ unfoldable mutual
   redir_texts none = []
   redir_texts (more redir redirs) = redir_text redir ∷ redir_texts redirs
 
-  -- the stages of a pipeline but the last, each with the bar after it
+  -- all stages of a pipeline but the last, each with the bar after it
   pub stages_text : Many t.stage → (begins : Bool) → List ℕ
   stages_text none begins = []
   stages_text (more (t.Stage body slot) stages) begins = cmd_text body begins ++ (bar slot ++ stages_text stages false)

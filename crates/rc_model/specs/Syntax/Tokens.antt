@@ -1,4 +1,4 @@
--- Tokens: the pieces of a script that the grammar is about, and how a text is cut into them.
+-- Tokens: the pieces of a script that the grammar describes, and how a text is cut into them.
 use Rattle.std.specs.Prelude.{◌≡◌, ◌≢◌, ℕ, Bool, true, false, if◌then◌else◌, ◌==◌, ◌||◌}
 use Rattle.std.specs.Prelude.{List, [], ◌∷◌, ◌++◌}
 use Rattle.std.specs.Prelude.{Some, None, Result, Ok, Err}
@@ -107,7 +107,7 @@ lexeme_text (Word text) = text
 lexeme_text (Quoted text) = text
 lexeme_text _ = []
 
--- a `^` if the lexeme wants one
+-- a `^` if the lexeme needs one
 abbrev pub caret : Previous → Lexeme → Place → List Token
 caret prev l p = if wants_caret prev l then token FreeCaret p p ∷ [] else []
 

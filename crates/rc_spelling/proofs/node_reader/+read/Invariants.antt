@@ -50,7 +50,7 @@ decreases-read_cmd_of l = 8 * l.below + 5
 -- in each loop: what was read, and what is still read, is the whole
 
 abbrev pub invariant-read_args-loop : goal.invariant-read_args-loop
-invariant-read_args-loop l = nodes_from (arg_at true l.left) (l.count - l.counter) (args_tree l.args.items) l.rest ≡ args_by l.least l.left l.bytes
+invariant-read_args-loop l = nodes_from (arg_at l.left) (l.count - l.counter) (args_tree l.args.items) l.rest ≡ args_by l.least l.left l.bytes
 
 abbrev pub invariant-read_items-loop : goal.invariant-read_items-loop
 invariant-read_items-loop l = nodes_from (item_by l.left) (l.count - l.counter) (items_tree l.items.items) l.rest ≡ list_by (count_from 0) (item_by l.left) l.bytes
