@@ -66,7 +66,7 @@ no_first e f es fs l b s =
 past_first : {X : Type 0} (q : List ℕ) (e : List ℕ × X) (es : List (List ℕ × X)) → bytes_eq q e.0 ≡ false → find q (e ∷ es) ≡ find q es
 past_first q e es h = ap (λ b. if b then Some e.1 else find q es) h
 
--- what is found behind the first
+-- what is found after the first
 behind : {X : Type 0} (e f : List ℕ × X) (es fs : List (List ℕ × X)) → e.0 ≡ f.0 → Above e.0 es → Above f.0 fs → SameFound (e ∷ es) (f ∷ fs) → (q : List ℕ) (v : X) → (b : Bool) → bytes_eq q e.0 ≡ b → find q es ≡ Some v → find q fs ≡ Some v
 behind e f es fs same a b s q v true h g =
     let at : q ≡ e.0 = (bytes_eq-Decides q e.0).0 h in

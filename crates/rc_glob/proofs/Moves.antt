@@ -128,7 +128,7 @@ same_answer e a b zero k w t s bw bt g h = cc
 same_answer e a b (suc n) zero w t s bw bt g h = cc
 same_answer e a b (suc n) (suc k) w t s bw bt g h = same_move e a b (greedy_from n e) (greedy_from k e) (same_answer e a b n k) (move e w t) t s bw bt g h
 
--- ** behind a star
+-- ** after a star
 
 -- the star and the word after it match the text
 abbrev pub star_match : Bool → Word → List ℕ → Bool

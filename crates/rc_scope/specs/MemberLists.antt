@@ -1,4 +1,4 @@
--- The texts behind the members of a value.
+-- The list that holds the members of a value.
 use Rattle.std.specs.Prelude.{List}
 use Rattle.rc_text.specs.declared.texts.Text.{Text}
 use Rattle.rc_scope.specs.declared.member_lists.MemberList.{MemberList}

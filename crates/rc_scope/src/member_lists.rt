@@ -1,4 +1,4 @@
-//! The texts behind the members of a value: its own, or shared with other values.
+//! The list that holds the members of a value: its own, or shared with other values.
 
 ghost use Rattle.std.specs.Prelude.{◌≡◌, ◌∷◌, ◌++◌, [], IfErr, IfOk, OnErr, MatchOption};
 ghost use Rattle.rc_scope.specs.MemberLists.{members_in};

@@ -154,8 +154,8 @@ impl Members {
         Ok(())
     }
 
-    /// Moves the members to the front, once as many were dropped there: so a value to which members are added behind,
-    /// while others are dropped, stays within a constant times its greatest length.
+    /// Moves the members to the front, once as many were dropped there: so a value to which members are added at its
+    /// end, while others are dropped, stays within a constant times its greatest length.
     fn close_up(&mut self)
         ensures { self.new ≡ self.old }
     {

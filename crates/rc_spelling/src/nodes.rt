@@ -1,5 +1,5 @@
-//! The nodes of commands, by their shape or by their parts, and names by their shape. What is for several parts is never
-//! inlined into the reader, so that a command by value takes no stack at each level.
+//! The nodes of commands, by their shape or by their parts, and names by their shape. What is for several parts is
+//! never inlined into the reader, so that a command by value takes no stack at each level.
 
 ghost use Rattle.std.specs.Prelude.{◌≡◌, IfOk};
 ghost use Rattle.rc_model.specs.Syntax.Tree as t;

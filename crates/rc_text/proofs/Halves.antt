@@ -71,7 +71,7 @@ module _ (left right text : List ℕ) (e : text ≡ left ++ right) (cut : ℕ) (
     pub joined_patterns : has_pattern v ≡ false → has_pattern w ≡ false → has_pattern (halves first second cut text) ≡ false
     joined_patterns p q = ap has_pattern joined_halves ∙ patterns-append v w p q
 
--- a text in two halves, and behind it that of a word with the mark of the second half
+-- a text in two halves, and after it that of a word with the mark of the second half
 module _ (before next after : List ℕ) (e : after ≡ before ++ next) (cut : ℕ) (u : IsUtf8 before) (b : IsCharBoundary before cut) where
   pub followed_halves : (first second : Bool) (w : Word) → chars next ≡ map (λ (m : ℕ × Bool). m.0) w → HaveMark second w →
       halves first second cut after ≡ halves first second cut before ++ w

@@ -23,7 +23,7 @@ word_of (Halves first second cut text) = halves first second cut (text_bytes tex
 word_of (Mixed mixed) = marks mixed.value.chars.items
 word_of (Literal literal) = written literal.value.0 literal.value.1
 
--- The letters are marked as their variant tells: if all are marked, or those of a half, none is a pattern character; a
+-- The letters are marked as their variant says: if all are marked, or those of a half, none is a pattern character; a
 -- text is cut between two characters; characters with marks of their own are those of the text.
 abbrev pub AreMarked : Letters → Type 0
 AreMarked (Plain text) = Unit {0}

@@ -1,5 +1,5 @@
-//! One more node in a list. What adds to a list is never inlined, so that a command by value takes no stack at each level
-//! of nesting in those who read one.
+//! One more node in a list. What adds to a list is never inlined, so that a command by value takes no stack at each
+//! level of nesting in those who read one.
 
 ghost use Rattle.std.specs.Prelude.{◌≡◌, OnOk};
 ghost use Rattle.rc_model.specs.Syntax.Tree.{snoc};
