@@ -105,16 +105,27 @@ fn script_named(name: &str) -> Option<Script> {
     None
 }
 
+/// Runs the script of this name on a machine.
+fn run_named(rt: HostRuntime, name: &str) -> Result<()> {
+    let script = script_named(name).context("no such script")?;
+    run_on_machine(rt, script)
+}
+
+/// What the process ends with.
+fn status_of(are_well: bool) -> ExitCode {
+    if are_well {
+        ExitCode::SUCCESS
+    } else {
+        ExitCode::FAILURE
+    }
+}
+
 fn main(rt: HostRuntime) -> Result<ExitCode> {
     let mut args = env::args(&rt)?.skip(1);
     match (args.next(), args.next()) {
         (Some(shells), Some(commands)) => measure(rt, &shells, &commands)?,
-        (Some(name), None) => {
-            let script = script_named(name.as_str()).context("no such script")?;
-            run_on_machine(rt, script)?;
-        }
-        _ if !check_all(rt)? => return Ok(ExitCode::FAILURE),
-        _ => {}
+        (Some(name), None) => run_named(rt, &name)?,
+        (None, _) => return Ok(status_of(check_all(rt)?)),
     }
     Ok(ExitCode::SUCCESS)
 }
