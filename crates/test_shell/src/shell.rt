@@ -8,6 +8,9 @@ use std::alloc::{AllocError, Global};
 use std::process::Abort;
 use std::test::Fail;
 
+/// Enough instructions for each script that runs over answers.
+const LIMIT: u64 = 400;
+
 /// Whether the call at a place is that of `/bin/echo` with one word.
 fn is_of_echo_hello(place: usize, call: &Call) -> bool {
     match (place, call) {
@@ -41,6 +44,29 @@ fn ended(
     }
 }
 
+/// Checks that the calls of a run, as many as it has made, are those of `/bin/echo` with one word.
+fn check_calls(rt: &impl Abort, tape: &Tape) {
+    for (place, call) in tape.calls().iter().enumerate() {
+        assert!(rt; is_of_echo_hello(place, call), "another call {place}");
+    }
+}
+
+/// Runs a script over these answers in a state without variables, and returns its calls once it has ended with this
+/// status after this many of them. An `Err` means that memory ran out.
+fn run_over(
+    rt: &impl Abort,
+    alloc: Global,
+    answers: Vec<Answer>,
+    script: &[u8],
+    status: &str,
+    calls: usize,
+) -> Result<Tape, Fail> {
+    let mut tape = Tape::new(answers);
+    let ran = execute(alloc, &mut tape, script, State::new(alloc), LIMIT);
+    ended(rt, ran, &tape, status, calls)?;
+    Ok(tape)
+}
+
 /// Run with each allocation refused in turn. An `Err` means that one was.
 #[test]
 fn out_of_memory_is_reported(rt: HostRuntime) -> Result<(), Fail> {
@@ -51,9 +77,7 @@ fn out_of_memory_is_reported(rt: HostRuntime) -> Result<(), Fail> {
     state.set("path", texts_of(alloc, &path)?)?;
     let script = b"fn f {echo $1}; for(i in hello) x=$i {if(~ $x h*) f $\"x}";
     let ran = execute(alloc, &mut tape, script.as_slice(), state, 100);
-    for (place, call) in tape.calls().iter().enumerate() {
-        assert!(rt; is_of_echo_hello(place, call), "another call {place}");
-    }
+    check_calls(&rt, &tape);
     ended(&rt, ran, &tape, "", 3)
 }
 
@@ -74,9 +98,7 @@ fn out_of_memory_in_an_image_is_reported(rt: HostRuntime) -> Result<(), Fail> {
     let words = texts(alloc, &["rc1;c2,w1:f$w1:x", "p"])?;
     let entries = texts(alloc, &["path=/bin", "x=hello", "fn#f=rc1;c2,w4:echo$w1:1"])?;
     let ran = execute_image(alloc, &mut tape, false, &words, &entries, 100);
-    for (place, call) in tape.calls().iter().enumerate() {
-        assert!(rt; is_of_echo_hello(place, call), "another call {place}");
-    }
+    check_calls(&rt, &tape);
     ended(&rt, ran, &tape, "", 3)
 }
 
@@ -84,28 +106,28 @@ fn out_of_memory_in_an_image_is_reported(rt: HostRuntime) -> Result<(), Fail> {
 #[test]
 fn out_of_memory_among_redirections_is_reported(rt: HostRuntime) -> Result<(), Fail> {
     let alloc = rt.alloc();
-    let mut tape = Tape::new(vec![in alloc;
+    let answers = vec![in alloc;
         Answer::File(Handle(3)),
         Answer::File(Handle(4)),
         Answer::Child(ChildNo(1)),
         Answer::Ended(Ending::Code(0)),
         Answer::Done,
         Answer::Done,
-    ]?);
+    ]?;
     let script = b"x=a; /c >f >[2=1] <<E\n$x\nE\n";
-    let ran = execute(alloc, &mut tape, script.as_slice(), State::new(alloc), 200);
-    ended(&rt, ran, &tape, "", 6)
+    run_over(&rt, alloc, answers, script, "", 6)?;
+    Ok(())
 }
 
 /// Run with each allocation refused in turn. An `Err` means that one was.
 #[test]
 fn out_of_memory_among_lists_is_reported(rt: HostRuntime) -> Result<(), Fail> {
     let alloc = rt.alloc();
-    let mut tape = Tape::new(Vec::new(alloc));
     let script =
         b"y=(a b c d e f g h i)^(1 2 3 4 5 6 7 8 9); status=($y(2 3-4) $#y); exit $y(1)^$\"y";
-    let ran = execute(alloc, &mut tape, script.as_slice(), State::new(alloc), 200);
-    ended(&rt, ran, &tape, "a1a1 b2 c3 d4 e5 f6 g7 h8 i9", 0)
+    let status = "a1a1 b2 c3 d4 e5 f6 g7 h8 i9";
+    run_over(&rt, alloc, Vec::new(alloc), script, status, 0)?;
+    Ok(())
 }
 
 /// The answers to a pipeline, a job and the wait for it, a backquote, and a file with a subshell.
@@ -145,21 +167,19 @@ fn answers_to_children(alloc: Global) -> Result<Vec<Answer>, AllocError> {
 #[test]
 fn out_of_memory_among_children_is_reported(rt: HostRuntime) -> Result<(), Fail> {
     let alloc = rt.alloc();
-    let mut tape = Tape::new(answers_to_children(alloc)?);
     let script = b"fn f {. /s $x}; a | /b; c & wait; x=`{d}; f";
-    let ran = execute(alloc, &mut tape, script.as_slice(), State::new(alloc), 200);
-    ended(&rt, ran, &tape, "5", 24)
+    run_over(&rt, alloc, answers_to_children(alloc)?, script, "5", 24)?;
+    Ok(())
 }
 
 /// Run with each allocation refused in turn. An `Err` means that one was.
 #[test]
 fn out_of_memory_among_choices_is_reported(rt: HostRuntime) -> Result<(), Fail> {
     let alloc = rt.alloc();
-    let mut tape = Tape::new(Vec::new(alloc));
     let script = b"while(! ~ $#y 2) {if(~ $#y 1) m=b\nif not m=a\ny=($y $m)}; \
         switch $y {case x; exit no; case a*b; ~ a b && exit no || eval 'exit $y done'}";
-    let ran = execute(alloc, &mut tape, script.as_slice(), State::new(alloc), 400);
-    ended(&rt, ran, &tape, "a b done", 0)
+    run_over(&rt, alloc, Vec::new(alloc), script, "a b done", 0)?;
+    Ok(())
 }
 
 /// The answers to a list of a directory, a job and the wait for it, and a program.
@@ -188,10 +208,9 @@ fn starts_e_with(call: Option<&Call>, first: &str, second: &str) -> bool {
 #[test]
 fn out_of_memory_among_built_in_commands_is_reported(rt: HostRuntime) -> Result<(), Fail> {
     let alloc = rt.alloc();
-    let mut tape = Tape::new(answers_to_built_in_commands(alloc)?);
+    let answers = answers_to_built_in_commands(alloc)?;
     let script = b"eval 'x=d*'; c & wait $apid; builtin exec /e $x";
-    let ran = execute(alloc, &mut tape, script.as_slice(), State::new(alloc), 200);
-    ended(&rt, ran, &tape, "4", 7)?;
+    let tape = run_over(&rt, alloc, answers, script, "4", 7)?;
     assert!(rt; starts_e_with(tape.calls().get(5), "d1", "d2"));
     Ok(())
 }

@@ -1,5 +1,6 @@
-//! Names each example that is not accepted, or whose text, read again, has another text.
+//! Names each example that is not accepted, whose text, read again, has another text, or in which something is found.
 
+use crate::findings::findings;
 use crate::trees::{fault_line, tree_of};
 use anyhow::Result;
 use rc_print::{PrintFault, print};
@@ -46,6 +47,10 @@ fn read(rt: &HostRuntime, name: &str) -> Result<()> {
     let script = fs::read(rt, name)?;
     if let Some(complaint) = complaint(rt.alloc(), script.as_slice())? {
         println!(rt; "{name}: {complaint}")?;
+    }
+    let found = findings(rt.alloc(), script.as_slice())?;
+    if found.as_str() != "nothing" {
+        println!(rt; "{name}: {found}")?;
     }
     Ok(())
 }

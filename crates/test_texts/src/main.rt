@@ -1,13 +1,15 @@
 //! Compares the results for scripts, and for what a shell is handed, with the expected ones, row by row, and reads the
-//! examples in this folder. `test_texts lex|parse KIND BYTES` measures one reading instead.
+//! examples and the one-line scripts in this folder. `test_texts lex|parse KIND BYTES` measures one reading instead.
 #![tactic(auto)]
 
 mod cuts;
 mod dump;
 mod examples;
+mod findings;
 mod handed_layers;
 mod handed_rows;
 mod images;
+mod lines;
 mod measure;
 mod options;
 mod random_cuts;
@@ -33,6 +35,9 @@ fn compare_scripts(rt: &HostRuntime, out: &mut String) -> Result<()> {
         ("texts", Layer::Texts),
         ("faults", Layer::Faults),
         ("cuts", Layer::Cuts),
+        ("mistakes", Layer::Findings),
+        ("warnings", Layer::Findings),
+        ("forms", Layer::Forms),
     ] {
         let rows = fs::read_to_string(rt, name)?;
         script_rows::compare(rt.alloc(), out, rows.as_str(), layer, name)?;
@@ -67,14 +72,15 @@ fn compare_handed(rt: &HostRuntime, out: &mut String) -> Result<()> {
     Ok(())
 }
 
-/// Compares all rows, and reads the examples.
+/// Compares all rows, and reads the examples and the one-line scripts.
 fn compare_all(rt: HostRuntime) -> Result<()> {
     let mut out = String::new(rt.alloc());
     compare_scripts(&rt, &mut out)?;
     compare_cuts(&rt, &mut out)?;
     compare_handed(&rt, &mut out)?;
     print!(rt; "{out}")?;
-    examples::read_all(&rt)
+    examples::read_all(&rt)?;
+    lines::read_all(&rt)
 }
 
 fn main(rt: HostRuntime) -> Result<()> {

@@ -1,8 +1,9 @@
-//! The results for a script: its tokens, its tree, the text of that, or its fault; and whether its pieces have the
-//! same.
+//! The results for a script: its tokens, its tree, the text of that, or its fault; whether its pieces have the same;
+//! and what is found in it, or its canonical form.
 
 use crate::cuts::cut_everywhere;
 use crate::dump::dump;
+use crate::findings::{findings, form};
 use crate::tokens::tokens_shown;
 use crate::trees::{fault_line, refused, tree_of};
 use rc_lexer::lex;
@@ -20,6 +21,8 @@ pub enum Layer {
     Texts,
     Faults,
     Cuts,
+    Findings,
+    Forms,
 }
 
 impl Layer {
@@ -31,6 +34,8 @@ impl Layer {
             Layer::Texts => text(alloc, script),
             Layer::Faults => fault(alloc, script),
             Layer::Cuts => cut_everywhere(alloc, script),
+            Layer::Findings => findings(alloc, script),
+            Layer::Forms => form(alloc, script),
         }
     }
 }

@@ -1,7 +1,7 @@
 //! The orders in which the processes of a family can go on.
 
-use crate::fault::RunError;
-use crate::runs::{Order, Run};
+use crate::families::fault::RunError;
+use crate::families::runs::{Order, Run};
 use std::alloc::Global;
 
 /// Enough instructions for each process.

@@ -16,8 +16,8 @@
 //! answer. For a family that is not begun the only line says why. Lines that begin with `#`, and empty ones, are
 //! ignored.
 
-use crate::fault::RunError;
-use crate::runs::begin;
+use crate::families::fault::RunError;
+use crate::families::runs::begin;
 use rc_shell::{Family, FamilyFault};
 use std::alloc::{AllocError, Global};
 use test_calls::{answer, write_call};

@@ -1,8 +1,8 @@
 //! A run of a script over a world that refuses.
 
-use crate::accounts::{Wrong, check};
+use crate::refusals::accounts::{Wrong, check};
+use crate::refusals::world::{Refusals, RefusingWorld};
 use crate::scripts::Script;
-use crate::world::{Refusals, RefusingWorld};
 use rc_scope::{State, texts_of};
 use rc_shell::{Ran, ShellFault, execute};
 use rc_world::{Answer, ChildNo, Fault};
@@ -54,7 +54,7 @@ impl Run {
     pub fn of(alloc: Global, script: Script, refusals: Refusals) -> Result<Run, AllocError> {
         let state = state(alloc)?;
         let mut world = RefusingWorld::new(alloc, refusals);
-        let ran = execute(alloc, &mut world, script.text.as_bytes(), state, LIMIT);
+        let ran = execute(alloc, &mut world, script.1.as_bytes(), state, LIMIT);
         let end = End::of(alloc, ran)?;
         Ok(Run { world, end })
     }

@@ -1,6 +1,6 @@
 //! The accounts of the processes of a family, and the answers to their calls.
 
-use crate::fault::RunError;
+use crate::families::fault::RunError;
 use rc_shell::Family;
 use rc_world::{Answer, Call, ChildNo, Ending, Handle, Kind, Launch, Program, Slot};
 use std::alloc::{AllocError, Global};

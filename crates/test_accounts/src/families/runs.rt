@@ -1,27 +1,14 @@
 //! Families that are run to their ends.
 
-ghost use Rattle.std.specs.Prelude.{IfOk};
-ghost use Rattle.rc_model.specs.Handed.Proper.{IsProperTree};
-ghost use Rattle.rc_tree.specs.View.{cmd_tree};
-
-use crate::accounts::Accounts;
-use crate::fault::RunError;
-use rc_parser::{ScriptError, parse};
+use crate::families::accounts::Accounts;
+use crate::families::fault::RunError;
+use crate::families::trees::tree_of;
 use rc_scope::{State, texts_of};
 use rc_shell::{Family, FamilyFault};
-use rc_tree::Cmd;
 use std::alloc::Global;
 
 /// More steps than any family of a script makes.
 const MOST_STEPS: usize = 10_000;
-
-/// The tree of a script, in a box: each place that may drop a tree takes long to prove.
-#[tactic(auto, using(law_handed::proofs::Characters::accepted_are_scripts))]
-fn tree_of(alloc: Global, script: &str) -> Result<Box<Cmd>, ScriptError>
-    ensures { IfOk result (λ tree. IsProperTree (cmd_tree tree.value)) }
-{
-    Ok(Box::new(alloc, parse(alloc, script.as_bytes())?)?)
-}
 
 /// A state with `path=(/bin)`.
 fn state(alloc: Global) -> Result<State, RunError> {

@@ -1,9 +1,9 @@
 //! The trials of a script: its runs with each call refused in turn, with each two calls, and with the world stopped at
 //! each call.
 
-use crate::runs::Run;
+use crate::refusals::runs::Run;
+use crate::refusals::world::Refusals;
 use crate::scripts::Script;
-use crate::world::Refusals;
 use anyhow::{Result, bail};
 use std::alloc::Global;
 
@@ -68,7 +68,7 @@ impl Trials {
             wrong: 0,
         };
         if let Some(words) = wrong(alloc, &run) {
-            let name = self.script.name;
+            let name = self.script.0;
             println!(self.rt; "{name}, {refusals}: {words}")?;
             counts.wrong = 1;
         }

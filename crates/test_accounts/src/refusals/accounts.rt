@@ -1,7 +1,7 @@
 //! The files and children that are held and owed after the calls of a run, computed from these calls and their answers
 //! alone: nothing here knows of scripts or of a shell.
 
-use crate::world::Event;
+use crate::refusals::world::Event;
 use rc_world::{Answer, Call, ChildNo, Handle, Slot, Slots};
 use std::alloc::{AllocError, AllocFailed, Global};
 

@@ -1,9 +1,9 @@
 //! The run of a script on a machine over a world that refuses no call, for runs in which an allocation is refused.
 
-use crate::calls::print_call;
-use crate::runs::{LIMIT, state};
+use crate::refusals::calls::print_call;
+use crate::refusals::runs::{LIMIT, state};
+use crate::refusals::world::{Refusals, RefusingWorld};
 use crate::scripts::Script;
-use crate::world::{Refusals, RefusingWorld};
 use anyhow::{Result, bail};
 use rc_builtin::compile_script;
 use rc_code::Code;
@@ -54,7 +54,7 @@ fn machine_of(alloc: Global, script: Script) -> Result<Box<Machine>> {
 
 /// The code of a script.
 fn code_of(alloc: Global, script: Script) -> Result<Code> {
-    match compile_script(alloc, script.text.as_bytes()) {
+    match compile_script(alloc, script.1.as_bytes()) {
         Ok(code) => Ok(code),
         Err(InputError::Fault(_)) => bail!("no script"),
         Err(InputError::NoMemory) => bail!("no memory"),

@@ -1,28 +1,9 @@
-//! The result for a script.
+//! What `rc_check` finds in a script.
 
 use rc_check::{Canonical, Finding, Position, canonical_of, first_fault, position_of, warnings_of};
 use std::alloc::{AllocError, Global};
 
-/// The kind of result for a script.
-#[derive(Clone, Copy)]
-pub enum Layer {
-    /// `LINE:COLUMN FAULT ADVICE`, or `LINE:COLUMN NAME` of each warning, or `nothing`.
-    Findings,
-    /// The canonical form.
-    Forms,
-}
-
-impl Layer {
-    /// The result for the script.
-    pub fn show(self, alloc: Global, script: &[u8]) -> Result<String, AllocError> {
-        match self {
-            Layer::Findings => findings(alloc, script),
-            Layer::Forms => form(alloc, script),
-        }
-    }
-}
-
-/// The fault of a script, or its warnings.
+/// The fault of a script, as `LINE:COLUMN FAULT ADVICE`, or its warnings, each as `LINE:COLUMN NAME`, or `nothing`.
 pub fn findings(alloc: Global, script: &[u8]) -> Result<String, AllocError> {
     match first_fault(alloc, script)? {
         Some(finding) => fault(alloc, script, finding),
@@ -67,7 +48,8 @@ fn show_place(out: &mut String, script: &[u8], place: usize) -> Result<(), Alloc
     write!(out, "{line}:{column}")
 }
 
-fn form(alloc: Global, script: &[u8]) -> Result<String, AllocError> {
+/// The canonical form of a script.
+pub fn form(alloc: Global, script: &[u8]) -> Result<String, AllocError> {
     match canonical_of(alloc, script)? {
         Canonical::Text(text) => Ok(text),
         Canonical::Refused => String::from_str(alloc, "refused"),

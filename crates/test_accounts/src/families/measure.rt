@@ -1,14 +1,9 @@
 //! Measures the steps of a family, one step of each shell after the other.
 
-ghost use Rattle.std.specs.Prelude.{IfOk};
-ghost use Rattle.rc_model.specs.Handed.Proper.{IsProperTree};
-ghost use Rattle.rc_tree.specs.View.{cmd_tree};
-
+use crate::families::trees::tree_of;
 use anyhow::{Context, Result};
-use rc_parser::{ScriptError, parse};
 use rc_scope::State;
 use rc_shell::Family;
-use rc_tree::Cmd;
 use rc_world::{Answer, Call, ChildNo, Ending, Handle, Kind};
 use std::alloc::{AllocError, Global};
 use std::time::CpuClock;
@@ -35,14 +30,6 @@ fn script(alloc: Global, shells: usize, commands: usize) -> Result<String, Alloc
     push_numbers(&mut text, commands)?;
     text.push_str(") /bin/c $y &}\n")?;
     Ok(text)
-}
-
-/// The tree of a script, in a box: each place that may drop a tree takes long to prove.
-#[tactic(auto, using(law_handed::proofs::Characters::accepted_are_scripts))]
-fn tree_of(alloc: Global, script: &str) -> Result<Box<Cmd>, ScriptError>
-    ensures { IfOk result (λ tree. IsProperTree (cmd_tree tree.value)) }
-{
-    Ok(Box::new(alloc, parse(alloc, script.as_bytes())?)?)
 }
 
 /// An answer to a call.

@@ -1,0 +1,131 @@
+//! Runs shells with an account of what they hold and owe. It makes the steps of each row of `families.rows` in this
+//! folder, and runs families to their ends, in orders that must not matter. Then it runs scripts over a world that
+//! refuses one call, then two, and that stops at a call, and checks what each run held and owed. It prints what differs
+//! and whether all is as wanted, and on descriptor 2 how many of these runs there were.
+//! With the name of a script it runs that one on a machine, with no call refused, and prints its calls.
+//! `test_accounts SHELLS COMMANDS` measures the steps of a family of this size.
+#![tactic(auto)]
+
+mod families;
+mod refusals;
+mod scripts;
+
+use anyhow::{Context, Result};
+use families::measure::measure;
+use families::orders::{check_both_orders, check_orders};
+use families::rows::difference;
+use refusals::account_rows::differing;
+use refusals::machine::run_on_machine;
+use refusals::trials::{Counts, try_all};
+use scripts::{IN_MANY_ORDERS, REFUSED, Script};
+use std::process::ExitCode;
+use std::{env, fs};
+
+/// Prints whether something is as wanted.
+fn report(rt: HostRuntime, what: &str, are_well: bool) -> Result<()> {
+    let result = if are_well {
+        "as wanted"
+    } else {
+        "not as wanted"
+    };
+    println!(rt; "{what}: {result}")?;
+    Ok(())
+}
+
+/// Checks the rows of families, and prints what differs.
+fn check_rows(rt: HostRuntime) -> Result<bool> {
+    let text = fs::read_to_string(&rt, "families.rows")?;
+    let begun = format!(in rt.alloc(); "\n{text}")?;
+    let mut are_well = begun.contains("\n## ");
+    for row in begun.split("\n## ").skip(1) {
+        let (name, written) = row.split_once('\n').unwrap_or((row, ""));
+        if let Some(difference) = difference(rt.alloc(), written)? {
+            are_well = false;
+            println!(rt; "{name} differs:\n{difference}")?;
+        }
+    }
+    Ok(are_well)
+}
+
+/// Checks the orders of each script, and prints each script of which one leaves all processes waiting.
+fn check_scripts(rt: HostRuntime) -> Result<bool> {
+    let mut are_well = true;
+    for Script(name, text) in IN_MANY_ORDERS {
+        if let Some(seed) = check_orders(rt.alloc(), text)? {
+            are_well = false;
+            println!(rt; "{name} differs: order {seed} leaves all waiting")?;
+        }
+    }
+    Ok(are_well)
+}
+
+/// Checks the rows of accounts, and prints which differs.
+fn check_accounts(rt: HostRuntime) -> Result<bool> {
+    match differing(rt.alloc()) {
+        Some(place) => {
+            println!(rt; "the calls at {place} have another account")?;
+            Ok(false)
+        }
+        None => Ok(true),
+    }
+}
+
+/// Makes the trials of every script.
+fn try_every(rt: HostRuntime) -> Result<bool> {
+    let mut all = Counts::none();
+    for script in REFUSED {
+        all.add(try_all(rt, script)?);
+    }
+    eprintln!(rt; "{} runs, {} calls refused", all.runs, all.refused)?;
+    Ok(all.wrong == 0)
+}
+
+/// Checks families and scripts, and returns whether all are as wanted.
+fn check_all(rt: HostRuntime) -> Result<bool> {
+    let rows = check_rows(rt)?;
+    report(rt, "families.rows", rows)?;
+    let both = check_both_orders(rt.alloc())?;
+    report(rt, "the greatest first and the least first", both)?;
+    let scripts = check_scripts(rt)?;
+    report(rt, "the scripts in many orders", scripts)?;
+    let accounts = check_accounts(rt)?;
+    report(rt, "the accounts of calls", accounts)?;
+    let tried = try_every(rt)?;
+    report(rt, "the scripts with calls refused", tried)?;
+    Ok(rows && both && scripts && accounts && tried)
+}
+
+/// The script of this name.
+fn script_named(name: &str) -> Option<Script> {
+    for script in REFUSED {
+        if script.0 == name {
+            return Some(script);
+        }
+    }
+    None
+}
+
+/// Runs the script of this name on a machine.
+fn run_named(rt: HostRuntime, name: &str) -> Result<()> {
+    let script = script_named(name).context("no such script")?;
+    run_on_machine(rt, script)
+}
+
+/// What the process ends with.
+fn status_of(are_well: bool) -> ExitCode {
+    if are_well {
+        ExitCode::SUCCESS
+    } else {
+        ExitCode::FAILURE
+    }
+}
+
+fn main(rt: HostRuntime) -> Result<ExitCode> {
+    let mut args = env::args(&rt)?.skip(1);
+    match (args.next(), args.next()) {
+        (Some(shells), Some(commands)) => measure(rt, &shells, &commands)?,
+        (Some(name), None) => run_named(rt, &name)?,
+        (None, _) => return Ok(status_of(check_all(rt)?)),
+    }
+    Ok(ExitCode::SUCCESS)
+}
