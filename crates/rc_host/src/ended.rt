@@ -36,7 +36,7 @@ pub(crate) fn push_ended(
 }
 
 /// Adds the text, if it is kept.
-pub(crate) fn push_kept(texts: &mut Vec<String>, bytes: &[u8], sort: Sort) -> Result<(), AllocError>
+fn push_kept(texts: &mut Vec<String>, bytes: &[u8], sort: Sort) -> Result<(), AllocError>
     ensures { OnOk result (map string_bytes texts.new.items
         ≡ map string_bytes texts.old.items ++ kept sort bytes.now) }
 {

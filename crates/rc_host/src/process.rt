@@ -7,7 +7,7 @@ ghost use Rattle.rc_host.specs.Names.{entries_in};
 ghost use Rattle.rc_host.specs.Process.{arguments_error};
 ghost use Rattle.rc_world.specs.Faults.{fault_at};
 
-use crate::ended::{Sort, push_ended, push_kept};
+use crate::ended::{Sort, push_ended};
 use crate::files::read_again;
 use crate::leaving::open_null;
 use rc_model::InputError;
@@ -24,11 +24,14 @@ use thiserror::Error;
 /// Linux's number for a descriptor that is not open.
 const NOT_OPEN: i32 = 9;
 
-/// How many bytes of the environment are read at first. A usual one has fewer.
+/// How many bytes of a long environment are read at first.
 const ENVIRONMENT_BYTES: usize = 4_096;
 
-/// For how many entries of the environment there is room at first.
+/// For how many entries of the environment there is room at first. An environment that has more is long.
 const USUAL_ENTRIES: usize = 64;
+
+/// For how many bytes of an environment that is not long there is room at first.
+const USUAL_BYTES: usize = 1_024;
 
 /// For how many bytes of an entry that is taken by its index there is room at first.
 const ENTRY_BYTES: usize = 256;
@@ -70,8 +73,11 @@ fn arguments_error(error: &io::Error) -> InputError<ArgumentsFault>
     }
 }
 
-/// The entries of the environment that are UTF-8, in their order.
+/// The entries of the environment that are UTF-8, in their order. A long environment is read from Linux.
 pub fn entries(rt: &HostRuntime) -> Result<Vec<String>, AllocError> {
+    if !is_present(rt, USUAL_ENTRIES) {
+        return entries_by_place(rt);
+    }
     if let Ok(bytes) = environment(rt) {
         let (entries, count) = entries_in(rt.alloc(), &bytes)?;
         if has_entries(rt, count) {
@@ -114,18 +120,26 @@ fn is_present<R: Env>(rt: &R, place: usize) -> bool {
     !matches!(rt.var_at(place, &mut []), Err(FillError::NotPresent))
 }
 
-/// The entries of the environment that are UTF-8, in their order, each taken by its index. Linux counts the entries
-/// anew for each.
+/// The entries of the environment that are UTF-8, in their order, each taken by its index. The C library counts the
+/// entries anew for each.
 pub fn entries_by_place<R: Env + AllocGlobal>(rt: &R) -> Result<Vec<String>, AllocError> {
-    let mut entries = Vec::new(rt.alloc());
+    let bytes = environment_by_place(rt)?;
+    let (entries, _) = entries_in(rt.alloc(), &bytes)?;
+    Ok(entries)
+}
+
+/// The environment of this process, each entry taken by its index and terminated by a byte 0.
+fn environment_by_place<R: Env + AllocGlobal>(rt: &R) -> Result<Vec<u8>, AllocError> {
+    let mut bytes = Vec::with_capacity(rt.alloc(), USUAL_BYTES)?;
     let mut buffer = vec![in rt.alloc(); 0u8; ENTRY_BYTES]?;
     for place in 0..usize::MAX {
         let Some(length) = fill_entry(rt, place, &mut buffer)? else {
             break;
         };
-        push_kept(&mut entries, &buffer[..length], Sort::Entries)?;
+        bytes.extend_from_slice(&buffer[..length])?;
+        bytes.push(0)?;
     }
-    Ok(entries)
+    Ok(bytes)
 }
 
 /// Fills the buffer with the entry at an index of the environment, and returns the entry's length. A buffer that is
