@@ -8,6 +8,7 @@ use Rattle.rc_model.specs.declared.fault.InputError.TheVariants.{Fault, NoMemory
 use Rattle.rc_model.specs.declared.syntax.Place.{Place}
 use Rattle.rc_model.specs.declared.syntax.Previous.{Previous}
 use Rattle.rc_model.specs.declared.syntax.Previous.TheVariants as previous
+use Rattle.rc_lexer.specs.declared.byte_classes.ByteClass.{ByteClass}
 use Rattle.rc_lexer.specs.declared.Span.{Span}
 use Rattle.rc_lexer.specs.declared.Token.{Token}
 use Rattle.rc_lexer.specs.declared.lexer_state.State.{State}
@@ -40,6 +41,11 @@ Takes old new (Ok s) x =
     ≡ Ok (new.tokens.items, new.bodies.items, s, dollars_in s new, pending_in new)
 Takes old new (Err (Fault f)) x = x ≡ Err f
 Takes old new (Err NoMemory) x = Unit {0}
+
+-- the reading does the step of the definitions for a byte in this state, or memory ran out
+abbrev pub TakesStep : List ℕ → State → Place → ℕ → ByteClass → Reading → Reading → Result State ScriptError → Type 0
+TakesStep script s place b class old new result =
+    Takes old new result (spans.step script s (dollars_in s old) (pending_in old) place b class)
 
 -- what a step that leaves this state comes to
 abbrev pub left : State → Result (Unit {0}) ScriptError → Result State ScriptError

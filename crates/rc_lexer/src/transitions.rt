@@ -1,9 +1,8 @@
 //! The machine that reads a script byte by byte.
 
 ghost use Rattle.std.specs.Prelude.{◌≡◌, ◌<◌, ◌≤◌, ◌+◌, ◌^◌, length};
-ghost use Rattle.rc_lexer.specs.Spans as spans;
 ghost use Rattle.rc_lexer.specs.SpanLaws.{Stands};
-ghost use Rattle.rc_lexer.specs.Machine.{Takes, dollars_in, left, pending_in};
+ghost use Rattle.rc_lexer.specs.Machine.{TakesStep, left};
 
 use crate::ScriptError;
 use crate::byte_classes::ByteClass;
@@ -26,8 +25,7 @@ impl Reading {
         requires line { place.line < 2 ^ 63 + 1 }
         requires within { place.byte ≤ length script.now }
         requires stands { Stands script.now place.byte state }
-        ensures { Takes self.old self.new result
-            (spans.step script.now state (dollars_in state self.old) (pending_in self.old) place b class) }
+        ensures { TakesStep script.now state place b class self.old self.new result }
     {
         match state {
             State::Between(previous) => self.begin_token(previous, place, b, class),
@@ -72,8 +70,7 @@ impl Reading {
         requires line { place.line < 2 ^ 63 + 1 }
         requires within { place.byte ≤ length script.now }
         requires stands { Stands script.now place.byte state.old }
-        ensures { Takes self.old self.new (left state.new result)
-            (spans.step script.now state.old (dollars_in state.old self.old) (pending_in self.old) place b class) }
+        ensures { TakesStep script.now state.old place b class self.old self.new (left state.new result) }
     {
         *state = self.step(script, *state, place, b, class)?;
         Ok(())
@@ -93,8 +90,7 @@ impl Reading {
         requires line { place.line < 2 ^ 63 + 1 }
         requires within { place.byte ≤ length script.now }
         requires stands { Stands script.now place.byte state.old }
-        ensures { Takes self.old self.new (left state.new result)
-            (spans.step script.now state.old (dollars_in state.old self.old) (pending_in self.old) place b class) }
+        ensures { TakesStep script.now state.old place b class self.old self.new (left state.new result) }
     {
         match *state {
             State::Between(previous) => {
