@@ -39,7 +39,7 @@ impl Clone for Text {
 }
 
 impl Text {
-    ghost use Rattle.std.specs.Prelude.{[], IfOk, string_bytes};
+    ghost use Rattle.std.specs.Prelude.{[], IfOk, OnErr, OnOk, string_bytes};
     ghost use Rattle.rc_text.specs.Texts.{text_bytes};
 
     /// The empty text.
@@ -136,19 +136,26 @@ impl Text {
         }
     }
 
-    /// Appends a text: in place, if there is room, or else to the string, if it has no other owner.
-    pub(crate) fn followed_by(self, alloc: Global, next: &str) -> Result<Text, AllocError>
-        ensures { IfOk result (λ text. text_bytes text ≡ text_bytes self ++ next.now) }
+    /// Appends a text: in place, if there is room, or else to the string, if it has no other owner. After an error the
+    /// text is as before.
+    pub fn push_str(&mut self, alloc: Global, next: &str) -> Result<(), AllocError>
+        ensures ok { OnOk result (text_bytes self.new ≡ text_bytes self.old ++ next.now) }
+        ensures err { OnErr result (text_bytes self.new ≡ text_bytes self.old) }
     {
-        match self.into_room() {
-            Room::InPlace(text) => Text::grown(alloc, text, next),
-            Room::Shared(text) => match Rc::try_unwrap(text) {
-                Ok(mut own) => {
-                    own.push_str(next)?;
-                    Text::shared(alloc, own)
+        match &mut self.room {
+            Room::InPlace(text) => {
+                if text.try_push_str(next).is_ok() {
+                    return Ok(());
                 }
-                Err(text) => Text::shared(alloc, joined_text(alloc, text.as_str(), next)?),
-            },
+            }
+            Room::Shared(text) => {
+                if let Some(own) = Rc::get_mut(text) {
+                    return own.push_str(next);
+                }
+            }
         }
+        let joined = joined_text(alloc, self.as_str(), next)?;
+        *self = Text::shared(alloc, joined)?;
+        Ok(())
     }
 }

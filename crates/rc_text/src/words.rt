@@ -1,5 +1,5 @@
 //! Words: characters, each of them marked or not.
-ghost use Rattle.std.specs.Prelude.{◌≡◌, [], ◌++◌, true, false, map, string_bytes, IfOk, IfSome, OnOk, MatchOption};
+ghost use Rattle.std.specs.Prelude.{◌≡◌, [], ◌++◌, true, false, map, string_bytes, IfOk, IfSome, IsTrue, OnErr, OnOk, MatchOption};
 ghost use Rattle.std.specs.Str.{chars, IsCharBoundary};
 ghost use Rattle.rc_model.specs.Syntax.Words.{has_pattern, unmarked, word_text, written};
 ghost use Rattle.rc_text.specs.Literals.{marks};
@@ -146,50 +146,74 @@ impl Word {
         }
     }
 
-    /// Appends the characters of another word. If all of them have the same mark, the text of the first grows in place.
-    pub fn followed_by(self, alloc: Global, next: &Word) -> Result<Word, AllocError>
-        ensures { IfOk result (λ word. word ≡ self ++ next.now) }
+    /// Appends characters of one mark, none of them a pattern character. The text grows in place if those at its end
+    /// have this mark. After an error the word is as before.
+    fn push_marked(&mut self, alloc: Global, next: &str, mark: bool) -> Result<(), AllocError>
+        requires { has_pattern (with_mark mark next.now) ≡ false }
+        ensures ok { OnOk result (self.new ≡ self.old ++ with_mark mark next.now) }
+        ensures err { OnErr result (self.new ≡ self.old) }
     {
-        match (self.0, next.common_mark()) {
-            (Letters::Plain(text), Some(mark)) => Word::grown(alloc, text, false, next, mark),
-            (Letters::Marked(text), Some(mark)) => Word::grown(alloc, text, true, next, mark),
-            (
-                Letters::Halves {
-                    first,
-                    second,
-                    cut,
-                    text,
-                },
-                Some(mark),
-            ) if second == mark => {
-                let text = text.followed_by(alloc, next.text())?;
-                Ok(Word(Letters::Halves {
-                    first,
-                    second,
-                    cut,
-                    text,
-                }))
+        match &mut self.0 {
+            Letters::Plain(text) if !mark => text.push_str(alloc, next),
+            Letters::Marked(text) if mark => text.push_str(alloc, next),
+            Letters::Halves { second, text, .. } if *second == mark => text.push_str(alloc, next),
+            _ => {
+                *self = self.with_end(alloc, next, mark)?;
+                Ok(())
             }
-            (letters, _) => Word::joined(alloc, &Word(letters), next),
         }
     }
 
-    /// Appends characters of one mark to a text whose characters have one.
-    fn grown(
-        alloc: Global,
-        text: Text,
-        first: bool,
-        next: &Word,
-        second: bool,
-    ) -> Result<Word, AllocError>
-        requires text { has_pattern (with_mark first (text_bytes text)) ≡ false }
-        requires mark { HaveMark second next.now }
-        requires next { has_pattern next.now ≡ false }
-        ensures { IfOk result (λ word. word ≡ with_mark first (text_bytes text) ++ next.now) }
+    /// The word with characters of one mark behind it, none of them a pattern character.
+    fn with_end(&self, alloc: Global, next: &str, mark: bool) -> Result<Word, AllocError>
+        requires { has_pattern (with_mark mark next.now) ≡ false }
+        ensures { IfOk result (λ word. word ≡ self.now ++ with_mark mark next.now) }
     {
-        let cut = text.as_str().len();
-        let text = text.followed_by(alloc, next.text())?;
-        Word::halves(alloc, first, second, cut, text)
+        let front = self.as_text();
+        let text = front.joined(alloc, next)?;
+        if let Some(first) = self.common_mark() {
+            return Word::halves(alloc, first, mark, front.as_str().len(), text);
+        }
+        let mut chars = Vec::with_capacity(alloc, text.as_str().len())?;
+        self.push_chars(&mut chars)?;
+        push_text(&mut chars, next, mark)?;
+        Word::mixed(alloc, text, chars)
+    }
+
+    /// Appends a text of which no character is marked. After an error the word is as before.
+    pub fn push_text(&mut self, alloc: Global, next: &str) -> Result<(), AllocError>
+        ensures ok { OnOk result (self.new ≡ self.old ++ written next.now true) }
+        ensures err { OnErr result (self.new ≡ self.old) }
+    {
+        self.push_marked(alloc, next, false)
+    }
+
+    /// Appends a word of a script. After an error the word is as before.
+    pub fn push_literal(&mut self, alloc: Global, next: &Literal) -> Result<(), AllocError>
+        ensures ok { OnOk result (self.new ≡ self.old ++ written next.now.0 next.now.1) }
+        ensures err { OnErr result (self.new ≡ self.old) }
+    {
+        if next.pattern().is_none() {
+            return self.push_marked(alloc, next.text(), !next.is_quoted());
+        }
+        let next = Word::written(alloc, next.text(), next.is_quoted())?;
+        *self = Word::joined(alloc, self, &next)?;
+        Ok(())
+    }
+
+    /// Appends the characters of another word. If they all have the mark of those at the end, the text grows in place.
+    /// After an error the word is as before.
+    pub fn append(&mut self, alloc: Global, next: &Word) -> Result<(), AllocError>
+        ensures ok { OnOk result (self.new ≡ self.old ++ next.now) }
+        ensures err { OnErr result (self.new ≡ self.old) }
+    {
+        match next.common_mark() {
+            Some(mark) => self.push_marked(alloc, next.text(), mark),
+            None => {
+                *self = Word::joined(alloc, self, next)?;
+                Ok(())
+            }
+        }
     }
 
     /// A text in two halves. If the first is too long for the number of its bytes, each character gets its own mark.
@@ -308,6 +332,13 @@ impl Word {
             Letters::Mixed(mixed) => Ok(Box::into_inner(mixed).text),
             Letters::Literal(literal) => literal.shared_text(),
         }
+    }
+
+    /// Whether it is known, without a look at the characters, that none of them is marked.
+    pub fn is_plain(&self) -> bool
+        ensures { IsTrue result → unmarked self.now ≡ self.now }
+    {
+        matches!(self.0, Letters::Plain(_))
     }
 
     /// Removes the marks. It fails only if the characters of a literal have too many owners.
