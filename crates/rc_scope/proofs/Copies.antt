@@ -4,7 +4,6 @@ use mathlib.Core.List.{reverse_aux}
 use Rattle.std.specs.List.{AllZip, AllByRecursion}
 use Rattle.std.specs.List.Sorted.{IsStrictlySortedBy}
 use Rattle.std.specs.Map.{keys_of}
-use Rattle.std.specs.BTreeMap.{BTreeMap}
 use Rattle.std.specs.Str.{bytes_eq}
 use Rattle.std.specs.String.{string_cmp}
 use Rattle.std.specs.declared.alloc.Global.{Global}
@@ -18,29 +17,28 @@ use Rattle.rc_tree.specs.View.{cmd_tree}
 use Rattle.rc_scope.specs.Bodies.{function_of, functions_of}
 use Rattle.rc_scope.specs.Copies.{IsValueCopy, IsLocalCopy, AreCopies}
 use Rattle.rc_scope.specs.Locals.{name_of}
-use Rattle.rc_scope.specs.Rows.{entries_of, row_of, AreIn, AreRows}
+use Rattle.rc_scope.specs.Rows.{entries_in, entries_of, row_of, AreIn, AreRows}
+use Rattle.rc_scope.specs.RowCopies.{IsRowCopy}
 use Rattle.rc_scope.specs.Stacks.{texts_of, is_local_of, covered_in, stack_of, variable_of, stacks_of, locals_of}
 use Rattle.rc_scope.specs.Children.{child_numbers}
 use Rattle.rc_scope.specs.declared.functions.Function.{Function}
 use Rattle.rc_scope.specs.declared.locals.Local.{Local}
+use Rattle.rc_scope.specs.declared.name_rows.Row.{Row}
 use Rattle.rc_scope.specs.declared.value_rows.Value.{Value}
 use Rattle.rc_scope.specs.declared.variables.Variables.{Variables}
 
 -- ** rows
-abbrev pub IsRowCopy : BTreeMap (String Global) Value → BTreeMap (String Global) Value → Type 0
-IsRowCopy r t = AreCopies r.entries t.entries
-
 copies_append : (es fs gs hs : List (String Global × Value)) → AreCopies es fs → AreCopies gs hs → AreCopies (es ++ gs) (fs ++ hs)
 copies_append [] [] gs hs a b = b
 copies_append [] (f ∷ fs) gs hs a b = absurd a
 copies_append (e ∷ es) [] gs hs a b = absurd a
 copies_append (e ∷ es) (f ∷ fs) gs hs a b = (a.0, copies_append es fs gs hs a.1 b)
 
-pub rows_copied : (rows copies : List (BTreeMap (String Global) Value)) → AllZip IsRowCopy rows copies → AreCopies (entries_of rows) (entries_of copies)
+pub rows_copied : (rows copies : List Row) → AllZip IsRowCopy rows copies → AreCopies (entries_of rows) (entries_of copies)
 rows_copied [] [] h = tt
 rows_copied [] (t ∷ ts) h = absurd h
 rows_copied (r ∷ rs) [] h = absurd h
-rows_copied (r ∷ rs) (t ∷ ts) h = copies_append r.entries t.entries (entries_of rs) (entries_of ts) h.0 (rows_copied rs ts h.1)
+rows_copied (r ∷ rs) (t ∷ ts) h = copies_append (entries_in r) (entries_in t) (entries_of rs) (entries_of ts) h.0 (rows_copied rs ts h.1)
 
 keys_in : (n : ℕ) (es fs : List (String Global × Value)) → AreCopies es fs → AreIn n (keys_of es) → AreIn n (keys_of fs)
 keys_in n [] [] h k = tt
@@ -63,11 +61,11 @@ keys_sorted [] (f ∷ fs) h k = absurd h
 keys_sorted (e ∷ es) [] h k = absurd h
 keys_sorted (e ∷ es) (f ∷ fs) h k = (keys_above e.0 f.0 es fs h.0.0 h.1 k.0, keys_sorted es fs h.1 k.1)
 
-pub rows_are : (n : ℕ) (rows copies : List (BTreeMap (String Global) Value)) → AllZip IsRowCopy rows copies → AreRows n rows → AreRows n copies
+pub rows_are : (n : ℕ) (rows copies : List Row) → AllZip IsRowCopy rows copies → AreRows n rows → AreRows n copies
 rows_are n [] [] h a = tt
 rows_are n [] (t ∷ ts) h a = absurd h
 rows_are n (r ∷ rs) [] h a = absurd h
-rows_are n (r ∷ rs) (t ∷ ts) h a = (keys_in n r.entries t.entries h.0 a.0, keys_sorted r.entries t.entries h.0 a.1, rows_are (n + 1) rs ts h.1 a.2)
+rows_are n (r ∷ rs) (t ∷ ts) h a = (keys_in n (entries_in r) (entries_in t) h.0 a.0, keys_sorted (entries_in r) (entries_in t) h.0 a.1, rows_are (n + 1) rs ts h.1 a.2)
 
 -- ** stacks
 zip_onto : (ls ms fs gs : List Local) → AllZip IsLocalCopy ls ms → AllZip IsLocalCopy fs gs → AllZip IsLocalCopy (reverse_aux ls fs) (reverse_aux ms gs)

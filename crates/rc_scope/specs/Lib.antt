@@ -1,4 +1,5 @@
 pub mod Rows
+pub mod RowLends
 pub mod KeptEntries
 pub mod Locals
 pub mod MemberLists
@@ -10,3 +11,4 @@ pub mod CompiledTexts
 pub mod ProperStates
 pub mod States
 pub mod Copies
+pub mod RowCopies

@@ -13,10 +13,10 @@ ghost use Rattle.rc_scope.specs.Rows.{row_of, is_named, entries_of, Grows};
 ghost use Rattle.rc_scope.specs.Stacks.{covers_in, texts_of, Appends, Returns};
 
 use crate::kept_entries::KeptEntry;
+use crate::name_rows::Row;
 use crate::value_members::Members;
 use rc_text::Text;
 use std::alloc::{AllocError, Global};
-use std::collections::BTreeMap;
 use std::marker::Model;
 use std::mem::replace;
 
@@ -45,7 +45,7 @@ impl Clone for Value {
 #[derive(Drop)]
 pub(crate) struct Values {
     /// The index of a row is the byte that its names begin with; the empty name is in the first row.
-    rows: Vec<BTreeMap<String, Value>>,
+    rows: Vec<Row>,
 }
 
 impl Model for Values {
@@ -73,16 +73,12 @@ fn row_of(name: &str) -> usize
 }
 
 /// Adds empty rows up to this index.
-fn grow(
-    rows: &mut Vec<BTreeMap<String, Value>>,
-    alloc: Global,
-    row: usize,
-) -> Result<(), AllocError>
+fn grow(rows: &mut Vec<Row>, row: usize) -> Result<(), AllocError>
     ensures ok { OnOk result (row < length rows.new.items) }
     ensures kept { Grows rows.old.items rows.new.items }
 {
     while rows.len() <= row {
-        rows.push(BTreeMap::new(alloc))?;
+        rows.push(Row::Empty)?;
     }
     Ok(())
 }
@@ -237,9 +233,9 @@ impl Values {
         ensures ordered { IsStrictlySortedBy string_cmp (keys_of self.old) }
     {
         let row = row_of(&name);
-        grow(&mut self.rows, alloc, row)?;
+        grow(&mut self.rows, row)?;
         let row = &mut self.rows[row];
-        row.insert(name, value)?;
+        row.insert(alloc, name, value)?;
         Ok(())
     }
 
@@ -253,7 +249,7 @@ impl Values {
             return;
         }
         let row = &mut self.rows[row];
-        let _ = row.remove(name);
+        row.remove(name);
     }
 
     /// Copies the values.
@@ -266,7 +262,7 @@ impl Values {
     }
 
     /// The rows, in byte order of their names.
-    pub(crate) fn rows(&self) -> &[BTreeMap<String, Value>]
+    pub(crate) fn rows(&self) -> &[Row]
         ensures { entries_of result.now ≡ self.now }
     {
         self.rows.as_slice()

@@ -8,13 +8,14 @@ ghost use Rattle.std.specs.Map.{lookup, set_value, keys_of};
 ghost use Rattle.std.specs.List.Sorted.{IsStrictlySortedBy};
 ghost use Rattle.std.specs.String.{string_cmp};
 ghost use Rattle.rc_scope.specs.KeptEntries.{kept_text};
-ghost use Rattle.rc_scope.specs.Rows.{is_named};
+ghost use Rattle.rc_scope.specs.Rows.{entries_in, is_named};
 ghost use Rattle.rc_scope.specs.Bindings.{bindings_of, bindings_in};
 ghost use Rattle.rc_text.specs.Texts.{text_bytes};
 ghost use Rattle.rc_scope.specs.Stacks.{names_in, uncovered, without_newest, flat_names, is_listed, Covers, Uncovers};
 
 use crate::kept_entries::KeptEntry;
 use crate::locals::{Local, LocalName};
+use crate::name_rows::Row;
 use crate::names::is_status;
 use crate::value_members::Members;
 use crate::value_rows::{Value, Values};
@@ -45,34 +46,82 @@ fn is_listed(name: &str, texts: &[Text]) -> bool
     !texts.is_empty() && !is_status(name)
 }
 
-/// Adds the names of the variables in a row that have members.
-#[tactic(auto, using(crate::proofs::Stacks::names))]
-fn push_names(names: &mut Vec<String>, row: &BTreeMap<String, Value>) -> Result<(), AllocError>
+/// Adds the name of a variable, if it has members.
+fn push_name(names: &mut Vec<String>, name: &String, value: &Value) -> Result<(), AllocError>
     ensures { OnOk result (map string_bytes names.new.items
-        ≡ map string_bytes names.old.items ++ names_in row.now.entries) }
+        ≡ map string_bytes names.old.items ++ names_in ((name.now, value.now) ∷ [])) }
 {
-    for (name, value) in row {
-        if is_listed(name, value.texts.as_slice()) {
-            names.push(name.clone()?)?;
-        }
+    if is_listed(name, value.texts.as_slice()) {
+        names.push(name.clone()?)?;
+    }
+    Ok(())
+}
+
+/// Adds the names of the variables in a map that have members.
+fn push_map_names(
+    names: &mut Vec<String>,
+    entries: &BTreeMap<String, Value>,
+) -> Result<(), AllocError>
+    ensures { OnOk result (map string_bytes names.new.items
+        ≡ map string_bytes names.old.items ++ names_in entries.now.entries) }
+{
+    for (name, value) in entries {
+        push_name(names, name, value)?;
+    }
+    Ok(())
+}
+
+/// Adds the names of the variables in a row that have members.
+fn push_names(names: &mut Vec<String>, row: &Row) -> Result<(), AllocError>
+    ensures { OnOk result (map string_bytes names.new.items
+        ≡ map string_bytes names.old.items ++ names_in (entries_in row.now)) }
+{
+    match row {
+        Row::Empty => Ok(()),
+        Row::One(entry) => push_name(names, &entry.name, &entry.value),
+        Row::Many(map) => push_map_names(names, map),
+    }
+}
+
+/// Adds a variable with its visible value.
+fn push_binding<'a>(
+    all: &mut Vec<Binding<'a>>,
+    name: &'a String,
+    value: &'a Value,
+) -> Result<(), AllocError>
+    ensures { OnOk result (bindings_of all.new.items
+        ≡ bindings_of all.old.items ++ bindings_in ((name.now, value.now) ∷ [])) }
+{
+    all.push(Binding {
+        name,
+        value: &value.texts,
+    })?;
+    Ok(())
+}
+
+/// Adds each variable of a map with its visible value.
+fn push_map_bindings<'a>(
+    all: &mut Vec<Binding<'a>>,
+    entries: &'a BTreeMap<String, Value>,
+) -> Result<(), AllocError>
+    ensures { OnOk result (bindings_of all.new.items ≡ bindings_of all.old.items ++ bindings_in entries.now.entries) }
+{
+    for (name, value) in entries {
+        push_binding(all, name, value)?;
     }
     Ok(())
 }
 
 /// Adds each variable of a row with its visible value.
-fn push_bindings<'a>(
-    all: &mut Vec<Binding<'a>>,
-    row: &'a BTreeMap<String, Value>,
-) -> Result<(), AllocError>
-    ensures { OnOk result (bindings_of all.new.items ≡ bindings_of all.old.items ++ bindings_in row.now.entries) }
+fn push_bindings<'a>(all: &mut Vec<Binding<'a>>, row: &'a Row) -> Result<(), AllocError>
+    ensures { OnOk result (bindings_of all.new.items
+        ≡ bindings_of all.old.items ++ bindings_in (entries_in row.now)) }
 {
-    for (name, value) in row {
-        all.push(Binding {
-            name,
-            value: &value.texts,
-        })?;
+    match row {
+        Row::Empty => Ok(()),
+        Row::One(entry) => push_binding(all, &entry.name, &entry.value),
+        Row::Many(map) => push_map_bindings(all, map),
     }
-    Ok(())
 }
 
 impl Variables {

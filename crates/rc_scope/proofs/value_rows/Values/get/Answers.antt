@@ -14,4 +14,4 @@ returns c =
     let i = c.row_of-row.result in
     let at : row_of q ≡ 0 + i = omega arith in
     let w = around q 0 i rows c.index.result.now at (omega arith) c.index.ensures c.self.invariant in
-    rw (← c.self.view_is) (c.get.ensures.value ∙ sym (lookup_row q 0 i rows c.index.result.now w))
+    rw (← c.self.view_is) (c.get.ensures ∙ sym (lookup_row q 0 i rows c.index.result.now w))

@@ -26,7 +26,7 @@ invariant_of-self-in_err-insert c =
     let text : c.deref.result.now ≡ q = search rules in
     let at : row_of q ≡ 0 + i = place_at (sym (c.row_of-row.ensures ∙ ap row_of text)) in
     let w = around q 0 i rows row at c.in_ok-grow.ensures.ok c.index_mut-row.ensures.value (c.grow.ensures.kept.1 0 c.self.invariant) in
-    same_rows q 0 i rows row c.insert.new.self w c.in_err-insert.ensures.err c.insert.ensures.ordered
+    same_rows q 0 i rows row c.insert.new.self w c.in_err-insert.ensures.err
 
 pub returns-in_err-insert-clause-err : goal.returns-in_err-insert-clause-err
 returns-in_err-insert-clause-err c =
@@ -51,7 +51,7 @@ invariant_of-self-2 c =
     let text : c.deref.result.now ≡ q = search rules in
     let at : row_of q ≡ 0 + i = place_at (sym (c.row_of-row.ensures ∙ ap row_of text)) in
     let w = around q 0 i rows row at c.in_ok-grow.ensures.ok c.index_mut-row.ensures.value (c.grow.ensures.kept.1 0 c.self.invariant) in
-    insert_rows c.args.name c.args.value 0 i rows row c.insert.new.self w c.in_ok-insert.ensures.entries c.insert.ensures.ordered
+    insert_rows c.args.name c.args.value 0 i rows row c.insert.new.self w c.in_ok-insert.ensures.ok c.in_ok-insert.ensures.ordered
 
 pub returns-clause-ok : goal.returns-clause-ok
 returns-clause-ok c =
@@ -62,7 +62,7 @@ returns-clause-ok c =
     let text : c.deref.result.now ≡ q = search rules in
     let at : row_of q ≡ 0 + i = place_at (sym (c.row_of-row.ensures ∙ ap row_of text)) in
     let w = around q 0 i rows row at c.in_ok-grow.ensures.ok c.index_mut-row.ensures.value (c.grow.ensures.kept.1 0 c.self.invariant) in
-    insert_row c.args.name c.args.value 0 i rows row c.insert.new.self w c.in_ok-insert.ensures.entries
+    insert_row c.args.name c.args.value 0 i rows row c.insert.new.self w c.in_ok-insert.ensures.ok
     ∙ ap (λ es. insert_entry string_cmp es c.args.name c.args.value) (c.grow.ensures.kept.0 ∙ c.self.view_is)
 
 pub returns-clause-ordered : goal.returns-clause-ordered

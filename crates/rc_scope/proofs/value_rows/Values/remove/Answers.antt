@@ -17,7 +17,7 @@ invariant_of-self c =
     let i = c.row_of-row.result in
     let row = c.index_mut-row.result.now in
     let w = around q 0 i rows row (omega arith) (omega arith) c.index_mut-row.ensures.value c.self.invariant in
-    remove_rows q 0 i rows row w c.remove.new.self c.remove.ensures.entries c.remove.ensures.ordered
+    remove_rows q 0 i rows row w c.remove.new.self c.remove.ensures.taken c.remove.ensures.ordered
 
 pub returns-clause-taken : goal.returns-clause-taken
 returns-clause-taken c =
@@ -26,7 +26,7 @@ returns-clause-taken c =
     let i = c.row_of-row.result in
     let row = c.index_mut-row.result.now in
     let w = around q 0 i rows row (omega arith) (omega arith) c.index_mut-row.ensures.value c.self.invariant in
-    rw (← c.self.view_is) (remove_row q 0 i rows row w c.remove.new.self c.remove.ensures.entries)
+    rw (← c.self.view_is) (remove_row q 0 i rows row w c.remove.new.self c.remove.ensures.taken)
 
 pub returns-clause-gone : goal.returns-clause-gone
 returns-clause-gone c =
@@ -35,4 +35,4 @@ returns-clause-gone c =
     let i = c.row_of-row.result in
     let row = c.index_mut-row.result.now in
     let w = around q 0 i rows row (omega arith) (omega arith) c.index_mut-row.ensures.value c.self.invariant in
-    lookup_changed q 0 i rows row w c.remove.new.self ∙ c.remove.ensures.updates.1
+    lookup_changed q 0 i rows row w c.remove.new.self ∙ c.remove.ensures.gone

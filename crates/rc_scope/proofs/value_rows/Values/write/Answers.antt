@@ -1,6 +1,6 @@
 use Rattle.std.proofs.Common.{rules, ◌≡◌, false, Some, None, is_some, option_map, unwrap_or, sym, ◌∙◌, ap, arith}
 use Rattle.std.specs.Map.{lookup, set_value}
-use Rattle.rc_scope.specs.Rows.{is_named, entries_of}
+use Rattle.rc_scope.specs.Rows.{entries_in, is_named, entries_of}
 use Rattle.rc_scope.specs.Stacks.{covers_in}
 use Rattle.rc_scope.specs.declared.value_rows.Value.{Value}
 use Rattle.rc_scope.proofs.Rows.{around, rows_sorted, lookup_row, lookup_at, lookup_past, rows_at, set_row}
@@ -16,7 +16,7 @@ returns-then-len-row-clause-ordered c = rw (← c.self.view_is) (rows_sorted 0 c
 pub invariant_of-self : goal.invariant_of-self
 invariant_of-self c =
     rows_at c.args.name.now c.row_of-row.result c.self.inside.rows.items c.index_mut-row.result.now (c.get_mut.follows.lender _)
-    (omega arith) (omega arith) c.index_mut-row.ensures.value c.self.invariant (c.get_mut.follows.holds _).1 (c.get_mut.follows.holds _).4
+    (omega arith) (omega arith) c.index_mut-row.ensures.value c.self.invariant (c.get_mut.follows.holds _).1
 
 pub returns-in-Some-clause-found : goal.returns-in-Some-clause-found
 returns-in-Some-clause-found c =
@@ -25,7 +25,7 @@ returns-in-Some-clause-found c =
     let i = c.row_of-row.result in
     let row = c.index_mut-row.result.now in
     let w = around q 0 i rows row (omega arith) (omega arith) c.index_mut-row.ensures.value c.self.invariant in
-    let found : lookup (is_named q) row.entries ≡ Some c.in-Some.value.now = search rules in
+    let found : lookup (is_named q) (entries_in row) ≡ Some c.in-Some.value.now = search rules in
     rw (← c.self.view_is) (ap is_some (lookup_row q 0 i rows row w ∙ found))
 
 pub returns-in-Some-clause-new : goal.returns-in-Some-clause-new
@@ -37,7 +37,7 @@ returns-in-Some-clause-new c =
     let w = around q 0 i rows row (omega arith) (omega arith) c.index_mut-row.ensures.value c.self.invariant in
     let new : Value = record { texts = c.args.texts; covers = c.in-Some.value.now.covers } in
     let h = c.get_mut.follows.holds new in
-    let found : lookup (is_named q) row.entries ≡ Some c.in-Some.value.now = search rules in
+    let found : lookup (is_named q) (entries_in row) ≡ Some c.in-Some.value.now = search rules in
     let kept : new.covers ≡ covers_in q (entries_of rows) =
     sym (ap (λ o. unwrap_or (option_map (λ (v : Value). v.covers) o) false) (lookup_row q 0 i rows row w ∙ found)) in
     rw (← c.self.view_is) (set_row q 0 i rows row w (c.get_mut.follows.lender new) new h.0
@@ -49,7 +49,7 @@ returns-in-Some-clause-ordered c = rw (← c.self.view_is) (rows_sorted 0 c.self
 pub returns-clause-absent : goal.returns-clause-absent
 returns-clause-absent c =
     let row = c.index_mut-row.result.now in
-    let none : lookup (is_named c.args.name.now) row.entries ≡ None = search rules in
+    let none : lookup (is_named c.args.name.now) (entries_in row) ≡ None = search rules in
     rw (← c.self.view_is)
     (lookup_at c.args.name.now c.row_of-row.result c.self.inside.rows.items row (omega arith) (omega arith) c.index_mut-row.ensures.value c.self.invariant ∙ none)
 
