@@ -164,7 +164,7 @@ impl Word {
         }
     }
 
-    /// The word with characters of one mark behind it, none of them a pattern character.
+    /// The word with characters of one mark after it, none of them a pattern character.
     fn with_end(&self, alloc: Global, next: &str, mark: bool) -> Result<Word, AllocError>
         requires { has_pattern (with_mark mark next.now) ≡ false }
         ensures { IfOk result (λ word. word ≡ self.now ++ with_mark mark next.now) }
