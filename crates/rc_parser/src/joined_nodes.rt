@@ -87,7 +87,7 @@ pub(crate) fn allows_if_not(background: bool, cmd: &Cmd) -> bool
 }
 
 /// Whether a command is an `if` or an `if not`.
-#[tactic(auto, unfolding(rc_tree::specs::View::cmd_tree))]
+#[tactic(auto, using(rc_tree::specs::View::tree_nodes))]
 fn is_if(cmd: &Cmd) -> bool
     ensures { result ≡ is_if (cmd_tree cmd.now) }
 {
