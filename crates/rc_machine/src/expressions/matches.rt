@@ -1,10 +1,10 @@
 //! Instructions that match a list against patterns.
 
-ghost use Rattle.std.specs.Prelude.{◌≡◌, IfOk};
+ghost use Rattle.std.specs.Prelude.{◌≡◌, IfOk, IsTrue};
 ghost use Rattle.rc_model.specs.Code.Layout as op;
 ghost use Rattle.rc_machine.specs.Instructions.{Moves};
 ghost use Rattle.rc_model.specs.Run.Acts.{match_status};
-ghost use Rattle.rc_machine.specs.Subjects.{TakesSubject};
+ghost use Rattle.rc_machine.specs.Subjects.{HasSubject, TakesSubject};
 
 use crate::configuration::{Configuration, Move};
 use crate::stack::Stack;
@@ -25,11 +25,24 @@ fn take_subject(alloc: Global, words: &mut Stack<Word>) -> Result<Option<Word>, 
     Ok(Some(subject))
 }
 
+/// Whether the top list is the subject as it stands: one word with no marks.
+fn has_subject(words: &Stack<Word>) -> bool
+    ensures { IsTrue result → HasSubject words.now }
+{
+    let Some([word]) = words.top() else {
+        return false;
+    };
+    word.is_plain()
+}
+
 /// Makes the top list the subject that patterns are matched against.
 #[inline(never)]
 pub(crate) fn make_subject(machine: &mut Configuration, alloc: Global) -> Result<Move, AllocError>
     ensures { IfOk result (Moves op.Subject machine.old machine.new) }
 {
+    if has_subject(&machine.words) {
+        return Ok(Move::On);
+    }
     let Some(subject) = take_subject(alloc, &mut machine.words)? else {
         return Ok(Move::Ended);
     };

@@ -57,12 +57,12 @@ fn concat_pair(machine: &mut Configuration, alloc: Global) -> Result<Option<Move
     ensures { IfOk result (λ joined. MatchOption joined (config_of machine.new ≡ config_of machine.old)
         (Moves op.Concat machine.old machine.new)) }
 {
-    let Some((first, second)) = machine.words.take_pair() else {
+    let Some((mut first, second)) = machine.words.take_pair() else {
         return Ok(None);
     };
-    let joined = first.followed_by(alloc, &second)?;
+    first.append(alloc, &second)?;
     machine.words.begin()?;
-    machine.words.push(joined)?;
+    machine.words.push(first)?;
     Ok(Some(Move::On))
 }
 
