@@ -10,6 +10,7 @@ ghost use Rattle.std.specs.String.{string_cmp};
 ghost use Rattle.rc_scope.specs.RowLends.{LendsValue};
 ghost use Rattle.rc_scope.specs.Rows.{entries_in, is_named};
 
+use crate::value_members::Members;
 use crate::value_rows::Value;
 use std::alloc::{AllocError, Global};
 use std::collections::BTreeMap;
@@ -23,6 +24,17 @@ pub(crate) struct Entry {
 }
 
 impl Entry {
+    /// An entry that stands where one was taken away.
+    fn nothing(alloc: Global) -> Entry {
+        Entry {
+            name: String::new(alloc),
+            value: Value {
+                texts: Members::none(alloc),
+                covers: false,
+            },
+        }
+    }
+
     /// Whether this is the entry of a name.
     fn is_named(&self, name: &str) -> bool
         ensures { result ≡ is_named name.now self.now.name }
@@ -44,11 +56,11 @@ impl Clone for Entry {
     }
 }
 
-/// The variables whose names begin with the same byte. Only two or more take memory of their own.
+/// The variables whose names begin with the same byte. The box keeps the rows small, since most of them are empty.
 #[derive(Drop)]
 pub(crate) enum Row {
     Empty,
-    One(Entry),
+    One(Box<Entry>),
     Many(BTreeMap<String, Value>),
 }
 
@@ -110,13 +122,17 @@ impl Row {
         let mut map = BTreeMap::new(alloc);
         match self {
             Row::Empty => Ok(map),
-            Row::One(Entry { name, value }) => match map.insert(name, value) {
-                Ok(_) => Ok(map),
-                Err(refused) => {
-                    let (name, value) = refused.value;
-                    Err(Row::One(Entry { name, value }))
+            Row::One(mut entry) => {
+                let Entry { name, value } = replace(&mut *entry, Entry::nothing(alloc));
+                match map.insert(name, value) {
+                    Ok(_) => Ok(map),
+                    Err(refused) => {
+                        let (name, value) = refused.value;
+                        *entry = Entry { name, value };
+                        Err(Row::One(entry))
+                    }
                 }
-            },
+            }
             Row::Many(map) => Ok(map),
         }
     }
@@ -153,7 +169,7 @@ impl Row {
         ensures err { OnErr result (entries_in self.new ≡ entries_in self.old) }
     {
         if let Row::Empty = self {
-            *self = Row::One(Entry { name, value });
+            *self = Row::One(Box::new(alloc, Entry { name, value })?);
             return Ok(());
         }
         self.insert_beside(alloc, name, value)
