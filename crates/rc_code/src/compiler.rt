@@ -10,7 +10,7 @@ ghost use Rattle.rc_code.specs.Compiled.{HasCompiled};
 ghost use Rattle.rc_code.specs.Views.{code_of};
 
 use crate::code::{Code, Op};
-use crate::emit_commands::emit_items;
+use crate::emission::emit_commands::emit_items;
 use crate::listing::Listing;
 use rc_tree::Item;
 use std::alloc::{AllocError, Global};

@@ -3,17 +3,11 @@
 
 mod code;
 mod compiler;
-mod emit_args;
-mod emit_commands;
-mod emit_plain;
-mod entries;
-mod forms;
+mod emission;
 mod instruction_numbers;
 mod interned_words;
-mod kept;
 mod listing;
 mod pipelines;
-mod slots;
 
 ghost use Rattle.std.specs.Prelude.{◌≡◌, false, IfOk, OnOk};
 ghost use Rattle.rc_model.specs.Code.Layout.{code, cmd_code, Do, Return, ◌⨾◌};
@@ -24,7 +18,7 @@ ghost use Rattle.rc_code.specs.Writing.{Writes};
 
 pub use code::{Code, Op};
 pub use compiler::Compiler;
-use emit_commands::emit_cmd;
+use emission::emit_commands::emit_cmd;
 use listing::Listing;
 pub use pipelines::Pipeline;
 use rc_tree::Cmd;

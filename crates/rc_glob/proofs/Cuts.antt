@@ -10,7 +10,7 @@ use Rattle.std.proofs.lemmas.Str.{encode_ascii}
 use Rattle.rc_model.specs.Syntax.Words.{Word, has_pattern, word_text}
 use Rattle.rc_model.specs.Run.FileNames.{components, if_there, listed, paths_of, step, walk}
 use Rattle.law_values.proofs.Found.{components_pattern}
-use Rattle.rc_text.specs.declared.literal.Ch.{Ch}
+use Rattle.rc_text.specs.declared.words.literal.Ch.{Ch}
 use Rattle.rc_text.specs.Literals.{mark_of, marks}
 use Rattle.rc_glob.specs.Paths.{paths_from}
 

@@ -8,7 +8,7 @@ use Rattle.rc_model.specs.Run.Patterns.{any_run, stands_for, parts_match, parts_
 use Rattle.rc_model.specs.Mirrors.Greedy.{Matcher, after_one, after_star, Move, PastStar, PastOne, AtEnd, Miss, past_one, one_move, move_by, move, goes_back, after_move, greedy_from}
 use Rattle.law_values.proofs.Going.{greedy_from-is}
 use Rattle.law_values.proofs.Steps.{after_one-shorter}
-use Rattle.rc_text.specs.declared.literal.Ch.{Ch}
+use Rattle.rc_text.specs.declared.words.literal.Ch.{Ch}
 use Rattle.rc_text.specs.Literals.{marks}
 use Rattle.rc_glob.specs.Places.{first_place, later_place}
 use Rattle.rc_glob.proofs.Reaching.{at_place, passes}

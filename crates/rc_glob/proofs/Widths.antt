@@ -9,7 +9,7 @@ use Rattle.rc_model.specs.Run.Matching.{Star, Question, Open, Plain}
 use Rattle.rc_model.specs.Mirrors.Greedy.{class_end}
 use Rattle.law_values.proofs.Computed.{by_kind, inside_parts, not_both, parts_cons, parts_inside}
 use Rattle.law_values.proofs.Steps.{class_end-IsClass, length_after_class}
-use Rattle.rc_text.specs.declared.literal.Ch.{Ch}
+use Rattle.rc_text.specs.declared.words.literal.Ch.{Ch}
 use Rattle.rc_text.specs.Literals.{mark_of, marks}
 use Rattle.rc_glob.specs.Places.{begins_with, one_more, plain_front, width}
 use Rattle.rc_glob.proofs.Moves.{length-marks}

@@ -4,7 +4,7 @@ use Rattle.std.specs.Borrow.{Bor}
 use Rattle.std.specs.Str.{chars, IsUtf8}
 use Rattle.rc_model.specs.Syntax.Words.{Word}
 use Rattle.rc_model.specs.Mirrors.Greedy as greedy
-use Rattle.rc_text.specs.declared.literal.Ch.{Ch}
+use Rattle.rc_text.specs.declared.words.literal.Ch.{Ch}
 use Rattle.rc_text.specs.Literals.{marks}
 use Rattle.rc_glob.specs.declared.matching.Move.{Move}
 use Rattle.rc_glob.specs.declared.matching.Move.TheVariants.{PastStar, PastOne, AtEnd, Miss}

@@ -4,7 +4,7 @@ use Rattle.std.specs.Borrow.{Bor}
 use Rattle.rc_model.specs.Syntax.Words.{Word, word_texts}
 use Rattle.rc_model.specs.Run.FileNames.{components, step, walk, expanded_word}
 use Rattle.rc_model.specs.Run.Shell.{Shell, ◌>>=◌, pure}
-use Rattle.rc_text.specs.declared.literal.Ch.{Ch}
+use Rattle.rc_text.specs.declared.words.literal.Ch.{Ch}
 use Rattle.rc_text.specs.Literals.{marks}
 
 -- the components after a slash; none if there is no slash

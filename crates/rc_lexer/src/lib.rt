@@ -5,18 +5,12 @@
 ghost use Rattle.std.specs.Prelude.{◌≡◌};
 
 mod byte_classes;
-mod dollars;
-mod ends;
-mod here_docs;
 mod lexer;
 mod lexer_state;
 mod operators;
 mod pieces;
 mod plain;
 mod previous;
-mod tokens;
-mod transitions;
-mod word_bytes;
 
 pub use lexer::{Lexer, lex};
 pub use pieces::Pieces;

@@ -6,9 +6,9 @@ ghost use Rattle.rc_model.specs.Mirrors.Reading as reading;
 ghost use Rattle.rc_lexer.specs.Reads.{Comes, Finishes, HasRead, IsReading, ReadsOn, left_at};
 
 use crate::byte_classes::class_of;
+use crate::lexer_state::tokens::after_byte;
 use crate::lexer_state::{Reading, State};
 use crate::plain::{line_end, read_plain};
-use crate::tokens::after_byte;
 use crate::{ScriptError, Token, fault};
 use rc_model::{FaultKind, InputError, Place, Previous, SyntaxFault};
 use std::alloc::{AllocError, Global};

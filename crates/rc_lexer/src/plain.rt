@@ -9,11 +9,11 @@ ghost use Rattle.rc_lexer.specs.Reads.{HasRead};
 
 use crate::TokenKind;
 use crate::byte_classes::{ByteClass, class_of, is_name_byte};
-use crate::dollars::begins_dollar_name;
+use crate::lexer_state::dollars::begins_dollar_name;
+use crate::lexer_state::tokens::{after_byte, token_between};
 use crate::lexer_state::{Reading, State, TokenStart};
 use crate::operators::{Op, first_op};
 use crate::previous::{after_blank, begins_name};
-use crate::tokens::{after_byte, token_between};
 use rc_model::{Place, Previous};
 use std::alloc::AllocError;
 

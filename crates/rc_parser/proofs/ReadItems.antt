@@ -19,8 +19,8 @@ use Rattle.rc_parser.specs.Faults.{line_left, placed}
 use Rattle.rc_model.specs.declared.fault.InputError.TheVariants as error
 use Rattle.rc_parser.specs.Answers.{Fails, TokenError}
 use Rattle.rc_parser.specs.ItemReading.{AreAll, Finds, items_after}
-use Rattle.rc_parser.specs.declared.found_items.Found.{Found}
-use Rattle.rc_parser.specs.declared.token_faults.TokenFault.{TokenFault}
+use Rattle.rc_parser.specs.declared.items.found_items.Found.{Found}
+use Rattle.rc_parser.specs.declared.token_stream.token_faults.TokenFault.{TokenFault}
 use Rattle.rc_parser.proofs.Parsing.{Says, has_no_other, is_refused}
 use Rattle.rc_parser.proofs.Scripts.{script_fails, script_fits}
 use Rattle.rc_parser.proofs.Steps.{read_list}

@@ -3,7 +3,7 @@ use Rattle.std.specs.Prelude.{◌≡◌, ℕ, Result, Ok, Err}
 use Rattle.rc_model.specs.declared.fault.InputError.{InputError}
 use Rattle.rc_model.specs.declared.fault.InputError.TheVariants as error
 use Rattle.rc_model.specs.declared.fault.DescentFault.{DescentFault}
-use Rattle.rc_parser.specs.declared.token_faults.TokenFault.{TokenFault}
+use Rattle.rc_parser.specs.declared.token_stream.token_faults.TokenFault.{TokenFault}
 
 -- why there is no tree
 abbrev pub TokenError : Type 0

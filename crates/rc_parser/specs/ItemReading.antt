@@ -14,7 +14,7 @@ use Rattle.rc_tree.specs.declared.types.Item.{Item}
 use Rattle.rc_parser.specs.Answers.{Fails, TokenError}
 use Rattle.rc_parser.specs.Faults.{Refuses}
 use Rattle.rc_parser.specs.Tokens.{lexemes_of}
-use Rattle.rc_parser.specs.declared.found_items.Found.{Found}
+use Rattle.rc_parser.specs.declared.items.found_items.Found.{Found}
 use Rattle.rc_parser.specs.declared.items.Items.{Items}
 
 -- the items that are found after those so far, in at most so many turns, each within so many levels

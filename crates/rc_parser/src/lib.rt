@@ -3,17 +3,14 @@
 #![tactic(auto)]
 
 mod descent;
-mod found_items;
 mod here_pieces;
 mod items;
 mod joined_nodes;
 mod lexed_script;
-mod lookahead;
 mod parsed_words;
 mod reader;
 mod syntax_faults;
 mod text;
-mod token_faults;
 mod token_stream;
 mod trees;
 
@@ -30,7 +27,7 @@ pub use rc_model::{FaultKind, InputError, SyntaxFault};
 use rc_tree::Cmd;
 pub use reader::Reader;
 use std::alloc::Global;
-pub use token_faults::{TokenError, TokenFault};
+pub use token_stream::token_faults::{TokenError, TokenFault};
 pub use token_stream::{Source, Tokens};
 pub use trees::script;
 

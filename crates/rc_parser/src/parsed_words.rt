@@ -12,8 +12,8 @@ ghost use Rattle.rc_parser.specs.Keywords.{begins_keyword};
 ghost use Rattle.rc_parser.specs.Tokens.{lexemes_of};
 
 use crate::here_pieces::pieces;
-use crate::token_faults::{TokenError, fault_at};
 use crate::token_stream::Tokens;
+use crate::token_stream::token_faults::{TokenError, fault_at};
 use rc_lexer::TokenKind;
 use rc_model::{DescentFault, Keyword};
 use rc_text::unquote;

@@ -6,7 +6,7 @@ ghost use Rattle.rc_lexer.specs.Views.{tokens_of};
 ghost use Rattle.rc_parser.specs.Faults.{line_left, placed};
 
 use crate::text::line_of;
-use crate::token_faults::TokenFault;
+use crate::token_stream::token_faults::TokenFault;
 use rc_lexer::Token;
 use rc_model::{DescentFault, FaultKind, SyntaxFault};
 

@@ -11,8 +11,8 @@ ghost use Rattle.rc_parser.specs.Tokens.{lexemes_of};
 ghost use Rattle.rc_parser.specs.Answers.{Gives, HasFault};
 
 use crate::descent::command_lists::parse_list;
-use crate::token_faults::{TokenError, fault_at};
 use crate::token_stream::Tokens;
+use crate::token_stream::token_faults::{TokenError, fault_at};
 use rc_model::DescentFault;
 use rc_model::limits::MOST_LEVELS;
 use rc_tree::{Cmd, is_within};

@@ -22,9 +22,9 @@ use Rattle.rc_scope.specs.RowCopies.{IsRowCopy}
 use Rattle.rc_scope.specs.Stacks.{texts_of, is_local_of, covered_in, stack_of, variable_of, stacks_of, locals_of}
 use Rattle.rc_scope.specs.Children.{child_numbers}
 use Rattle.rc_scope.specs.declared.functions.Function.{Function}
-use Rattle.rc_scope.specs.declared.locals.Local.{Local}
-use Rattle.rc_scope.specs.declared.name_rows.Row.{Row}
-use Rattle.rc_scope.specs.declared.value_rows.Value.{Value}
+use Rattle.rc_scope.specs.declared.variables.locals.Local.{Local}
+use Rattle.rc_scope.specs.declared.variables.name_rows.Row.{Row}
+use Rattle.rc_scope.specs.declared.variables.value_rows.Value.{Value}
 use Rattle.rc_scope.specs.declared.variables.Variables.{Variables}
 
 -- ** rows

@@ -5,9 +5,9 @@ use Rattle.std.specs.declared.alloc.Global.{Global}
 use Rattle.std.specs.declared.string.String.{String}
 use Rattle.rc_scope.specs.Stacks.{texts_of}
 use Rattle.rc_scope.specs.Locals.{name_of}
-use Rattle.rc_scope.specs.declared.value_rows.Value.{Value}
-use Rattle.rc_scope.specs.declared.locals.Local.{Local}
-use Rattle.rc_scope.specs.declared.locals.LocalName.{LocalName}
+use Rattle.rc_scope.specs.declared.variables.value_rows.Value.{Value}
+use Rattle.rc_scope.specs.declared.variables.locals.Local.{Local}
+use Rattle.rc_scope.specs.declared.variables.locals.LocalName.{LocalName}
 
 -- a copy of a value
 abbrev pub IsValueCopy : Value → Value → Type 0

@@ -2,8 +2,8 @@
 use Rattle.std.specs.Prelude.{◌≡◌, string_bytes}
 use Rattle.rc_scope.specs.Copies.{IsValueCopy, AreCopies}
 use Rattle.rc_scope.specs.Rows.{entries_in}
-use Rattle.rc_scope.specs.declared.name_rows.Entry.{Entry}
-use Rattle.rc_scope.specs.declared.name_rows.Row.{Row}
+use Rattle.rc_scope.specs.declared.variables.name_rows.Entry.{Entry}
+use Rattle.rc_scope.specs.declared.variables.name_rows.Row.{Row}
 
 -- a copy of an entry
 abbrev pub IsEntryCopy : Entry → Entry → Type 0

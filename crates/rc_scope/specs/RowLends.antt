@@ -3,10 +3,10 @@ use Rattle.std.specs.Prelude.{◌≡◌, ℕ, List, Option}
 use Rattle.std.specs.Borrow.{LendsSo, MutBor, Fml}
 use Rattle.std.specs.Map.{set_value, keys_of}
 use Rattle.rc_scope.specs.Rows.{is_named, entries_in}
-use Rattle.rc_scope.specs.contracts.name_rows.Row.{the_row}
-use Rattle.rc_scope.specs.contracts.value_rows.Value.{the_row as value_row}
-use Rattle.rc_scope.specs.declared.name_rows.Row.{Row}
-use Rattle.rc_scope.specs.declared.value_rows.Value.{Value}
+use Rattle.rc_scope.specs.contracts.variables.name_rows.Row.{the_row}
+use Rattle.rc_scope.specs.contracts.variables.value_rows.Value.{the_row as value_row}
+use Rattle.rc_scope.specs.declared.variables.name_rows.Row.{Row}
+use Rattle.rc_scope.specs.declared.variables.value_rows.Value.{Value}
 
 -- a name has another value in a row, if it has one, and the names are those before
 abbrev pub IsWritten : List ℕ → (before after : Row) → Value → Type 0

@@ -4,7 +4,7 @@ use Rattle.std.proofs.lemmas.List.{map-append}
 use Rattle.std.specs.List.{list_any}
 use Rattle.std.specs.Str.{chars}
 use Rattle.rc_model.specs.Syntax.Words.{has_pattern, is_pattern, is_pattern_char, written}
-use Rattle.rc_text.specs.declared.literal.Ch.{Ch}
+use Rattle.rc_text.specs.declared.words.literal.Ch.{Ch}
 use Rattle.rc_text.specs.Literals.{mark_of, marks}
 
 -- characters that are all marked, or all not

@@ -3,7 +3,7 @@ use Rattle.std.specs.Prelude.{◌≡◌, ℕ, Bool, true, false, List, map, Opti
 use Rattle.std.specs.declared.alloc.Global.{Global}
 use Rattle.std.specs.declared.vec.Vec.{Vec}
 use Rattle.rc_model.specs.Syntax.Words.{has_pattern, written}
-use Rattle.rc_text.specs.declared.literal.Ch.{Ch}
+use Rattle.rc_text.specs.declared.words.literal.Ch.{Ch}
 
 -- a character and its mark
 abbrev pub mark_of : Ch → ℕ × Bool

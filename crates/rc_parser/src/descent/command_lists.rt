@@ -7,9 +7,9 @@ ghost use Rattle.rc_parser.specs.Answers.{Gives};
 
 use crate::descent::commands::parse_command;
 use crate::joined_nodes::allows_if_not;
-use crate::lookahead::{ends, item_end};
-use crate::token_faults::{TokenError, fault_at};
 use crate::token_stream::Tokens;
+use crate::token_stream::lookahead::{ends, item_end};
+use crate::token_stream::token_faults::{TokenError, fault_at};
 use rc_lexer::TokenKind;
 use rc_model::DescentFault;
 use rc_tree::{Cmd, Item, push_item};

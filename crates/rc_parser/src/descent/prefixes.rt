@@ -14,9 +14,9 @@ use crate::descent::commands::{parse_inner_operand, parse_leading, parse_pipelin
 use crate::descent::openings::{Opening, parse_opening};
 use crate::descent::redirections::{parse_redirection, parse_redirections};
 use crate::joined_nodes::push_pair;
-use crate::lookahead::{begins_command, begins_leading};
-use crate::token_faults::TokenError;
 use crate::token_stream::Tokens;
+use crate::token_stream::lookahead::{begins_command, begins_leading};
+use crate::token_stream::token_faults::TokenError;
 use rc_tree::{Arg, Cmd};
 use std::alloc::{AllocError, Global};
 

@@ -9,10 +9,10 @@ ghost use Rattle.rc_parser.specs.Answers.{Gives};
 ghost use Rattle.rc_parser.specs.Reading.{made};
 
 use crate::descent::arguments::parse_argument;
-use crate::lookahead::begins_redir;
 use crate::parsed_words::parse_here_doc;
-use crate::token_faults::{TokenError, fault_at};
 use crate::token_stream::Tokens;
+use crate::token_stream::lookahead::begins_redir;
+use crate::token_stream::token_faults::{TokenError, fault_at};
 use rc_lexer::TokenKind;
 use rc_model::{DescentFault, Mode};
 use rc_tree::Redir;

@@ -8,8 +8,8 @@ ghost use Rattle.rc_parser.specs.Answers.{Gives};
 ghost use Rattle.rc_parser.specs.Reading.{made};
 
 use crate::parsed_words::parse_literal;
-use crate::token_faults::{TokenError, fault_at};
 use crate::token_stream::Tokens;
+use crate::token_stream::token_faults::{TokenError, fault_at};
 use rc_lexer::TokenKind;
 use rc_model::DescentFault;
 use rc_tree::Arg;

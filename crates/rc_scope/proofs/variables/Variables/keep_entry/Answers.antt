@@ -3,7 +3,7 @@ use Rattle.std.specs.Map.{lookup}
 use Rattle.rc_model.specs.Handed.Image.{value_text}
 use Rattle.rc_scope.specs.Rows.{is_named}
 use Rattle.rc_scope.specs.Stacks.{stacks_of, texts_of}
-use Rattle.rc_scope.specs.declared.value_rows.Value.{Value}
+use Rattle.rc_scope.specs.declared.variables.value_rows.Value.{Value}
 use Rattle.rc_scope.proofs.Stacks.{visible_variable}
 use Rattle.rc_scope.proofs.variables.Variables.keep_entry.Goals as goal
 

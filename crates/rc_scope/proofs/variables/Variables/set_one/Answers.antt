@@ -5,7 +5,7 @@ use Rattle.rc_model.specs.Run.State.{covered, put_values}
 use Rattle.rc_text.specs.Texts.{text_bytes}
 use Rattle.rc_text.specs.declared.texts.Text.{Text}
 use Rattle.rc_scope.specs.Rows.{is_named}
-use Rattle.rc_scope.specs.declared.value_rows.Value.{Value}
+use Rattle.rc_scope.specs.declared.variables.value_rows.Value.{Value}
 use Rattle.rc_scope.specs.Stacks.{stacks_of, stack_in, variable_of, covers_in}
 use Rattle.rc_scope.proofs.Stacks.{written_if_there}
 use Rattle.rc_scope.proofs.variables.Variables.set_one.Goals as goal

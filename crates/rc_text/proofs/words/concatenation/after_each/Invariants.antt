@@ -1,0 +1,5 @@
+use Rattle.std.proofs.Common.{◌≡◌, ◌++◌, map, take}
+use Rattle.rc_text.proofs.words.concatenation.after_each.Given as goal
+
+abbrev pub invariant-loop-word : goal.invariant-loop-word
+invariant-loop-word l = l.list ≡ map (λ w. w ++ l.last) (take l.word-index l.words)
