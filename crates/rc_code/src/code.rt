@@ -105,18 +105,32 @@ pub enum Op {
 const _: () = prove!(size_of::<Op>() == 8);
 
 /// What is kept beside the instructions.
-#[derive(Drop)]
 pub(crate) enum Kept {
     Tree(Rc<Cmd>),
     Stages(Vec<Stage>),
     Pieces(Vec<Piece>),
 }
 
+impl Drop for Kept {
+    fn drop(self) {
+        match self {
+            Kept::Tree(_)
+            | Kept::Stages(_)
+            | Kept::Pieces(_) => (),
+        }
+    }
+}
+
 /// The instructions of a command, and the parts of its tree that they keep. It is immutable, so it is shared.
-#[derive(Drop)]
 pub struct Code {
     listing: Rc<Listing>,
     ghost proper: { AllKeptProper (listing_of listing.value).kept } by { kept_prop (listing_of listing.value).kept },
+}
+
+impl Drop for Code {
+    fn drop(self) {
+        let Code { listing: _ } = self;
+    }
 }
 
 impl Code {

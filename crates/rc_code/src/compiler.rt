@@ -17,10 +17,15 @@ use std::alloc::{AllocError, Global};
 use std::slice;
 
 /// The code of the items so far.
-#[derive(Drop)]
 pub struct Compiler {
     alloc: Global,
     listing: Listing,
+}
+
+impl Drop for Compiler {
+    fn drop(self) {
+        let Compiler { alloc: _, listing: _ } = self;
+    }
 }
 
 impl Compiler {

@@ -10,9 +10,14 @@ use std::alloc::{AllocError, Global};
 use std::marker::Model;
 
 /// The text so far.
-#[derive(Drop)]
 pub struct Lexer {
     pieces: Pieces,
+}
+
+impl Drop for Lexer {
+    fn drop(self) {
+        let Lexer { pieces: _ } = self;
+    }
 }
 
 impl Model for Lexer {

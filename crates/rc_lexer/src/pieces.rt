@@ -177,13 +177,24 @@ fn finished(
 }
 
 /// The text so far, and what was read of it.
-#[derive(Drop)]
 pub struct Pieces {
     text: Vec<u8>,
     reading: Reading,
     state: State,
     place: Place,
     fault: Option<SyntaxFault>,
+}
+
+impl Drop for Pieces {
+    fn drop(self) {
+        let Pieces {
+            text: _,
+            reading: _,
+            state: _,
+            place: _,
+            fault: _,
+        } = self;
+    }
 }
 
 impl Model for Pieces {

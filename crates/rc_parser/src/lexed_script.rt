@@ -12,10 +12,15 @@ use rc_lexer::{ScriptError, Token};
 use std::marker::Model;
 
 /// The text of a script, which has these tokens.
-#[derive(Drop)]
 pub struct LexedScript {
     text: Vec<u8>,
     tokens: Vec<Token>,
+}
+
+impl Drop for LexedScript {
+    fn drop(self) {
+        let LexedScript { text: _, tokens: _ } = self;
+    }
 }
 
 impl Model for LexedScript {

@@ -54,7 +54,6 @@ fn pass(passed: &mut Vec<Snapshot<u8>>, piece: &[u8]) -> Result<(), AllocError>
 }
 
 /// The script so far. Past the greatest length it takes no more memory, since it is known to be too long.
-#[derive(Drop)]
 pub struct Reader {
     alloc: Global,
     pieces: Pieces,
@@ -62,6 +61,17 @@ pub struct Reader {
     room: usize,
     /// The bytes that came when there was no room.
     passed: Vec<Snapshot<u8>>,
+}
+
+impl Drop for Reader {
+    fn drop(self) {
+        let Reader {
+            alloc: _,
+            pieces: _,
+            room: _,
+            passed: _,
+        } = self;
+    }
 }
 
 impl Model for Reader {

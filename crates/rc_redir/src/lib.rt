@@ -15,12 +15,20 @@ use std::fmt;
 use std::marker::Model;
 
 /// Why a redirection is refused.
-#[derive(Drop)]
 pub enum RedirFault {
     /// The file name is not exactly one word.
     NotOneWord,
     /// The world does not open the file of this name.
     CannotOpen(String),
+}
+
+impl Drop for RedirFault {
+    fn drop(self) {
+        match self {
+            RedirFault::NotOneWord
+            | RedirFault::CannotOpen(_) => (),
+        }
+    }
 }
 
 impl fmt::Display for RedirFault {
@@ -74,11 +82,19 @@ pub struct Redirection {
 }
 
 /// The current descriptors, and the open redirections.
-#[derive(Drop)]
 pub struct RedirStack {
     slots: Slots,
     /// The newest is last.
     redirections: Vec<Redirection>,
+}
+
+impl Drop for RedirStack {
+    fn drop(self) {
+        let RedirStack {
+            slots: _,
+            redirections: _,
+        } = self;
+    }
 }
 
 impl Model for RedirStack {

@@ -20,13 +20,22 @@ use std::marker::Model;
 use std::rc::Rc;
 
 /// A function of a shell.
-#[derive(Drop)]
 pub struct Function {
     body: Rc<Cmd>,
     /// The code of the body, once it has been needed.
     compiled: Option<Code>,
     /// Its entry in an environment, once a launch has handed it over.
     kept: Option<KeptEntry>,
+}
+
+impl Drop for Function {
+    fn drop(self) {
+        let Function {
+            body: _,
+            compiled: _,
+            kept: _,
+        } = self;
+    }
 }
 
 /// A function with its name.

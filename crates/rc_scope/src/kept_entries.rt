@@ -8,10 +8,15 @@ ghost use Rattle.rc_scope.specs.KeptEntries.{kept_text};
 use rc_text::Text;
 
 /// An entry of an environment, with the place where the text of a value, or the image of a function, begins in it.
-#[derive(Drop)]
 pub struct KeptEntry {
     pub entry: Text,
     pub start: usize,
+}
+
+impl Drop for KeptEntry {
+    fn drop(self) {
+        let KeptEntry { entry: _, start: _ } = self;
+    }
 }
 
 impl KeptEntry {

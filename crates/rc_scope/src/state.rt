@@ -39,7 +39,6 @@ use std::rc::Rc;
 use std::slice::from_ref;
 
 /// The variables of a shell with its open locals, its functions, its status and its children in the background.
-#[derive(Drop)]
 pub struct State {
     variables: Variables,
     functions: BTreeMap<String, Function>,
@@ -50,6 +49,20 @@ pub struct State {
     /// What ran last as a script. It is no part of what the shell does.
     recent_codes: RecentCodes,
     ghost proper: { AreProper variables functions.entries } by { proper_prop (state_with variables functions.entries) },
+}
+
+impl Drop for State {
+    fn drop(self) {
+        let State {
+            variables: _,
+            functions: _,
+            status: _,
+            if_not: _,
+            strict: _,
+            background: _,
+            recent_codes: _,
+        } = self;
+    }
 }
 
 impl State {

@@ -17,10 +17,15 @@ pub(crate) enum Room {
 }
 
 /// A text. One of up to 16 bytes stands in place, and a longer one is shared by its copies.
-#[derive(Drop)]
 pub struct Text {
     room: Room,
     ghost ok: { ∥ IsUtf8 (bytes_in room) ∥₁ },
+}
+
+impl Drop for Text {
+    fn drop(self) {
+        let Text { room: _ } = self;
+    }
 }
 
 impl Clone for Text {
@@ -97,7 +102,8 @@ impl Text {
     fn into_room(self) -> Room
         ensures { bytes_in result ≡ text_bytes self }
     {
-        self.room
+        let Text { room } = self;
+        room
     }
 
     /// Returns the text as a string. It is copied if it stands in place or has other owners.

@@ -1,10 +1,10 @@
-//! The types of the abstract syntax tree.
+//! The types of the abstract syntax tree. Their drops are written out, so that code that drops a tree calls them, and
+//! what they do is proved here alone.
 
 use rc_model::{Logic, Mode};
 
 /// A command.
 #[cycle(tree)]
-#[derive(Drop)]
 pub enum Cmd {
     Empty,
     Seq(Vec<Item>),
@@ -30,33 +30,83 @@ pub enum Cmd {
     Brace(Box<Cmd>),
 }
 
+impl Drop for Cmd {
+    #[cycle(drop)]
+    fn drop(self) {
+        match self {
+            Cmd::Empty
+            | Cmd::Seq(_)
+            | Cmd::Simple(_)
+            | Cmd::Assign(_, _)
+            | Cmd::Redirect(_, _)
+            | Cmd::Pipeline(_, _)
+            | Cmd::AndOr(_, _)
+            | Cmd::Not(_)
+            | Cmd::Subshell(_)
+            | Cmd::If(_, _)
+            | Cmd::IfNot(_)
+            | Cmd::While(_, _)
+            | Cmd::ForAll(_, _)
+            | Cmd::For(_, _, _)
+            | Cmd::Switch(_, _)
+            | Cmd::Match(_, _)
+            | Cmd::Define(_, _)
+            | Cmd::Undefine(_)
+            | Cmd::Brace(_) => (),
+        }
+    }
+}
+
 /// An item of a sequence.
 #[cycle(tree)]
-#[derive(Drop)]
 pub struct Item {
     pub cmd: Cmd,
     pub background: bool,
 }
 
+impl Drop for Item {
+    #[cycle(drop)]
+    fn drop(self) {
+        let Item {
+            cmd: _,
+            background: _,
+        } = self;
+    }
+}
+
 /// A stage of a pipeline, with the descriptor that goes into the pipe.
 #[cycle(tree)]
-#[derive(Drop)]
 pub struct Stage {
     pub cmd: Cmd,
     pub slot: u8,
 }
 
+impl Drop for Stage {
+    #[cycle(drop)]
+    fn drop(self) {
+        let Stage { cmd: _, slot: _ } = self;
+    }
+}
+
 /// A case line of a `switch`, with the commands that follow it.
 #[cycle(tree)]
-#[derive(Drop)]
 pub struct Branch {
     pub patterns: Vec<Arg>,
     pub body: Box<Cmd>,
 }
 
+impl Drop for Branch {
+    #[cycle(drop)]
+    fn drop(self) {
+        let Branch {
+            patterns: _,
+            body: _,
+        } = self;
+    }
+}
+
 /// An argument of a command.
 #[cycle(tree)]
-#[derive(Drop)]
 pub enum Arg {
     Lit { text: String, quoted: bool },
     Concat(Vec<Arg>),
@@ -68,18 +118,55 @@ pub enum Arg {
     Back(Box<Cmd>),
 }
 
+impl Drop for Arg {
+    #[cycle(drop)]
+    fn drop(self) {
+        match self {
+            Arg::Lit { text: _, quoted: _ }
+            | Arg::Concat(_)
+            | Arg::Paren(_)
+            | Arg::Var(_)
+            | Arg::Count(_)
+            | Arg::Flat(_)
+            | Arg::Sub(_, _)
+            | Arg::Back(_) => (),
+        }
+    }
+}
+
 /// A redirection.
 #[cycle(tree)]
-#[derive(Drop)]
 pub enum Redir {
     Open { mode: Mode, slot: u8, file: Arg },
     Copy { to: u8, from: u8 },
     Here(Vec<Piece>),
 }
 
+impl Drop for Redir {
+    #[cycle(drop)]
+    fn drop(self) {
+        match self {
+            Redir::Open {
+                mode: _,
+                slot: _,
+                file: _,
+            }
+            | Redir::Copy { to: _, from: _ }
+            | Redir::Here(_) => (),
+        }
+    }
+}
+
 /// A piece of a here document: a literal text, or the name of a variable.
-#[derive(Drop)]
 pub enum Piece {
     Text(String),
     Name(String),
+}
+
+impl Drop for Piece {
+    fn drop(self) {
+        match self {
+            Piece::Text(_) | Piece::Name(_) => (),
+        }
+    }
 }

@@ -9,7 +9,6 @@ use crate::{ChildNo, Ending, Fault, Handle, Kind, Launch, Mode, Slot};
 use std::alloc::AllocError;
 
 /// A call of a world with its arguments.
-#[derive(Drop)]
 pub enum Call {
     Open(String, Mode),
     Here(String),
@@ -22,6 +21,24 @@ pub enum Call {
     List(String),
     Probe(String),
     Chdir(String),
+}
+
+impl Drop for Call {
+    fn drop(self) {
+        match self {
+            Call::Open(_, _)
+            | Call::Here(_)
+            | Call::Pipe
+            | Call::Close(_)
+            | Call::Read(_)
+            | Call::Write(_, _)
+            | Call::Start(_)
+            | Call::Wait(_)
+            | Call::List(_)
+            | Call::Probe(_)
+            | Call::Chdir(_) => (),
+        }
+    }
 }
 
 impl Call {

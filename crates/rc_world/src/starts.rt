@@ -9,19 +9,37 @@ use rc_text::Text;
 use std::alloc::{AllocError, AllocFailed};
 
 /// The program of a launch: this shell, or the one at a path.
-#[derive(Drop)]
 pub enum Program {
     Shell,
     Path(String),
 }
 
+impl Drop for Program {
+    fn drop(self) {
+        match self {
+            Program::Shell
+            | Program::Path(_) => (),
+        }
+    }
+}
+
 /// A child to be started. Its arguments don't include its name, and each entry of its environment is a `NAME=VALUE`.
-#[derive(Drop)]
 pub struct Launch {
     pub program: Program,
     pub args: Vec<Text>,
     pub env: Vec<Text>,
     pub slots: Slots,
+}
+
+impl Drop for Launch {
+    fn drop(self) {
+        let Launch {
+            program: _,
+            args: _,
+            env: _,
+            slots: _,
+        } = self;
+    }
 }
 
 impl Launch {

@@ -17,10 +17,15 @@ use rc_model::limits::LONGEST_READ;
 
 /// A world that replays answers in order, one for each call, and then answers `Halt` to every further call. An answer
 /// of the wrong kind, one of over 4096 bytes and `NoMemory` count as a refusal by `Other`.
-#[derive(Drop)]
 pub struct Tape {
     answers: Vec<Answer>,
     calls: Vec<Call>,
+}
+
+impl Drop for Tape {
+    fn drop(self) {
+        let Tape { answers: _, calls: _ } = self;
+    }
 }
 
 /// Counts the answers before the first halt.

@@ -25,7 +25,6 @@ pub(crate) enum Move {
 }
 
 /// The state of a machine between two instructions: the code, the program counter, and what the instructions work on.
-#[derive(Drop)]
 pub(crate) struct Configuration {
     pub code: Code,
     /// The place of the next instruction.
@@ -35,6 +34,20 @@ pub(crate) struct Configuration {
     pub scopes: Nest<Scope>,
     pub redirs: RedirStack,
     pub state: State,
+}
+
+impl Drop for Configuration {
+    fn drop(self) {
+        let Configuration {
+            code: _,
+            place: _,
+            frames: _,
+            words: _,
+            scopes: _,
+            redirs: _,
+            state: _,
+        } = self;
+    }
 }
 
 impl Configuration {
@@ -63,5 +76,21 @@ impl Configuration {
             redirs: RedirStack::new(alloc, PLAIN_SLOTS),
             state,
         }
+    }
+
+    /// The state, of which the rest is dropped.
+    pub(crate) fn into_state(self) -> State
+        ensures { state_of result ≡ (config_of self).state }
+    {
+        let Configuration {
+            code: _,
+            place: _,
+            frames: _,
+            words: _,
+            scopes: _,
+            redirs: _,
+            state,
+        } = self;
+        state
     }
 }

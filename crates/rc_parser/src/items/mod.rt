@@ -24,7 +24,6 @@ use rc_tree::{Item, is_within};
 use std::alloc::Global;
 
 /// The items of a script that are still to be parsed.
-#[derive(Drop)]
 pub struct Items<'a> {
     alloc: Global,
     source: &'a Source<'a>,
@@ -36,6 +35,19 @@ pub struct Items<'a> {
     /// Whether no item so far is too deep.
     fits: bool,
     ghost short: { length source.now.script.now ≤ longest_script },
+}
+
+impl Drop for Items<'_> {
+    fn drop(self) {
+        let Items {
+            alloc: _,
+            source: _,
+            rest: _,
+            turns: _,
+            after_if: _,
+            fits: _,
+        } = self;
+    }
 }
 
 impl<'a> Items<'a> {

@@ -57,11 +57,20 @@ impl Clone for Entry {
 }
 
 /// The variables whose names begin with the same byte. The box keeps the rows small, since most of them are empty.
-#[derive(Drop)]
 pub(crate) enum Row {
     Empty,
     One(Box<Entry>),
     Many(BTreeMap<String, Value>),
+}
+
+impl Drop for Row {
+    fn drop(self) {
+        match self {
+            Row::Empty
+            | Row::One(_)
+            | Row::Many(_) => (),
+        }
+    }
 }
 
 impl Clone for Row {

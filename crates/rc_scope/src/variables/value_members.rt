@@ -14,13 +14,18 @@ use std::marker::Model;
 use std::mem::take;
 
 /// The members of a value. Those that were dropped from its front stay where they are until the others go.
-#[derive(Drop)]
 pub struct Members {
     texts: MemberList,
     /// The place of the first member.
     first: usize,
     /// Their entry in an environment, once a launch has handed it over.
     kept: Option<KeptEntry>,
+}
+
+impl Drop for Members {
+    fn drop(self) {
+        let Members { texts: _, first: _, kept: _ } = self;
+    }
 }
 
 impl Model for Members {

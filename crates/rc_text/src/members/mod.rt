@@ -12,10 +12,15 @@ use std::alloc::{AllocError, Global};
 use std::marker::Model;
 
 /// An iterator over the members of a text: the longest runs of characters that are not separators.
-#[derive(Drop)]
 pub struct Members<'a> {
     rest: &'a str,
     separators: Separators,
+}
+
+impl Drop for Members<'_> {
+    fn drop(self) {
+        let Members { rest: _, separators: _ } = self;
+    }
 }
 
 impl<'a> Model for Members<'a> {
@@ -83,10 +88,15 @@ fn cut<'a>(text: &'a str, separators: &Separators) -> Option<(&'a str, &'a str)>
 }
 
 /// Output, and the characters that separate its members.
-#[derive(Drop)]
 pub struct Output {
     text: String,
     separators: String,
+}
+
+impl Drop for Output {
+    fn drop(self) {
+        let Output { text: _, separators: _ } = self;
+    }
 }
 
 impl Model for Output {

@@ -9,8 +9,13 @@ use std::alloc::{AllocError, Global};
 use std::marker::Model;
 
 /// A list of words. Up to eight of them need no allocation of their own.
-#[derive(Drop)]
 pub struct List(SmallVec<Word, 8>);
+
+impl Drop for List {
+    fn drop(self) {
+        let List(_) = self;
+    }
+}
 
 impl Model for List {
     ghost use Rattle.std.specs.Prelude.{ℕ, Bool, List};
@@ -49,7 +54,8 @@ impl List {
     pub fn into_words(self) -> Result<Vec<Word>, AllocError>
         ensures { IfOk result (λ words. words.items ≡ self) }
     {
-        self.0.into_vec().map_err(|_| AllocError)
+        let List(words) = self;
+        words.into_vec().map_err(|_| AllocError)
     }
 
     /// Adds a word at the end.
@@ -62,15 +68,16 @@ impl List {
     }
 
     /// Adds the words of another list at the end.
-    pub fn append(&mut self, mut other: List) -> Result<(), AllocError>
+    pub fn append(&mut self, other: List) -> Result<(), AllocError>
         ensures ok { OnOk result (self.new ≡ self.old ++ other) }
         ensures err { OnErr result (self.new ≡ self.old) }
     {
+        let List(mut words) = other;
         if self.0.is_empty() {
-            self.0 = other.0;
+            self.0 = words;
             return Ok(());
         }
-        self.0.append(&mut other.0)
+        self.0.append(&mut words)
     }
 
     /// The texts of the words.

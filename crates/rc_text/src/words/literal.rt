@@ -18,12 +18,21 @@ pub struct Ch {
 }
 
 /// A word of a script: a text, and whether it is quoted.
-#[derive(Drop)]
 pub struct Literal {
     text: Text,
     quoted: bool,
     /// The characters, if there is a pattern character among them.
     chars: Option<Vec<Ch>>,
+}
+
+impl Drop for Literal {
+    fn drop(self) {
+        let Literal {
+            text: _,
+            quoted: _,
+            chars: _,
+        } = self;
+    }
 }
 
 impl Model for Literal {

@@ -5,7 +5,8 @@ pub(crate) mod lists;
 pub(crate) mod literal;
 pub(crate) mod quoting;
 
-ghost use Rattle.std.specs.Prelude.{◌≡◌, [], ◌++◌, true, false, map, string_bytes, IfOk, IfSome, IsTrue, OnErr, OnOk, MatchOption};
+ghost use Rattle.std.specs.Prelude.{◌≡◌, [], ◌++◌, true, false, map, string_bytes};
+ghost use Rattle.std.specs.Prelude.{IfOk, IfSome, IsTrue, OnErr, OnOk, MatchOption};
 ghost use Rattle.std.specs.Str.{chars, IsCharBoundary};
 ghost use Rattle.rc_model.specs.Syntax.Words.{has_pattern, unmarked, word_text, written};
 ghost use Rattle.rc_text.specs.Literals.{marks};
@@ -49,8 +50,13 @@ pub(crate) enum Letters {
 }
 
 /// A word: characters, each of them marked or not.
-#[derive(Drop)]
 pub struct Word(Letters);
+
+impl Drop for Word {
+    fn drop(self) {
+        let Word(_) = self;
+    }
+}
 
 impl Model for Word {
     ghost use Rattle.std.specs.Prelude.{ℕ, Bool, List};
@@ -331,7 +337,8 @@ impl Word {
     pub fn into_text(self) -> Result<Text, AllocError>
         ensures { IfOk result (λ text. text_bytes text ≡ word_text self) }
     {
-        match self.0 {
+        let Word(letters) = self;
+        match letters {
             Letters::Plain(text) => Ok(text),
             Letters::Marked(text) => Ok(text),
             Letters::Halves { text, .. } => Ok(text),
@@ -351,7 +358,8 @@ impl Word {
     pub fn unmarked(self) -> Result<Word, AllocError>
         ensures { IfOk result (λ word. word ≡ unmarked self) }
     {
-        match self.0 {
+        let Word(letters) = self;
+        match letters {
             Letters::Plain(text) => Ok(Word::plain(text)),
             Letters::Marked(text) => Ok(Word::plain(text)),
             Letters::Halves { text, .. } => Ok(Word::plain(text)),
