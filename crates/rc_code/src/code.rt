@@ -114,9 +114,7 @@ pub(crate) enum Kept {
 impl Drop for Kept {
     fn drop(self) {
         match self {
-            Kept::Tree(_)
-            | Kept::Stages(_)
-            | Kept::Pieces(_) => (),
+            Kept::Tree(_) | Kept::Stages(_) | Kept::Pieces(_) => (),
         }
     }
 }

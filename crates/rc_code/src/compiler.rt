@@ -24,7 +24,10 @@ pub struct Compiler {
 
 impl Drop for Compiler {
     fn drop(self) {
-        let Compiler { alloc: _, listing: _ } = self;
+        let Compiler {
+            alloc: _,
+            listing: _,
+        } = self;
     }
 }
 

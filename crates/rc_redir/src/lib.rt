@@ -15,20 +15,12 @@ use std::fmt;
 use std::marker::Model;
 
 /// Why a redirection is refused.
+#[derive(Drop)]
 pub enum RedirFault {
     /// The file name is not exactly one word.
     NotOneWord,
     /// The world does not open the file of this name.
     CannotOpen(String),
-}
-
-impl Drop for RedirFault {
-    fn drop(self) {
-        match self {
-            RedirFault::NotOneWord
-            | RedirFault::CannotOpen(_) => (),
-        }
-    }
 }
 
 impl fmt::Display for RedirFault {

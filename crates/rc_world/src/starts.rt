@@ -17,8 +17,7 @@ pub enum Program {
 impl Drop for Program {
     fn drop(self) {
         match self {
-            Program::Shell
-            | Program::Path(_) => (),
+            Program::Shell | Program::Path(_) => (),
         }
     }
 }

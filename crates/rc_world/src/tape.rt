@@ -24,7 +24,10 @@ pub struct Tape {
 
 impl Drop for Tape {
     fn drop(self) {
-        let Tape { answers: _, calls: _ } = self;
+        let Tape {
+            answers: _,
+            calls: _,
+        } = self;
     }
 }
 

@@ -13,7 +13,7 @@ fn out_of_memory_is_reported(rt: HostRuntime) -> Result<(), Fail> {
     let mut tape = Tape::new(vec![in alloc; Answer::Found(Kind::Program), Answer::Done]?);
     let names = list(alloc, &["path", "f", "cd", "ls"])?;
     whatis(alloc, &mut tape, &mut state, PLAIN_SLOTS, &names).map_err(failure)?;
-    let [Call::Probe(_), Call::Write(_, text)] = tape.calls() else {
+    let [Call::Probe(..), Call::Write(.., text)] = tape.calls() else {
         panic!(rt; "other calls");
     };
     let lines = b"path=/bin\nfn f {}\nbuiltin cd\n/bin/ls\n";

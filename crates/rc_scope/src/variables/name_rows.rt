@@ -66,9 +66,7 @@ pub(crate) enum Row {
 impl Drop for Row {
     fn drop(self) {
         match self {
-            Row::Empty
-            | Row::One(_)
-            | Row::Many(_) => (),
+            Row::Empty | Row::One(_) | Row::Many(_) => (),
         }
     }
 }

@@ -24,7 +24,11 @@ pub struct Members {
 
 impl Drop for Members {
     fn drop(self) {
-        let Members { texts: _, first: _, kept: _ } = self;
+        let Members {
+            texts: _,
+            first: _,
+            kept: _,
+        } = self;
     }
 }
 

@@ -19,7 +19,10 @@ pub struct Members<'a> {
 
 impl Drop for Members<'_> {
     fn drop(self) {
-        let Members { rest: _, separators: _ } = self;
+        let Members {
+            rest: _,
+            separators: _,
+        } = self;
     }
 }
 
@@ -95,7 +98,10 @@ pub struct Output {
 
 impl Drop for Output {
     fn drop(self) {
-        let Output { text: _, separators: _ } = self;
+        let Output {
+            text: _,
+            separators: _,
+        } = self;
     }
 }
 
