@@ -32,13 +32,24 @@ use std::{env, fs, io};
 ///
 /// Open files, here documents and ends of pipes have numbers of their own, which are not Linux's. A child has its three
 /// descriptors and no others, and starts in the directory of the last `chdir`.
-#[derive(Drop)]
 pub struct HostWorld {
     rt: HostRuntime,
     shell: String,
     files: Table<OpenFile>,
     children: Table<Child<Started>>,
     leaving: Leaving,
+}
+
+impl Drop for HostWorld {
+    fn drop(self) {
+        let HostWorld {
+            rt: _,
+            shell: _,
+            files: _,
+            children: _,
+            leaving: _,
+        } = self;
+    }
 }
 
 impl HostWorld {

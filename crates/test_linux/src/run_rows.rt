@@ -7,7 +7,6 @@ use std::alloc::{AllocError, Global};
 const RESULT: &str = "\nresult: ";
 
 /// A run: what it shows, the input of the shell, and the expected result.
-#[derive(Drop)]
 pub struct Row {
     pub name: String,
     /// The arguments of the shell.
@@ -19,6 +18,19 @@ pub struct Row {
     pub script: String,
     /// The status, and the lines that the shell writes, each after its descriptor.
     pub result: String,
+}
+
+impl Drop for Row {
+    fn drop(self) {
+        let Row {
+            name: _,
+            words: _,
+            starter: _,
+            input: _,
+            script: _,
+            result: _,
+        } = self;
+    }
 }
 
 /// A word, in which `\n` is a newline.

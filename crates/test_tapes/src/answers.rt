@@ -9,10 +9,18 @@ use test_calls::answer;
 pub const ARROW: &str = " > ";
 
 /// Calls, each on a line, and their answers.
-#[derive(Drop)]
 pub struct Calls {
     pub lines: String,
     pub answers: Vec<Answer>,
+}
+
+impl Drop for Calls {
+    fn drop(self) {
+        let Calls {
+            lines: _,
+            answers: _,
+        } = self;
+    }
 }
 
 impl Calls {

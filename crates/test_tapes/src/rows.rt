@@ -19,7 +19,6 @@ use rc_scope::State;
 use std::alloc::{AllocError, Global};
 
 /// A script, and the expected run.
-#[derive(Drop)]
 pub struct Row<'a> {
     options: &'a str,
     pub script: String,
@@ -30,19 +29,48 @@ pub struct Row<'a> {
     pub limit: u64,
 }
 
+impl Drop for Row<'_> {
+    fn drop(self) {
+        let Row {
+            options: _,
+            script: _,
+            calls: _,
+            end: _,
+            limit: _,
+        } = self;
+    }
+}
+
 /// The words and entries that a shell is handed.
-#[derive(Drop)]
 pub struct Handed {
     pub is_strict: bool,
     pub words: Vec<String>,
     pub entries: Vec<String>,
 }
 
+impl Drop for Handed {
+    fn drop(self) {
+        let Handed {
+            is_strict: _,
+            words: _,
+            entries: _,
+        } = self;
+    }
+}
+
 /// The arguments and the environment of the program.
-#[derive(Drop)]
 pub struct Given {
     pub words: Vec<String>,
     pub entries: Vec<String>,
+}
+
+impl Drop for Given {
+    fn drop(self) {
+        let Given {
+            words: _,
+            entries: _,
+        } = self;
+    }
 }
 
 impl<'a> Row<'a> {

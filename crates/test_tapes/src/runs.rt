@@ -116,11 +116,20 @@ fn machine_of_image(alloc: Global, handed: &Handed) -> Result<Box<Machine>, RowE
 }
 
 /// A machine over a tape.
-#[derive(Drop)]
 pub struct Stepped {
     machine: Box<Machine>,
     tape: Tape,
     progress: Progress,
+}
+
+impl Drop for Stepped {
+    fn drop(self) {
+        let Stepped {
+            machine: _,
+            tape: _,
+            progress: _,
+        } = self;
+    }
 }
 
 impl Stepped {

@@ -25,10 +25,15 @@ pub enum End<'a> {
 }
 
 /// The story of a run.
-#[derive(Drop)]
 pub struct Story {
     pub calls: String,
     pub end: String,
+}
+
+impl Drop for Story {
+    fn drop(self) {
+        let Story { calls: _, end: _ } = self;
+    }
 }
 
 impl Story {

@@ -16,11 +16,20 @@ const USUAL_BYTES: usize = 1_024;
 
 /// A program, its arguments and its environment. The last two are as Linux takes them: texts in a sequence, each
 /// terminated by a byte 0, the first of the arguments the program's own name.
-#[derive(Drop)]
 pub(crate) struct Request {
     pub program: String,
     pub args: Vec<u8>,
     pub env: Vec<u8>,
+}
+
+impl Drop for Request {
+    fn drop(self) {
+        let Request {
+            program: _,
+            args: _,
+            env: _,
+        } = self;
+    }
 }
 
 /// Asks for a plan, except its descriptors. `Other`: a text has a byte 0, or an entry has no equals sign, so that they

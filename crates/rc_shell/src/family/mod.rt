@@ -28,12 +28,21 @@ use std::alloc::Global;
 use std::marker::Model;
 
 /// A family of shells that start one another. It is run by hand: each step answers the pending call of one of them.
-#[derive(Drop)]
 pub struct Family {
     limit: u64,
     processes: Vec<Process>,
     /// The steps so far: the answers of a process are those of its steps.
     steps: Vec<Step>,
+}
+
+impl Drop for Family {
+    fn drop(self) {
+        let Family {
+            limit: _,
+            processes: _,
+            steps: _,
+        } = self;
+    }
 }
 
 impl Model for Family {

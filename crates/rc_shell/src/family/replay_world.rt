@@ -12,9 +12,14 @@ use rc_world::{
 
 /// A tape of answers. Its record begins with these answers: so it is known of a run over any world that this one
 /// replayed the answers that it was made with.
-#[derive(Drop)]
 pub(crate) struct Replay {
     tape: Tape,
+}
+
+impl Drop for Replay {
+    fn drop(self) {
+        let Replay { tape: _ } = self;
+    }
 }
 
 impl Replay {

@@ -109,11 +109,19 @@ impl Account {
 }
 
 /// The accounts of all processes.
-#[derive(Drop)]
 pub struct Accounts {
     accounts: Vec<Account>,
     /// The number of pipes so far.
     pipes: usize,
+}
+
+impl Drop for Accounts {
+    fn drop(self) {
+        let Accounts {
+            accounts: _,
+            pipes: _,
+        } = self;
+    }
 }
 
 impl Accounts {

@@ -61,10 +61,18 @@ impl Order {
 }
 
 /// A family with the accounts of its processes, over a world in which every call is done.
-#[derive(Drop)]
 pub struct Run {
     pub accounts: Accounts,
     family: Family,
+}
+
+impl Drop for Run {
+    fn drop(self) {
+        let Run {
+            accounts: _,
+            family: _,
+        } = self;
+    }
 }
 
 impl Run {

@@ -43,10 +43,15 @@ impl End {
 }
 
 /// A run over a world.
-#[derive(Drop)]
 pub struct Run {
     world: RefusingWorld,
     end: End,
+}
+
+impl Drop for Run {
+    fn drop(self) {
+        let Run { world: _, end: _ } = self;
+    }
 }
 
 impl Run {

@@ -42,21 +42,37 @@ impl fmt::Display for Refusals {
 }
 
 /// A call and its answer.
-#[derive(Drop)]
 pub struct Event {
     pub call: Call,
     pub answer: Answer,
 }
 
+impl Drop for Event {
+    fn drop(self) {
+        let Event { call: _, answer: _ } = self;
+    }
+}
+
 /// A world that refuses some calls. To the others it gives fresh numbers, files from 3 and children from 1; every
 /// program is found, and ends with code 0; there is nothing to read; every directory has the names `d1` and `d2`.
-#[derive(Drop)]
 pub struct RefusingWorld {
     alloc: Global,
     refusals: Refusals,
     events: Vec<Event>,
     next_file: u32,
     next_child: u32,
+}
+
+impl Drop for RefusingWorld {
+    fn drop(self) {
+        let RefusingWorld {
+            alloc: _,
+            refusals: _,
+            events: _,
+            next_file: _,
+            next_child: _,
+        } = self;
+    }
 }
 
 impl RefusingWorld {
