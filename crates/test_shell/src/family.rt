@@ -55,10 +55,10 @@ fn out_of_memory_makes_no_step(rt: HostRuntime) -> Result<(), Fail> {
     let alloc = rt.alloc();
     let mut family = begun(&rt, alloc)?;
     let pipe = step(&rt, alloc, &mut family, Answer::Pair(Handle(3), Handle(4)))?;
-    assert!(rt; matches!(pipe, Call::Pipe), "the pipe is made first");
+    assert!(rt; matches!(&pipe, Call::Pipe), "the pipe is made first");
     let start = step(&rt, alloc, &mut family, Answer::Child(ChildNo(1)))?;
     assert!(rt;
-        matches!(start, Call::Start(_)),
+        matches!(&start, Call::Start(_)),
         "then the first stage is started"
     );
     assert_eq!(rt; family.count(), 2);
