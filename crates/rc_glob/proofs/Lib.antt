@@ -5,6 +5,7 @@ pub mod Members
 pub mod Moves
 pub mod Plain
 pub mod Reaching
+pub mod Slashes
 pub mod Sorting
 pub mod Subjects
 pub mod Sums

@@ -24,10 +24,12 @@ fn is_no_name(name: &str) -> bool
     name.is_empty() || name == "." || name == ".." || has_separator(name)
 }
 
+/// Whether a file can have this name, and the component matches it. There is no slash in it, at which a pattern character
+/// would have to stop.
 fn is_fitting(component: &[Ch], name: &str) -> bool
     ensures { result ≡ (not (is_no_name name.now) && matches (marks component.now) (chars name.now) true) }
 {
-    !is_no_name(name) && is_match(component, name, true)
+    !is_no_name(name) && is_match(component, name, false)
 }
 
 /// The names that the component matches, in byte order and each once.

@@ -1,5 +1,5 @@
 -- What the host holds.
-use Rattle.std.specs.Prelude.{◌≡◌, ◌≢◌, ℕ, nat_lt, ℤ, pos, List, [], ◌∷◌, map, Option, None, Some, IsSome, IsSomeAnd}
+use Rattle.std.specs.Prelude.{◌≡◌, ◌≢◌, ℕ, nat_lt, ℤ, pos, List, [], ◌∷◌, map, Option, None, Some, IsSome, IsSomeAnd, unwrap_or}
 use Rattle.std.specs.Prelude.{if◌then◌else◌, option_map, string_bytes, ⊤}
 use Rattle.std.specs.Fd.{file_raw_fd, pipe_reader_raw_fd, pipe_writer_raw_fd}
 use Rattle.std.specs.declared.process.child.Child.{Child}
@@ -19,9 +19,17 @@ use Rattle.rc_host.specs.declared.files.OpenFile.TheVariants.{File, ReadEnd, Wri
 use Rattle.rc_host.specs.declared.host.HostWorld.{HostWorld}
 use Rattle.rc_host.specs.declared.launches.launch_request.Request.{Request}
 
--- the path of the shell's own program
-abbrev pub shell_of : HostWorld → List ℕ
-shell_of world = string_bytes world.shell
+-- the path of the shell's own program, if the host knows it
+abbrev pub shell_of : HostWorld → Option (List ℕ)
+shell_of world = option_map string_bytes world.shell
+
+-- the path that is known, or the empty text
+abbrev pub known_shell : HostWorld → List ℕ
+known_shell world = unwrap_or (shell_of world) []
+
+-- as far as a launch needs it, this is the path of the shell's own program
+abbrev pub IsShellOf : HostWorld → Launch → List ℕ → Type 0
+IsShellOf world launch path = launch.program ≡ None → shell_of world ≡ Some path
 
 -- the files and ends of pipes that are open, each at its number
 abbrev pub files_of : HostWorld → List (Option OpenFile)
@@ -46,6 +54,17 @@ pub record ChangesFilesAlone (old new : HostWorld) : Type 0 where
 pub record ChangesChildrenAlone (old new : HostWorld) : Type 0 where
   pub shell : shell_of new ≡ shell_of old
   pub files : files_of new ≡ files_of old
+
+-- all but the children is as before, and the path of the shell's own program if that was known
+pub record ChangesChildrenAndShell (old new : HostWorld) : Type 0 where
+  pub shell : IsSome (shell_of old) → shell_of new ≡ shell_of old
+  pub files : files_of new ≡ files_of old
+
+-- all is as before, but for the path of the shell's own program if that was not known
+pub record FindsShellAlone (old new : HostWorld) : Type 0 where
+  pub shell : IsSome (shell_of old) → shell_of new ≡ shell_of old
+  pub files : files_of new ≡ files_of old
+  pub children : children_of new ≡ children_of old
 
 -- one file more is open, at this number
 abbrev pub AddsFile : HostWorld → HostWorld → ℕ → Type 0
@@ -92,7 +111,7 @@ AreNamed files slots descriptors =
 -- Linux is asked for the plan of a launch, with the descriptors that the slots of the plan name
 abbrev pub AsksForPlanOf : HostWorld → Launch → Request → (descriptors : List ℤ) → Type 0
 AsksForPlanOf world launch request descriptors =
-    IsSomeAnd (plan_of (shell_of world) launch)
+    IsSomeAnd (plan_of (known_shell world) launch)
     (λ plan. AsksFor request plan × AreNamed (files_of world) plan.slots descriptors)
 
 -- a descriptor of this process, by its number, is the shell's own in a slot

@@ -1,14 +1,16 @@
 //! Linux as a world.
-ghost use Rattle.std.specs.Prelude.{◌≡◌, ◌≢◌, ◌↔◌, ℕ, ◌<◌, ◌≤◌, length, string_bytes, vec_len};
+ghost use Rattle.std.specs.Prelude.{◌≡◌, ◌≢◌, ◌↔◌, ℕ, ◌<◌, ◌≤◌, List, [], length, string_bytes, vec_len};
+ghost use Rattle.std.specs.Prelude.{option_map, unwrap_or};
 ghost use Rattle.std.specs.Prelude.{None, Some, Ok, Err, IfOk, IfErr, OnOk, OnErr, IsOk, IsSome, IsTrue};
 ghost use Rattle.std.specs.Io.KnownBytes.{Appends};
-ghost use Rattle.rc_model.specs.declared.call.Fault.TheVariants.{Other, Halt};
+ghost use Rattle.rc_model.specs.declared.call.Fault.TheVariants.{NoMemory, Other, Halt};
 ghost use Rattle.rc_model.specs.declared.limits.TheConstants.{LONGEST_READ};
 ghost use Rattle.rc_world.specs.Faults.{fault_at};
 ghost use Rattle.rc_world.specs.Views.{launch_of};
 ghost use Rattle.rc_host.specs.Plan.{plan_of};
 ghost use Rattle.rc_host.specs.Table.{held_at, IsLeastFree, AreLeastFree, HoldsTheSame, ChangesOnly};
 ghost use Rattle.rc_host.specs.Host.{shell_of, files_of, children_of, ChangesFilesAlone, ChangesChildrenAlone};
+ghost use Rattle.rc_host.specs.Host.{ChangesChildrenAndShell, FindsShellAlone, IsShellOf, known_shell};
 ghost use Rattle.rc_host.specs.Host.{HoldsAllAlike, AddsFile, AddsPipe, AddsChild, IsThere, AreThere, IsOwn};
 ghost use Rattle.rc_host.specs.Host.{descriptor_at, AreNamed, AsksForPlanOf};
 
@@ -19,8 +21,9 @@ use crate::launches::launch_request::{Request, request_of};
 use crate::launches::planning::plan;
 use crate::launches::started::{Started, start};
 use crate::leaving::{Leaving, give_up};
+use crate::process::own_program;
 use crate::table::Table;
-use rc_world::{ChildNo, Ending, Fault, Handle, Kind, Launch, Mode, Slot, Slots, World};
+use rc_world::{ChildNo, Ending, Fault, Handle, Kind, Launch, Mode, Program, Slot, Slots, World};
 use std::fs::File;
 use std::io::{PipeReader, PipeWriter, Write};
 use std::os::fd::{AsRawFd, RawFd};
@@ -34,7 +37,8 @@ use std::{env, fs, io};
 /// descriptors and no others, and starts in the directory of the last `chdir`.
 pub struct HostWorld {
     rt: HostRuntime,
-    shell: String,
+    /// The path of the shell's own program, if it is known.
+    shell: Option<String>,
     files: Table<OpenFile>,
     children: Table<Child<Started>>,
     leaving: Leaving,
@@ -53,9 +57,10 @@ impl Drop for HostWorld {
 }
 
 impl HostWorld {
-    /// `shell` is the path of the program that a launch of the shell itself starts.
-    pub fn new(rt: HostRuntime, shell: String) -> HostWorld
-        ensures shell { shell_of result ≡ string_bytes shell }
+    /// `shell` is the path of the program that a launch of the shell itself starts. If it is not given, it is that of
+    /// this process's program, for which Linux is asked at the first such launch.
+    pub fn new(rt: HostRuntime, shell: Option<String>) -> HostWorld
+        ensures shell { shell_of result ≡ option_map string_bytes shell }
         ensures files { (k : ℕ) → held_at (files_of result) k ≡ None }
         ensures children { (k : ℕ) → held_at (children_of result) k ≡ None }
     {
@@ -151,6 +156,20 @@ impl HostWorld {
         answer(io::pipe(&self.rt))
     }
 
+    /// Asks Linux for the path of the shell's own program, if the launch needs it and it is not known.
+    fn find_shell(&mut self, launch: &Launch) -> Result<(), Fault>
+        ensures found { OnOk result (IsShellOf self.new (launch_of launch.now) (known_shell self.new)) }
+        ensures refused { IfErr result (λ fault. (fault ≡ NoMemory)
+            × ((launch_of launch.now).program ≡ None) × (shell_of self.new ≡ None)) }
+        ensures rest { FindsShellAlone self.old self.new }
+    {
+        if self.shell.is_none() && matches!(launch.program, Program::Shell) {
+            let path = own_program(&self.rt).map_err(|_| Fault::NoMemory)?;
+            self.shell = Some(path);
+        }
+        Ok(())
+    }
+
     /// Starts the program of a launch, whose child is to be held at this number, for which there is room already. The
     /// child does not inherit the shell's own descriptors but gets copies, since one that was opened because it was
     /// absent is closed there.
@@ -162,6 +181,7 @@ impl HostWorld {
         descriptors: [RawFd; 3],
     ) -> io::Result<Child<Started>>
         requires place { _number < length (children_of self.now) }
+        requires known { IsShellOf self.now (launch_of _launch.now) (known_shell self.now) }
         requires planned { AsksForPlanOf self.now (launch_of _launch.now) request.now descriptors }
     {
         start(request, descriptors)
@@ -184,6 +204,16 @@ impl HostWorld {
             }
             Err(fault) => Err(fault),
         }
+    }
+}
+
+/// The path, or the empty text if there is none.
+fn path_or_empty(path: &Option<String>) -> &str
+    ensures { result.now ≡ unwrap_or (option_map string_bytes path.now) [] }
+{
+    match path {
+        Some(path) => path.as_str(),
+        None => "",
     }
 }
 
@@ -284,17 +314,19 @@ impl World for HostWorld {
 
     fn start(&mut self, launch: &Launch) -> Result<ChildNo, Fault>
         ensures unknown { ¬ AreThere (files_of self.old) launch.now.slots → result ≡ Err Other }
-        ensures unplanned { plan_of (shell_of self.old) (launch_of launch.now) ≡ None → result ≡ Err Other }
+        ensures unplanned { (path : List ℕ) → IsShellOf self.new (launch_of launch.now) path
+            → plan_of path (launch_of launch.now) ≡ None → result ≡ Err Other }
         ensures least { IfOk result (λ child. IsLeastFree (children_of self.old) child.0) }
         ensures started { IfOk result (λ child. AddsChild self.old self.new child.0) }
         ensures refused { OnErr result (HoldsTheSame (children_of self.old) (children_of self.new)) }
-        ensures rest { ChangesChildrenAlone self.old self.new }
+        ensures rest { ChangesChildrenAndShell self.old self.new }
         ensures answered { result ≢ Err Halt }
     {
         if !self.are_there(launch.slots) {
             return Err(Fault::Other);
         }
-        let plan = plan(self.rt.alloc(), launch, &self.shell)?;
+        self.find_shell(launch)?;
+        let plan = plan(self.rt.alloc(), launch, path_or_empty(&self.shell))?;
         let number = self.children.room()?;
         let request = request_of(self.rt.alloc(), &plan)?;
         let slots = plan.slots;

@@ -1,10 +1,9 @@
 //! What a program gets from its process.
-ghost use Rattle.std.specs.Prelude.{◌≡◌, ◌==◌, ◌≤◌, ◌++◌, None, IfOk, IfSome, OnErr, codes, count_by, drop, map};
+ghost use Rattle.std.specs.Prelude.{◌≡◌, ◌==◌, ◌≤◌, None, IfOk, IfSome, OnErr, count_by, drop, map};
 ghost use Rattle.std.specs.Prelude.{string_bytes, vec_len};
-ghost use Rattle.std.specs.Fmt.{decimal};
 ghost use Rattle.std.specs.Path.{path_buf_bytes};
 ghost use Rattle.rc_host.specs.Names.{entries_in};
-ghost use Rattle.rc_host.specs.Process.{arguments_error};
+ghost use Rattle.rc_host.specs.Process.{arguments_error, is_deleted, own_path, program_link};
 ghost use Rattle.rc_world.specs.Faults.{fault_at};
 
 use crate::ended::{Sort, push_ended};
@@ -18,7 +17,7 @@ use std::io::Read;
 use std::os::fd::{AsFd, IntoRawFd};
 use std::path::PathBuf;
 use std::rt::{Env, HostRuntime};
-use std::{env, fs, io};
+use std::{env, fs, io, process};
 use thiserror::Error;
 
 /// Linux's number for a descriptor that is not open.
@@ -161,21 +160,37 @@ fn fill_entry<R: Env>(
     Err(AllocError)
 }
 
-/// The path with which a program starts itself, given its path according to Linux and, for the case that there is none,
-/// the number of its process: that path, or else the link that Linux keeps to the program of a process.
+/// What Linux writes after the path of a file that has no name any more.
+const DELETED: &[u8] = b" (deleted)";
+
+/// Whether Linux says of a path that its file has no name any more.
+fn is_deleted(path: &str) -> bool
+    ensures { result ≡ is_deleted path.now }
+{
+    path.as_bytes().ends_with(DELETED)
+}
+
+/// The path with which a program starts itself, given its path according to Linux, and the number of its process: that
+/// path, or else, if there is none or its file has no name any more, the link that Linux keeps to the program of a
+/// process.
 pub fn own_path(
     alloc: Global,
     found: io::Result<PathBuf>,
     process: u32,
 ) -> Result<String, AllocError>
-    ensures found { IfOk found (λ path. IfOk result (λ text. string_bytes text ≡ path_buf_bytes path)) }
-    ensures unknown { OnErr found (IfOk result (λ text.
-        string_bytes text ≡ codes "/proc/" ++ (decimal process ++ codes "/exe"))) }
+    ensures found { IfOk found (λ path. IfOk result (λ text.
+        string_bytes text ≡ own_path (path_buf_bytes path) process)) }
+    ensures unknown { OnErr found (IfOk result (λ text. string_bytes text ≡ program_link process)) }
 {
     match found {
-        Ok(path) => String::from_str(alloc, path.as_str()),
-        Err(_) => format!(in alloc; "/proc/{process}/exe"),
+        Ok(path) if !is_deleted(path.as_str()) => String::from_str(alloc, path.as_str()),
+        _ => format!(in alloc; "/proc/{process}/exe"),
     }
+}
+
+/// The path with which this program starts itself.
+pub(crate) fn own_program(rt: &HostRuntime) -> Result<String, AllocError> {
+    own_path(rt.alloc(), env::current_exe(rt), process::id(rt.process()))
 }
 
 /// Opens `/dev/null` as each of the descriptors 0, 1 and 2 that is absent, so that no other file gets its number. Call

@@ -8,13 +8,11 @@ ghost use Rattle.rc_cli.specs.declared.run_error.RunError.TheVariants.{NoMemory,
 
 use rc_cli::{Request, RunError, Source, report, request_of, run_rc};
 use rc_covering::covering_of;
-use rc_host::{
-    ArgumentsFault, HostWorld, Input, InputError, Leaving, entries, open_standard, own_path,
-};
+use rc_host::{ArgumentsFault, HostWorld, Input, InputError, Leaving, entries, open_standard};
 use rc_image::read_pieces;
-use std::alloc::{AllocError, Global};
+use std::alloc::Global;
+use std::fs;
 use std::process::ExitCode;
-use std::{env, fs, process};
 
 /// Runs what the arguments ask for, and returns the exit code. An error is reported on descriptor 2.
 pub fn run(rt: HostRuntime, arguments: &[String]) -> ExitCode
@@ -77,7 +75,6 @@ pub fn shell_of<'a>(rt: HostRuntime, request: Request<'a>) -> Result<Shell, RunE
 {
     // Before anything else is opened, so that no file of a script gets the number 0, 1 or 2.
     open_standard(&rt).map_err(|_| RunError::CannotRead("standard input"))?;
-    let shell = own_program(&rt)?;
     let entries = entries(&rt)?;
     let leaving = match request.source {
         Source::Image => leaving_of(rt.alloc(), request.arguments),
@@ -88,22 +85,11 @@ pub fn shell_of<'a>(rt: HostRuntime, request: Request<'a>) -> Result<Shell, RunE
         Source::Input | Source::Text(_) | Source::Image => Some(Input::Standard(rt.stdin())),
     };
     Ok(Shell {
-        world: HostWorld::new(rt, shell),
+        world: HostWorld::new(rt, None),
         leaving,
         entries,
         input,
     })
-}
-
-/// The path with which the shell starts itself. Linux is asked for the number of the process only if that is needed.
-fn own_program(rt: &HostRuntime) -> Result<String, AllocError> {
-    let found = env::current_exe(rt);
-    let process = if found.is_ok() {
-        0
-    } else {
-        process::id(rt.process())
-    };
-    own_path(rt.alloc(), found, process)
 }
 
 /// Which of its own descriptors a shell with these words can close.

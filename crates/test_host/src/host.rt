@@ -13,7 +13,7 @@ const AGAIN: &str = "RC_HOST_TEST=again";
 /// A host that has opened and started nothing.
 pub fn host(rt: HostRuntime) -> Result<HostWorld, AllocError> {
     let shell = String::from_str(rt.alloc(), "/bin/false")?;
-    Ok(HostWorld::new(rt, shell))
+    Ok(HostWorld::new(rt, Some(shell)))
 }
 
 /// The path of this program.

@@ -42,7 +42,7 @@ fn check_part(rt: HostRuntime, alloc: Global, host: &mut HostWorld, part: &str) 
 /// Makes the calls of a row, part by part; an empty line separates parts.
 fn check_row(rt: HostRuntime, alloc: Global, row: &str) -> Result<bool> {
     let shell = String::from_str(alloc, "/bin/false")?;
-    let mut host = HostWorld::new(rt, shell);
+    let mut host = HostWorld::new(rt, Some(shell));
     let mut are_well = true;
     for part in row.split("\n\n") {
         are_well &= check_part(rt, alloc, &mut host, part)?;

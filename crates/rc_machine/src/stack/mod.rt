@@ -2,7 +2,7 @@
 
 pub(crate) mod nest;
 
-ghost use Rattle.std.specs.Prelude.{◌≡◌, [], ◌∷◌, length, option_map, OnOk, OnErr};
+ghost use Rattle.std.specs.Prelude.{◌≡◌, [], ◌∷◌, ◌++◌, length, option_map, IfOk, OnOk, OnErr};
 ghost use Rattle.rc_machine.specs.Lists.{Joins, Extends, IsDropped, TakesLast, TakesPair, top_of, two_of, below_two};
 
 use std::alloc::{AllocError, Global};
@@ -25,6 +25,17 @@ impl<T> Model for Stack<T> {
     ghost view = { λ s. lists_of s.items.items (reverse s.starts.items) };
 
     ghost invariant = { λ s. AreStarts (length s.items.items) (reverse s.starts.items) };
+}
+
+/// Puts items in front of those of a list, and returns them all. After an error the items are as before.
+fn in_front<T: Drop>(items: &mut Vec<T>, mut list: Vec<T>) -> Result<Vec<T>, AllocError>
+    ensures ok { IfOk result (λ all. all.items ≡ items.old.items ++ list.items) }
+    ensures err { OnErr result (items.new.items ≡ items.old.items) }
+{
+    let count = items.len();
+    list.append(items)?;
+    list.rotate_right(count);
+    Ok(list)
 }
 
 impl<T: Drop> Stack<T> {
@@ -70,7 +81,7 @@ impl<T: Drop> Stack<T> {
         self.items.shrink_to_fit();
     }
 
-    /// Pushes a list.
+    /// Pushes a list. One for which the buffer is too short becomes the buffer itself.
     pub(crate) fn put(&mut self, mut list: Vec<T>) -> Result<(), AllocError>
         ensures ok { OnOk result (self.new ≡ list.items ∷ self.old) }
         ensures err { OnErr result (self.new ≡ self.old) }
@@ -78,7 +89,11 @@ impl<T: Drop> Stack<T> {
         let start = self.items.len();
         // Room comes first, so that the stack is unchanged if memory runs out.
         self.starts.reserve(1)?;
-        self.items.append(&mut list)?;
+        if list.len() > self.items.capacity() {
+            self.items = in_front(&mut self.items, list)?;
+        } else {
+            self.items.append(&mut list)?;
+        }
         self.starts.push(start)?;
         Ok(())
     }

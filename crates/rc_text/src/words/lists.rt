@@ -37,7 +37,7 @@ impl List {
     pub fn plain(alloc: Global, texts: Vec<String>) -> Result<List, AllocError>
         ensures { IfOk result (λ list. list ≡ plain_words (map string_bytes texts.items)) }
     {
-        let mut words = SmallVec::new(alloc);
+        let mut words = SmallVec::with_capacity(alloc, texts.len())?;
         for text in texts {
             words.push(Word::plain(Text::from_string(alloc, text)?))?;
         }
