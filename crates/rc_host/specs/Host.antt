@@ -1,6 +1,6 @@
 -- What the host holds.
-use Rattle.std.specs.Prelude.{◌≡◌, ◌≢◌, ℕ, nat_lt, ℤ, pos, List, [], ◌∷◌, map, Option, None, Some, IsSome, IsSomeAnd, unwrap_or}
-use Rattle.std.specs.Prelude.{if◌then◌else◌, option_map, string_bytes, ⊤}
+use Rattle.std.specs.Prelude.{◌≡◌, ◌≢◌, ℕ, nat_lt, ℤ, pos, List, [], ◌∷◌, map, Option, None, Some, IsSome, IsSomeAnd}
+use Rattle.std.specs.Prelude.{if◌then◌else◌, option_map, string_bytes, unwrap_or, ⊤}
 use Rattle.std.specs.Fd.{file_raw_fd, pipe_reader_raw_fd, pipe_writer_raw_fd}
 use Rattle.std.specs.declared.process.child.Child.{Child}
 use Rattle.std.specs.declared.process.pipes.ChildStdin.{ChildStdin}

@@ -14,7 +14,7 @@ abbrev pub arguments_error : call.Fault → InputError ArgumentsFault
 arguments_error refusal.NoMemory = NoMemory
 arguments_error _ = Fault NotText
 
--- Linux says of a path that its file has no name any more
+-- Linux marks the path of a file that has no name any more
 abbrev pub is_deleted : List ℕ → Bool
 is_deleted path = ends_with (◌==◌) path (codes " (deleted)")
 
@@ -22,6 +22,6 @@ is_deleted path = ends_with (◌==◌) path (codes " (deleted)")
 abbrev pub program_link : (process : ℕ) → List ℕ
 program_link process = codes "/proc/" ++ (decimal process ++ codes "/exe")
 
--- the path with which a program starts itself: the one that Linux says, as long as its file has that name
+-- the path with which a program starts itself: the one that Linux reports, as long as its file has that name
 abbrev pub own_path : List ℕ → (process : ℕ) → List ℕ
 own_path path process = if is_deleted path then program_link process else path
