@@ -1,5 +1,5 @@
 -- What the calls of pipelines and of the built-in commands are.
-use Rattle.std.proofs.Common.{◌≡◌, ℕ, List, [], ◌∷◌, ◌++◌, Option, Some, None, true, refl}
+use Rattle.std.proofs.Common.{ℕ, List, [], ◌∷◌, ◌++◌, Option, Some, None, true, refl}
 use Rattle.std.specs.Prelude.{codes, ◌==◌, drop}
 use Rattle.std.specs.List.{list_any}
 use Rattle.rc_model.specs.Syntax.Text.{spaced}

@@ -1,12 +1,12 @@
--- Words that are no keywords: what is no text, and what begins with another byte.
-use Rattle.std.proofs.Common.{◌≡◌, ℕ, ◌<◌, ◌⊎◌, inl, inr, Bool, true, false, nat_lt, ◌&&◌, List, [], ◌∷◌, length, get_or, refl, sym, ap, subst, arith}
-use Rattle.std.proofs.lemmas.Bool.{and_parts, or_parts}
+-- Words that are no keywords: what is no text, and what has another length or begins with another byte.
+use Rattle.std.proofs.Common.{◌≡◌, ℕ, ◌<◌, ◌⊎◌, inl, inr, Bool, true, false, nat_lt, List, [], ◌∷◌, length, get_or, refl, sym, subst, ◌∙◌, arith}
+use Rattle.std.proofs.lemmas.Bool.{and_parts}
 use Rattle.std.proofs.lemmas.Bool.Decides.{nat_tests}
 use Rattle.std.proofs.lemmas.Slice.Eq.{bytes_eq-Decides}
 use Rattle.std.proofs.lemmas.Str.{IsUtf8-from_ascii}
 use Rattle.std.proofs.lemmas.Str.Ascii.{IsAscii-nil, IsAscii-cons}
 use Rattle.std.specs.List.{list_all}
-use Rattle.std.specs.Prelude.{◌==◌, bytes_eq, codes}
+use Rattle.std.specs.Prelude.{bytes_eq, codes}
 use Rattle.std.specs.Str.{IsUtf8, IsAscii}
 use Rattle.rc_model.specs.Syntax.Grammar.{is_case, keyword}
 use Rattle.rc_model.specs.declared.syntax.Keyword.TheVariants.{Plain}
@@ -47,32 +47,29 @@ no_keyword word h =
       differs word (codes "@") refl h,
     ) refl
 
--- a word that begins with another byte differs
-other_first : (b c : ℕ) (bs cs : List ℕ) → (b == c) ≡ false → bytes_eq (b ∷ bs) (c ∷ cs) ≡ false
-other_first b c bs cs h = ap (λ v. v && bytes_eq bs cs) h
+-- a word that has another length, or begins with another byte, differs
+other : (word text : List ℕ) → begins_keyword (length text) (get_or text 0 0) ≡ true → begins_keyword (length word) (get_or word 0 0) ≡ false → bytes_eq word text ≡ false
+other word text has lacks = by (bytes_eq word text) refl
+  where
+    by : (b : Bool) → bytes_eq word text ≡ b → b ≡ false
+    by true e = sym has ∙ subst (λ w. begins_keyword (length w) (get_or w 0 0) ≡ false) ((bytes_eq-Decides word text).0 e) lacks
+    by false e = refl
 
-pub no_first : (word : List ℕ) → ((length word ≡ 0) ⊎ (begins_keyword (get_or word 0 0) ≡ false)) → keyword word ≡ Plain
+pub no_first : (word : List ℕ) → ((length word ≡ 0) ⊎ (begins_keyword (length word) (get_or word 0 0) ≡ false)) → keyword word ≡ Plain
 no_first [] h = refl
 no_first (b ∷ bs) (inl e) = absurd (omega (arith, e))
 no_first (b ∷ bs) (inr e) =
-    let at = or_parts _ (b == 64) e in
-    let bang = or_parts _ (b == 33) at.0 in
-    let tilde = or_parts _ (b == 126) bang.0 in
-    let s = or_parts _ (b == 115) tilde.0 in
-    let n = or_parts _ (b == 110) s.0 in
-    let w = or_parts _ (b == 119) n.0 in
-    let f = or_parts (b == 102) (b == 105) w.0 in
     rw (
-      other_first b 102 bs (111 ∷ 114 ∷ []) f.0,
-      other_first b 105 bs (110 ∷ []) f.1,
-      other_first b 119 bs (104 ∷ 105 ∷ 108 ∷ 101 ∷ []) w.1,
-      other_first b 105 bs (102 ∷ []) f.1,
-      other_first b 110 bs (111 ∷ 116 ∷ []) n.1,
-      other_first b 115 bs (119 ∷ 105 ∷ 116 ∷ 99 ∷ 104 ∷ []) s.1,
-      other_first b 102 bs (110 ∷ []) f.0,
-      other_first b 126 bs [] tilde.1,
-      other_first b 33 bs [] bang.1,
-      other_first b 64 bs [] at.1,
+      other (b ∷ bs) (codes "for") refl e,
+      other (b ∷ bs) (codes "in") refl e,
+      other (b ∷ bs) (codes "while") refl e,
+      other (b ∷ bs) (codes "if") refl e,
+      other (b ∷ bs) (codes "not") refl e,
+      other (b ∷ bs) (codes "switch") refl e,
+      other (b ∷ bs) (codes "fn") refl e,
+      other (b ∷ bs) (codes "~") refl e,
+      other (b ∷ bs) (codes "!") refl e,
+      other (b ∷ bs) (codes "@") refl e,
     ) refl
 
 pub no_case : (word : List ℕ) → (IsUtf8 word → ⊥) → is_case word ≡ false

@@ -10,3 +10,4 @@ pub mod Parsing
 pub mod Scripts
 pub mod ReadItems
 pub mod Kept
+pub mod Unquoted

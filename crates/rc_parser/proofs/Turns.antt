@@ -1,13 +1,16 @@
 -- One turn of a loop of the descent.
-use Rattle.std.proofs.Common.{◌≡◌, ℕ, suc, ◌+◌, ◌-◌, ◌<◌, ◌≤◌, Bool, true, false, if◌then◌else◌, List, ◌∷◌, length, Ok, Err, sym, ◌∙◌, ap, arith}
+use Rattle.std.proofs.Common.{◌≡◌, ℕ, zero, suc, ◌+◌, ◌-◌, ◌<◌, ◌≤◌, Bool, true, false, if◌then◌else◌, List, ◌∷◌, length, None, Ok, Err, refl, sym, ◌∙◌, ap, arith}
 use Rattle.std.proofs.lemmas.Grind.{common_steps}
 use Rattle.rc_model.specs.Syntax.Tokens as model
-use Rattle.rc_model.specs.Syntax.Tree.{Node, Many, none, snoc}
+use Rattle.rc_model.specs.Syntax.Tree.{Node, Many, none, more, snoc}
 use Rattle.rc_model.specs.Syntax.Tree as t
-use Rattle.rc_model.specs.Syntax.Grammar.{begins_arg, begins_redir, begins_command, past_blanks, past_caret, after_caret, ends, is_case}
+use Rattle.rc_model.specs.Syntax.Grammar.{begins_arg, begins_redir, begins_command, past_blanks, past_caret, after_caret, ends, is_case, redirect}
 use Rattle.rc_model.specs.Mirrors.Descent as d
 use Rattle.rc_model.specs.Mirrors.Descent.{Reader, Readers, ◌>>=◌}
-use Rattle.rc_tree.specs.View.{nodes_push}
+use Rattle.rc_tree.specs.View.{nodes_push, tree_Simple}
+use Rattle.rc_model.specs.declared.fault.InputError.TheVariants as error
+use Rattle.rc_parser.specs.Answers.{Fails, TokenError}
+use Rattle.rc_parser.specs.Reading.{made, simple_after}
 use Rattle.rc_model.specs.declared.fault.DescentFault.TheVariants as descent
 
 one_less : (turns i : ℕ) → i < turns → turns - i ≡ suc (turns - (i + 1))
@@ -30,6 +33,17 @@ parts_more p inside turns i front ts h = ap (λ k. d.parts_from p inside k front
 pub parts_done : (p : Reader (Node t.arg)) (inside : Bool) (turns i : ℕ) (front : Many t.arg) (ts : List model.Lexeme) → turns ≤ i → d.parts_from p inside (turns - i) front ts ≡ Ok (front, ts)
 unfolding d.parts_from
 parts_done p inside turns i front ts h = ap (λ k. d.parts_from p inside k front ts) (none_left turns i h)
+
+-- no part follows where no caret does
+pub parts_alone : (p : Reader (Node t.arg)) (inside : Bool) (ts : List model.Lexeme) → after_caret (past_blanks inside ts) ≡ None → d.parts_by p inside ts ≡ Ok (none, ts)
+unfolding d.parts_by d.parts_from
+parts_alone p inside ts h = by (length ts)
+  where
+    by : (turns : ℕ) → d.parts_from p inside turns none ts ≡ Ok (none, ts)
+    by zero = refl
+    by (suc turns) = ap (λ q. d.parts_turn p inside (λ as' u. d.parts_from p inside turns as' u) none ts q) h
+
+pub ruleset alone = (parts_alone, common_steps)
 
 pub ruleset parts = (parts_start, parts_more, parts_done, nodes_push, common_steps)
 
@@ -61,9 +75,8 @@ redirs_done p turns i front ts h = ap (λ k. d.redirs_from p k front ts) (none_l
 
 pub ruleset redirs = (redirs_start, redirs_more, redirs_done, nodes_push, common_steps)
 
-pub simple_start : (p : Reader (Node t.arg)) (turns : ℕ) (ts : List model.Lexeme) → turns ≡ length ts → d.simple_by p ts ≡ d.simple_from p (turns - 0) none none ts
-unfolding d.simple_by
-simple_start p turns ts h = ap (λ k. d.simple_from p k none none ts) (all_left turns ts h)
+pub simple_start : (p : Reader (Node t.arg)) (turns : ℕ) (front : Many t.arg) (ts : List model.Lexeme) → turns ≡ length ts → simple_after p front ts ≡ d.simple_from p (turns - 0) front none ts
+simple_start p turns front ts h = ap (λ k. d.simple_from p k front none ts) (all_left turns ts h)
 
 pub simple_more : (p : Reader (Node t.arg)) (turns i : ℕ) (as' : Many t.arg) (rs : Many t.redir) (ts : List model.Lexeme) → i < turns → d.simple_from p (turns - i) as' rs ts ≡ (if begins_arg ts then (d.arg_by p false ts >>= λ a. d.simple_from p (turns - (i + 1)) (snoc as' a.0) rs a.1) else if begins_redir ts then (d.redir_by p ts >>= λ r. d.simple_from p (turns - (i + 1)) as' (snoc rs r.0) r.1) else Ok ((as', rs), ts))
 unfolding d.simple_from
@@ -74,6 +87,62 @@ unfolding d.simple_from
 simple_done p turns i as' rs ts h = ap (λ k. d.simple_from p k as' rs ts) (none_left turns i h)
 
 pub ruleset simple = (simple_start, simple_more, simple_done, nodes_push, common_steps)
+
+-- a word before the others
+led : Node t.arg → Many t.arg × Many t.redir → Many t.arg × Many t.redir
+led a x = (more a x.0, x.1)
+
+-- in one turn a word stays before the others, if it does in those that are left
+simple_turn :
+    (p : Reader (Node t.arg)) (turns : ℕ) (a : Node t.arg) (as' : Many t.arg) (rs : Many t.redir) (ts : List model.Lexeme) →
+    ((bs : Many t.arg) (ss : Many t.redir) (us : List model.Lexeme) → d.simple_from p turns (more a bs) ss us ≡ made (led a) (d.simple_from p turns bs ss us)) →
+    d.simple_from p (suc turns) (more a as') rs ts ≡ made (led a) (d.simple_from p (suc turns) as' rs ts)
+unfolding d.simple_from led
+simple_turn p turns a as' rs ts kept = by (begins_arg ts) (begins_redir ts)
+  where
+    arg : (read : d.Read (Node t.arg)) → (read >>= λ x. d.simple_from p turns (snoc (more a as') x.0) rs x.1) ≡ made (led a) (read >>= λ x. d.simple_from p turns (snoc as' x.0) rs x.1)
+    arg (Ok x) = kept (snoc as' x.0) rs x.1
+    arg (Err e) = refl
+
+    redir : (read : d.Read (Node t.redir)) → (read >>= λ x. d.simple_from p turns (more a as') (snoc rs x.0) x.1) ≡ made (led a) (read >>= λ x. d.simple_from p turns as' (snoc rs x.0) x.1)
+    redir (Ok x) = kept as' (snoc rs x.0) x.1
+    redir (Err e) = refl
+
+    by : (b c : Bool) →
+        (if b then (d.arg_by p false ts >>= λ x. d.simple_from p turns (snoc (more a as') x.0) rs x.1) else if c then (d.redir_by p ts >>= λ x. d.simple_from p turns (more a as') (snoc rs x.0) x.1) else Ok ((more a as', rs), ts))
+        ≡ made (led a) (if b then (d.arg_by p false ts >>= λ x. d.simple_from p turns (snoc as' x.0) rs x.1) else if c then (d.redir_by p ts >>= λ x. d.simple_from p turns as' (snoc rs x.0) x.1) else Ok ((as', rs), ts))
+    by true c = arg (d.arg_by p false ts)
+    by false true = redir (d.redir_by p ts)
+    by false false = refl
+
+simple_kept :
+    (p : Reader (Node t.arg)) (turns : ℕ) (a : Node t.arg) (as' : Many t.arg) (rs : Many t.redir) (ts : List model.Lexeme) →
+    d.simple_from p turns (more a as') rs ts ≡ made (led a) (d.simple_from p turns as' rs ts)
+unfolding d.simple_from led
+simple_kept p zero a as' rs ts = refl
+simple_kept p (suc turns) a as' rs ts = simple_turn p turns a as' rs ts (λ bs ss us. simple_kept p turns a bs ss us)
+
+-- the command of a first word and of what was read after it
+pub simple_whole :
+    (p : Reader (Node t.arg)) (a : Node t.arg) (front : Many t.arg) (ts : List model.Lexeme) → front ≡ more a none →
+    made (λ x. d.Staged (redirect x.1 (t.Simple (more a x.0)))) (d.simple_by p ts) ≡ made (λ x. d.Staged (redirect x.1 (t.Simple x.0))) (simple_after p front ts)
+unfolding d.simple_by led
+simple_whole p a front ts h =
+    by (d.simple_from p (length ts) none none ts)
+    ∙ ap (made (λ x. d.Staged (redirect x.1 (t.Simple x.0)))) (sym (ap (λ f. d.simple_from p (length ts) f none ts) h ∙ simple_kept p (length ts) a none none ts))
+  where
+    by : (read : d.Read (Many t.arg × Many t.redir)) → made (λ x. d.Staged (redirect x.1 (t.Simple (more a x.0)))) read ≡ made (λ x. d.Staged (redirect x.1 (t.Simple x.0))) (made (led a) read)
+    by (Ok x) = refl
+    by (Err e) = refl
+
+-- its fault is that of what was to be read after it
+pub simple_fails :
+    (e : TokenError) (p : Reader (Node t.arg)) (a : Node t.arg) (front : Many t.arg) (ts : List model.Lexeme) → front ≡ more a none →
+    Fails e (simple_after p front ts) → Fails e (made (λ x. d.Staged (redirect x.1 (t.Simple (more a x.0)))) (d.simple_by p ts))
+simple_fails (error.Fault f) p a front ts h read = simple_whole p a front ts h ∙ ap (made (λ x. d.Staged (redirect x.1 (t.Simple x.0)))) read
+simple_fails error.NoMemory p a front ts h read = tt
+
+pub ruleset commands = (simple_whole, tree_Simple, common_steps)
 
 pub members_start : (p : Reader (Node t.arg)) (turns : ℕ) (ts : List model.Lexeme) → turns ≡ length ts → d.members_by p ts ≡ d.members_from p (turns - 0) none ts
 unfolding d.members_by

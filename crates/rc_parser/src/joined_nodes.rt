@@ -1,7 +1,7 @@
 //! Nodes of several parts, or of one that stands alone, and one more assignment in a list.
 
 ghost use Rattle.std.specs.Prelude.{◌≡◌, suc, nat_lt, not, ◌&&◌, IfOk, OnOk};
-ghost use Rattle.rc_model.specs.Syntax.Tree.{count, snoc};
+ghost use Rattle.rc_model.specs.Syntax.Tree.{count, more, none, snoc};
 ghost use Rattle.rc_model.specs.Syntax.Tree as t;
 ghost use Rattle.rc_model.specs.Syntax.Grammar.{concat_of, redirect, and_or, is_if};
 ghost use Rattle.rc_model.specs.Mirrors.Descent.{pipeline_of};
@@ -24,6 +24,15 @@ pub(crate) fn concat(first: Arg, mut others: Vec<Arg>) -> Result<Arg, AllocError
     }
     others.insert(0, first)?;
     Ok(Arg::Concat(others))
+}
+
+/// A list of one argument.
+pub(crate) fn list_of(alloc: Global, first: Arg) -> Result<Vec<Arg>, AllocError>
+    ensures { IfOk result (λ v. args_tree v.items ≡ more (arg_tree first) none) }
+{
+    let mut words = Vec::new(alloc);
+    words.push(first)?;
+    Ok(words)
 }
 
 /// A command with the redirections after it.

@@ -2,9 +2,9 @@
 use Rattle.std.specs.declared.alloc.Global.{Global}
 use Rattle.std.specs.declared.vec.Vec.{Vec}
 use Rattle.std.specs.declared.boxed.Box.{Box}
-use Rattle.std.specs.declared.string.String.{String}
 use Rattle.std.proofs.Common.{◌≡◌, refl, sym, ◌∙◌, Bool, false}
 use Rattle.rc_model.specs.Syntax.Printing.{stands_first, begins_with_case}
+use Rattle.rc_tree.specs.declared.literal_text.LiteralText.{LiteralText}
 use Rattle.rc_tree.specs.declared.types.Cmd.{Cmd}
 use Rattle.rc_tree.specs.declared.types.Cmd.TheVariants as c
 use Rattle.rc_tree.specs.declared.types.Arg.{Arg}
@@ -14,10 +14,10 @@ use Rattle.rc_tree.specs.View.{cmd_tree, arg_tree}
 use Rattle.rc_tree.specs.declared.types.Arg.TheBlock as rows
 use Rattle.rc_tree.specs.declared.types.Arg.TheViews as views
 
-pub not_begins : (x : Arg) → ((s : String Global) (q : Bool) → x ≡ a.Lit s q → ⊥) → ((v : Vec Arg Global) → x ≡ a.Concat v → ⊥) →
+pub not_begins : (x : Arg) → ((q : Bool) (s : LiteralText) → x ≡ a.Lit q s → ⊥) → ((v : Vec Arg Global) → x ≡ a.Concat v → ⊥) →
     begins_with_case (arg_tree x) ≡ false
 unfolding arg_tree views.out-Arg views.roll-Arg denote.Hole.Carrier.out
-not_begins (a.Lit s q) l h = absurd (l s q refl)
+not_begins (a.Lit q s) l h = absurd (l q s refl)
 not_begins (a.Concat' s k) l h = absurd (h (rows.shown-the_row-Arg-0 s k) (sym (views.roll-out-Arg (a.Concat' s k))
     ∙ views.rolls-Concat (rows.shown-the_row-Arg-0 s k)))
 not_begins _ l h = refl

@@ -204,7 +204,7 @@ fn print_arg(out: &mut String, arg: &Arg) -> Result<(), AllocError>
     ensures { OnOk result (string_bytes out.new ≡ string_bytes out.old ++ arg_text (arg_tree arg.now)) }
 {
     match arg {
-        Arg::Lit { text, quoted } => print_literal(out, text, *quoted),
+        Arg::Lit { text, quoted } => print_literal(out, text.as_str(), *quoted),
         Arg::Concat(parts) => print_args(out, parts, "", "^"),
         Arg::Paren(words) => {
             out.push_str("(")?;

@@ -1,6 +1,5 @@
 //! Reading the parts of an image that have no command or argument inside.
 
-ghost use Rattle.std.specs.Prelude.{string_bytes};
 ghost use Rattle.rc_tree.specs.View.{arg_tree, redir_tree, piece_tree, pieces_tree};
 ghost use Rattle.rc_model.specs.Syntax.Faults.{Gives};
 ghost use Rattle.rc_spelling.specs.Steps.{string_by, text_by, only_by, word_by, quoted_by, copy_by, piece_by, here_by};
@@ -9,13 +8,13 @@ ghost use Rattle.rc_spelling.specs.Steps.{slot_by, background_by, logic_by, list
 use crate::image_error::ImageError;
 use crate::image_numbers::{count_at, count_from, first};
 use rc_model::{ImageFault, InputError, Logic};
-use rc_tree::{Arg, Piece, Redir};
+use rc_tree::{Arg, LiteralText, Piece, Redir};
 use std::alloc::{AllocError, Global};
 
 /// This many bytes, if they are a text without byte 0.
 #[tactic(auto, using(crate::proofs::Strings::strings))]
-fn string_at(alloc: Global, count: usize, bytes: &[u8]) -> Result<(String, &[u8]), ImageError>
-    ensures { Gives (λ x. (string_bytes x.0, x.1.now)) result (string_by count bytes.now) }
+fn string_at(count: usize, bytes: &[u8]) -> Result<(&str, &[u8]), ImageError>
+    ensures { Gives (λ x. (x.0.now, x.1.now)) result (string_by count bytes.now) }
 {
     if count > bytes.len() {
         return Err(InputError::Fault(ImageFault::BadLength));
@@ -25,18 +24,18 @@ fn string_at(alloc: Global, count: usize, bytes: &[u8]) -> Result<(String, &[u8]
         return Err(InputError::Fault(ImageFault::BadLength));
     }
     match str::from_utf8(front) {
-        Ok(text) => Ok((String::from_str(alloc, text)?, rest)),
+        Ok(text) => Ok((text, rest)),
         Err(_) => Err(InputError::Fault(ImageFault::BadLength)),
     }
 }
 
 /// A text, after its length in bytes.
 #[tactic(auto, unfolding(crate::specs::Steps::text_by))]
-fn text_at(alloc: Global, bytes: &[u8]) -> Result<(String, &[u8]), ImageError>
-    ensures { Gives (λ x. (string_bytes x.0, x.1.now)) result (text_by bytes.now) }
+fn text_at(bytes: &[u8]) -> Result<(&str, &[u8]), ImageError>
+    ensures { Gives (λ x. (x.0.now, x.1.now)) result (text_by bytes.now) }
 {
     let (length, rest) = count_at(b':', bytes)?;
-    string_at(alloc, length, rest)
+    string_at(length, rest)
 }
 
 /// An unquoted word, which isn't empty.
@@ -44,14 +43,14 @@ fn text_at(alloc: Global, bytes: &[u8]) -> Result<(String, &[u8]), ImageError>
 pub(crate) fn word(alloc: Global, bytes: &[u8]) -> Result<(Arg, &[u8]), ImageError>
     ensures { Gives (λ x. (arg_tree x.0, x.1.now)) result (word_by bytes.now) }
 {
-    let (text, rest) = text_at(alloc, bytes)?;
+    let (text, rest) = text_at(bytes)?;
     if text.is_empty() {
         return Err(InputError::Fault(ImageFault::BadLength));
     }
     Ok((
         Arg::Lit {
-            text,
             quoted: false,
+            text: LiteralText::of(alloc, text)?,
         },
         rest,
     ))
@@ -62,8 +61,14 @@ pub(crate) fn word(alloc: Global, bytes: &[u8]) -> Result<(Arg, &[u8]), ImageErr
 pub(crate) fn quoted(alloc: Global, bytes: &[u8]) -> Result<(Arg, &[u8]), ImageError>
     ensures { Gives (λ x. (arg_tree x.0, x.1.now)) result (quoted_by bytes.now) }
 {
-    let (text, rest) = text_at(alloc, bytes)?;
-    Ok((Arg::Lit { text, quoted: true }, rest))
+    let (text, rest) = text_at(bytes)?;
+    Ok((
+        Arg::Lit {
+            quoted: true,
+            text: LiteralText::of(alloc, text)?,
+        },
+        rest,
+    ))
 }
 
 /// The descriptor that a command writes to.
@@ -145,12 +150,12 @@ fn piece(alloc: Global, bytes: &[u8]) -> Result<(Piece, &[u8]), ImageError>
     let (byte, rest) = first(bytes)?;
     match byte {
         b't' => {
-            let (text, rest) = text_at(alloc, rest)?;
-            Ok((Piece::Text(text), rest))
+            let (text, rest) = text_at(rest)?;
+            Ok((Piece::Text(String::from_str(alloc, text)?), rest))
         }
         b'v' => {
-            let (name, rest) = text_at(alloc, rest)?;
-            Ok((Piece::Name(name), rest))
+            let (name, rest) = text_at(rest)?;
+            Ok((Piece::Name(String::from_str(alloc, name)?), rest))
         }
         _ => Err(InputError::Fault(ImageFault::BadTag)),
     }

@@ -270,7 +270,7 @@ fn push_arg(out: &mut String, arg: &Arg) -> Result<(), AllocError>
     match arg {
         Arg::Lit { text, quoted } => {
             out.push_str(literal_mark(*quoted))?;
-            push_text(out, text)
+            push_text(out, text.as_str())
         }
         Arg::Concat(parts) => push_marked_args(out, "^", parts),
         Arg::Paren(words) => push_marked_args(out, "(", words),

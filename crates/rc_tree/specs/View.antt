@@ -3,13 +3,14 @@ use Rattle.std.specs.Prelude.{◌≡◌, refl, ℕ, Bool, List, [], ◌∷◌, �
 use Rattle.std.specs.declared.alloc.Global.{Global}
 use Rattle.std.specs.declared.vec.Vec.{Vec}
 use Rattle.std.specs.declared.boxed.Box.{Box}
-use Rattle.std.specs.declared.string.String.{String}
 use Rattle.std.proofs.lemmas.Grind.{common_steps}
 use Rattle.std.proofs.Common.{ap, sym, ◌∙◌}
 use Rattle.rc_model.specs.Syntax.Tree.{Sort, Node, Many, none, more, nodes, snoc}
 use Rattle.rc_model.specs.Syntax.Tree as t
 use Rattle.rc_model.specs.declared.call.Mode.{Mode}
 use Rattle.rc_model.specs.declared.syntax.Logic.{Logic}
+use Rattle.rc_tree.specs.LiteralTexts.{literal_bytes}
+use Rattle.rc_tree.specs.declared.literal_text.LiteralText.{LiteralText}
 use Rattle.rc_tree.specs.declared.types.Piece.{Piece}
 use Rattle.rc_tree.specs.declared.types.Piece.TheVariants.{Text, Name}
 use Rattle.rc_tree.specs.declared.types.Cmd.{Cmd}
@@ -64,7 +65,7 @@ unfoldable mutual
 
   -- an argument
   pub arg_tree : Arg → Node t.arg
-  arg_tree (a.Lit x q) = t.Lit (string_bytes x) q
+  arg_tree (a.Lit q x) = t.Lit (literal_bytes x) q
   arg_tree (a.Concat' s k) = t.Concat (arg_row k)
   arg_tree (a.Paren' s k) = t.Paren (arg_row k)
   arg_tree (a.Var' p x) = t.Var (arg_tree x)
@@ -309,9 +310,9 @@ pub tree_Brace : (x : Box Cmd Global) → cmd_tree (c.Brace x) ≡ t.Brace (cmd_
 unfolding cmd_tree
 tree_Brace x = refl
 
-pub tree_Lit : (x : String Global) (q : Bool) → arg_tree (a.Lit x q) ≡ t.Lit (string_bytes x) q
+pub tree_Lit : (q : Bool) (x : LiteralText) → arg_tree (a.Lit q x) ≡ t.Lit (literal_bytes x) q
 unfolding arg_tree
-tree_Lit x q = refl
+tree_Lit q x = refl
 
 pub tree_Concat : (v : Vec Arg Global) → arg_tree (a.Concat v) ≡ t.Concat (args_tree v.items)
 unfolding arg_tree

@@ -7,6 +7,7 @@ ghost use Rattle.rc_tree.specs.View.{pairs_tree};
 ghost use Rattle.rc_tree.specs.View.{redirs_tree};
 ghost use Rattle.rc_tree.specs.View.{stages_tree, links_tree, branches_tree};
 
+use crate::literal_text::LiteralText;
 use crate::types::{Arg, Branch, Cmd, Item, Piece, Redir, Stage};
 use rc_model::Logic;
 use std::alloc::{AllocError, Global};
@@ -148,8 +149,8 @@ fn clone_arg(alloc: Global, arg: &Arg) -> Result<Arg, AllocError>
 {
     match arg {
         Arg::Lit { text, quoted } => Ok(Arg::Lit {
-            text: text.clone()?,
             quoted: *quoted,
+            text: LiteralText::of(alloc, text.as_str())?,
         }),
         Arg::Concat(parts) => Ok(Arg::Concat(clone_args(alloc, parts)?)),
         Arg::Paren(words) => Ok(Arg::Paren(clone_args(alloc, words)?)),

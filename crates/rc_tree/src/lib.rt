@@ -4,6 +4,7 @@
 mod clone;
 mod depth;
 mod empty;
+mod literal_text;
 mod nodes;
 mod soundness;
 mod types;
@@ -11,6 +12,7 @@ mod types;
 pub use clone::clone_tree;
 pub use depth::is_within;
 pub use empty::is_empty;
+pub use literal_text::LiteralText;
 pub use nodes::{push_item, push_link, push_stage};
 pub use rc_model::{InputError, Logic, Mode};
 pub use soundness::well_formed;

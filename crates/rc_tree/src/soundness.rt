@@ -2,7 +2,9 @@
 
 ghost use Rattle.std.specs.Prelude.{◌≡◌};
 ghost use Rattle.rc_model.specs.Syntax.Text.{without_zero};
-ghost use Rattle.rc_model.specs.Syntax.WellFormed.{well_formed, has_stages, is_output, opens, copies, are_sound};
+ghost use Rattle.rc_model.specs.Syntax.Tree as t;
+ghost use Rattle.rc_model.specs.Syntax.WellFormed.{well_formed, has_stages, is_output, opens, copies, is_sound};
+ghost use Rattle.rc_model.specs.Syntax.WellFormed.{are_sound};
 ghost use Rattle.rc_tree.specs.View.{cmd_tree, arg_tree, redir_tree, pieces_tree};
 ghost use Rattle.rc_tree.specs.View.{args_tree, items_tree, pairs_tree, redirs_tree, stages_tree, links_tree};
 ghost use Rattle.rc_tree.specs.View.{branches_tree};
@@ -83,7 +85,7 @@ fn fit_arg(arg: &Arg, left: usize) -> bool
     }
     let left = left - 1;
     match arg {
-        Arg::Lit { text, quoted } => (*quoted || !text.is_empty()) && without_zero(text),
+        Arg::Lit { quoted, text } => is_sound_literal(text.as_str(), *quoted),
         Arg::Concat(parts) => parts.len() > 1 && fit_args(parts, left),
         Arg::Paren(words) => fit_args(words, left),
         Arg::Var(name) => fit_arg(name, left),
@@ -208,6 +210,14 @@ fn fit_pieces(pieces: &[Piece]) -> bool
         }
     }
     true
+}
+
+/// Whether a literal has a text, unless it is quoted, and no byte 0.
+#[tactic(auto, using(crate::proofs::Fitting::fitting))]
+fn is_sound_literal(text: &str, quoted: bool) -> bool
+    ensures { result ≡ is_sound (t.Lit text.now quoted) }
+{
+    (quoted || !text.is_empty()) && without_zero(text)
 }
 
 #[tactic(auto, using(crate::proofs::Fitting::fitting))]

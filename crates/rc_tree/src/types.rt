@@ -1,6 +1,7 @@
 //! The types of the abstract syntax tree. Their drops are written out, so that code that drops a tree calls them, and
 //! what they do is proved here alone.
 
+use crate::literal_text::LiteralText;
 use rc_model::{Logic, Mode};
 
 /// A command.
@@ -108,7 +109,7 @@ impl Drop for Branch {
 /// An argument of a command.
 #[cycle(tree)]
 pub enum Arg {
-    Lit { text: String, quoted: bool },
+    Lit { quoted: bool, text: LiteralText },
     Concat(Vec<Arg>),
     Paren(Vec<Arg>),
     Var(Box<Arg>),
@@ -118,11 +119,15 @@ pub enum Arg {
     Back(Box<Cmd>),
 }
 
+/// An argument moves whole wherever it is put into a list, so it stays small: the mark of a literal fills the room that
+/// its text leaves.
+const _: () = prove!(size_of::<Arg>() == 40);
+
 impl Drop for Arg {
     #[cycle(drop)]
     fn drop(self) {
         match self {
-            Arg::Lit { text: _, quoted: _ }
+            Arg::Lit { quoted: _, text: _ }
             | Arg::Concat(_)
             | Arg::Paren(_)
             | Arg::Var(_)

@@ -189,8 +189,8 @@ fn dump_arg(out: &mut String, arg: &Arg) -> Result<(), AllocError> {
         Arg::Lit {
             text,
             quoted: false,
-        } => out.push_str(text),
-        Arg::Lit { text, quoted: true } => dump_quoted(out, text),
+        } => out.push_str(text.as_str()),
+        Arg::Lit { text, quoted: true } => dump_quoted(out, text.as_str()),
         Arg::Concat(parts) => dump_group(out, "(^", parts),
         Arg::Paren(words) => dump_group(out, "(list", words),
         Arg::Var(name) => dump_named(out, "($ ", name),

@@ -18,7 +18,7 @@ pub(crate) fn emit_arg(alloc: Global, code: &mut Listing, arg: &Arg) -> Result<(
     ensures { OnOk result (Writes code.old code.new (arg_code (arg_tree arg.now))) }
 {
     match arg {
-        Arg::Lit { text, quoted } => code.put_word(alloc, text, *quoted),
+        Arg::Lit { text, quoted } => code.put_word(alloc, text.as_str(), *quoted),
         Arg::Concat(parts) => emit_parts(alloc, code, parts),
         Arg::Paren(words) => emit_list(alloc, code, words),
         Arg::Var(name) => {

@@ -8,7 +8,7 @@ ghost use Rattle.rc_code.specs.Views.{code_of};
 ghost use Rattle.rc_scope.specs.States.{state_of};
 ghost use Rattle.rc_text.specs.Texts.{text_bytes};
 ghost use Rattle.rc_tree.specs.View.{cmd_tree};
-ghost use Rattle.rc_machine.specs.Calls.{Defines, called, entered};
+ghost use Rattle.rc_machine.specs.Calls.{Defines, called, entered, handed_arguments};
 ghost use Rattle.rc_machine.specs.Configurations.{config_of};
 ghost use Rattle.rc_machine.specs.Instructions.{Executes, Moves};
 
@@ -80,13 +80,28 @@ pub(crate) fn call(
 }
 
 /// Enters a body, whose `$*` shares the members of the one outside.
-pub(crate) fn hand_on(machine: &mut Configuration, body: Code) -> Result<(), AllocError>
+fn hand_on(machine: &mut Configuration, body: Code) -> Result<(), AllocError>
     ensures { let outside = config_of machine.old in OnOk result (config_of machine.new
         ≡ called outside (value_of outside.state (codes "*")) (code_of body)) }
 {
     machine.state.pass_arguments()?;
     machine.scopes.open(Scope::Local)?;
     enter(machine, body, true)
+}
+
+/// Enters a body, with these arguments as its `$*`, or with those outside if none are given.
+pub(crate) fn call_with(
+    machine: &mut Configuration,
+    args: Option<Vec<Text>>,
+    body: Code,
+) -> Result<(), AllocError>
+    ensures { let outside = config_of machine.old in OnOk result (config_of machine.new
+        ≡ called outside (handed_arguments outside.state args) (code_of body)) }
+{
+    match args {
+        Some(args) => call(machine, args, body),
+        None => hand_on(machine, body),
+    }
 }
 
 /// Returns from a body; in the last frame that is the end of the script.

@@ -13,7 +13,7 @@ ghost use Rattle.rc_parser.specs.Reading.{made};
 use crate::descent::command_lists::parse_brace;
 use crate::descent::variable_names::{parse_count, parse_flat, parse_name};
 use crate::joined_nodes::concat;
-use crate::parsed_words::parse_literal;
+use crate::parsed_words::{parse_plain, parse_quoted};
 use crate::token_stream::Tokens;
 use crate::token_stream::lookahead::{after_caret, begins_arg, past_blanks};
 use crate::token_stream::token_faults::{TokenError, fault_at};
@@ -38,8 +38,8 @@ fn parse_part(
         return Err(fault_at(DescentFault::TooDeep, tokens));
     }
     match tokens.first() {
-        Some((TokenKind::Word, _, _)) => parse_literal(alloc, tokens),
-        Some((TokenKind::Quoted, _, _)) => parse_literal(alloc, tokens),
+        Some((TokenKind::Word, text, rest)) => parse_plain(alloc, text, rest),
+        Some((TokenKind::Quoted, text, rest)) => parse_quoted(alloc, text, rest),
         Some((TokenKind::LeftParen, _, rest)) => parse_group(alloc, left - 1, rest),
         Some((TokenKind::Backquote, _, rest)) => parse_backquote(alloc, left - 1, inside, rest),
         Some((TokenKind::Dollar, _, rest)) => parse_dollar(alloc, left - 1, rest),
@@ -104,7 +104,7 @@ fn parse_dollar(
 
 /// Parses an argument. Inside parentheses newlines are blanks.
 #[cycle(parse)]
-#[tactic(auto, unfolding(rc_model::specs::Mirrors::Descent::arg_by))]
+#[tactic(auto, using(crate::proofs::Turns::alone), unfolding(rc_model::specs::Mirrors::Descent::arg_by))]
 pub(crate) fn parse_argument(
     alloc: Global,
     left: usize,
@@ -115,6 +115,9 @@ pub(crate) fn parse_argument(
         (arg_by (read left (a_part inside)) inside (lexemes_of tokens.entry)) }
 {
     let (first, rest) = parse_part(alloc, left, inside, tokens)?;
+    let Some(_) = after_caret(past_blanks(inside, rest)) else {
+        return Ok((first, rest));
+    };
     let (others, rest) = parse_parts(alloc, left, inside, rest)?;
     Ok((concat(first, others)?, rest))
 }

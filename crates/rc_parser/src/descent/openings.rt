@@ -10,13 +10,13 @@ ghost use Rattle.rc_model.specs.Mirrors.Descent.{defined_by, opening_by};
 ghost use Rattle.rc_tree.specs.View.{cmd_tree, arg_tree, args_tree, redirs_tree};
 ghost use Rattle.rc_parser.specs.Tokens.{lexemes_of};
 ghost use Rattle.rc_parser.specs.Answers.{Gives};
-ghost use Rattle.rc_parser.specs.Reading.{made, opening_of};
+ghost use Rattle.rc_parser.specs.Reading.{made, opening_of, simple_after};
 
 use crate::descent::arguments::{parse_argument, parse_words};
 use crate::descent::command_lists::parse_brace;
 use crate::descent::redirections::{parse_redirection, parse_redirections};
 use crate::descent::switches::parse_switch;
-use crate::joined_nodes::redirect;
+use crate::joined_nodes::{list_of, redirect};
 use crate::parsed_words::keyword_of;
 use crate::token_stream::Tokens;
 use crate::token_stream::lookahead::{begins_arg, begins_brace, begins_redir, past_caret};
@@ -35,18 +35,18 @@ pub(crate) enum Opening {
     Named(Box<Arg>),
 }
 
-/// Parses as many words and redirections as there are.
+/// Parses as many words and redirections as there are, after these words.
 #[cycle(parse)]
 #[tactic(auto, using(crate::proofs::Turns::simple))]
 fn parse_simple(
     alloc: Global,
     left: usize,
+    mut words: Vec<Arg>,
     tokens: Tokens<'_>,
 ) -> Result<((Vec<Arg>, Vec<Redir>), Tokens<'_>), TokenError>
     ensures { Gives (λ x. ((args_tree x.0.0.items, redirs_tree x.0.1.items), lexemes_of x.1)) result
-        (simple_by (read left (a_part false)) (lexemes_of tokens.entry)) }
+        (simple_after (read left (a_part false)) (args_tree words.items) (lexemes_of tokens.entry)) }
 {
-    let mut words = Vec::new(alloc);
     let mut redirs = Vec::new(alloc);
     let mut rest = tokens;
     let turns = tokens.len();
@@ -155,7 +155,7 @@ fn parse_first(
 
 /// Parses the simple command that begins with this argument.
 #[cycle(parse)]
-#[tactic(auto, using(rc_tree::specs::View::tree_Simple, std::proofs::lemmas::Grind::common_steps))]
+#[tactic(auto, using(crate::proofs::Turns::commands))]
 fn parse_simple_command(
     alloc: Global,
     below: usize,
@@ -166,8 +166,8 @@ fn parse_simple_command(
         (made (λ x. d.Staged (redirect x.1 (t.Simple (more (arg_tree first) x.0))))
         (simple_by (read below (a_part false)) (lexemes_of tokens.entry))) }
 {
-    let ((mut words, redirs), rest) = parse_simple(alloc, below, tokens)?;
-    words.insert(0, first)?;
+    let words = list_of(alloc, first)?;
+    let ((words, redirs), rest) = parse_simple(alloc, below, words, tokens)?;
     let command = Box::new(alloc, Cmd::Simple(words))?;
     let command = redirect(alloc, redirs, command)?;
     Ok((Opening::Staged(command), rest))

@@ -7,7 +7,7 @@ ghost use Rattle.rc_parser.specs.Tokens.{lexemes_of};
 ghost use Rattle.rc_parser.specs.Answers.{Gives};
 ghost use Rattle.rc_parser.specs.Reading.{made};
 
-use crate::parsed_words::parse_literal;
+use crate::parsed_words::{parse_plain, parse_quoted};
 use crate::token_stream::Tokens;
 use crate::token_stream::token_faults::{TokenError, fault_at};
 use rc_lexer::TokenKind;
@@ -28,8 +28,8 @@ pub(crate) fn parse_name(
         return Err(fault_at(DescentFault::TooDeep, tokens));
     }
     match tokens.first() {
-        Some((TokenKind::Name, _, _)) => parse_literal(alloc, tokens),
-        Some((TokenKind::Quoted, _, _)) => parse_literal(alloc, tokens),
+        Some((TokenKind::Name, text, rest)) => parse_plain(alloc, text, rest),
+        Some((TokenKind::Quoted, text, rest)) => parse_quoted(alloc, text, rest),
         Some((TokenKind::Dollar, _, rest)) => {
             let (inner, rest) = parse_name(alloc, left - 1, rest)?;
             Ok((Arg::Var(Box::new(alloc, inner)?), rest))

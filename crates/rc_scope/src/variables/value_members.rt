@@ -18,8 +18,8 @@ pub struct Members {
     texts: MemberList,
     /// The place of the first member.
     first: usize,
-    /// Their entry in an environment, once a launch has handed it over.
-    kept: Option<KeptEntry>,
+    /// Their entry in an environment, once a launch has handed it over. It has a box, since most values have none.
+    kept: Option<Box<KeptEntry>>,
 }
 
 impl Drop for Members {
@@ -45,7 +45,7 @@ impl Model for Members {
     ghost view = { λ m. drop m.first (members_in m.texts) };
 
     ghost invariant = { λ m. (m.first ≤ length (members_in m.texts))
-        × IfSome m.kept (λ kept. kept_text kept ≡ value_text (map text_bytes (drop m.first (members_in m.texts)))) };
+        × IfSome m.kept (λ kept. kept_text kept.value ≡ value_text (map text_bytes (drop m.first (members_in m.texts)))) };
 }
 
 impl Clone for Members {
@@ -189,11 +189,13 @@ impl Members {
         }
     }
 
-    /// Keeps an entry that an environment has for the members.
+    /// Keeps an entry that an environment has for the members, if there is memory.
     pub(crate) fn keep(&mut self, kept: KeptEntry)
         requires { kept_text kept ≡ value_text (map text_bytes self.old) }
         ensures { self.new ≡ self.old }
     {
-        self.kept = Some(kept);
+        if let Ok(kept) = Box::new(self.texts.allocator(), kept) {
+            self.kept = Some(kept);
+        }
     }
 }

@@ -2,6 +2,7 @@ use Rattle.std.proofs.Common.{◌≡◌, ◌+◌, ◌-◌, ◌*◌, false, true}
 use Rattle.rc_model.specs.Mirrors.Descent as d
 use Rattle.rc_tree.specs.View.{cmd_tree, args_tree, items_tree, pairs_tree, redirs_tree, stages_tree}
 use Rattle.rc_tree.specs.View.{links_tree, branches_tree}
+use Rattle.rc_parser.specs.Reading.{simple_after}
 use Rattle.rc_parser.specs.Tokens.{lexemes_of}
 use Rattle.rc_parser.proofs.descent.+parse.Given as goal
 
@@ -187,7 +188,7 @@ abbrev pub invariant-openings::parse_simple-loop : goal.invariant-openings::pars
 invariant-openings::parse_simple-loop l =
     d.simple_from (d.read l.left (d.a_part false)) (l.turns - l.counter) (args_tree l.words.items)
     (redirs_tree l.redirs.items) (lexemes_of l.rest)
-    ≡ d.simple_by (d.read l.left (d.a_part false)) (lexemes_of l.tokens)
+    ≡ simple_after (d.read l.left (d.a_part false)) (args_tree l.fn.words.items) (lexemes_of l.tokens)
 
 abbrev pub invariant-switches::parse_cases-loop : goal.invariant-switches::parse_cases-loop
 invariant-switches::parse_cases-loop l =

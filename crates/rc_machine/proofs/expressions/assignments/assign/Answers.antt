@@ -1,16 +1,15 @@
-use Rattle.std.proofs.Common.{rules, ◌≡◌, ◌∙◌, ◌∷◌, [], Some, None, false, true, ap, sym}
+use Rattle.std.proofs.Common.{rules, ◌≡◌, ◌∙◌, ◌∷◌, [], Some, None, false, ap, sym}
 use Rattle.std.specs.Prelude.{if◌then◌else◌}
-use Rattle.law_plans.proofs.Runs.{ran_none}
 use Rattle.rc_model.specs.Code.Layout as op
-use Rattle.rc_model.specs.Code.Machine.{act, goes, next}
-use Rattle.rc_model.specs.Run.State.{is_name, set_value}
+use Rattle.rc_model.specs.Code.Machine.{act}
+use Rattle.rc_model.specs.Run.State.{is_name}
 use Rattle.rc_model.specs.Run.Values.{bad_name}
 use Rattle.rc_model.specs.Syntax.Words.{word_text, word_texts}
-use Rattle.rc_world.proofs.Joins.{left_memory, ran_as}
+use Rattle.rc_world.proofs.Joins.{left_memory}
 use Rattle.rc_machine.specs.Configurations.{config_of}
 use Rattle.rc_machine.specs.Names.{the_name}
 use Rattle.rc_machine.specs.Steps.{failed}
-use Rattle.rc_machine.proofs.ExpressionActs.{assigns, assigns_no_name, set_is_name}
+use Rattle.rc_machine.proofs.ExpressionActs.{assigns_no_name}
 use Rattle.rc_machine.proofs.Left.{steps_as}
 use Rattle.rc_scope.specs.States.{state_of}
 use Rattle.rc_machine.proofs.expressions.assignments.assign.Goals as goal

@@ -1,4 +1,4 @@
-use Rattle.std.proofs.Common.{rules, arith, ◌≡◌, [], ◌∷◌, length, length-append, ◌<◌, ◌≤◌, ◌++◌, reverse, Some, None, ap, subst, ◌∙◌}
+use Rattle.std.proofs.Common.{rules, arith, ◌≡◌, [], ◌∷◌, length, length-append, ◌≤◌, ◌++◌, reverse, Some, None, ap, subst, ◌∙◌}
 use Rattle.std.specs.Option.{IsSome}
 use Rattle.std.proofs.lemmas.List.{length-reverse}
 use Rattle.rc_machine.specs.Lists.{two_of}
