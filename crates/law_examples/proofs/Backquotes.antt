@@ -1,10 +1,21 @@
 -- Backquotes.
-use Rattle.std.proofs.Common.{refl, ◌∷◌, ◌++◌, []}
+use Rattle.std.proofs.Common.{ℕ, List, refl, ◌∷◌, ◌++◌, []}
 use Rattle.std.specs.Prelude.{codes}
-use Rattle.rc_model.specs.Run.Calls.{make_pipe, close, read, wait, pair, done, bytes, child, ended, refused}
+use Rattle.rc_model.specs.Run.Calls.{Event, make_pipe, close, read, wait, pair, done, bytes, child, ended, refused}
 use Rattle.rc_model.specs.declared.call.Ending.TheVariants.{Code}
 use Rattle.rc_model.specs.declared.call.Fault.TheVariants.{Other}
 use Rattle.law_examples.specs.Shown.{fresh, with_value, usual, writing_to, subshell, runs, Does, meant, ran, Leaves, meant_value, ran_value, ◌▸◌}
+
+-- the calls of a backquote whose child writes this in one piece
+abbrev backquote_of : (output : List ℕ) → List Event
+backquote_of output =
+    make_pipe ▸ pair 3 4
+    ∷ subshell (codes "rc1;s1,;c1,w1:c") usual (writing_to 4) ▸ child 1
+    ∷ close 4 ▸ done
+    ∷ read 3 ▸ bytes output
+    ∷ read 3 ▸ bytes []
+    ∷ close 3 ▸ done
+    ∷ wait 1 ▸ ended (Code 0) ∷ []
 
 -- characters may be cut by a read; the status is that of the child
 output_is_read_to_its_end :
@@ -54,13 +65,7 @@ what_was_read_is_used = (refl, refl)
 -- without `$ifs` the output is one member
 no_separators_give_one_member :
     Does (codes "x=`{c} exit $#x") fresh
-    (make_pipe ▸ pair 3 4
-    ∷ subshell (codes "rc1;s1,;c1,w1:c") usual (writing_to 4) ▸ child 1
-    ∷ close 4 ▸ done
-    ∷ read 3 ▸ bytes (codes "a b\n")
-    ∷ read 3 ▸ bytes []
-    ∷ close 3 ▸ done
-    ∷ wait 1 ▸ ended (Code 0) ∷ [])
+    (backquote_of (codes "a b\n"))
     (codes "1")
 unfolding meant ran
 no_separators_give_one_member = (refl, refl)
@@ -81,13 +86,7 @@ empty_output_has_no_members = (refl, refl)
 -- and wrong UTF-8 becomes the replacement character
 bytes_zero_are_dropped :
     Leaves (codes "x=`{c}") fresh
-    (make_pipe ▸ pair 3 4
-    ∷ subshell (codes "rc1;s1,;c1,w1:c") usual (writing_to 4) ▸ child 1
-    ∷ close 4 ▸ done
-    ∷ read 3 ▸ bytes (codes "aâ\u{82}b\0")
-    ∷ read 3 ▸ bytes []
-    ∷ close 3 ▸ done
-    ∷ wait 1 ▸ ended (Code 0) ∷ [])
+    (backquote_of (codes "aâ\u{82}b\0"))
     (codes "x") (codes "aï¿½b" ∷ [])
 unfolding meant_value ran_value
 bytes_zero_are_dropped = (refl, refl)
@@ -95,13 +94,7 @@ bytes_zero_are_dropped = (refl, refl)
 -- a character around a byte 0 is whole
 bytes_zero_are_dropped_first :
     Leaves (codes "x=`{c}") fresh
-    (make_pipe ▸ pair 3 4
-    ∷ subshell (codes "rc1;s1,;c1,w1:c") usual (writing_to 4) ▸ child 1
-    ∷ close 4 ▸ done
-    ∷ read 3 ▸ bytes (codes "Ã\0©")
-    ∷ read 3 ▸ bytes []
-    ∷ close 3 ▸ done
-    ∷ wait 1 ▸ ended (Code 0) ∷ [])
+    (backquote_of (codes "Ã\0©"))
     (codes "x") (codes "Ã©" ∷ [])
 unfolding meant_value ran_value
 bytes_zero_are_dropped_first = (refl, refl)
