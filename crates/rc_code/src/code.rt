@@ -107,7 +107,7 @@ const _: () = prove!(size_of::<Op>() == 8);
 /// What is kept beside the instructions.
 pub(crate) enum Kept {
     Tree(Rc<Cmd>),
-    Stages(Vec<Stage>),
+    Stages(Rc<Vec<Stage>>),
     Pieces(Vec<Piece>),
 }
 

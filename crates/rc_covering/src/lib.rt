@@ -5,7 +5,7 @@ ghost use Rattle.std.specs.Prelude.{◌≡◌, IfSome};
 ghost use Rattle.law_descriptors.specs.Covering.{if_opens, opens_in, opens_of, slots_in, slots_after};
 ghost use Rattle.rc_model.specs.Run.Calls.{plain, slot_of, with_slot};
 ghost use Rattle.rc_model.specs.Syntax.Tree.{Many, redir, more};
-ghost use Rattle.rc_tree.specs.View.{cmd_tree, redir_tree, redirs_tree};
+ghost use Rattle.rc_tree.specs.View.{cmd_tree, body_tree, redir_tree, redirs_tree};
 
 use rc_model::{Handle, PLAIN_SLOTS, Slot, Slots};
 use rc_redir::{slot_of, with_slot};
@@ -29,6 +29,7 @@ pub fn covering_of(cmd: &Cmd) -> Option<Covering>
 }
 
 /// The redirections around a command with these descriptors.
+#[cycle(cover)]
 #[tactic(auto, using(crate::proofs::Opens::steps))]
 fn covering_from(cmd: &Cmd, slots: Slots) -> Option<Covering>
     ensures files { IfSome result (λ covering. covering.files ≡ opens_of (cmd_tree cmd.now)) }
@@ -36,7 +37,7 @@ fn covering_from(cmd: &Cmd, slots: Slots) -> Option<Covering>
 {
     match cmd {
         Cmd::Assign(_, body) => {
-            let inner = covering_from(body, slots)?;
+            let inner = covering_under(body, slots)?;
             Some(unless_opened(slots, inner))
         }
         Cmd::Redirect(redirs, body) => {
@@ -64,6 +65,19 @@ fn covering_from(cmd: &Cmd, slots: Slots) -> Option<Covering>
         | Cmd::Define(..)
         | Cmd::Undefine(_)
         | Cmd::Brace(_) => Some(Covering { files: 0, slots }),
+    }
+}
+
+/// The redirections around what stands under assignments.
+#[cycle(cover)]
+#[tactic(auto, using(crate::proofs::Opens::steps))]
+fn covering_under(body: &Option<Box<Cmd>>, slots: Slots) -> Option<Covering>
+    ensures files { IfSome result (λ covering. covering.files ≡ opens_of (body_tree body.now)) }
+    ensures slots { IfSome result (λ covering. covering.slots ≡ slots_after (body_tree body.now) slots) }
+{
+    match body {
+        None => Some(Covering { files: 0, slots }),
+        Some(cmd) => covering_from(cmd, slots),
     }
 }
 

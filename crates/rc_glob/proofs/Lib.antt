@@ -12,4 +12,3 @@ pub mod Sums
 pub mod Texts
 pub mod Walks
 pub mod Widths
-mod Writing

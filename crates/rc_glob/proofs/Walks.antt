@@ -12,6 +12,8 @@ use Rattle.rc_model.specs.Run.Plans.{Plan, done_with, asks, Ran}
 use Rattle.rc_model.specs.Run.Shell.{ShellResult, Next, Shell, ◌>>=◌, leaves, pure, under}
 use Rattle.rc_model.specs.Run.State.{State}
 use Rattle.rc_model.specs.Run.FileNames.{components, each_name, expanded, expanded_word, fitting_names, directory, if_there, listed, names_of, or_itself, ordered, walk}
+use Rattle.rc_text.specs.Texts.{text_bytes}
+use Rattle.rc_text.specs.declared.texts.Text.{Text}
 use Rattle.rc_glob.specs.Paths.{paths_from}
 use Rattle.rc_glob.proofs.Cuts.{walk_pattern, walk_plain, whole}
 use Rattle.rc_world.specs.Comes.{Comes, Left}
@@ -85,9 +87,9 @@ module _ (c : Word) (path : List ℕ) where
       (left_asked a b stop (list_names (directory path)) (λ x. fitting_names c (as_names x)) (λ ns. each_name next path ns s)
       (subst (λ p. Left a b (asks (list_names (directory p)) (λ x. fitting_names c (as_names x))) stop) e l))
 
-  pub begun : (a b : Option (List Event)) (s : State) (next : List ℕ → Shell (List (List ℕ))) (whole : Shell (List (List ℕ))) (p : List ℕ) (items given found : List (String Global)) →
+  pub begun : (a b : Option (List Event)) (s : State) (next : List ℕ → Shell (List (List ℕ))) (whole : Shell (List (List ℕ))) (p : List ℕ) (items given : List (String Global)) (found : List Text) →
       whole ≡ listed c next path → p ≡ path → Ran a b (asks (list_names (directory p)) (λ x. fitting_names c (as_names x))) (done_with (map string_bytes items)) → given ≡ items → found ≡ [] →
-      Collected a b s (whole s) (each_name next path (map string_bytes given) s) (map string_bytes found)
+      Collected a b s (whole s) (each_name next path (map string_bytes given) s) (map text_bytes found)
   begun a b s next whole p items given found w e h g n =
       let names = map string_bytes given in
       let listing : Ran a b (asks (list_names (directory path)) (λ x. fitting_names c (as_names x))) (done_with names) =
@@ -95,7 +97,7 @@ module _ (c : Word) (path : List ℕ) where
       (subst (λ p. Ran a b (asks (list_names (directory p)) (λ x. fitting_names c (as_names x))) (done_with (map string_bytes items))) e h) in
       let ran : Ran a b (listed c next path s) (each_name next path names s) =
       ran_answered a b b (list_names (directory path)) (λ x. fitting_names c (as_names x)) names (λ ns. each_name next path ns s) (each_name next path names s) listing (ran_none b (each_name next path names s)) in
-      subst (λ f. Collected a b s (whole s) (each_name next path names s) (map string_bytes f)) (sym n)
+      subst (λ f. Collected a b s (whole s) (each_name next path names s) (map text_bytes f)) (sym n)
       (collected_from s a b (whole s) (each_name next path names s) (subst (λ m. Ran a b (m s) (each_name next path names s)) (sym w) ran))
 
   module _ (a b : Option (List Event)) (s : State) (next : List ℕ → Shell (List (List ℕ))) (whole : Shell (List (List ℕ))) (p : List ℕ) (items : List (String Global))
@@ -103,14 +105,14 @@ module _ (c : Word) (path : List ℕ) where
     pub left_alone : Left a b (whole s) NoMemory
     left_alone = collected_memory s a b (whole s) (each_name next path (map string_bytes items) s) [] (begun a b s next whole p items items [] w e h refl refl)
 
-    pub ran_alone : (q : List ℕ) (paths : List (String Global)) → next ≡ walk [] → q ≡ path → map string_bytes paths ≡ map (λ n. q ++ n) (map string_bytes items) →
-        Ran a b (whole s) (done_with (Next (map string_bytes paths) s))
+    pub ran_alone : (q : List ℕ) (paths : List Text) → next ≡ walk [] → q ≡ path → map text_bytes paths ≡ map (λ n. q ++ n) (map string_bytes items) →
+        Ran a b (whole s) (done_with (Next (map text_bytes paths) s))
     ran_alone q paths n d k =
         let names = map string_bytes items in
-        let alone : each_name next path names s ≡ done_with (Next (map string_bytes paths) s) =
+        let alone : each_name next path names s ≡ done_with (Next (map text_bytes paths) s) =
         ap (λ f. each_name f path names s) n ∙ (each_name_alone path names s ∙ ap (λ l. done_with (Next l s)) (ap (λ t. map (λ n. t ++ n) names) (sym d) ∙ sym k)) in
-        (begun a b s next whole p items items [] w e h refl refl).ends b (map string_bytes paths)
-        (subst (λ m. Ran b b m (done_with (Next (map string_bytes paths) s))) (sym alone) (ran_none b (done_with (Next (map string_bytes paths) s))))
+        (begun a b s next whole p items items [] w e h refl refl).ends b (map text_bytes paths)
+        (subst (λ m. Ran b b m (done_with (Next (map text_bytes paths) s))) (sym alone) (ran_none b (done_with (Next (map text_bytes paths) s))))
 
 pub joined_is : (w a b p n : List ℕ) → w ≡ a ++ b → a ≡ p → b ≡ n → w ≡ p ++ n
 joined_is w a b p n h e k = h ∙ (ap (λ t. t ++ b) e ∙ ap (λ t. p ++ t) k)
@@ -125,44 +127,44 @@ names_left names i name lt is =
     ∙ (ap (λ n. string_bytes (get_or names i name) ∷ map string_bytes (drop n names)) (sym (add-one i))
     ∙ ap (λ d. string_bytes d ∷ map string_bytes (drop (i + 1) names)) (sym is))
 
-module _ (a b : Option (List Event)) (s : State) (whole : Plan (ShellResult (List (List ℕ)))) (f : List ℕ → Shell (List (List ℕ))) (path : List ℕ) (names : List (String Global)) (i : ℕ) (found : List (String Global)) where
+module _ (a b : Option (List Event)) (s : State) (whole : Plan (ShellResult (List (List ℕ)))) (f : List ℕ → Shell (List (List ℕ))) (path : List ℕ) (names : List (String Global)) (i : ℕ) (found : List Text) where
   -- these names are left
-  abbrev pub At : Option (List Event) → ℕ → List (String Global) → Type 0
-  At now n list = Collected a now s whole (each_name f path (map string_bytes (drop n names)) s) (map string_bytes list)
+  abbrev pub At : Option (List Event) → ℕ → List Text → Type 0
+  At now n list = Collected a now s whole (each_name f path (map string_bytes (drop n names)) s) (map text_bytes list)
 
   at_name : (name : String Global) → i < length names → name ≡ get_or names i name → At b i found →
-      Collected a b s whole (both (f (path ++ string_bytes name)) (each_name f path (map string_bytes (drop (i + 1) names))) s) (map string_bytes found)
-  at_name name lt is so_far = subst (λ ns. Collected a b s whole (each_name f path ns s) (map string_bytes found)) (names_left names i name lt is) so_far
+      Collected a b s whole (both (f (path ++ string_bytes name)) (each_name f path (map string_bytes (drop (i + 1) names))) s) (map text_bytes found)
+  at_name name lt is so_far = subst (λ ns. Collected a b s whole (each_name f path ns s) (map text_bytes found)) (names_left names i name lt is) so_far
 
-  pub next_name : (c : Option (List Event)) (name : String Global) (below new : List (String Global)) (w : List ℕ) → i < length names → name ≡ get_or names i name → w ≡ path ++ string_bytes name → new ≡ found ++ below →
-      At b i found → Ran b c (f w s) (done_with (Next (map string_bytes below) s)) → At c (i + 1) new
+  pub next_name : (c : Option (List Event)) (name : String Global) (below new : List Text) (w : List ℕ) → i < length names → name ≡ get_or names i name → w ≡ path ++ string_bytes name → new ≡ found ++ below →
+      At b i found → Ran b c (f w s) (done_with (Next (map text_bytes below) s)) → At c (i + 1) new
   next_name c name below new w lt is e n so_far h =
       let rest = each_name f path (map string_bytes (drop (i + 1) names)) in
-      subst (λ l. Collected a c s whole (rest s) l) (sym (ap (map string_bytes) n ∙ map-append string_bytes found below))
-      (collected_step s a b c whole (f (path ++ string_bytes name)) rest (map string_bytes found) (map string_bytes below) (at_name name lt is so_far)
-      (subst (λ w. Ran b c (f w s) (done_with (Next (map string_bytes below) s))) e h))
+      subst (λ l. Collected a c s whole (rest s) l) (sym (ap (map text_bytes) n ∙ map-append text_bytes found below))
+      (collected_step s a b c whole (f (path ++ string_bytes name)) rest (map text_bytes found) (map text_bytes below) (at_name name lt is so_far)
+      (subst (λ w. Ran b c (f w s) (done_with (Next (map text_bytes below) s))) e h))
 
   pub left_name : (c : Option (List Event)) (stop : Stop) (name : String Global) (w : List ℕ) → i < length names → name ≡ get_or names i name → w ≡ path ++ string_bytes name →
       At b i found → Left b c (f w s) stop → Left a c whole stop
   left_name c stop name w lt is e so_far l =
-      collected_left s a b c stop whole (f (path ++ string_bytes name)) (each_name f path (map string_bytes (drop (i + 1) names))) (map string_bytes found) (at_name name lt is so_far)
+      collected_left s a b c stop whole (f (path ++ string_bytes name)) (each_name f path (map string_bytes (drop (i + 1) names))) (map text_bytes found) (at_name name lt is so_far)
       (subst (λ w. Left b c (f w s) stop) e l)
 
   pub memory_at_name : At b i found → Left a b whole NoMemory
-  memory_at_name so_far = collected_memory s a b whole (each_name f path (map string_bytes (drop i names)) s) (map string_bytes found) so_far
+  memory_at_name so_far = collected_memory s a b whole (each_name f path (map string_bytes (drop i names)) s) (map text_bytes found) so_far
 
   -- a name was walked, and what it gave could not be added
-  pub memory_after_name : (c : Option (List Event)) (name : String Global) (below : List (String Global)) (w : List ℕ) → i < length names → name ≡ get_or names i name → w ≡ path ++ string_bytes name →
-      At b i found → Ran b c (f w s) (done_with (Next (map string_bytes below) s)) → Left a c whole NoMemory
+  pub memory_after_name : (c : Option (List Event)) (name : String Global) (below : List Text) (w : List ℕ) → i < length names → name ≡ get_or names i name → w ≡ path ++ string_bytes name →
+      At b i found → Ran b c (f w s) (done_with (Next (map text_bytes below) s)) → Left a c whole NoMemory
   memory_after_name c name below w lt is e so_far h =
       let rest = each_name f path (map string_bytes (drop (i + 1) names)) in
-      collected_memory s a c whole (rest s) (map string_bytes found ++ map string_bytes below)
-      (collected_step s a b c whole (f (path ++ string_bytes name)) rest (map string_bytes found) (map string_bytes below) (at_name name lt is so_far)
-      (subst (λ w. Ran b c (f w s) (done_with (Next (map string_bytes below) s))) e h))
+      collected_memory s a c whole (rest s) (map text_bytes found ++ map text_bytes below)
+      (collected_step s a b c whole (f (path ++ string_bytes name)) rest (map text_bytes found) (map text_bytes below) (at_name name lt is so_far)
+      (subst (λ w. Ran b c (f w s) (done_with (Next (map text_bytes below) s))) e h))
 
-  pub no_names_left : length names ≤ i → At b i found → Ran a b whole (done_with (Next (map string_bytes found) s))
+  pub no_names_left : length names ≤ i → At b i found → Ran a b whole (done_with (Next (map text_bytes found) s))
   no_names_left l so_far =
-      collected_end s a b whole (each_name f path (map string_bytes (drop i names)) s) (map string_bytes found) (ap (λ ns. each_name f path (map string_bytes ns) s) (drop_all i names l)) so_far
+      collected_end s a b whole (each_name f path (map string_bytes (drop i names)) s) (map text_bytes found) (ap (λ ns. each_name f path (map string_bytes ns) s) (drop_all i names l)) so_far
 
 -- the same for words
 module _ (a b : Option (List Event)) (s : State) (whole : Plan (ShellResult (List Word))) (words : List Word) (i : ℕ) (found : List Word) where
@@ -239,15 +241,15 @@ module _ (s : State) (w v : Word) (p : List ℕ) (h : has_pattern w ≡ true) (e
   ran_names a c paths ws r n =
       subst (λ m. Ran a c (m s) (done_with (Next ws s))) (sym names_are) (ran_do (paths_from (components v) p) after r (ran_value c s ws (or_itself w paths) n))
 
-pub no_paths : (w : Word) (items xs : List (String Global)) (b : Bool) → b ≡ (length xs == 0) → xs ≡ items → b ≡ true → w ∷ [] ≡ or_itself w (map string_bytes items)
-no_paths w items [] b h e k = ap (λ l. or_itself w (map string_bytes l)) e
+pub no_paths : (w : Word) (items xs : List Text) (b : Bool) → b ≡ (length xs == 0) → xs ≡ items → b ≡ true → w ∷ [] ≡ or_itself w (map text_bytes items)
+no_paths w items [] b h e k = ap (λ l. or_itself w (map text_bytes l)) e
 no_paths w items (x ∷ xs) b h e k = let c : length (x ∷ xs) ≡ 0 = eqb-true (length (x ∷ xs)) 0 (sym h ∙ k) in absurd (omega arith)
 
-pub some_paths : (w : Word) (items xs sorted : List (String Global)) (ws : List Word) (b : Bool) → b ≡ (length xs == 0) → xs ≡ items → b ≡ false → map string_bytes sorted ≡ ordered (map string_bytes items) →
-    ws ≡ plain_words (map string_bytes sorted) → ws ≡ or_itself w (map string_bytes items)
+pub some_paths : (w : Word) (items xs sorted : List Text) (ws : List Word) (b : Bool) → b ≡ (length xs == 0) → xs ≡ items → b ≡ false → map text_bytes sorted ≡ ordered (map text_bytes items) →
+    ws ≡ plain_words (map text_bytes sorted) → ws ≡ or_itself w (map text_bytes items)
 some_paths w items [] sorted ws b h e k o n = let c : true ≡ false = sym h ∙ k in cc
 some_paths w items (x ∷ xs) sorted ws b h e k o n =
-    n ∙ (ap plain_words (o ∙ ap (λ l. ordered (map string_bytes l)) (sym e)) ∙ ap (λ l. or_itself w (map string_bytes l)) e)
+    n ∙ (ap plain_words (o ∙ ap (λ l. ordered (map text_bytes l)) (sym e)) ∙ ap (λ l. or_itself w (map text_bytes l)) e)
 
 -- ** what follows a name
 

@@ -3,9 +3,10 @@ ghost use Rattle.std.specs.Prelude.{◌≡◌, ◌<◌, ◌++◌, ◌∷◌, [],
 ghost use Rattle.rc_model.specs.Syntax.Words.{has_pattern, word_text};
 ghost use Rattle.rc_model.specs.Run.FileNames.{components, directory, listed, walk};
 ghost use Rattle.rc_text.specs.Literals.{marks};
+ghost use Rattle.rc_text.specs.Texts.{text_bytes};
 ghost use Rattle.rc_glob.specs.Paths.{components_of, paths_from};
 
-use rc_text::{Ch, any_pattern};
+use rc_text::{Ch, Text, any_pattern};
 use std::alloc::{AllocError, Global};
 
 /// The characters up to a slash, and what follows it.
@@ -65,22 +66,40 @@ pub(crate) fn directory(path: &str) -> &str
     if path.is_empty() { "." } else { path }
 }
 
+/// The path of this name in the directory with this path.
+fn path_in(alloc: Global, directory: &Text, name: String) -> Result<Text, AllocError>
+    ensures { IfOk result (λ path. text_bytes path ≡ text_bytes directory.now ++ string_bytes name) }
+{
+    if directory.as_str().is_empty() {
+        return Text::from_string(alloc, name);
+    }
+    let mut path = directory.clone()?;
+    path.push_str(alloc, &name)?;
+    Ok(path)
+}
+
 /// The paths of the names in the directory with this path.
-pub(crate) fn paths_in(path: &str, mut names: Vec<String>) -> Result<Vec<String>, AllocError>
-    ensures { IfOk result (λ paths. map string_bytes paths.items
+pub(crate) fn paths_in(
+    alloc: Global,
+    path: &str,
+    names: Vec<String>,
+) -> Result<Vec<Text>, AllocError>
+    ensures { IfOk result (λ paths. map text_bytes paths.items
         ≡ map (λ name. path.now ++ name) (map string_bytes names.items)) }
 {
-    for name in names.iter_mut() {
-        name.insert_str(0, path)?;
+    let directory = Text::of(alloc, path)?;
+    let mut paths = Vec::with_capacity(alloc, names.len())?;
+    for name in names {
+        paths.push(path_in(alloc, &directory, name)?)?;
     }
-    Ok(names)
+    Ok(paths)
 }
 
 /// This path alone.
-pub(crate) fn only(alloc: Global, path: String) -> Result<Vec<String>, AllocError>
-    ensures { IfOk result (λ paths. map string_bytes paths.items ≡ string_bytes path ∷ []) }
+pub(crate) fn only(alloc: Global, path: String) -> Result<Vec<Text>, AllocError>
+    ensures { IfOk result (λ paths. map text_bytes paths.items ≡ string_bytes path ∷ []) }
 {
     let mut paths = Vec::new(alloc);
-    paths.push(path)?;
+    paths.push(Text::from_string(alloc, path)?)?;
     Ok(paths)
 }

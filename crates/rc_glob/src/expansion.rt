@@ -8,12 +8,13 @@ ghost use Rattle.rc_model.specs.Run.Shell.{Next};
 ghost use Rattle.rc_model.specs.Run.FileNames.{components, expanded, expanded_word, fitting_names, directory, if_there};
 ghost use Rattle.rc_model.specs.Run.FileNames.{walk};
 ghost use Rattle.rc_text.specs.Literals.{marks};
+ghost use Rattle.rc_text.specs.Texts.{text_bytes};
 ghost use Rattle.rc_world.specs.Comes.{Asks, Comes};
-ghost use Rattle.rc_glob.specs.Paths.{expanded_texts, paths_from};
+ghost use Rattle.rc_glob.specs.Paths.{expanded_texts, paths_from, words_for};
 
 use crate::components::{advance, directory, only, paths_in, push_text};
-use crate::file_names::{fitting_names, ordered};
-use rc_text::{Ch, List, Word, any_pattern, joined_text};
+use crate::file_names::{fitting_names, ordered_paths};
+use rc_text::{Ch, List, Text, Word, any_pattern, joined_text};
 use rc_world::{Stop, World, calls};
 use std::alloc::Global;
 
@@ -35,9 +36,9 @@ fn listed<W: World>(
 }
 
 /// The path, if something is there.
-fn if_there<W: World>(alloc: Global, world: &mut W, path: String) -> Result<Vec<String>, Stop>
+fn if_there<W: World>(alloc: Global, world: &mut W, path: String) -> Result<Vec<Text>, Stop>
     ensures { (s : State) → Comes (W.events world.old) (W.events world.new) (if_there (string_bytes path) s)
-        (λ paths. Next (map string_bytes paths.items) s) result }
+        (λ paths. Next (map text_bytes paths.items) s) result }
 {
     let found = calls::probe(world, &path)?;
     match found {
@@ -53,16 +54,16 @@ fn walk<W: World>(
     world: &mut W,
     mut path: String,
     word: &[Ch],
-) -> Result<Vec<String>, Stop>
+) -> Result<Vec<Text>, Stop>
     requires { has_pattern (marks word.now) ≡ true }
     ensures { (s : State) → Comes (W.events world.old) (W.events world.new)
         (paths_from (components (marks word.now)) (string_bytes path) s)
-        (λ paths. Next (map string_bytes paths.items) s) result }
+        (λ paths. Next (map text_bytes paths.items) s) result }
 {
     let (component, rest) = advance(&mut path, word)?;
     let names = listed(alloc, world, &path, component)?;
     let Some(rest) = rest else {
-        return Ok(paths_in(&path, names)?);
+        return Ok(paths_in(alloc, &path, names)?);
     };
     let mut found = Vec::new(alloc);
     for name in &names {
@@ -80,10 +81,10 @@ fn walk_on<W: World>(
     world: &mut W,
     mut path: String,
     rest: &[Ch],
-) -> Result<Vec<String>, Stop>
+) -> Result<Vec<Text>, Stop>
     ensures { (s : State) → Comes (W.events world.old) (W.events world.new)
         (walk (components (marks rest.now)) (string_bytes path) s)
-        (λ paths. Next (map string_bytes paths.items) s) result }
+        (λ paths. Next (map text_bytes paths.items) s) result }
 {
     path.push('/')?;
     if any_pattern(rest) {
@@ -102,18 +103,35 @@ fn itself(alloc: Global, word: &Word) -> Result<List, Stop>
     Ok(list)
 }
 
+/// Returns the names of the files that the word matches, in byte order. There is none if it stands for itself: it has
+/// no pattern character, or no file matches it.
+pub fn find_files<W: World>(
+    alloc: Global,
+    world: &mut W,
+    word: &Word,
+) -> Result<Option<Vec<Text>>, Stop>
+    ensures { (s : State) → Comes (W.events world.old) (W.events world.new) (expanded_word word.now s)
+        (λ names. Next (words_for word.now names) s) result }
+{
+    let Some(chars) = word.pattern() else {
+        return Ok(None);
+    };
+    let paths = walk(alloc, world, String::new(alloc), chars)?;
+    if paths.as_slice().is_empty() {
+        return Ok(None);
+    }
+    Ok(Some(ordered_paths(paths)))
+}
+
+/// The words that a word stands for.
 fn expand_word<W: World>(alloc: Global, world: &mut W, word: &Word) -> Result<List, Stop>
     ensures { (s : State) → Comes (W.events world.old) (W.events world.new) (expanded_word word.now s)
         (λ list. Next list s) result }
 {
-    let Some(chars) = word.pattern() else {
-        return itself(alloc, word);
-    };
-    let paths = walk(alloc, world, String::new(alloc), chars)?;
-    if paths.as_slice().is_empty() {
-        return itself(alloc, word);
+    match find_files(alloc, world, word)? {
+        Some(names) => Ok(List::plain(alloc, names)?),
+        None => itself(alloc, word),
     }
-    Ok(List::plain(alloc, ordered(paths))?)
 }
 
 /// Returns the names of the files that the word matches, in byte order; or its own text, if it has no pattern character

@@ -1,15 +1,17 @@
 //! The names that a component matches.
-ghost use Rattle.std.specs.Prelude.{◌≡◌, ◌==◌, ◌||◌, ◌&&◌, not, true, map, string_bytes, Some};
-ghost use Rattle.std.specs.List.{list_any};
-ghost use Rattle.std.specs.List.Sorted.{IsPermutation, IsSorted};
+ghost use Rattle.std.specs.Prelude.{◌≡◌, ◌==◌, ◌||◌, ◌&&◌, not, true, bytes_eq, map, string_bytes, IsTrue, Some};
+ghost use Rattle.std.specs.List.{dedup, list_any};
+ghost use Rattle.std.specs.List.Sorted.{IsPermutation, IsSorted, IsStrictlySortedBy};
 ghost use Rattle.std.specs.String.{string_cmp};
 ghost use Rattle.std.specs.Str.{chars};
 ghost use Rattle.rc_model.specs.Run.Patterns.{matches};
+ghost use Rattle.rc_model.specs.Syntax.Text.{text_cmp};
 ghost use Rattle.rc_model.specs.Run.FileNames.{fitting_names, is_no_name, ordered};
 ghost use Rattle.rc_text.specs.Literals.{marks};
+ghost use Rattle.rc_text.specs.Texts.{text_bytes};
 
 use crate::matching::is_match;
-use rc_text::Ch;
+use rc_text::{Ch, Text};
 
 fn has_separator(name: &str) -> bool
     ensures { result ≡ list_any (λ c. (c == 47) || (c == 0)) name.now }
@@ -24,8 +26,8 @@ fn is_no_name(name: &str) -> bool
     name.is_empty() || name == "." || name == ".." || has_separator(name)
 }
 
-/// Whether a file can have this name, and the component matches it. There is no slash in it, at which a pattern character
-/// would have to stop.
+/// Whether a file can have this name, and the component matches it. There is no slash in it, at which a pattern
+/// character would have to stop.
 fn is_fitting(component: &[Ch], name: &str) -> bool
     ensures { result ≡ (not (is_no_name name.now) && matches (marks component.now) (chars name.now) true) }
 {
@@ -60,4 +62,37 @@ pub(crate) fn ordered(texts: Vec<String>) -> Vec<String>
     let mut names = sorted(texts);
     names.dedup();
     names
+}
+
+/// Whether each path is below the next.
+fn are_rising(paths: &[Text]) -> bool
+    ensures { IsTrue result → IsStrictlySortedBy text_cmp (map text_bytes paths.now) }
+{
+    paths.is_sorted_by(|a, b| a.as_str() < b.as_str())
+}
+
+/// Sorts the paths.
+fn sort_paths(paths: &mut Vec<Text>)
+    ensures permutation { IsPermutation paths.old.items paths.new.items }
+    ensures sorted { IsSorted (λ p q. text_cmp (text_bytes p) (text_bytes q)) paths.new.items }
+{
+    paths.sort_unstable_by(|a, b| a.as_str().cmp(b.as_str()));
+}
+
+/// Removes the paths that come again after themselves.
+fn dedup_paths(paths: &mut Vec<Text>)
+    ensures { paths.new.items ≡ dedup (λ p q. bytes_eq (text_bytes p) (text_bytes q)) paths.old.items }
+{
+    paths.dedup_by(|a, b| a.as_str() == b.as_str());
+}
+
+/// Puts the paths in byte order, each once. Those of one directory are found so.
+pub(crate) fn ordered_paths(mut paths: Vec<Text>) -> Vec<Text>
+    ensures { map text_bytes result.items ≡ ordered (map text_bytes paths.items) }
+{
+    if !are_rising(&paths) {
+        sort_paths(&mut paths);
+        dedup_paths(&mut paths);
+    }
+    paths
 }

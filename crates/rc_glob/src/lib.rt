@@ -9,5 +9,5 @@ mod matching;
 mod search;
 mod stars;
 
-pub use expansion::{expand, expand_all};
+pub use expansion::{expand, expand_all, find_files};
 pub use matching::{matched, matches};

@@ -11,3 +11,4 @@ pub mod Scripts
 pub mod ReadItems
 pub mod Kept
 pub mod Unquoted
+pub mod Depths

@@ -14,7 +14,7 @@ use Rattle.rc_parser.specs.declared.descent.openings.Opening.TheVariants as o
 -- a stage, or the name of an assignment
 abbrev pub opening_of : Opening → d.Opening
 opening_of (o.Staged c) = d.Staged (cmd_tree c.value)
-opening_of (o.Named a) = d.Named (arg_tree a.value)
+opening_of (o.Named a) = d.Named (arg_tree a)
 
 -- what was read, passed to a function
 abbrev pub made : {X Y : Type 0} → (X → Y) → Read X → Read Y

@@ -13,6 +13,7 @@ use rc_model::Logic;
 use rc_model::limits::MOST_STAGES;
 use rc_tree::{Arg, Cmd, Redir, Stage};
 use std::alloc::{AllocError, Global};
+use std::rc::Rc;
 
 /// One part stands alone, and several are joined.
 #[tactic(auto, using(crate::proofs::Joined::concats))]
@@ -26,11 +27,11 @@ pub(crate) fn concat(first: Arg, mut others: Vec<Arg>) -> Result<Arg, AllocError
     Ok(Arg::Concat(others))
 }
 
-/// A list of one argument.
+/// The list of a command that begins with this argument, with room for as many as most commands have.
 pub(crate) fn list_of(alloc: Global, first: Arg) -> Result<Vec<Arg>, AllocError>
     ensures { IfOk result (λ v. args_tree v.items ≡ more (arg_tree first) none) }
 {
-    let mut words = Vec::new(alloc);
+    let mut words = Vec::with_capacity(alloc, 4)?;
     words.push(first)?;
     Ok(words)
 }
@@ -62,6 +63,7 @@ pub(crate) fn pipeline(
     if stages.len() == 0 {
         return Ok(last);
     }
+    let stages = Rc::new(alloc, stages)?;
     Ok(Box::new(alloc, Cmd::Pipeline(stages, last))?)
 }
 
@@ -127,11 +129,11 @@ fn is_if(cmd: &Cmd) -> bool
 #[tactic(auto, using(rc_tree::specs::View::tree_lists))]
 pub(crate) fn push_pair(
     pairs: &mut Vec<(Arg, Arg)>,
-    name: Box<Arg>,
+    name: Arg,
     value: Arg,
 ) -> Result<(), AllocError>
     ensures { OnOk result (pairs_tree pairs.new.items
-        ≡ snoc (pairs_tree pairs.old.items) (t.Pair (arg_tree name.value) (arg_tree value))) }
+        ≡ snoc (pairs_tree pairs.old.items) (t.Pair (arg_tree name) (arg_tree value))) }
 {
-    Ok(pairs.push((Box::into_inner(name), value))?)
+    Ok(pairs.push((name, value))?)
 }

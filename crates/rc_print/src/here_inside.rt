@@ -2,7 +2,7 @@
 
 ghost use Rattle.std.specs.Prelude.{◌≡◌};
 ghost use Rattle.rc_model.specs.Syntax.Printing.{has_here, have_here};
-ghost use Rattle.rc_tree.specs.View.{cmd_tree, arg_tree, redir_tree};
+ghost use Rattle.rc_tree.specs.View.{cmd_tree, body_tree, arg_tree, redir_tree};
 ghost use Rattle.rc_tree.specs.View.{args_tree, items_tree, pairs_tree, redirs_tree, stages_tree, links_tree};
 ghost use Rattle.rc_tree.specs.View.{branches_tree};
 
@@ -19,7 +19,7 @@ pub(crate) fn has_here(cmd: &Cmd) -> bool
         Cmd::Empty => false,
         Cmd::Seq(items) => have_here_items(items),
         Cmd::Simple(words) => have_here_args(words),
-        Cmd::Assign(pairs, body) => have_here_pairs(pairs) || has_here(body),
+        Cmd::Assign(pairs, body) => have_here_pairs(pairs) || has_here_body(body),
         Cmd::Redirect(redirs, body) => have_here_redirs(redirs) || has_here(body),
         Cmd::Pipeline(stages, last) => have_here_stages(stages) || has_here(last),
         Cmd::AndOr(first, links) => has_here(first) || have_here_links(links),
@@ -37,6 +37,17 @@ pub(crate) fn has_here(cmd: &Cmd) -> bool
         Cmd::Define(names, body) => have_here_args(names) || has_here(body),
         Cmd::Undefine(names) => have_here_args(names),
         Cmd::Brace(body) => has_here(body),
+    }
+}
+
+#[cycle(here)]
+#[tactic(auto, using(rc_tree::specs::View::tree_walks))]
+fn has_here_body(body: &Option<Box<Cmd>>) -> bool
+    ensures { result ≡ has_here (body_tree body.now) }
+{
+    match body {
+        None => false,
+        Some(cmd) => has_here(cmd),
     }
 }
 

@@ -6,7 +6,7 @@ ghost use Rattle.rc_model.specs.Syntax.Printing.{cmd_text, arg_text, redir_text,
 ghost use Rattle.rc_model.specs.Syntax.Printing.{stages_text, links_text, item_lines, branch_lines, branch_items};
 ghost use Rattle.rc_model.specs.Syntax.Printing.{body_lines};
 ghost use Rattle.rc_print.specs.Lines.{led, trailed, lines_after, parting_after};
-ghost use Rattle.rc_tree.specs.View.{cmd_tree, arg_tree, redir_tree};
+ghost use Rattle.rc_tree.specs.View.{cmd_tree, body_tree, arg_tree, redir_tree};
 ghost use Rattle.rc_tree.specs.View.{args_tree, items_tree, pairs_tree, redirs_tree, stages_tree, links_tree};
 ghost use Rattle.rc_tree.specs.View.{branches_tree};
 
@@ -28,14 +28,7 @@ pub(crate) fn print_cmd(out: &mut String, cmd: &Cmd, begins: bool) -> Result<(),
             Ok(())
         }
         Cmd::Simple(words) => print_args(out, words, "", " "),
-        Cmd::Assign(pairs, body) => {
-            print_pairs(out, pairs)?;
-            if is_empty(body) {
-                Ok(())
-            } else {
-                print_after(out, " ", body)
-            }
-        }
+        Cmd::Assign(pairs, body) => print_assign(out, pairs, body),
         Cmd::Redirect(redirs, body) => print_redirect(out, redirs, body, begins),
         Cmd::Pipeline(stages, last) => print_pipeline(out, stages, last, begins),
         Cmd::AndOr(first, links) => print_and_or(out, first, links, begins),
@@ -57,6 +50,30 @@ pub(crate) fn print_cmd(out: &mut String, cmd: &Cmd, begins: bool) -> Result<(),
         }
         Cmd::Undefine(names) => print_words_after(out, "fn ", names),
         Cmd::Brace(body) => print_braced(out, "{", body),
+    }
+}
+
+/// Writes assignments, and their command after a blank, if it has a text.
+#[cycle(print)]
+#[tactic(auto, using(crate::proofs::Texts::writing))]
+fn print_assign(
+    out: &mut String,
+    pairs: &[(Arg, Arg)],
+    body: &Option<Box<Cmd>>,
+) -> Result<(), AllocError>
+    ensures { OnOk result (string_bytes out.new
+        ≡ string_bytes out.old ++ cmd_text (t.Assign (pairs_tree pairs.now) (body_tree body.now)) false) }
+{
+    print_pairs(out, pairs)?;
+    match body {
+        None => Ok(()),
+        Some(body) => {
+            if is_empty(body) {
+                Ok(())
+            } else {
+                print_after(out, " ", body)
+            }
+        }
     }
 }
 

@@ -1,5 +1,5 @@
 -- One turn of a loop that reads a list.
-use Rattle.std.proofs.Common.{◌≡◌, refl, ap, sym, ◌∙◌, ℕ, suc, true, ◌+◌, ◌-◌, ◌<◌, ◌≤◌, List, Result, Ok, Err, arith}
+use Rattle.std.proofs.Common.{◌≡◌, refl, ap, sym, ◌∙◌, ℕ, suc, ◌+◌, ◌-◌, ◌<◌, ◌≤◌, List, Result, Ok, Err, arith}
 use Rattle.std.proofs.lemmas.Grind.{common_steps}
 use Rattle.rc_model.specs.Syntax.Tree.{Sort, Node, Many, none, snoc}
 use Rattle.rc_model.specs.Syntax.Tree as t

@@ -1,5 +1,5 @@
 -- Nodes by their shape, whose parts have this level.
-use Rattle.std.specs.Prelude.{ℕ, true, Ok}
+use Rattle.std.specs.Prelude.{ℕ, Ok}
 use Rattle.rc_model.specs.declared.call.Mode.{Mode}
 use Rattle.rc_model.specs.declared.call.Mode.TheVariants.{Read}
 use Rattle.rc_model.specs.Syntax.Tree.{Node}

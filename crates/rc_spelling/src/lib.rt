@@ -16,7 +16,7 @@ ghost use Rattle.rc_model.specs.Syntax.Tree.{count};
 ghost use Rattle.rc_model.specs.Syntax.Tree as t;
 ghost use Rattle.rc_model.specs.Handed.Image.{node_image, many_image, list_image, text_image, literal_mark};
 ghost use Rattle.rc_model.specs.Handed.Image.{item_mark, logic_mark, opening_mark};
-ghost use Rattle.rc_tree.specs.View.{cmd_tree, arg_tree, redir_tree, piece_tree, pieces_tree};
+ghost use Rattle.rc_tree.specs.View.{cmd_tree, body_tree, arg_tree, redir_tree, piece_tree, pieces_tree};
 ghost use Rattle.rc_tree.specs.View.{args_tree, items_tree, pairs_tree, redirs_tree, stages_tree, links_tree};
 ghost use Rattle.rc_tree.specs.View.{branches_tree};
 
@@ -167,13 +167,20 @@ pub fn push_spelling(out: &mut String, cmd: &Cmd) -> Result<(), AllocError>
 
 #[cycle(spell)]
 #[tactic(auto, using(crate::proofs::Spelling::spelling))]
-fn push_assign(out: &mut String, pairs: &[(Arg, Arg)], body: &Cmd) -> Result<(), AllocError>
+fn push_assign(
+    out: &mut String,
+    pairs: &[(Arg, Arg)],
+    body: &Option<Box<Cmd>>,
+) -> Result<(), AllocError>
     ensures { OnOk result (string_bytes out.new ≡ string_bytes out.old
-        ++ node_image (t.Assign (pairs_tree pairs.now) (cmd_tree body.now))) }
+        ++ node_image (t.Assign (pairs_tree pairs.now) (body_tree body.now))) }
 {
     out.push_str("=")?;
     push_pairs(out, pairs)?;
-    push_spelling(out, body)
+    match body {
+        None => out.push_str("e"),
+        Some(body) => push_spelling(out, body),
+    }
 }
 
 #[cycle(spell)]

@@ -19,7 +19,7 @@ use crate::nodes::{
 };
 use crate::shape::{ArgShape, CmdShape, FrontShape, RedirShape, SubjectShape};
 use rc_model::{ImageFault, InputError, Logic, Mode};
-use rc_tree::{Arg, Branch, Cmd, Item, Redir, Stage, push_item, push_link, push_stage};
+use rc_tree::{Arg, Branch, Cmd, Item, Redir, Stage, push_item, push_link, push_stage, shared};
 use std::alloc::Global;
 
 /// A command with at most this many levels.
@@ -198,7 +198,7 @@ fn read_arg_of(
         }
         ArgShape::Back => {
             let (body, rest) = read_cmd(alloc, below, rest)?;
-            Ok((Arg::Back(body), rest))
+            Ok((Arg::Back(shared(alloc, body)?), rest))
         }
     }
 }

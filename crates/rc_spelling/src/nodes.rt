@@ -9,8 +9,9 @@ ghost use Rattle.rc_spelling.specs.Nodes.{body_node, bodies_node, words_node, na
 
 use crate::shape::{BodiesShape, BodyShape, NameShape, WordsShape};
 use rc_model::Logic;
-use rc_tree::{Arg, Branch, Cmd, Item, Redir, Stage};
+use rc_tree::{Arg, Branch, Cmd, Item, Redir, Stage, shared};
 use std::alloc::{AllocError, Global};
+use std::rc::Rc;
 
 /// A node that has one command.
 #[tactic(auto, using(rc_tree::specs::View::tree_walks), unfolding(crate::specs::Nodes::body_node))]
@@ -23,7 +24,7 @@ pub(crate) fn with_body(
 {
     match shape {
         BodyShape::Not => Ok(Box::new(alloc, Cmd::Not(body))?),
-        BodyShape::Subshell => Ok(Box::new(alloc, Cmd::Subshell(body))?),
+        BodyShape::Subshell => Ok(Box::new(alloc, Cmd::Subshell(shared(alloc, body)?))?),
         BodyShape::IfNot => Ok(Box::new(alloc, Cmd::IfNot(body))?),
         BodyShape::Brace => Ok(Box::new(alloc, Cmd::Brace(body))?),
     }
@@ -83,7 +84,7 @@ pub(crate) fn seq(alloc: Global, items: Vec<Item>) -> Result<Box<Cmd>, AllocErro
 
 /// Assignments before a command.
 #[inline(never)]
-#[tactic(auto, using(rc_tree::specs::View::tree_Assign, std::proofs::lemmas::Grind::common_steps))]
+#[tactic(auto, using(rc_tree::proofs::Assigned::assignments))]
 pub(crate) fn assigned(
     alloc: Global,
     pairs: Vec<(Arg, Arg)>,
@@ -91,7 +92,10 @@ pub(crate) fn assigned(
 ) -> Result<Box<Cmd>, AllocError>
     ensures { IfOk result (λ b. cmd_tree b.value ≡ t.Assign (pairs_tree pairs.items) (cmd_tree body.value)) }
 {
-    Ok(Box::new(alloc, Cmd::Assign(pairs, body))?)
+    match *body {
+        Cmd::Empty => Ok(Box::new(alloc, Cmd::Assign(pairs, None))?),
+        _ => Ok(Box::new(alloc, Cmd::Assign(pairs, Some(body)))?),
+    }
 }
 
 /// Redirections of a command.
@@ -167,6 +171,7 @@ pub(crate) fn defined(
 ) -> Result<Box<Cmd>, AllocError>
     ensures { IfOk result (λ b. cmd_tree b.value ≡ t.Define (args_tree names.items) (cmd_tree body.value)) }
 {
+    let body = shared(alloc, body)?;
     Ok(Box::new(alloc, Cmd::Define(names, body))?)
 }
 
@@ -180,6 +185,7 @@ pub(crate) fn pipeline(
 ) -> Result<Box<Cmd>, AllocError>
     ensures { IfOk result (λ b. cmd_tree b.value ≡ t.Pipeline (stages_tree stages.items) (cmd_tree last.value)) }
 {
+    let stages = Rc::new(alloc, stages)?;
     Ok(Box::new(alloc, Cmd::Pipeline(stages, last))?)
 }
 

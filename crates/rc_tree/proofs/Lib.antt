@@ -2,3 +2,5 @@ pub mod Numbers
 pub mod Forms
 pub mod Fitting
 pub mod Levels
+pub mod Sizes
+pub mod Assigned

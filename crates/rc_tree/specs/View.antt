@@ -3,6 +3,9 @@ use Rattle.std.specs.Prelude.{◌≡◌, refl, ℕ, Bool, List, [], ◌∷◌, �
 use Rattle.std.specs.declared.alloc.Global.{Global}
 use Rattle.std.specs.declared.vec.Vec.{Vec}
 use Rattle.std.specs.declared.boxed.Box.{Box}
+use Rattle.std.specs.declared.option.Option.{Option}
+use Rattle.std.specs.declared.option.Option.TheVariants as o
+use Rattle.std.specs.declared.rc.Rc.{Rc}
 use Rattle.std.proofs.lemmas.Grind.{common_steps}
 use Rattle.std.proofs.Common.{ap, sym, ◌∙◌}
 use Rattle.rc_model.specs.Syntax.Tree.{Sort, Node, Many, none, more, nodes, snoc}
@@ -27,7 +30,7 @@ use Rattle.rc_tree.specs.declared.types.Cmd.{more_of-Item, Row_of-Redir, end_of-
 use Rattle.rc_tree.specs.declared.types.Cmd.{Row_of-Cmd-Assign-0-2, end_of-Cmd-Assign-0-2, more_of-Cmd-Assign-0-2}
 use Rattle.rc_tree.specs.declared.types.Cmd.{Row_of-Stage, end_of-Stage, more_of-Stage, Row_of-Branch, end_of-Branch}
 use Rattle.rc_tree.specs.declared.types.Cmd.{more_of-Branch, Row_of-Cmd-AndOr-1-2, end_of-Cmd-AndOr-1-2}
-use Rattle.rc_tree.specs.declared.types.Cmd.{more_of-Cmd-AndOr-1-2}
+use Rattle.rc_tree.specs.declared.types.Cmd.{more_of-Cmd-AndOr-1-2, Held-Cmd-Assign-1, None', Some'}
 use Rattle.rc_tree.specs.declared.types.Arg.TheBlock as rows
 
 -- a piece of a here document
@@ -46,9 +49,9 @@ unfoldable mutual
   cmd_tree c.Empty = t.Empty
   cmd_tree (c.Seq' s k) = t.Seq (item_row k)
   cmd_tree (c.Simple' s k) = t.Simple (arg_row k)
-  cmd_tree (c.Assign' s k p x) = t.Assign (pair_row k) (cmd_tree x)
+  cmd_tree (c.Assign' s k x) = t.Assign (pair_row k) (held_tree x)
   cmd_tree (c.Redirect' s k p x) = t.Redirect (redir_row k) (cmd_tree x)
-  cmd_tree (c.Pipeline' s k p x) = t.Pipeline (stage_row k) (cmd_tree x)
+  cmd_tree (c.Pipeline' q s k p x) = t.Pipeline (stage_row k) (cmd_tree x)
   cmd_tree (c.AndOr' p x s k) = t.AndOr (cmd_tree x) (link_row k)
   cmd_tree (c.Not' p x) = t.Not (cmd_tree x)
   cmd_tree (c.Subshell' p x) = t.Subshell (cmd_tree x)
@@ -62,6 +65,11 @@ unfoldable mutual
   cmd_tree (c.Define' s k p x) = t.Define (arg_row k) (cmd_tree x)
   cmd_tree (c.Undefine' s k) = t.Undefine (arg_row k)
   cmd_tree (c.Brace' p x) = t.Brace (cmd_tree x)
+
+  -- what stands under assignments: no command is the empty one
+  held_tree : Held-Cmd-Assign-1 → Node t.cmd
+  held_tree None' = t.Empty
+  held_tree (Some' p x) = cmd_tree x
 
   -- an argument
   pub arg_tree : Arg → Node t.arg
@@ -114,6 +122,11 @@ unfoldable mutual
   branch_row : {m : _} → Row_of-Branch m → Many t.branch
   branch_row end_of-Branch = none
   branch_row (more_of-Branch s j p x k) = more (t.Branch (arg_row j) (cmd_tree x)) (branch_row k)
+
+-- what stands under assignments, where it is read
+abbrev pub body_tree : Option (Box Cmd Global) → Node t.cmd
+body_tree o.None = t.Empty
+body_tree (o.Some x) = cmd_tree x.value
 
 -- a list of arguments, as loops see it; so are the lists below
 abbrev pub args_tree : List Arg → Many t.arg
@@ -239,20 +252,21 @@ pub tree_Simple : (v : Vec Arg Global) → cmd_tree (c.Simple v) ≡ t.Simple (a
 unfolding cmd_tree
 tree_Simple v = ap t.Simple (args_shown v)
 
-pub tree_Assign : (v : Vec (Arg × Arg) Global) (x : Box Cmd Global) → cmd_tree (c.Assign v x)
-    ≡ t.Assign (pairs_tree v.items) (cmd_tree x.value)
-unfolding cmd_tree
-tree_Assign v x = ap (λ ns. t.Assign ns (cmd_tree x.value)) (pairs_shown v)
+pub tree_Assign : (v : Vec (Arg × Arg) Global) (x : Option (Box Cmd Global)) → cmd_tree (c.Assign v x)
+    ≡ t.Assign (pairs_tree v.items) (body_tree x)
+unfolding cmd_tree held_tree
+tree_Assign v o.None = ap (λ ns. t.Assign ns t.Empty) (pairs_shown v)
+tree_Assign v (o.Some x) = ap (λ ns. t.Assign ns (cmd_tree x.value)) (pairs_shown v)
 
 pub tree_Redirect : (v : Vec Redir Global) (x : Box Cmd Global) → cmd_tree (c.Redirect v x)
     ≡ t.Redirect (redirs_tree v.items) (cmd_tree x.value)
 unfolding cmd_tree
 tree_Redirect v x = ap (λ ns. t.Redirect ns (cmd_tree x.value)) (redirs_shown v)
 
-pub tree_Pipeline : (v : Vec Stage Global) (x : Box Cmd Global) → cmd_tree (c.Pipeline v x)
-    ≡ t.Pipeline (stages_tree v.items) (cmd_tree x.value)
+pub tree_Pipeline : (v : Rc (Vec Stage Global) Global) (x : Box Cmd Global) → cmd_tree (c.Pipeline v x)
+    ≡ t.Pipeline (stages_tree v.value.items) (cmd_tree x.value)
 unfolding cmd_tree
-tree_Pipeline v x = ap (λ ns. t.Pipeline ns (cmd_tree x.value)) (stages_shown v)
+tree_Pipeline v x = ap (λ ns. t.Pipeline ns (cmd_tree x.value)) (stages_shown v.value)
 
 pub tree_AndOr : (x : Box Cmd Global) (v : Vec (Logic × Cmd) Global) → cmd_tree (c.AndOr x v)
     ≡ t.AndOr (cmd_tree x.value) (links_tree v.items)
@@ -263,7 +277,7 @@ pub tree_Not : (x : Box Cmd Global) → cmd_tree (c.Not x) ≡ t.Not (cmd_tree x
 unfolding cmd_tree
 tree_Not x = refl
 
-pub tree_Subshell : (x : Box Cmd Global) → cmd_tree (c.Subshell x) ≡ t.Subshell (cmd_tree x.value)
+pub tree_Subshell : (x : Rc Cmd Global) → cmd_tree (c.Subshell x) ≡ t.Subshell (cmd_tree x.value)
 unfolding cmd_tree
 tree_Subshell x = refl
 
@@ -297,7 +311,7 @@ pub tree_Match : (n : Arg) (v : Vec Arg Global) → cmd_tree (c.Match n v) ≡ t
 unfolding cmd_tree
 tree_Match n v = ap (t.Match (arg_tree n)) (args_shown v)
 
-pub tree_Define : (v : Vec Arg Global) (x : Box Cmd Global) → cmd_tree (c.Define v x)
+pub tree_Define : (v : Vec Arg Global) (x : Rc Cmd Global) → cmd_tree (c.Define v x)
     ≡ t.Define (args_tree v.items) (cmd_tree x.value)
 unfolding cmd_tree
 tree_Define v x = ap (λ ns. t.Define ns (cmd_tree x.value)) (args_shown v)
@@ -339,7 +353,7 @@ pub tree_Sub : (x : Box Arg Global) (v : Vec Arg Global) → arg_tree (a.Sub x v
 unfolding arg_tree
 tree_Sub x v = ap (t.Sub (arg_tree x.value)) (args_shown v)
 
-pub tree_Back : (x : Box Cmd Global) → arg_tree (a.Back x) ≡ t.Back (cmd_tree x.value)
+pub tree_Back : (x : Rc Cmd Global) → arg_tree (a.Back x) ≡ t.Back (cmd_tree x.value)
 unfolding arg_tree
 tree_Back x = refl
 

@@ -1,8 +1,8 @@
-//! Copies of trees.
+//! Copies of trees. The stages of a pipeline, the body of a function, of a subshell and of a backquote are shared.
 
 ghost use Rattle.std.specs.Prelude.{◌≡◌, IfOk};
 ghost use Rattle.rc_model.specs.Syntax.Tree as t;
-ghost use Rattle.rc_tree.specs.View.{cmd_tree, arg_tree, redir_tree, pieces_tree, args_tree, items_tree};
+ghost use Rattle.rc_tree.specs.View.{cmd_tree, body_tree, arg_tree, redir_tree, pieces_tree, args_tree, items_tree};
 ghost use Rattle.rc_tree.specs.View.{pairs_tree};
 ghost use Rattle.rc_tree.specs.View.{redirs_tree};
 ghost use Rattle.rc_tree.specs.View.{stages_tree, links_tree, branches_tree};
@@ -11,8 +11,9 @@ use crate::literal_text::LiteralText;
 use crate::types::{Arg, Branch, Cmd, Item, Piece, Redir, Stage};
 use rc_model::Logic;
 use std::alloc::{AllocError, Global};
+use std::rc::Rc;
 
-/// Clones the tree, in memory of its own.
+/// Clones the tree, in memory of its own but for the parts that trees share.
 #[cycle(clone)]
 #[tactic(auto, using(crate::specs::View::tree_nodes))]
 pub fn clone_tree(alloc: Global, cmd: &Cmd) -> Result<Cmd, AllocError>
@@ -27,7 +28,7 @@ pub fn clone_tree(alloc: Global, cmd: &Cmd) -> Result<Cmd, AllocError>
         Cmd::Pipeline(stages, last) => clone_pipeline(alloc, stages, last),
         Cmd::AndOr(first, links) => clone_and_or(alloc, first, links),
         Cmd::Not(body) => Ok(Cmd::Not(clone_box(alloc, body)?)),
-        Cmd::Subshell(body) => Ok(Cmd::Subshell(clone_box(alloc, body)?)),
+        Cmd::Subshell(body) => Ok(Cmd::Subshell(body.clone()?)),
         Cmd::If(condition, body) => clone_if(alloc, condition, body),
         Cmd::IfNot(body) => Ok(Cmd::IfNot(clone_box(alloc, body)?)),
         Cmd::While(condition, body) => clone_while(alloc, condition, body),
@@ -50,10 +51,25 @@ fn clone_box(alloc: Global, cmd: &Box<Cmd>) -> Result<Box<Cmd>, AllocError>
 
 #[cycle(clone)]
 #[tactic(auto, using(crate::specs::View::tree_Assign))]
-fn clone_assign(alloc: Global, pairs: &[(Arg, Arg)], body: &Box<Cmd>) -> Result<Cmd, AllocError>
-    ensures { IfOk result (λ copy. cmd_tree copy ≡ t.Assign (pairs_tree pairs.now) (cmd_tree body.now.value)) }
+fn clone_assign(
+    alloc: Global,
+    pairs: &[(Arg, Arg)],
+    body: &Option<Box<Cmd>>,
+) -> Result<Cmd, AllocError>
+    ensures { IfOk result (λ copy. cmd_tree copy ≡ t.Assign (pairs_tree pairs.now) (body_tree body.now)) }
 {
-    Ok(Cmd::Assign(clone_pairs(alloc, pairs)?, clone_box(alloc, body)?))
+    let pairs = clone_pairs(alloc, pairs)?;
+    Ok(Cmd::Assign(pairs, clone_body(alloc, body)?))
+}
+
+#[cycle(clone)]
+fn clone_body(alloc: Global, body: &Option<Box<Cmd>>) -> Result<Option<Box<Cmd>>, AllocError>
+    ensures { IfOk result (λ copy. body_tree copy ≡ body_tree body.now) }
+{
+    match body {
+        None => Ok(None),
+        Some(cmd) => Ok(Some(Box::new(alloc, clone_tree(alloc, cmd)?)?)),
+    }
 }
 
 #[cycle(clone)]
@@ -66,10 +82,15 @@ fn clone_redirect(alloc: Global, redirs: &[Redir], body: &Box<Cmd>) -> Result<Cm
 
 #[cycle(clone)]
 #[tactic(auto, using(crate::specs::View::tree_Pipeline))]
-fn clone_pipeline(alloc: Global, stages: &[Stage], last: &Box<Cmd>) -> Result<Cmd, AllocError>
-    ensures { IfOk result (λ copy. cmd_tree copy ≡ t.Pipeline (stages_tree stages.now) (cmd_tree last.now.value)) }
+fn clone_pipeline(
+    alloc: Global,
+    stages: &Rc<Vec<Stage>>,
+    last: &Box<Cmd>,
+) -> Result<Cmd, AllocError>
+    ensures { IfOk result (λ copy. cmd_tree copy
+        ≡ t.Pipeline (stages_tree stages.now.value.items) (cmd_tree last.now.value)) }
 {
-    Ok(Cmd::Pipeline(clone_stages(alloc, stages)?, clone_box(alloc, last)?))
+    Ok(Cmd::Pipeline(stages.clone()?, clone_box(alloc, last)?))
 }
 
 #[cycle(clone)]
@@ -125,7 +146,6 @@ fn clone_switch(alloc: Global, subject: &Arg, branches: &[Branch]) -> Result<Cmd
     Ok(Cmd::Switch(clone_arg(alloc, subject)?, branches))
 }
 
-#[cycle(clone)]
 #[tactic(auto, using(crate::specs::View::tree_Match))]
 fn clone_match(alloc: Global, subject: &Arg, patterns: &[Arg]) -> Result<Cmd, AllocError>
     ensures { IfOk result (λ copy. cmd_tree copy ≡ t.Match (arg_tree subject.now) (args_tree patterns.now)) }
@@ -134,15 +154,14 @@ fn clone_match(alloc: Global, subject: &Arg, patterns: &[Arg]) -> Result<Cmd, Al
     Ok(Cmd::Match(clone_arg(alloc, subject)?, patterns))
 }
 
-#[cycle(clone)]
 #[tactic(auto, using(crate::specs::View::tree_Define))]
-fn clone_define(alloc: Global, names: &[Arg], body: &Box<Cmd>) -> Result<Cmd, AllocError>
+fn clone_define(alloc: Global, names: &[Arg], body: &Rc<Cmd>) -> Result<Cmd, AllocError>
     ensures { IfOk result (λ copy. cmd_tree copy ≡ t.Define (args_tree names.now) (cmd_tree body.now.value)) }
 {
-    Ok(Cmd::Define(clone_args(alloc, names)?, clone_box(alloc, body)?))
+    Ok(Cmd::Define(clone_args(alloc, names)?, body.clone()?))
 }
 
-#[cycle(clone)]
+#[cycle(arguments)]
 #[tactic(auto, using(crate::specs::View::tree_nodes))]
 fn clone_arg(alloc: Global, arg: &Arg) -> Result<Arg, AllocError>
     ensures { IfOk result (λ copy. arg_tree copy ≡ arg_tree arg.now) }
@@ -161,18 +180,17 @@ fn clone_arg(alloc: Global, arg: &Arg) -> Result<Arg, AllocError>
             clone_boxed_arg(alloc, name)?,
             clone_args(alloc, subscripts)?,
         )),
-        Arg::Back(body) => Ok(Arg::Back(clone_box(alloc, body)?)),
+        Arg::Back(body) => Ok(Arg::Back(body.clone()?)),
     }
 }
 
-#[cycle(clone)]
+#[cycle(arguments)]
 fn clone_boxed_arg(alloc: Global, arg: &Box<Arg>) -> Result<Box<Arg>, AllocError>
     ensures { IfOk result (λ copy. arg_tree copy.value ≡ arg_tree arg.now.value) }
 {
     Ok(Box::new(alloc, clone_arg(alloc, arg)?)?)
 }
 
-#[cycle(clone)]
 #[tactic(auto, using(crate::specs::View::tree_nodes))]
 fn clone_redir(alloc: Global, redir: &Redir) -> Result<Redir, AllocError>
     ensures { IfOk result (λ copy. redir_tree copy ≡ redir_tree redir.now) }
@@ -191,7 +209,7 @@ fn clone_redir(alloc: Global, redir: &Redir) -> Result<Redir, AllocError>
     }
 }
 
-#[cycle(clone)]
+#[cycle(arguments)]
 #[tactic(auto, using(crate::specs::View::tree_lists))]
 fn clone_args(alloc: Global, args: &[Arg]) -> Result<Vec<Arg>, AllocError>
     ensures { IfOk result (λ copies. args_tree copies.items ≡ args_tree args.now) }
@@ -218,7 +236,6 @@ fn clone_items(alloc: Global, items: &[Item]) -> Result<Vec<Item>, AllocError>
     Ok(copies)
 }
 
-#[cycle(clone)]
 #[tactic(auto, using(crate::specs::View::tree_lists))]
 fn clone_pairs(alloc: Global, pairs: &[(Arg, Arg)]) -> Result<Vec<(Arg, Arg)>, AllocError>
     ensures { IfOk result (λ copies. pairs_tree copies.items ≡ pairs_tree pairs.now) }
@@ -232,7 +249,6 @@ fn clone_pairs(alloc: Global, pairs: &[(Arg, Arg)]) -> Result<Vec<(Arg, Arg)>, A
     Ok(copies)
 }
 
-#[cycle(clone)]
 #[tactic(auto, using(crate::specs::View::tree_lists))]
 fn clone_redirs(alloc: Global, redirs: &[Redir]) -> Result<Vec<Redir>, AllocError>
     ensures { IfOk result (λ copies. redirs_tree copies.items ≡ redirs_tree redirs.now) }
@@ -240,21 +256,6 @@ fn clone_redirs(alloc: Global, redirs: &[Redir]) -> Result<Vec<Redir>, AllocErro
     let mut copies = Vec::new(alloc);
     for redir in redirs {
         copies.push(clone_redir(alloc, redir)?)?;
-    }
-    Ok(copies)
-}
-
-#[cycle(clone)]
-#[tactic(auto, using(crate::specs::View::tree_lists))]
-fn clone_stages(alloc: Global, stages: &[Stage]) -> Result<Vec<Stage>, AllocError>
-    ensures { IfOk result (λ copies. stages_tree copies.items ≡ stages_tree stages.now) }
-{
-    let mut copies = Vec::new(alloc);
-    for stage in stages {
-        copies.push(Stage {
-            cmd: clone_tree(alloc, &stage.cmd)?,
-            slot: stage.slot,
-        })?;
     }
     Ok(copies)
 }

@@ -2,7 +2,7 @@
 
 ghost use Rattle.std.specs.Prelude.{◌≡◌, nat_le};
 ghost use Rattle.rc_model.specs.Syntax.WellFormed.{depth};
-ghost use Rattle.rc_tree.specs.View.{cmd_tree, arg_tree, redir_tree};
+ghost use Rattle.rc_tree.specs.View.{cmd_tree, body_tree, arg_tree, redir_tree};
 ghost use Rattle.rc_tree.specs.View.{args_tree, items_tree, pairs_tree, redirs_tree};
 ghost use Rattle.rc_tree.specs.View.{stages_tree, links_tree, branches_tree};
 ghost use Rattle.rc_tree.specs.Levels.{within, within_all};
@@ -32,7 +32,7 @@ fn within_cmd(cmd: &Cmd, left: usize) -> bool
         Cmd::Empty => true,
         Cmd::Seq(items) => within_items(items, left),
         Cmd::Simple(words) => within_args(words, left),
-        Cmd::Assign(pairs, body) => within_pairs(pairs, left) && within_cmd(body, left),
+        Cmd::Assign(pairs, body) => within_pairs(pairs, left) && within_body(body, left),
         Cmd::Redirect(redirs, body) => within_redirs(redirs, left) && within_cmd(body, left),
         Cmd::Pipeline(stages, last) => within_stages(stages, left) && within_cmd(last, left),
         Cmd::AndOr(first, links) => within_cmd(first, left) && within_links(links, left),
@@ -51,6 +51,18 @@ fn within_cmd(cmd: &Cmd, left: usize) -> bool
         Cmd::Define(names, body) => within_args(names, left) && within_cmd(body, left),
         Cmd::Undefine(names) => within_args(names, left),
         Cmd::Brace(body) => within_cmd(body, left),
+    }
+}
+
+/// Whether the command under assignments has at most `left` levels. Without one it has the level of an empty command.
+#[cycle(within)]
+#[tactic(auto, using(crate::proofs::Levels::levels))]
+fn within_body(body: &Option<Box<Cmd>>, left: usize) -> bool
+    ensures { result ≡ within (body_tree body.now) left }
+{
+    match body {
+        None => left > 0,
+        Some(cmd) => within_cmd(cmd, left),
     }
 }
 

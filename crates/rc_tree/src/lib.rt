@@ -13,7 +13,7 @@ pub use clone::clone_tree;
 pub use depth::is_within;
 pub use empty::is_empty;
 pub use literal_text::LiteralText;
-pub use nodes::{push_item, push_link, push_stage};
+pub use nodes::{push_item, push_link, push_stage, shared};
 pub use rc_model::{InputError, Logic, Mode};
 pub use soundness::well_formed;
 pub use types::{Arg, Branch, Cmd, Item, Piece, Redir, Stage};

@@ -1,14 +1,15 @@
-//! One more node in a list. What adds to a list is never inlined, so that a command by value takes no stack at each
-//! level of nesting in those who read one.
+//! One more node in a list, and a command that has several owners. They are never inlined, so that a command by value
+//! takes no stack at each level of nesting in those who read one.
 
-ghost use Rattle.std.specs.Prelude.{◌≡◌, OnOk};
+ghost use Rattle.std.specs.Prelude.{◌≡◌, IfOk, OnOk};
 ghost use Rattle.rc_model.specs.Syntax.Tree.{snoc};
 ghost use Rattle.rc_model.specs.Syntax.Tree as t;
 ghost use Rattle.rc_tree.specs.View.{cmd_tree, items_tree, stages_tree, links_tree};
 
 use crate::types::{Cmd, Item, Stage};
 use rc_model::Logic;
-use std::alloc::AllocError;
+use std::alloc::{AllocError, Global};
+use std::rc::Rc;
 
 /// One more item.
 #[inline(never)]
@@ -48,4 +49,12 @@ pub fn push_link(
         ≡ snoc (links_tree links.old.items) (t.Link logic (cmd_tree cmd.value))) }
 {
     Ok(links.push((logic, Box::into_inner(cmd)))?)
+}
+
+/// The command, which may have further owners from now on.
+#[inline(never)]
+pub fn shared(alloc: Global, cmd: Box<Cmd>) -> Result<Rc<Cmd>, AllocError>
+    ensures { IfOk result (λ shared. cmd_tree shared.value ≡ cmd_tree cmd.value) }
+{
+    Ok(Rc::new(alloc, Box::into_inner(cmd))?)
 }

@@ -5,7 +5,7 @@ ghost use Rattle.rc_model.specs.Syntax.Text.{without_zero};
 ghost use Rattle.rc_model.specs.Syntax.Tree as t;
 ghost use Rattle.rc_model.specs.Syntax.WellFormed.{well_formed, has_stages, is_output, opens, copies, is_sound};
 ghost use Rattle.rc_model.specs.Syntax.WellFormed.{are_sound};
-ghost use Rattle.rc_tree.specs.View.{cmd_tree, arg_tree, redir_tree, pieces_tree};
+ghost use Rattle.rc_tree.specs.View.{cmd_tree, body_tree, arg_tree, redir_tree, pieces_tree};
 ghost use Rattle.rc_tree.specs.View.{args_tree, items_tree, pairs_tree, redirs_tree, stages_tree, links_tree};
 ghost use Rattle.rc_tree.specs.View.{branches_tree};
 ghost use Rattle.rc_tree.specs.Fits.{fits, all_fit};
@@ -46,7 +46,7 @@ fn fit_cmd(cmd: &Cmd, left: usize) -> bool
         Cmd::Simple(words) => !words.is_empty() && fit_args(words, left),
         Cmd::Assign(pairs, body) => !pairs.is_empty()
             && fit_pairs(pairs, left)
-            && fit_cmd(body, left),
+            && fit_body(body, left),
         Cmd::Redirect(redirs, body) => !redirs.is_empty()
             && fit_redirs(redirs, left)
             && fit_cmd(body, left),
@@ -72,6 +72,17 @@ fn fit_cmd(cmd: &Cmd, left: usize) -> bool
             && fit_cmd(body, left),
         Cmd::Undefine(names) => !names.is_empty() && fit_args(names, left),
         Cmd::Brace(body) => fit_cmd(body, left),
+    }
+}
+
+#[cycle(fit)]
+#[tactic(auto, using(crate::proofs::Fitting::fitting))]
+fn fit_body(body: &Option<Box<Cmd>>, left: usize) -> bool
+    ensures { result ≡ fits (body_tree body.now) left }
+{
+    match body {
+        None => left > 0,
+        Some(cmd) => fit_cmd(cmd, left),
     }
 }
 

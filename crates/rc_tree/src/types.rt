@@ -3,6 +3,7 @@
 
 use crate::literal_text::LiteralText;
 use rc_model::{Logic, Mode};
+use std::rc::Rc;
 
 /// A command.
 #[cycle(tree)]
@@ -10,14 +11,14 @@ pub enum Cmd {
     Empty,
     Seq(Vec<Item>),
     Simple(Vec<Arg>),
-    /// With an `Empty` command they are plain assignments, else they are local to the command.
-    Assign(Vec<(Arg, Arg)>, Box<Cmd>),
+    /// Without a command, or with an empty one, they are plain assignments, else they are local to the command.
+    Assign(Vec<(Arg, Arg)>, Option<Box<Cmd>>),
     Redirect(Vec<Redir>, Box<Cmd>),
     /// The last stage is separate.
-    Pipeline(Vec<Stage>, Box<Cmd>),
+    Pipeline(Rc<Vec<Stage>>, Box<Cmd>),
     AndOr(Box<Cmd>, Vec<(Logic, Cmd)>),
     Not(Box<Cmd>),
-    Subshell(Box<Cmd>),
+    Subshell(Rc<Cmd>),
     If(Box<Cmd>, Box<Cmd>),
     IfNot(Box<Cmd>),
     While(Box<Cmd>, Box<Cmd>),
@@ -26,7 +27,7 @@ pub enum Cmd {
     For(Arg, Vec<Arg>, Box<Cmd>),
     Switch(Arg, Vec<Branch>),
     Match(Arg, Vec<Arg>),
-    Define(Vec<Arg>, Box<Cmd>),
+    Define(Vec<Arg>, Rc<Cmd>),
     Undefine(Vec<Arg>),
     Brace(Box<Cmd>),
 }
@@ -116,7 +117,7 @@ pub enum Arg {
     Count(Box<Arg>),
     Flat(Box<Arg>),
     Sub(Box<Arg>, Vec<Arg>),
-    Back(Box<Cmd>),
+    Back(Rc<Cmd>),
 }
 
 /// An argument moves whole wherever it is put into a list, so it stays small: the mark of a literal fills the room that

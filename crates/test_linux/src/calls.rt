@@ -1,6 +1,6 @@
 //! The notation for calls: the name of the call and its arguments, separated by blanks. After a backslash `s` is a
-//! blank, `n` a newline and `0` a byte 0. `fill 1 20` writes 20 bytes to the file 1, `count 1` tells how many bytes one
-//! read of it returns, and `text 1` reads it to its end and closes it. `tally d` tells how many names the directory
+//! blank, `n` a newline and `0` a byte 0. `fill 1 20` writes 20 bytes to the file 1, `count 1` says how many bytes one
+//! read of it returns, and `text 1` reads it to its end and closes it. `tally d` says how many names the directory
 //! has.
 
 use crate::answers::{child, count, done, ending, fault, file, kind, names, pipe, tally};

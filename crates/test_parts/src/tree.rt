@@ -4,6 +4,7 @@ use rc_parser::{ScriptError, parse};
 use rc_print::{PrintFault, print};
 use rc_tree::{Cmd, InputError, Stage, clone_tree, well_formed};
 use std::alloc::{AllocError, Global};
+use std::rc::Rc;
 use std::test::Fail;
 
 /// The tree of a script.
@@ -26,6 +27,7 @@ fn pipeline(alloc: Global, blocks: usize) -> Result<Box<Cmd>, AllocError> {
         })?;
     }
     let last = Box::new(alloc, Cmd::Empty)?;
+    let stages = Rc::new(alloc, stages)?;
     Ok(Box::new(alloc, Cmd::Pipeline(stages, last))?)
 }
 

@@ -62,9 +62,8 @@ fn dump_parts(out: &mut String, cmd: &Cmd) -> Result<(), AllocError> {
             dump_cmd(out, first)?;
             dump_links(out, links)
         }
-        Cmd::Not(body) | Cmd::Subshell(body) | Cmd::IfNot(body) | Cmd::Brace(body) => {
-            dump_last(out, body)
-        }
+        Cmd::Not(body) | Cmd::IfNot(body) | Cmd::Brace(body) => dump_last(out, body),
+        Cmd::Subshell(body) => dump_last(out, body),
         Cmd::If(condition, body) | Cmd::While(condition, body) => {
             dump_last(out, condition)?;
             dump_last(out, body)
@@ -121,7 +120,11 @@ fn dump_args(out: &mut String, args: &[Arg]) -> Result<(), AllocError> {
 }
 
 #[cycle(dump)]
-fn dump_assign(out: &mut String, pairs: &[(Arg, Arg)], body: &Cmd) -> Result<(), AllocError> {
+fn dump_assign(
+    out: &mut String,
+    pairs: &[(Arg, Arg)],
+    body: &Option<Box<Cmd>>,
+) -> Result<(), AllocError> {
     for pair in pairs {
         out.push_str(" (")?;
         dump_arg(out, &pair.0)?;
@@ -129,7 +132,10 @@ fn dump_assign(out: &mut String, pairs: &[(Arg, Arg)], body: &Cmd) -> Result<(),
         dump_arg(out, &pair.1)?;
         out.push(')')?;
     }
-    dump_last(out, body)
+    match body {
+        None => out.push_str(" ()"),
+        Some(body) => dump_last(out, body),
+    }
 }
 
 #[cycle(dump)]

@@ -7,7 +7,7 @@ ghost use Rattle.rc_code.specs.Writing.{Writes};
 ghost use Rattle.rc_code.specs.Emission.{list_code};
 
 use crate::code::Op;
-use crate::emission::kept::kept_tree;
+use crate::emission::kept::kept_part;
 use crate::listing::Listing;
 use rc_tree::Arg;
 use std::alloc::{AllocError, Global};
@@ -39,7 +39,7 @@ pub(crate) fn emit_arg(alloc: Global, code: &mut Listing, arg: &Arg) -> Result<(
             code.put(Op::Select)
         }
         Arg::Back(body) => {
-            let number = code.keep(kept_tree(alloc, body)?)?;
+            let number = code.keep(kept_part(body)?)?;
             code.put(Op::Back(number))
         }
     }

@@ -3,7 +3,7 @@
 ghost use Rattle.std.specs.Prelude.{◌≡◌, ◌+◌, IfOk, OnOk, length};
 ghost use Rattle.rc_model.specs.Syntax.Tree as tree;
 ghost use Rattle.rc_model.specs.Code.Layout.{Past, IfNot, cmd_code, items_code, branches_code};
-ghost use Rattle.rc_tree.specs.View.{cmd_tree, arg_tree, pairs_tree, redirs_tree, items_tree};
+ghost use Rattle.rc_tree.specs.View.{cmd_tree, body_tree, arg_tree, pairs_tree, redirs_tree, items_tree};
 ghost use Rattle.rc_tree.specs.View.{stages_tree, links_tree, branch_tree, branches_tree};
 ghost use Rattle.rc_code.specs.Listings.{listing_of};
 ghost use Rattle.rc_code.specs.Writing.{Writes};
@@ -22,6 +22,7 @@ use crate::listing::Listing;
 use crate::pipelines::Pipeline;
 use rc_tree::{Arg, Branch, Cmd, Item, Logic, Redir, Stage, is_empty};
 use std::alloc::{AllocError, Global};
+use std::rc::Rc;
 
 #[cycle(emit)]
 #[tactic(auto, using(crate::proofs::Parts::emitting))]
@@ -45,7 +46,7 @@ pub(crate) fn emit_cmd(
             emit_cmd(alloc, code, body, true)?;
             code.put(Op::Invert)
         }
-        Cmd::Subshell(body) => emit_subshell(alloc, code, body),
+        Cmd::Subshell(body) => emit_subshell(code, body),
         Cmd::If(condition, body) => emit_if(alloc, code, condition, body, guarded),
         Cmd::IfNot(body) => emit_if_not(alloc, code, body, guarded),
         Cmd::While(condition, body) => emit_while(alloc, code, condition, body, guarded),
@@ -87,9 +88,29 @@ pub(crate) fn emit_items(
     Ok(())
 }
 
+/// Emits assignments, which stay if no command follows.
 #[cycle(emit)]
 #[tactic(auto, using(crate::proofs::Parts::emitting))]
 fn emit_assign(
+    alloc: Global,
+    code: &mut Listing,
+    pairs: &[(Arg, Arg)],
+    body: &Option<Box<Cmd>>,
+    guarded: bool,
+) -> Result<(), AllocError>
+    ensures { OnOk result (Writes code.old code.new
+        (cmd_code (tree.Assign (pairs_tree pairs.now) (body_tree body.now)) guarded)) }
+{
+    match body {
+        None => emit_pairs(alloc, code, pairs, true),
+        Some(body) => emit_local(alloc, code, pairs, body, guarded),
+    }
+}
+
+/// Emits assignments before a command, for which they are local unless it is empty.
+#[cycle(emit)]
+#[tactic(auto, using(crate::proofs::Parts::emitting))]
+fn emit_local(
     alloc: Global,
     code: &mut Listing,
     pairs: &[(Arg, Arg)],
@@ -128,14 +149,14 @@ fn emit_redirect(
 fn emit_pipeline(
     alloc: Global,
     code: &mut Listing,
-    stages: &[Stage],
+    stages: &Rc<Vec<Stage>>,
     last: &Cmd,
     guarded: bool,
 ) -> Result<(), AllocError>
     ensures { OnOk result (Writes code.old code.new
-        (cmd_code (tree.Pipeline (stages_tree stages.now) (cmd_tree last.now)) guarded)) }
+        (cmd_code (tree.Pipeline (stages_tree stages.now.value.items) (cmd_tree last.now)) guarded)) }
 {
-    let stages = code.keep(kept_stages(alloc, stages)?)?;
+    let stages = code.keep(kept_stages(stages)?)?;
     let start = code.put_later()?;
     emit_cmd(alloc, code, last, guarded)?;
     code.put(Op::EndPipe)?;

@@ -10,11 +10,12 @@ ghost use Rattle.rc_code.specs.Emission.{subject_code, match_code, define_code, 
 
 use crate::code::Op;
 use crate::emission::emit_args::{emit_arg, emit_list};
-use crate::emission::kept::{kept_pieces, kept_tree};
+use crate::emission::kept::{kept_part, kept_pieces};
 use crate::instruction_numbers::in_32_bits;
 use crate::listing::Listing;
 use rc_tree::{Arg, Cmd, Redir};
 use std::alloc::{AllocError, Global};
+use std::rc::Rc;
 
 /// Emits a simple command, with a check unless it is guarded.
 #[tactic(auto, using(crate::proofs::Parts::emitting))]
@@ -170,12 +171,12 @@ pub(crate) fn emit_define(
     alloc: Global,
     code: &mut Listing,
     names: &[Arg],
-    body: &Cmd,
+    body: &Rc<Cmd>,
 ) -> Result<(), AllocError>
-    ensures { OnOk result (Writes code.old code.new (define_code (args_tree names.now) (cmd_tree body.now))) }
+    ensures { OnOk result (Writes code.old code.new (define_code (args_tree names.now) (cmd_tree body.now.value))) }
 {
     emit_list(alloc, code, names)?;
-    let number = code.keep(kept_tree(alloc, body)?)?;
+    let number = code.keep(kept_part(body)?)?;
     code.put(Op::Define(number))
 }
 
@@ -192,9 +193,9 @@ pub(crate) fn emit_undefine(
 }
 
 #[tactic(auto, using(crate::proofs::Parts::emitting))]
-pub(crate) fn emit_subshell(alloc: Global, code: &mut Listing, body: &Cmd) -> Result<(), AllocError>
-    ensures { OnOk result (Writes code.old code.new (subshell_code (cmd_tree body.now))) }
+pub(crate) fn emit_subshell(code: &mut Listing, body: &Rc<Cmd>) -> Result<(), AllocError>
+    ensures { OnOk result (Writes code.old code.new (subshell_code (cmd_tree body.now.value))) }
 {
-    let number = code.keep(kept_tree(alloc, body)?)?;
+    let number = code.keep(kept_part(body)?)?;
     code.put(Op::Subshell(number))
 }

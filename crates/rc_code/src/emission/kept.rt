@@ -1,4 +1,4 @@
-//! Copies of the trees, stages and pieces that are kept beside the code.
+//! The trees, stages and pieces that are kept beside the code. What can be shared with the tree is not copied.
 
 ghost use Rattle.std.specs.Prelude.{◌≡◌, IfOk};
 ghost use Rattle.rc_model.specs.Code.Layout as model;
@@ -17,19 +17,18 @@ pub(crate) fn kept_tree(alloc: Global, tree: &Cmd) -> Result<Kept, AllocError>
     Ok(Kept::Tree(Rc::new(alloc, clone_tree(alloc, tree)?)?))
 }
 
-/// The stages of a pipeline before its last one.
-#[tactic(auto, using(rc_tree::specs::View::tree_lists))]
-pub(crate) fn kept_stages(alloc: Global, stages: &[Stage]) -> Result<Kept, AllocError>
-    ensures { IfOk result (λ kept. kept_of kept ≡ model.KeptStages (stages_tree stages.now)) }
+/// A part of the tree that is compiled, which the code shares with it.
+pub(crate) fn kept_part(part: &Rc<Cmd>) -> Result<Kept, AllocError>
+    ensures { IfOk result (λ kept. kept_of kept ≡ model.KeptTree (cmd_tree part.now.value)) }
 {
-    let mut copies = Vec::new(alloc);
-    for stage in stages {
-        copies.push(Stage {
-            cmd: clone_tree(alloc, &stage.cmd)?,
-            slot: stage.slot,
-        })?;
-    }
-    Ok(Kept::Stages(copies))
+    Ok(Kept::Tree(part.clone()?))
+}
+
+/// The stages of a pipeline before its last one, which the code shares with the tree.
+pub(crate) fn kept_stages(stages: &Rc<Vec<Stage>>) -> Result<Kept, AllocError>
+    ensures { IfOk result (λ kept. kept_of kept ≡ model.KeptStages (stages_tree stages.now.value.items)) }
+{
+    Ok(Kept::Stages(stages.clone()?))
 }
 
 /// The pieces of a here document.

@@ -19,7 +19,7 @@ use crate::token_stream::lookahead::{after_caret, begins_arg, past_blanks};
 use crate::token_stream::token_faults::{TokenError, fault_at};
 use rc_lexer::TokenKind;
 use rc_model::DescentFault;
-use rc_tree::Arg;
+use rc_tree::{Arg, shared};
 use std::alloc::Global;
 
 /// Parses a part of an argument. Inside parentheses newlines are blanks.
@@ -77,7 +77,7 @@ fn parse_backquote(
         (made t.Back (brace_by (read below) (past_blanks inside (lexemes_of tokens.entry)))) }
 {
     let (body, rest) = parse_brace(alloc, below, past_blanks(inside, tokens))?;
-    Ok((Arg::Back(body), rest))
+    Ok((Arg::Back(shared(alloc, body)?), rest))
 }
 
 /// Parses what follows a `$`: a name, perhaps with subscripts.

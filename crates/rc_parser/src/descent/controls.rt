@@ -19,7 +19,7 @@ use crate::token_stream::lookahead::{begins_command, begins_link, past_caret, pa
 use crate::token_stream::token_faults::{TokenError, fault_at};
 use rc_lexer::TokenKind;
 use rc_model::{DescentFault, Keyword};
-use rc_tree::{Arg, Cmd};
+use rc_tree::{Arg, Cmd, shared};
 use std::alloc::Global;
 
 /// Parses the body of a control form, which may be absent.
@@ -224,6 +224,7 @@ fn parse_subshell(
         (made t.Subshell (read below an_operand (lexemes_of tokens.entry))) }
 {
     let (cmd, rest) = parse_inner_operand(alloc, below, tokens)?;
+    let cmd = shared(alloc, cmd)?;
     Ok((Box::new(alloc, Cmd::Subshell(cmd))?, rest))
 }
 

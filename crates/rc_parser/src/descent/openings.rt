@@ -23,7 +23,7 @@ use crate::token_stream::lookahead::{begins_arg, begins_brace, begins_redir, pas
 use crate::token_stream::token_faults::{TokenError, fault_at};
 use rc_lexer::TokenKind;
 use rc_model::{DescentFault, Keyword};
-use rc_tree::{Arg, Cmd, Redir};
+use rc_tree::{Arg, Cmd, Redir, shared};
 use std::alloc::Global;
 
 /// How an operand begins.
@@ -32,7 +32,7 @@ pub(crate) enum Opening {
     /// A stage of a pipeline.
     Staged(Box<Cmd>),
     /// The name of an assignment. The `=` follows it.
-    Named(Box<Arg>),
+    Named(Arg),
 }
 
 /// Parses as many words and redirections as there are, after these words.
@@ -115,6 +115,7 @@ fn parse_defined(
         return Ok((Box::new(alloc, Cmd::Undefine(names))?, tokens));
     }
     let (body, rest) = parse_brace(alloc, below, tokens)?;
+    let body = shared(alloc, body)?;
     Ok((Box::new(alloc, Cmd::Define(names, body))?, rest))
 }
 
@@ -148,7 +149,7 @@ fn parse_first(
 {
     let (first, rest) = parse_argument(alloc, below, false, tokens)?;
     match rest.first() {
-        Some((TokenKind::Equals, _, rest)) => Ok((Opening::Named(Box::new(alloc, first)?), rest)),
+        Some((TokenKind::Equals, _, rest)) => Ok((Opening::Named(first), rest)),
         _ => parse_simple_command(alloc, below, first, rest),
     }
 }

@@ -62,14 +62,14 @@ pub(crate) fn parse_redirected(
 pub(crate) fn parse_assigned(
     alloc: Global,
     below: usize,
-    name: Box<Arg>,
+    name: Arg,
     tokens: Tokens<'_>,
 ) -> Result<(Box<Cmd>, Tokens<'_>), TokenError>
     ensures { Gives (λ x. (cmd_tree x.0.value, lexemes_of x.1)) result
-        (assigned_by (read below) (arg_tree name.value) (lexemes_of tokens.entry)) }
+        (assigned_by (read below) (arg_tree name) (lexemes_of tokens.entry)) }
 {
     let (value, rest) = parse_argument(alloc, below, false, tokens)?;
-    let mut pairs = Vec::new(alloc);
+    let mut pairs = Vec::with_capacity(alloc, 1)?;
     push_pair(&mut pairs, name, value)?;
     parse_values(alloc, below, pairs, rest)
 }
@@ -112,7 +112,7 @@ fn parse_values(
 
 /// Parses the command after assignments, if it begins with `!`, `@`, a control word or a redirection.
 #[cycle(parse)]
-#[tactic(auto, using(rc_tree::specs::View::tree_Assign, std::proofs::lemmas::Grind::common_steps))]
+#[tactic(auto, using(rc_tree::proofs::Assigned::assignments))]
 fn parse_assigned_leading(
     alloc: Global,
     below: usize,
@@ -123,12 +123,12 @@ fn parse_assigned_leading(
         (made (t.Assign (pairs_tree pairs.items)) (leading_by (read below) false (lexemes_of tokens.entry))) }
 {
     let (body, rest) = parse_leading(alloc, below, false, tokens)?;
-    Ok((Box::new(alloc, Cmd::Assign(pairs, body))?, rest))
+    Ok((Box::new(alloc, Cmd::Assign(pairs, Some(body)))?, rest))
 }
 
 /// Parses the command after assignments that begins with this stage.
 #[cycle(parse)]
-#[tactic(auto, using(rc_tree::specs::View::tree_Assign, std::proofs::lemmas::Grind::common_steps))]
+#[tactic(auto, using(rc_tree::proofs::Assigned::assignments))]
 fn parse_assigned_pipeline(
     alloc: Global,
     below: usize,
@@ -141,14 +141,13 @@ fn parse_assigned_pipeline(
         (pipe_by (read below) (cmd_tree first.value) (lexemes_of tokens.entry))) }
 {
     let (body, rest) = parse_pipeline(alloc, below, first, tokens)?;
-    Ok((Box::new(alloc, Cmd::Assign(pairs, body))?, rest))
+    Ok((Box::new(alloc, Cmd::Assign(pairs, Some(body)))?, rest))
 }
 
 /// Assignments without a command after them.
-#[tactic(auto, using(rc_tree::specs::View::tree_walks))]
+#[tactic(auto, using(rc_tree::proofs::Assigned::assignments))]
 fn assigned_alone(alloc: Global, pairs: Vec<(Arg, Arg)>) -> Result<Box<Cmd>, AllocError>
     ensures { IfOk result (λ b. cmd_tree b.value ≡ t.Assign (pairs_tree pairs.items) t.Empty) }
 {
-    let body = Box::new(alloc, Cmd::Empty)?;
-    Ok(Box::new(alloc, Cmd::Assign(pairs, body))?)
+    Ok(Box::new(alloc, Cmd::Assign(pairs, None))?)
 }

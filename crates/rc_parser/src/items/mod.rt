@@ -20,7 +20,7 @@ use found_items::{Found, find_item};
 use rc_lexer::ScriptError;
 use rc_model::limits::MOST_LEVELS;
 use rc_model::{DescentFault, InputError};
-use rc_tree::{Item, is_within};
+use rc_tree::Item;
 use std::alloc::Global;
 
 /// The items of a script that are still to be parsed.
@@ -108,10 +108,14 @@ impl<'a> Items<'a> {
             ReadsItem script front self.new result }
         ensures fewer { IfOk result (λ item. IsSome item → turns_left self.new < turns_left self.old) }
     {
-        let levels = MOST_LEVELS - 1;
-        let Found { item, turns, rest } = match find_item(
+        let Found {
+            item,
+            fits,
+            turns,
+            rest,
+        } = match find_item(
             self.alloc,
-            levels,
+            MOST_LEVELS - 1,
             self.turns,
             self.after_if,
             self.rest,
@@ -125,7 +129,7 @@ impl<'a> Items<'a> {
         self.rest = rest;
         self.turns = turns;
         self.after_if = allows_if_not(item.background, &item.cmd);
-        self.fits = self.fits && is_within(&item.cmd, levels);
+        self.fits = self.fits && fits;
         Ok(Some(item))
     }
 }

@@ -45,7 +45,8 @@ impl Model for Members {
     ghost view = { λ m. drop m.first (members_in m.texts) };
 
     ghost invariant = { λ m. (m.first ≤ length (members_in m.texts))
-        × IfSome m.kept (λ kept. kept_text kept.value ≡ value_text (map text_bytes (drop m.first (members_in m.texts)))) };
+        × IfSome m.kept (λ kept. kept_text kept.value
+        ≡ value_text (map text_bytes (drop m.first (members_in m.texts)))) };
 }
 
 impl Clone for Members {

@@ -5,6 +5,7 @@ use Rattle.rc_model.specs.Handed.Image.{many_image, list_image}
 use Rattle.rc_tree.specs.View.{args_tree, items_tree, pairs_tree, redirs_tree, stages_tree, links_tree, branches_tree}
 use Rattle.rc_tree.proofs.types.Cmd.TheLaws as command
 use Rattle.rc_tree.proofs.types.Arg.TheLaws as argument
+use Rattle.rc_tree.proofs.Sizes.{body_size}
 use Rattle.rc_spelling.proofs.+spell.Given as goal
 
 -- in each loop: what is written, and what is left, is the whole
@@ -47,7 +48,7 @@ invariant-push_branches-loop-branch l =
 -- what gets smaller at each call: a part of a tree is smaller than the tree
 
 abbrev pub decreases-push_assign : goal.decreases-push_assign
-decreases-push_assign l = 3 * (max (goal.size-push_assign l) (command.the_size l.body.now)) + 2
+decreases-push_assign l = 3 * (max (goal.size-push_assign l) (body_size l.body.now)) + 2
 
 abbrev pub decreases-push_redirect : goal.decreases-push_redirect
 decreases-push_redirect l = 3 * (max (goal.size-push_redirect l) (command.the_size l.body.now)) + 2

@@ -1,6 +1,7 @@
 //! Lists of words.
 ghost use Rattle.std.specs.Prelude.{◌≡◌, [], ◌∷◌, ◌++◌, true, false, length, map, string_bytes, IfOk, OnOk, OnErr};
 ghost use Rattle.rc_model.specs.Syntax.Words.{plain_words, spaced_words, unmarked, word_texts, written};
+ghost use Rattle.rc_text.specs.Texts.{text_bytes};
 
 use crate::texts::Text;
 use crate::words::Word;
@@ -34,12 +35,12 @@ impl List {
     }
 
     /// Texts as words with no marks.
-    pub fn plain(alloc: Global, texts: Vec<String>) -> Result<List, AllocError>
-        ensures { IfOk result (λ list. list ≡ plain_words (map string_bytes texts.items)) }
+    pub fn plain(alloc: Global, texts: Vec<Text>) -> Result<List, AllocError>
+        ensures { IfOk result (λ list. list ≡ plain_words (map text_bytes texts.items)) }
     {
         let mut words = SmallVec::with_capacity(alloc, texts.len())?;
         for text in texts {
-            words.push(Word::plain(Text::from_string(alloc, text)?))?;
+            words.push(Word::plain(text))?;
         }
         Ok(List(words))
     }

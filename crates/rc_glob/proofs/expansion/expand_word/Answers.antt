@@ -1,31 +1,20 @@
-use Rattle.std.proofs.Common.{◌∷◌, [], map, string_bytes, refl}
-use Rattle.rc_model.specs.Run.FileNames.{or_itself}
+use Rattle.std.proofs.Common.{◌∷◌, [], subst}
+use Rattle.rc_model.specs.Run.FileNames.{expanded_word}
+use Rattle.rc_model.specs.Run.Plans.{Ran, done_with}
+use Rattle.rc_model.specs.Run.Shell.{Next}
 use Rattle.rc_world.specs.declared.starts.Stop.TheVariants.{NoMemory}
 use Rattle.rc_world.proofs.Joins.{left_here, passed_up}
-use Rattle.rc_glob.proofs.Walks.{comes_alone, left_names, no_paths, ran_names, ran_plain, some_paths}
+use Rattle.rc_glob.specs.Paths.{words_for}
+use Rattle.rc_glob.proofs.Walks.{comes_alone}
 use Rattle.rc_glob.proofs.expansion.expand_word.Goals as goal
 
-pub returns-in_default : goal.returns-in_default
-returns-in_default g c = λ s. comes_alone _ _ s _ (c.args.word.now ∷ []) _ c.itself.ensures (ran_plain _ s c.args.word.now c.in_default.ensures)
+pub returns-in_err-plain-in-Some : goal.returns-in_err-plain-in-Some
+returns-in_err-plain-in-Some g c = λ s.
+    passed_up _ _ _ _ c.from_residual-in_err-plain-in-Some.result NoMemory c.from_residual-in_err-plain-in-Some.ensures.1
+    (left_here _ _ _ _ (c.in_ok-names.ensures s))
 
-pub returns-in_err-paths : goal.returns-in_err-paths
-returns-in_err-paths g c = λ s.
-    passed_up _ _ _ _ c.from_residual.result c.in_err-paths.field-0.0 c.from_residual.ensures.1
-    (left_names s c.args.word.now _ _ c.in-Some.ensures.1 c.in-Some.ensures.0 c.new.ensures.bytes _ _ _ (c.in_err-paths.ensures s))
-
-pub returns-then-is_empty : goal.returns-then-is_empty
-returns-then-is_empty g c = λ s.
-    comes_alone _ _ s _ (c.args.word.now ∷ []) _ c.itself-then-is_empty.ensures
-    (ran_names s c.args.word.now _ _ c.in-Some.ensures.1 c.in-Some.ensures.0 c.new.ensures.bytes _ _ _ _ (c.in_ok-paths.ensures s)
-    (no_paths c.args.word.now c.in_ok-paths.paths.items c.as_slice.result.now c.is_empty.result c.is_empty.ensures c.as_slice.ensures.value c.if-is_empty.true))
-
-pub returns-in_err-plain : goal.returns-in_err-plain
-returns-in_err-plain g c = λ s.
-    passed_up _ _ _ _ c.from_residual-in_err-plain.result NoMemory c.from_residual-in_err-plain.ensures.1
-    (left_here _ _ _ _
-    (ran_names s c.args.word.now _ _ c.in-Some.ensures.1 c.in-Some.ensures.0 c.new.ensures.bytes _ _ _ (or_itself c.args.word.now (map string_bytes c.in_ok-paths.paths.items)) (c.in_ok-paths.ensures s) refl))
-
-pub returns : goal.returns
-returns g c = λ s.
-    ran_names s c.args.word.now _ _ c.in-Some.ensures.1 c.in-Some.ensures.0 c.new.ensures.bytes _ _ _ _ (c.in_ok-paths.ensures s)
-    (some_paths c.args.word.now c.in_ok-paths.paths.items c.as_slice.result.now c.ordered.result.items _ c.is_empty.result c.is_empty.ensures c.as_slice.ensures.value c.if-is_empty.false c.ordered.ensures c.in_ok-plain.ensures)
+pub returns-in-None : goal.returns-in-None
+returns-in-None g c = λ s.
+    let w = c.args.word.now in
+    comes_alone _ _ s _ (w ∷ []) _ c.itself.ensures
+    (subst (λ names. Ran (g.W.World.events c.args.world.now) (g.W.World.events c.find_files.new.world) (expanded_word w s) (done_with (Next (words_for w names) s))) c.in-None.is (c.in_ok-names.ensures s))

@@ -1,5 +1,6 @@
 use Rattle.std.proofs.Common.{◌∷◌, [], map, string_bytes, sym, ap, ◌∙◌, is_some}
 use Rattle.std.specs.Prelude.{if◌then◌else◌}
+use Rattle.rc_text.specs.Texts.{text_bytes}
 use Rattle.rc_world.specs.declared.starts.Stop.TheVariants.{NoMemory}
 use Rattle.rc_world.proofs.Joins.{passed_up}
 use Rattle.rc_glob.proofs.Walks.{left_probe, left_probed, ran_probed}
@@ -22,4 +23,4 @@ returns-in_ok-only-in-Some g c = λ s.
 pub returns-in-None : goal.returns-in-None
 returns-in-None g c = λ s.
     ran_probed (string_bytes c.args.path) s _ _ _ _ _ c.deref.ensures c.in_ok-found.ensures
-    (ap (map string_bytes) c.new.ensures.items ∙ ap (λ o. if is_some o then string_bytes c.args.path ∷ [] else []) (sym c.in-None.is))
+    (ap (map text_bytes) c.new.ensures.items ∙ ap (λ o. if is_some o then string_bytes c.args.path ∷ [] else []) (sym c.in-None.is))

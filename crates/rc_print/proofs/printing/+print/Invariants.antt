@@ -8,6 +8,7 @@ use Rattle.rc_tree.specs.View.{args_tree, items_tree, pairs_tree, redirs_tree, s
 use Rattle.rc_tree.proofs.types.Cmd.TheLaws as command
 use Rattle.rc_tree.proofs.types.Arg.TheLaws as argument
 use Rattle.rc_tree.proofs.types.Branch.TheLaws as branch
+use Rattle.rc_tree.proofs.Sizes.{body_size}
 use Rattle.rc_print.proofs.printing.+print.Given as goal
 
 -- in each loop: what is written, and what is left, is the whole
@@ -59,6 +60,9 @@ invariant-print_branches-loop-branch l =
     ≡ string_bytes l.fn.out ++ lines_after [] (branch_lines (branches_tree l.branches)))
 
 -- what gets smaller at each call: a part of a tree is smaller than the tree
+
+abbrev pub decreases-print_assign : goal.decreases-print_assign
+decreases-print_assign l = 4 * (max (goal.size-print_assign l) (body_size l.body.now)) + 3
 
 abbrev pub decreases-print_redirect : goal.decreases-print_redirect
 decreases-print_redirect l = 4 * (max (goal.size-print_redirect l) (command.the_size l.body.now)) + 3

@@ -1,4 +1,4 @@
-use Rattle.std.proofs.Common.{◌≡◌, ◌+◌, ◌-◌, ◌*◌, true}
+use Rattle.std.proofs.Common.{◌≡◌, ◌+◌, ◌-◌, ◌*◌}
 use Rattle.rc_model.specs.Handed.TreeReading.{arg_at}
 use Rattle.rc_tree.specs.View.{args_tree, items_tree, pairs_tree, redirs_tree, stages_tree, links_tree, branches_tree}
 use Rattle.rc_spelling.specs.Steps.{nodes_from, list_by, count_from, stage_count, args_by, item_by, pair_by, stage_by, link_by, branch_by}

@@ -2,12 +2,13 @@ use Rattle.std.proofs.Common.{◌+◌, ◌*◌, max}
 use denote.Param.Weighed.{most}
 use Rattle.rc_tree.proofs.types.Cmd.TheLaws as command
 use Rattle.rc_tree.proofs.types.Arg.TheLaws as argument
+use Rattle.rc_tree.proofs.Sizes.{body_size}
 use Rattle.test_texts.proofs.dump.+dump.Given as goal
 
 -- what gets smaller at each call: a part of a tree is smaller than the tree
 
 abbrev pub decreases-dump_assign : goal.decreases-dump_assign
-decreases-dump_assign l = 4 * (max (goal.size-dump_assign l) (command.the_size l.body.now)) + 3
+decreases-dump_assign l = 4 * (max (goal.size-dump_assign l) (body_size l.body.now)) + 3
 
 abbrev pub decreases-dump_redirect : goal.decreases-dump_redirect
 decreases-dump_redirect l = 4 * (max (goal.size-dump_redirect l) (command.the_size l.body.now)) + 3

@@ -4,6 +4,7 @@ use Rattle.rc_model.specs.Code.Layout.{items_code, links_code}
 use Rattle.rc_tree.specs.View.{items_tree, links_tree, branches_tree}
 use Rattle.rc_tree.proofs.types.Cmd.TheLaws as command
 use Rattle.rc_tree.proofs.types.Branch.TheLaws as branch
+use Rattle.rc_tree.proofs.Sizes.{body_size}
 use Rattle.rc_code.specs.Listings.{listing_of}
 use Rattle.rc_code.specs.Writing.{with_part}
 use Rattle.rc_code.proofs.Branches.{Leaves}
@@ -25,7 +26,10 @@ invariant-emit_branches-loop-branch l =
 -- what gets smaller at each call: a part of a tree is smaller than the tree
 
 abbrev pub decreases-emit_assign : goal.decreases-emit_assign
-decreases-emit_assign l = 4 * command.the_size l.body.now + 1
+decreases-emit_assign l = 4 * body_size l.body.now + 2
+
+abbrev pub decreases-emit_local : goal.decreases-emit_local
+decreases-emit_local l = 4 * command.the_size l.body.now + 1
 
 abbrev pub decreases-emit_redirect : goal.decreases-emit_redirect
 decreases-emit_redirect l = 4 * command.the_size l.body.now + 1

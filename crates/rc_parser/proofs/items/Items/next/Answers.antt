@@ -1,9 +1,9 @@
 use Rattle.std.proofs.Common.{◌≡◌, ◌∙◌, ◌&&◌, nat_le, Result, Ok, Err, IfOk, sym, ap, subst}
-use Rattle.std.specs.Prelude.{IsSome, Option}
+use Rattle.std.specs.Prelude.{IfSome, IsSome, Option}
 use Rattle.rc_lexer.specs.Answers.{ScriptError}
 use Rattle.rc_model.specs.Syntax.Tree.{snoc}
 use Rattle.rc_model.specs.Syntax.WellFormed.{depth}
-use Rattle.rc_tree.specs.View.{item_tree}
+use Rattle.rc_tree.specs.View.{cmd_tree, item_tree}
 use Rattle.rc_tree.specs.declared.types.Item.{Item}
 use Rattle.rc_parser.specs.ItemReading.{after_item, items_after}
 use Rattle.rc_parser.specs.Tokens.{lexemes_of}
@@ -35,12 +35,13 @@ returns-clause-read c = λ script front h.
     let turns = c.in-Ok.found.turns in
     let one = item_tree c.in-Some.item in
     let found = subst (λ o. items_after 199 c.args.self.now.turns c.args.self.now.after_if (lexemes_of c.args.self.now.rest) front ≡ after_item 199 turns o rest front) c.in-Some.is (c.in-Ok.ensures.found front) in
+    let measured = subst (λ o. IfSome o (λ i. c.in-Ok.found.fits ≡ nat_le (depth (cmd_tree i.cmd)) 199)) c.in-Some.is c.in-Ok.ensures.fits in
     record {
       script_is = h.script_is;
       has = h.has;
       goes_on = h.goes_on ∙ found ∙ ap (λ b. items_after 199 turns b rest (snoc front one)) (sym c.allows_if_not-self.ensures);
       fits_is = elim c.if-self.branch [
-        | then-self w ↦ w.self-is ∙ w.is_within-self.ensures ∙ sym (fits_more front one ∙ ap (λ v. v && nat_le (depth one) 199) (sym h.fits_is ∙ w.if-self.true))
+        | then-self w ↦ w.self-is ∙ measured ∙ sym (fits_more front one ∙ ap (λ v. v && nat_le (depth one) 199) (sym h.fits_is ∙ w.if-self.true))
         | else-self w ↦ w.self-is ∙ w.if-self.false ∙ sym (fits_more front one ∙ ap (λ v. v && nat_le (depth one) 199) (sym h.fits_is ∙ w.if-self.false))
       ];
     }

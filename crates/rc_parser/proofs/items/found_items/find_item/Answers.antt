@@ -13,7 +13,7 @@ returns-in_default-clause-found c =
       | in_default-via-in_default w ↦ search rules
     ] in
     λ front. sym (c.loop-turn.invariant front)
-    ∙ item_found (d.read c.args.left) c.args.turns c.loop-turn.turn c.args.after_if front _ _ _ c.loop-turn-test.true (sym c.ends.ensures ∙ c.if-ends.false) plain c.in_ok-cmd-in_default.ensures
+    ∙ item_found (d.read c.args.left) c.args.turns c.loop-turn.turn c.args.after_if front _ _ _ c.loop-turn-test.true (sym c.ends.ensures ∙ c.if-ends.false) plain c.in_ok-cmd-in_default.ensures.parsed
     ∙ search rules
 
 pub returns-in_err-background-in_default-clause-found : goal.returns-in_err-background-in_default-clause-found
@@ -26,4 +26,4 @@ returns-in_err-background-in_default-clause-found c =
     fails_at_its_end c.args.left _ c.in_err-background-in_default.field-0.0 _ (d.item_end (lexemes_of c.in_ok-cmd-in_default.after)) _
     c.from_residual-in_err-background-in_default.ensures.1 c.in_err-background-in_default.ensures
     (λ front. sym (c.loop-turn.invariant front)
-    ∙ item_found (d.read c.args.left) c.args.turns c.loop-turn.turn c.args.after_if front _ _ _ c.loop-turn-test.true (sym c.ends.ensures ∙ c.if-ends.false) plain c.in_ok-cmd-in_default.ensures)
+    ∙ item_found (d.read c.args.left) c.args.turns c.loop-turn.turn c.args.after_if front _ _ _ c.loop-turn-test.true (sym c.ends.ensures ∙ c.if-ends.false) plain c.in_ok-cmd-in_default.ensures.parsed)
