@@ -21,7 +21,8 @@ and_or_tall : (c : Node t.cmd) (ls : Many t.link) → (depth c ≤ depth (and_or
 and_or_tall c none = (omega arith, omega arith, omega arith, omega arith)
 and_or_tall c (more l ls) = (omega arith, omega arith, omega arith, omega arith)
 
-links_stop : (r : Readers) (go_on : Many t.link → Reader (Many t.link)) (front : Many t.link) (ts : List Lexeme) → begins_link ts ≡ false → d.links_turn r go_on front ts ≡ Ok (front, ts)
+-- no operand follows if no `&&` or `||` does
+pub links_stop : (r : Readers) (go_on : Many t.link → Reader (Many t.link)) (front : Many t.link) (ts : List Lexeme) → begins_link ts ≡ false → d.links_turn r go_on front ts ≡ Ok (front, ts)
 links_stop r go_on front (AndAnd ∷ ts) h = absurd cc
 links_stop r go_on front (OrOr ∷ ts) h = absurd cc
 links_stop r go_on front ts h = refl

@@ -39,7 +39,8 @@ pipeline_tall c (more s ss) =
     let h = stages_tall c (more s ss) in
     record { first = omega arith; others = λ k. omega arith; first_wide = omega arith; others_wide = omega arith; wide = λ k. omega arith }
 
-pipe_stops : (r : Readers) (go_on : Many t.stage → Node t.cmd → Reader (Node t.cmd)) (front : Many t.stage) (last : Node t.cmd) (ts : List Lexeme) → begins_bar ts ≡ false →
+-- no stage follows if no bar does
+pub pipe_stops : (r : Readers) (go_on : Many t.stage → Node t.cmd → Reader (Node t.cmd)) (front : Many t.stage) (last : Node t.cmd) (ts : List Lexeme) → begins_bar ts ≡ false →
     d.pipe_turn r go_on front last ts ≡ Ok (d.pipeline_of front last, ts)
 pipe_stops r go_on front last (Bar slot ∷ ts) h = absurd cc
 pipe_stops r go_on front last ts h = refl

@@ -4,13 +4,16 @@ use Rattle.std.proofs.lemmas.Grind.{common_steps}
 use Rattle.rc_model.specs.Syntax.Tokens as model
 use Rattle.rc_model.specs.Syntax.Tree.{Node, Many, none, more, snoc}
 use Rattle.rc_model.specs.Syntax.Tree as t
-use Rattle.rc_model.specs.Syntax.Grammar.{begins_arg, begins_redir, begins_command, past_blanks, past_caret, after_caret, ends, is_case, redirect}
+use Rattle.rc_model.specs.Syntax.Grammar.{begins_arg, begins_redir, begins_command, begins_bar, begins_link, past_blanks, past_caret, after_caret, ends, is_case, redirect}
 use Rattle.rc_model.specs.Mirrors.Descent as d
 use Rattle.rc_model.specs.Mirrors.Descent.{Reader, Readers, ◌>>=◌}
 use Rattle.rc_tree.specs.View.{nodes_push, tree_Simple}
 use Rattle.rc_model.specs.declared.fault.InputError.TheVariants as error
 use Rattle.rc_parser.specs.Answers.{Fails, TokenError}
 use Rattle.rc_parser.specs.Reading.{made, simple_after}
+use Rattle.rc_parser.proofs.Steps.{levels, read_part}
+use Rattle.law_syntax.proofs.Completeness.{links_stop}
+use Rattle.law_syntax.proofs.CompletenessOfPipelines.{pipe_stops}
 use Rattle.rc_model.specs.declared.fault.DescentFault.TheVariants as descent
 
 one_less : (turns i : ℕ) → i < turns → turns - i ≡ suc (turns - (i + 1))
@@ -42,6 +45,13 @@ parts_alone p inside ts h = by (length ts)
     by : (turns : ℕ) → d.parts_from p inside turns none ts ≡ Ok (none, ts)
     by zero = refl
     by (suc turns) = ap (λ q. d.parts_turn p inside (λ as' u. d.parts_from p inside turns as' u) none ts q) h
+
+-- a word without a caret after it is an argument by itself
+pub lone_word : (left : ℕ) (inside : Bool) (text : List ℕ) (ts rest : List model.Lexeme) → 0 < left → ts ≡ model.Word text ∷ rest → after_caret (past_blanks inside rest) ≡ None →
+    d.arg_by (d.read left (d.a_part inside)) inside ts ≡ Ok (t.Lit text false, rest)
+unfolding d.arg_by d.part_by
+lone_word left inside text ts rest level is h =
+    rw (is, read_part left inside (model.Word text ∷ rest) level, parts_alone (d.read left (d.a_part inside)) inside rest h) refl
 
 pub ruleset alone = (parts_alone, common_steps)
 
@@ -170,6 +180,17 @@ pub links_done : (r : Readers) (turns i : ℕ) (front : Many t.link) (ts : List 
 unfolding d.links_from
 links_done r turns i front ts h = ap (λ k. d.links_from r k front ts) (none_left turns i h)
 
+-- no operand follows if no `&&` or `||` does
+pub links_alone : (r : Readers) (ts : List model.Lexeme) → begins_link ts ≡ false → d.links_by r ts ≡ Ok (none, ts)
+unfolding d.links_by d.links_from
+links_alone r ts h = by (length ts)
+  where
+    by : (turns : ℕ) → d.links_from r turns none ts ≡ Ok (none, ts)
+    by zero = refl
+    by (suc turns) = links_stop r (λ ls u. d.links_from r turns ls u) none ts h
+
+pub ruleset linked = (links_alone, levels)
+
 pub ruleset links = (links_start, links_more, links_done, nodes_push, common_steps)
 
 pub branches_start : (r : Readers) (turns : ℕ) (ts : List model.Lexeme) → turns ≡ length ts → d.branches_by r (model.LeftBrace ∷ ts) ≡ d.branches_from r (turns - 0) none ts
@@ -213,7 +234,16 @@ pub pipe_done : (r : Readers) (turns i : ℕ) (stages : Many t.stage) (last : No
 unfolding d.pipe_from
 pipe_done r turns i stages last ts h = ap (λ k. d.pipe_from r k stages last ts) (none_left turns i h)
 
-pub ruleset pipe = (pipe_start, pipe_more, pipe_done, nodes_push, common_steps)
+-- no stage follows if no bar does
+pub pipe_alone : (r : Readers) (first : Node t.cmd) (ts : List model.Lexeme) → begins_bar ts ≡ false → d.pipe_by r first ts ≡ Ok (first, ts)
+unfolding d.pipe_by d.pipe_from
+pipe_alone r first ts h = by (length ts)
+  where
+    by : (turns : ℕ) → d.pipe_from r turns none first ts ≡ Ok (first, ts)
+    by zero = refl
+    by (suc turns) = pipe_stops r (λ ss c u. d.pipe_from r turns ss c u) none first ts h
+
+pub ruleset pipe = (pipe_alone, pipe_start, pipe_more, pipe_done, nodes_push, common_steps)
 
 pub values_start : (r : Readers) (turns : ℕ) (front : Many t.pair) (ts : List model.Lexeme) → turns ≡ length ts → d.values_by r front ts ≡ d.values_from r (turns - 0) front ts
 unfolding d.values_by

@@ -37,28 +37,43 @@ fn begins_keyword(len: usize, first: u8) -> bool
 }
 
 /// Which keyword an unquoted word is. Most words are known to be none by their length and their first byte.
-#[tactic(auto, using(crate::proofs::Keywords::no_keywords))]
+#[tactic(auto, using(crate::proofs::Keywords::no_first))]
 pub(crate) fn keyword_of(word: &[u8]) -> Keyword
     ensures { result ≡ keyword word.now }
 {
     if word.is_empty() || !begins_keyword(word.len(), word[0]) {
         return Keyword::Plain;
     }
-    match str::from_utf8(word) {
-        Ok(word) => Keyword::named(word),
-        Err(_) => Keyword::Plain,
+    if word == "for".as_bytes() {
+        Keyword::For
+    } else if word == "in".as_bytes() {
+        Keyword::In
+    } else if word == "while".as_bytes() {
+        Keyword::While
+    } else if word == "if".as_bytes() {
+        Keyword::If
+    } else if word == "not".as_bytes() {
+        Keyword::Not
+    } else if word == "switch".as_bytes() {
+        Keyword::Switch
+    } else if word == "fn".as_bytes() {
+        Keyword::Fn
+    } else if word == "~".as_bytes() {
+        Keyword::Match
+    } else if word == "!".as_bytes() {
+        Keyword::Bang
+    } else if word == "@".as_bytes() {
+        Keyword::At
+    } else {
+        Keyword::Plain
     }
 }
 
 /// Whether an unquoted word begins a case line.
-#[tactic(auto, using(crate::proofs::Keywords::no_case))]
 pub(crate) fn is_case(word: &[u8]) -> bool
     ensures { result ≡ is_case word.now }
 {
-    match str::from_utf8(word) {
-        Ok(word) => word == "case",
-        Err(_) => false,
-    }
+    word == "case".as_bytes()
 }
 
 /// These bytes as text. They are known to be UTF-8, so nothing is tested.

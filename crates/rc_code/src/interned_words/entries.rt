@@ -27,6 +27,7 @@ impl Entry {
     }
 
     /// Whether it is this word.
+    #[inline(always)]
     pub(crate) fn is_word(&self, text: &str, quoted: bool) -> bool
         ensures { result ≡ true → self.now.literal.value ≡ (text.now, quoted) }
     {

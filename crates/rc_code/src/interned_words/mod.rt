@@ -52,6 +52,7 @@ impl Words {
     }
 
     /// Whether this is the number of a word.
+    #[inline(always)]
     fn is_word(&self, number: u32, text: &str, quoted: bool) -> bool
         ensures { result ≡ true → IsWordAt (words_of self.now) number (text.now, quoted) }
     {
@@ -61,7 +62,8 @@ impl Words {
         }
     }
 
-    /// The number of a word among these.
+    /// The number of a word among these. It is never inlined, since few codes have so few words.
+    #[inline(never)]
     fn find_below(&self, end: u32, text: &str, quoted: bool) -> Option<u32>
         ensures { IfSome result (λ k. IsWordAt (words_of self.now) k (text.now, quoted)) }
     {
@@ -122,6 +124,18 @@ impl Words {
         Ok(())
     }
 
+    /// One more word, which can be found from now on, and its number. It is never inlined, since most words of a script
+    /// were there before.
+    #[inline(never)]
+    fn add_noted(&mut self, alloc: Global, text: &str, quoted: bool) -> Result<u32, AllocError>
+        ensures extends { Extends (words_of self.old) (words_of self.new) }
+        ensures word { IfOk result (λ k. IsWordAt (words_of self.new) k (text.now, quoted)) }
+    {
+        let number = self.add(alloc, text, quoted)?;
+        self.note(alloc, number, hash(text, quoted))?;
+        Ok(number)
+    }
+
     /// The number of a word, which becomes one of these if it was not found.
     pub(crate) fn number_of(
         &mut self,
@@ -132,11 +146,9 @@ impl Words {
         ensures extends { Extends (words_of self.old) (words_of self.new) }
         ensures word { IfOk result (λ k. IsWordAt (words_of self.new) k (text.now, quoted)) }
     {
-        if let Some(number) = self.find(text, quoted) {
-            return Ok(number);
+        match self.find(text, quoted) {
+            Some(number) => Ok(number),
+            None => self.add_noted(alloc, text, quoted),
         }
-        let number = self.add(alloc, text, quoted)?;
-        self.note(alloc, number, hash(text, quoted))?;
-        Ok(number)
     }
 }

@@ -15,7 +15,7 @@ use crate::descent::variable_names::{parse_count, parse_flat, parse_name};
 use crate::joined_nodes::concat;
 use crate::parsed_words::{parse_plain, parse_quoted};
 use crate::token_stream::Tokens;
-use crate::token_stream::lookahead::{after_caret, begins_arg, past_blanks};
+use crate::token_stream::lookahead::{after_caret, begins_arg, lone_word, past_blanks};
 use crate::token_stream::token_faults::{TokenError, fault_at};
 use rc_lexer::TokenKind;
 use rc_model::DescentFault;
@@ -102,7 +102,7 @@ fn parse_dollar(
     }
 }
 
-/// Parses an argument. Inside parentheses newlines are blanks.
+/// Parses an argument. Inside parentheses newlines are blanks. Most arguments are one word.
 #[cycle(parse)]
 #[tactic(auto, using(crate::proofs::Turns::alone), unfolding(rc_model::specs::Mirrors::Descent::arg_by))]
 pub(crate) fn parse_argument(
@@ -114,6 +114,9 @@ pub(crate) fn parse_argument(
     ensures { Gives (λ x. (arg_tree x.0, lexemes_of x.1)) result
         (arg_by (read left (a_part inside)) inside (lexemes_of tokens.entry)) }
 {
+    if let Some((text, rest)) = lone_word(left, inside, tokens) {
+        return parse_plain(alloc, text, rest);
+    }
     let (first, rest) = parse_part(alloc, left, inside, tokens)?;
     let Some(_) = after_caret(past_blanks(inside, rest)) else {
         return Ok((first, rest));

@@ -12,7 +12,7 @@ use crate::descent::prefixes::{parse_assigned, parse_redirected};
 use crate::joined_nodes::{allows_stage, and_or, pipeline};
 use crate::parsed_words::keyword_of;
 use crate::token_stream::Tokens;
-use crate::token_stream::lookahead::{begins_leading, past_newlines};
+use crate::token_stream::lookahead::{begins_bar, begins_leading, begins_link, past_newlines};
 use crate::token_stream::token_faults::{TokenError, fault_at};
 use rc_lexer::TokenKind;
 use rc_model::{DescentFault, Keyword, Logic};
@@ -31,7 +31,10 @@ pub(crate) fn parse_pipeline(
     ensures { Gives (λ x. (cmd_tree x.0.value, lexemes_of x.1)) result
         (pipe_by (read below) (cmd_tree first.value) (lexemes_of tokens.entry)) }
 {
-    let mut stages = Vec::new(alloc);
+    if !begins_bar(tokens) {
+        return Ok((first, tokens));
+    }
+    let mut stages = Vec::with_capacity(alloc, 1)?;
     let mut last = first;
     let mut rest = tokens;
     let turns = tokens.len();
@@ -175,7 +178,7 @@ fn parse_links(
 
 /// Parses a command.
 #[cycle(parse)]
-#[tactic(auto, using(crate::proofs::Steps::levels), unfolding(rc_model::specs::Mirrors::Descent::command_by))]
+#[tactic(auto, using(crate::proofs::Turns::linked), unfolding(rc_model::specs::Mirrors::Descent::command_by))]
 pub(crate) fn parse_command(
     alloc: Global,
     left: usize,
@@ -189,6 +192,9 @@ pub(crate) fn parse_command(
         return Err(fault_at(DescentFault::TooDeep, tokens));
     }
     let (first, rest) = parse_operand(alloc, left - 1, after_if, tokens)?;
+    if !begins_link(rest) {
+        return Ok((first, rest));
+    }
     let (links, rest) = parse_links(alloc, left - 1, rest)?;
     Ok((and_or(alloc, first, links)?, rest))
 }

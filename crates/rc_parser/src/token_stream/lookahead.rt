@@ -1,8 +1,9 @@
 //! The tests of the next token, and what ends an item.
 
-ghost use Rattle.std.specs.Prelude.{◌≡◌, Option, option_map};
+ghost use Rattle.std.specs.Prelude.{◌≡◌, ◌<◌, ◌∷◌, Option, None, option_map, IfSome, IsUtf8};
+ghost use Rattle.rc_model.specs.Syntax.Tokens.{Word};
 ghost use Rattle.rc_model.specs.Syntax.Grammar.{begins_arg, begins_redir, begins_brace};
-ghost use Rattle.rc_model.specs.Syntax.Grammar.{begins_command, begins_link, closes, ends, ends_case, past_newlines};
+ghost use Rattle.rc_model.specs.Syntax.Grammar.{begins_command, begins_bar, begins_link, closes, ends, ends_case, past_newlines};
 ghost use Rattle.rc_model.specs.Syntax.Grammar.{past_blanks, past_caret, after_caret};
 ghost use Rattle.rc_model.specs.Mirrors.Descent.{begins_leading, item_end};
 ghost use Rattle.rc_parser.specs.Tokens.{lexemes_of};
@@ -66,6 +67,16 @@ pub(crate) fn begins_link(tokens: Tokens<'_>) -> bool
     match tokens.first() {
         Some((TokenKind::AndAnd, _, _)) => true,
         Some((TokenKind::OrOr, _, _)) => true,
+        _ => false,
+    }
+}
+
+/// Whether a bar stands here.
+pub(crate) fn begins_bar(tokens: Tokens<'_>) -> bool
+    ensures { result ≡ begins_bar (lexemes_of tokens.entry) }
+{
+    match tokens.first() {
+        Some((TokenKind::Bar(_), _, _)) => true,
         _ => false,
     }
 }
@@ -160,6 +171,31 @@ pub(crate) fn after_caret(tokens: Tokens<'_>) -> Option<Tokens<'_>>
     match tokens.first() {
         Some((TokenKind::Caret, _, rest)) => Some(rest),
         Some((TokenKind::FreeCaret, _, rest)) => Some(rest),
+        _ => None,
+    }
+}
+
+/// The word that is an argument by itself, if one stands here without a caret after it and a level is left for it, and
+/// the tokens after it.
+#[inline(always)]
+pub(crate) fn lone_word(
+    left: usize,
+    inside: bool,
+    tokens: Tokens<'_>,
+) -> Option<(&[u8], Tokens<'_>)>
+    ensures level { IfSome result (λ x. 0 < left) }
+    ensures text { IfSome result (λ x. IsUtf8 x.0.now) }
+    ensures word { IfSome result (λ x. lexemes_of tokens.entry ≡ Word x.0.now ∷ lexemes_of x.1) }
+    ensures alone { IfSome result (λ x. after_caret (past_blanks inside (lexemes_of x.1)) ≡ None) }
+{
+    match tokens.first() {
+        Some((TokenKind::Word, text, rest)) => {
+            if left > 0 && after_caret(past_blanks(inside, rest)).is_none() {
+                Some((text, rest))
+            } else {
+                None
+            }
+        }
         _ => None,
     }
 }

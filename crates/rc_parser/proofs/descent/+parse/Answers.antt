@@ -7,7 +7,7 @@ use Rattle.rc_tree.specs.View.{nodes_push, branch_tree, branches_tree, cmd_tree,
 use Rattle.rc_parser.specs.Reading.{made}
 use Rattle.rc_parser.specs.Tokens.{lexemes_of}
 use Rattle.rc_parser.proofs.Spelled.{word_is_text, quoted_is_text}
-use Rattle.rc_parser.proofs.Turns.{branches, branches_case, simple_fails, simple_whole}
+use Rattle.rc_parser.proofs.Turns.{lone_word, branches, branches_case, simple_fails, simple_whole}
 use Rattle.rc_parser.proofs.descent.+parse.Goals.{switches::parse_cases-in-Some-Semicolon-default-default, switches::parse_cases-in-Some-Newline-default-default, switches::parse_cases-in-Some-Word-default-default+in_ok-branch-in-Some-Word-default-default+in_ok-push-in-Some-Word-default-default}
 use Rattle.rc_parser.proofs.descent.+parse.Goals as goal
 
@@ -20,6 +20,11 @@ pub arguments::parse_part-parse_quoted-requires : goal.arguments::parse_part-par
 arguments::parse_part-parse_quoted-requires t c =
     let at = rw c.in-Some-Quoted-default-default.field-0-0-is at c.in-Some-Quoted-default-default.ensures in
     quoted_is_text _ _ _ at c.args.tokens.texts
+
+pub arguments::parse_argument-returns-in-Some : goal.arguments::parse_argument-returns-in-Some
+arguments::parse_argument-returns-in-Some t c =
+    let word = c.in-Some in
+    rw (lone_word c.args.left c.args.inside word.text.now (lexemes_of c.args.tokens) (lexemes_of word.rest) word.ensures.level word.ensures.word word.ensures.alone) c.parse_plain.ensures
 
 pub openings::parse_simple_command-returns-in_err-words-2 : goal.openings::parse_simple_command-returns-in_err-words-2
 openings::parse_simple_command-returns-in_err-words-2 t c =
