@@ -145,7 +145,7 @@ module _ (call : Caller) (kc : (P : ℕ → Type 0) (slots : Slots) → AreAmong
       (λ y s. bound_after k P bare y (word_texts w) (pairs_mean rest bare body call n slots) (pairs_after k P rest bare body slots kb) s)
       (λ s owed. tt)) (λ s owed. tt)) (λ s owed. tt)) (λ s owed. tt)
 
-  -- assignments around a command that opens so many files
+  -- assignments around a command that opens this many files
   assigned : (k : ℕ) (pairs : Many pair) (body : Node cmd) (g : Bool) (slots others : Slots) → AreAlike slots others → ((s : State) → AfterOpens k (NamesOnly (Stands (slots_after body others))) (cmd_means body g call n slots s)) → (s : State)
       → AfterOpens k (NamesOnly (Stands (if_opens k others (slots_after body others)))) (pairs_mean pairs (is_empty body) (cmd_means body g call n slots) call n slots s)
   assigned zero pairs body g slots others l kb s = staying (Assign pairs body) g slots others l s

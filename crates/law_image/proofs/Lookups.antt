@@ -66,13 +66,13 @@ no_first e f es fs l b s =
 past_first : {X : Type 0} (q : List ℕ) (e : List ℕ × X) (es : List (List ℕ × X)) → bytes_eq q e.0 ≡ false → find q (e ∷ es) ≡ find q es
 past_first q e es h = ap (λ b. if b then Some e.1 else find q es) h
 
--- what is found after the first
-behind : {X : Type 0} (e f : List ℕ × X) (es fs : List (List ℕ × X)) → e.0 ≡ f.0 → Above e.0 es → Above f.0 fs → SameFound (e ∷ es) (f ∷ fs) → (q : List ℕ) (v : X) → (b : Bool) → bytes_eq q e.0 ≡ b → find q es ≡ Some v → find q fs ≡ Some v
-behind e f es fs same a b s q v true h g =
+-- what is found past the first entry of one map is found past that of the other
+found_past_first : {X : Type 0} (e f : List ℕ × X) (es fs : List (List ℕ × X)) → e.0 ≡ f.0 → Above e.0 es → Above f.0 fs → SameFound (e ∷ es) (f ∷ fs) → (q : List ℕ) (v : X) → (b : Bool) → bytes_eq q e.0 ≡ b → find q es ≡ Some v → find q fs ≡ Some v
+found_past_first e f es fs same a b s q v true h g =
     let at : q ≡ e.0 = (bytes_eq-Decides q e.0).0 h in
     let gone : find q es ≡ None = ap (λ z. find z es) at ∙ find_above e.0 es a in
     absurd cc
-behind e f es fs same a b s q v false h g =
+found_past_first e f es fs same a b s q v false h g =
     sym (past_first q f fs (ap (bytes_eq q) (sym same) ∙ h)) ∙ (s q v).0 (past_first q e es h ∙ g)
 
 other_way : {X : Type 0} (es fs : List (List ℕ × X)) → SameFound es fs → SameFound fs es
@@ -89,8 +89,8 @@ maps_by e f es fs o p s ih Equal q =
     let here : find e.0 (f ∷ fs) ≡ Some f.1 = ap (λ z. find z (f ∷ fs)) same ∙ found_first f fs in
     let value : e.1 ≡ f.1 = cc in
     let rest : es ≡ fs = ih (λ q v. (
-      λ g. behind e f es fs same o.0 p.0 s q v (bytes_eq q e.0) refl g,
-      λ g. behind f e fs es (sym same) p.0 o.0 (other_way (e ∷ es) (f ∷ fs) s) q v (bytes_eq q f.0) refl g,
+      λ g. found_past_first e f es fs same o.0 p.0 s q v (bytes_eq q e.0) refl g,
+      λ g. found_past_first f e fs es (sym same) p.0 o.0 (other_way (e ∷ es) (f ∷ fs) s) q v (bytes_eq q f.0) refl g,
     )) in
     ap (λ z. (z, e.1) ∷ es) same ∙ ap (λ z. (f.0, z) ∷ es) value ∙ ap (λ z. f ∷ z) rest
 

@@ -16,7 +16,7 @@ answers_after (c ∷ made) (a ∷ given) = answers_after made given
 abbrev pub left_of : Tape → List Answer
 left_of tape = answers_after (map call_of tape.calls.items) (tape_answers tape)
 
--- What a tape records between two moments is, up to its first halt, recorded by the answers that it had left.
+-- Between two moments, and up to its first halt, a tape records its calls with the answers that it had left, in order.
 abbrev pub TapesRecord : Type 0
 TapesRecord = (before after : Tape) (trace : List Event) → tape_answers after ≡ tape_answers before →
     tape_events after ≡ tape_events before ++ trace → IsOnTape (left_of before) trace

@@ -3,7 +3,7 @@
 
 ghost use Rattle.law_tapes.specs.Tapes.{CallsAreOnTape, NewTapesHaveAll, TapesRecord};
 
-/// What a tape records, up to its first halt, it records by the answers that it had left.
+/// Up to its first halt, a tape records its calls with the answers that it had left, in their order.
 pub fn tapes_record()
     ensures { TapesRecord }
 {}

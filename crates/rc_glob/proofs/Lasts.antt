@@ -11,7 +11,7 @@ last_of text front c u v h =
     (encodes-chars text u ∙ h ∙ ap (λ t. t ++ encode_utf8 c) (sym (encodes-chars front v)) ∙ ap (λ t. encode_utf8_all (chars front) ++ t) (sym (append-nil (encode_utf8 c)))
     ∙ sym (encodes-append (chars front) (c ∷ [])))
 
--- all but so many of the characters that are looked for stand after this front
+-- all but this many of the characters that are looked for come after this front
 pub record Cut (text front : List ℕ) (count left : ℕ) : Type 0 where
   pub is : take (length front) text ≡ front
   pub within : length front ≤ length text

@@ -73,7 +73,7 @@ later_on e test t c more b h k l = sym (ap (later_place e test) h ∙ on_by (sta
 pub later_not : (e : Bool) (test : List ℕ → Bool) (t : List ℕ) (c : ℕ) (more : List ℕ) (b : Bool) → t ≡ c ∷ more → b ≡ stands_for e c → b ≡ false → None ≡ later_place e test t
 later_not e test t c more b h k l = sym (ap (later_place e test) h ∙ ap (λ z. cond z (first_place e test more) None) (sym k ∙ l))
 
--- ** so many characters before the end
+-- ** a given number of characters before the end
 
 pub other_length : (n : ℕ) (x : List ℕ) → length x < n → (length x == n) ≡ false
 other_length n x l = ne_eqb (length x) n (λ q. omega arith)

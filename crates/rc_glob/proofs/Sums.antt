@@ -161,7 +161,7 @@ pub not_there : (b : Bool) (sum wanted : ℕ) → (b ≡ true → sum ≡ wanted
 not_there true sum wanted f n = absurd (n (f refl))
 not_there false sum wanted f n = refl
 
--- so many characters are read one by one
+-- this many characters are read one by one
 pub read_sum : (t u : List ℕ) (c left less sum new total : ℕ) → t ≡ c ∷ u → left ≡ less + 1 → new ≡ add_char sum c → sum_from sum (take left t) ≡ total → sum_from new (take less u) ≡ total
 read_sum t u c left less sum new total h k q so_far =
     let l : left ≡ suc less = omega arith in

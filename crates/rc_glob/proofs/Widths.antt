@@ -1,4 +1,4 @@
--- What a word stands for at the least: so many characters, or those that it begins with.
+-- What a word stands for at the least: a number of characters, or those that it begins with.
 use Rattle.std.proofs.Common.{◌≡◌, ℕ, suc, ◌+◌, ◌<◌, ◌≤◌, ◌==◌, Bool, true, false, cond, ◌&&◌, not, List, [], ◌∷◌, ◌++◌, length, map, take, drop, get_or, Option, Some, None, refl, sym, ap, ◌∙◌, arith, eq-eqb, add-one, append_assoc, drop-cons}
 use Rattle.std.proofs.lemmas.Bool.{and_parts, eqb-true}
 use Rattle.std.proofs.lemmas.List.{append-nil, drop_all, map-append, nil_from_length, take_all, take_more}

@@ -200,7 +200,7 @@ impl RedirStack {
         let [name] = words else {
             return Err(RedirError::Fault(RedirFault::NotOneWord));
         };
-        // Where there is no room, no file is opened.
+        // Without room no file is opened.
         self.redirections.try_reserve(1)?;
         let Some(file) = calls::unless_refused(world.open(name, mode))? else {
             return Err(RedirError::Fault(RedirFault::CannotOpen(name.clone()?)));
@@ -222,7 +222,7 @@ impl RedirStack {
             (open_text self.old.slots text.now) result }
         ensures err { OnErr result (self.new ≡ self.old) }
     {
-        // Where there is no room, no text is handed over.
+        // Without room no text is handed over.
         self.redirections.try_reserve(1)?;
         let Some(file) = calls::unless_refused(world.here(text))? else {
             let name = String::from_str(*self.redirections.allocator(), "here document")?;

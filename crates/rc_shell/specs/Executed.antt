@@ -75,7 +75,7 @@ module _ (p : Program) (limit : ℕ) (before after : Option (List Event)) (resul
     pub reason : IfErr result (IsReason p)
     pub silent : (f : ShellFault) → IsNotRun p f → after ≡ before
 
-  -- its calls are those of the meaning, and of at most so many instructions, over the answers that were given
+  -- over the answers that were given, its calls are those of the meaning, and of at most `limit` instructions
   pub record MakesItsCalls : Type 0 where
     pub meant : IfRun (λ t s trace. RunsAsMeant limit t s trace result)
     -- if the meaning ends or waits, so does the code, from some number of instructions on

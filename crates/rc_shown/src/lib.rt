@@ -14,8 +14,8 @@ use std::alloc::Global;
 use std::io::{Read, Write};
 
 /// Runs what the arguments ask for, with these entries of the environment, over a world that shows its calls, and
-/// returns the exit status of the process. The lines are those of the calls that the script means, while they are
-/// whole. The input is that of the script's file, if it could be opened, or else standard input.
+/// returns the exit status of the process. The lines are those of the calls that the script means, as long as each
+/// could be written. The input is that of the script's file, if it could be opened, or else standard input.
 pub fn run_shown<'a, W: World, O: Write, R: Read + Drop>(
     alloc: Global,
     world: &mut TraceWorld<W, O>,

@@ -16,7 +16,7 @@ pub(crate) enum Room {
     Shared(Rc<String>),
 }
 
-/// A text. One of up to 16 bytes stands in place, and a longer one is shared by its copies.
+/// A text. One of up to 16 bytes is stored in place, and a longer one is shared by its copies.
 pub struct Text {
     room: Room,
     ghost ok: { ∥ IsUtf8 (bytes_in room) ∥₁ },
@@ -106,7 +106,7 @@ impl Text {
         room
     }
 
-    /// Returns the text as a string. It is copied if it stands in place or has other owners.
+    /// Returns the text as a string. It is copied if it is stored in place or has other owners.
     pub fn into_string(self, alloc: Global) -> Result<String, AllocError>
         ensures { IfOk result (λ string. string_bytes string ≡ text_bytes self) }
     {
@@ -119,7 +119,7 @@ impl Text {
         }
     }
 
-    /// Appends to a text that stands in place. Where there is no room for both, they become a string.
+    /// Appends to a text that is stored in place. If there is no room for both, they become a string.
     fn grown(alloc: Global, mut text: ArrayString<16>, next: &str) -> Result<Text, AllocError>
         requires { ∥ IsUtf8 text.bytes ∥₁ }
         ensures { IfOk result (λ grown. text_bytes grown ≡ text.bytes ++ next.now) }

@@ -21,12 +21,12 @@ CanCount (Done call since) = since < 2 ^ 64 - 1
 CanCount (Closed h since) = since < 2 ^ 64 - 1
 CanCount _ = Unit {0}
 
--- these events, with one that was refused before so many of the last ones
+-- these events, with one that was refused before this many of the last ones
 abbrev pub with_refused : Call → (since : ℕ) → List Event → List Event
 with_refused call since events =
     take (length events - since) events ++ event call (refused Denied) ∷ drop (length events - since) events
 
--- these events, but the close of a file before so many of the last ones is answered by a refusal
+-- these events, but the close of a file before this many of the last ones is answered by a refusal
 abbrev pub with_refused_close : (file : ℕ) → (since : ℕ) → List Event → List Event
 with_refused_close file since events =
     take (length events - suc since) events ++ event (close file) (refused Denied) ∷ drop (length events - since) events

@@ -14,11 +14,11 @@ use std::alloc::Global;
 #[derive(Drop)]
 pub enum Refusal {
     Never,
-    /// The one that comes after so many others.
+    /// The call that comes after this many others.
     After(u64),
-    /// This one was, and so many were made since.
+    /// A call was refused, and this many were made since.
     Done(Call, u64),
-    /// The close of this file was, and so many calls were made since.
+    /// The close of this file was refused, and this many calls were made since.
     Closed(Handle, u64),
 }
 

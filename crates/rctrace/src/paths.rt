@@ -3,7 +3,7 @@
 use std::alloc::AllocError;
 use std::env;
 
-/// The absolute path of a file, if the directory of now can be found; the name alone if it can't.
+/// The absolute path of a file, if the current directory can be found; the name alone if it can't.
 pub(crate) fn absolute(rt: &HostRuntime, name: &str) -> Result<String, AllocError> {
     if name.starts_with('/') {
         return String::from_str(rt.alloc(), name);

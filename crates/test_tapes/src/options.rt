@@ -86,7 +86,7 @@ pub fn texts(alloc: Global, options: &str, wanted: &str) -> Result<Vec<String>, 
     Ok(texts)
 }
 
-/// Adds the texts of so many options, if they are of this kind.
+/// Adds the texts of this many options, if they are of this kind.
 fn push_each(
     alloc: Global,
     texts: &mut Vec<String>,

@@ -1,4 +1,4 @@
-//! The probable mistake behind a token that no script can have at its place.
+//! The probable cause of a token that no script can have at its place.
 
 use crate::faults::advice::Advice;
 use crate::lexed::script_tokens::{ORDER_MARK, Tokens};

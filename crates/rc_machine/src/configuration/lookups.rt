@@ -29,7 +29,7 @@ pub(crate) fn texts(alloc: Global, words: &[Word]) -> Result<Vec<String>, AllocE
 /// its words and its texts.
 const WORDS_AT_ONCE: usize = 65_536;
 
-/// Pops the last word of the top list, if it has one, after so many others, whose room is given back from time to time.
+/// Pops the last word of the top list, if it has one. Now and then gives back the room of the words popped before it.
 fn pop_word(words: &mut Stack<Word>, popped: usize) -> Option<Word>
     ensures { TakesLast words.old words.new result }
 {

@@ -221,7 +221,7 @@ impl Variables {
         self.set(alloc, name, texts)
     }
 
-    /// Keeps an entry for the visible value, where there is one.
+    /// Keeps an entry for the visible value, if there is one.
     #[tactic(auto, using(crate::proofs::Stacks::variables), unfolding(crate::specs::Stacks::stacks_of))]
     pub(crate) fn keep_entry(&mut self, name: &str, kept: KeptEntry)
         requires { kept_text kept ≡ value_text (visible (stack_in (stacks_of self.old) name.now)) }

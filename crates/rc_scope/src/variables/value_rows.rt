@@ -205,7 +205,7 @@ impl Values {
         Ok(Some(value.texts.share(alloc)?))
     }
 
-    /// Keeps an entry for the value at a name, where there is one.
+    /// Keeps an entry for the value at a name, if there is one.
     pub(crate) fn keep_entry(&mut self, name: &str, kept: KeptEntry)
         requires { IfSome (lookup (is_named name.now) self.old) (λ v. kept_text kept ≡ value_text (texts_of v)) }
         ensures { self.new ≡ self.old }

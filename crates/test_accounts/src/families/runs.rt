@@ -40,7 +40,7 @@ pub enum Order {
 }
 
 impl Order {
-    /// The index of the next one of so many, and the order from then on.
+    /// The index of the next of this many processes, and the order from then on.
     fn choose(self, count: usize) -> (usize, Order) {
         match self {
             Order::Greatest => (count.saturating_sub(1), self),
