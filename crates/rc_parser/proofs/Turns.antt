@@ -8,6 +8,7 @@ use Rattle.rc_model.specs.Syntax.Grammar.{begins_arg, begins_redir, begins_comma
 use Rattle.rc_model.specs.Mirrors.Descent as d
 use Rattle.rc_model.specs.Mirrors.Descent.{Reader, Readers, ◌>>=◌}
 use Rattle.rc_tree.specs.View.{nodes_push, tree_Simple}
+use Rattle.rc_tree.proofs.Assigned.{assignments}
 use Rattle.rc_model.specs.declared.fault.InputError.TheVariants as error
 use Rattle.rc_parser.specs.Answers.{Fails, TokenError}
 use Rattle.rc_parser.specs.Reading.{made, simple_after}
@@ -243,7 +244,11 @@ pipe_alone r first ts h = by (length ts)
     by zero = refl
     by (suc turns) = pipe_stops r (λ ss c u. d.pipe_from r turns ss c u) none first ts h
 
-pub ruleset pipe = (pipe_alone, pipe_start, pipe_more, pipe_done, nodes_push, common_steps)
+pub ruleset unpiped = (pipe_alone, common_steps)
+
+pub ruleset assigned_alone = (pipe_alone, assignments)
+
+pub ruleset pipe = (pipe_start, pipe_more, pipe_done, nodes_push, common_steps)
 
 pub values_start : (r : Readers) (turns : ℕ) (front : Many t.pair) (ts : List model.Lexeme) → turns ≡ length ts → d.values_by r front ts ≡ d.values_from r (turns - 0) front ts
 unfolding d.values_by

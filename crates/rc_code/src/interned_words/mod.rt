@@ -51,8 +51,8 @@ impl Words {
         &self.entries[number as usize].literal
     }
 
-    /// Whether this is the number of a word.
-    #[inline(always)]
+    /// Whether this is the number of a word. It is never inlined, so that none of it is done before a number is found.
+    #[inline(never)]
     fn is_word(&self, number: u32, text: &str, quoted: bool) -> bool
         ensures { result ≡ true → IsWordAt (words_of self.now) number (text.now, quoted) }
     {

@@ -104,7 +104,6 @@ fn parse_dollar(
 
 /// Parses an argument. Inside parentheses newlines are blanks. Most arguments are one word.
 #[cycle(parse)]
-#[tactic(auto, using(crate::proofs::Turns::alone), unfolding(rc_model::specs::Mirrors::Descent::arg_by))]
 pub(crate) fn parse_argument(
     alloc: Global,
     left: usize,
@@ -114,9 +113,26 @@ pub(crate) fn parse_argument(
     ensures { Gives (λ x. (arg_tree x.0, lexemes_of x.1)) result
         (arg_by (read left (a_part inside)) inside (lexemes_of tokens.entry)) }
 {
-    if let Some((text, rest)) = lone_word(left, inside, tokens) {
-        return parse_plain(alloc, text, rest);
+    match lone_word(left, inside, tokens) {
+        Some((text, rest)) => parse_plain(alloc, text, rest),
+        None => parse_joined(alloc, left, inside, tokens),
     }
+}
+
+/// Parses an argument that may have several parts. It is never inlined into `parse_argument`, so that its locals cost
+/// an argument of one word nothing.
+#[inline(never)]
+#[cycle(parse)]
+#[tactic(auto, using(crate::proofs::Turns::alone), unfolding(rc_model::specs::Mirrors::Descent::arg_by))]
+fn parse_joined(
+    alloc: Global,
+    left: usize,
+    inside: bool,
+    tokens: Tokens<'_>,
+) -> Result<(Arg, Tokens<'_>), TokenError>
+    ensures { Gives (λ x. (arg_tree x.0, lexemes_of x.1)) result
+        (arg_by (read left (a_part inside)) inside (lexemes_of tokens.entry)) }
+{
     let (first, rest) = parse_part(alloc, left, inside, tokens)?;
     let Some(_) = after_caret(past_blanks(inside, rest)) else {
         return Ok((first, rest));
@@ -143,7 +159,8 @@ pub(crate) fn parse_boxed_argument(
     Ok((Box::new(alloc, arg)?, rest))
 }
 
-/// Parses the parts after carets.
+/// Parses the parts after carets. It is never inlined, so that its locals take no stack at each level of nesting.
+#[inline(never)]
 #[cycle(parse)]
 #[tactic(auto, using(crate::proofs::Turns::parts))]
 fn parse_parts(

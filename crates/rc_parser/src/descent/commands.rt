@@ -19,7 +19,7 @@ use rc_model::{DescentFault, Keyword, Logic};
 use rc_tree::{Cmd, push_link, push_stage};
 use std::alloc::Global;
 
-/// Parses the pipeline that begins with this stage.
+/// Parses the pipeline that begins with this stage, which a bar follows.
 #[cycle(parse)]
 #[tactic(auto, using(crate::proofs::Turns::pipe))]
 pub(crate) fn parse_pipeline(
@@ -31,9 +31,6 @@ pub(crate) fn parse_pipeline(
     ensures { Gives (λ x. (cmd_tree x.0.value, lexemes_of x.1)) result
         (pipe_by (read below) (cmd_tree first.value) (lexemes_of tokens.entry)) }
 {
-    if !begins_bar(tokens) {
-        return Ok((first, tokens));
-    }
     let mut stages = Vec::with_capacity(alloc, 1)?;
     let mut last = first;
     let mut rest = tokens;
@@ -110,7 +107,7 @@ pub(crate) fn parse_leading(
 
 /// Parses an operand of `&&` and `||`.
 #[cycle(parse)]
-#[tactic(auto, unfolding(rc_model::specs::Mirrors::Descent::operand_by))]
+#[tactic(auto, using(crate::proofs::Turns::unpiped), unfolding(rc_model::specs::Mirrors::Descent::operand_by))]
 fn parse_operand(
     alloc: Global,
     below: usize,
@@ -126,7 +123,13 @@ fn parse_operand(
     let (opening, rest) = parse_opening(alloc, below, tokens)?;
     match opening {
         Opening::Named(name) => parse_assigned(alloc, below, name, rest),
-        Opening::Staged(first) => parse_pipeline(alloc, below, first, rest),
+        Opening::Staged(first) => {
+            if begins_bar(rest) {
+                parse_pipeline(alloc, below, first, rest)
+            } else {
+                Ok((first, rest))
+            }
+        }
     }
 }
 

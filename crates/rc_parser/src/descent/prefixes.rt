@@ -15,7 +15,7 @@ use crate::descent::openings::{Opening, parse_opening};
 use crate::descent::redirections::{parse_redirection, parse_redirections};
 use crate::joined_nodes::push_pair;
 use crate::token_stream::Tokens;
-use crate::token_stream::lookahead::{begins_command, begins_leading};
+use crate::token_stream::lookahead::{begins_bar, begins_command, begins_leading};
 use crate::token_stream::token_faults::TokenError;
 use rc_tree::{Arg, Cmd};
 use std::alloc::{AllocError, Global};
@@ -128,7 +128,7 @@ fn parse_assigned_leading(
 
 /// Parses the command after assignments that begins with this stage.
 #[cycle(parse)]
-#[tactic(auto, using(rc_tree::proofs::Assigned::assignments))]
+#[tactic(auto, using(crate::proofs::Turns::assigned_alone))]
 fn parse_assigned_pipeline(
     alloc: Global,
     below: usize,
@@ -140,7 +140,11 @@ fn parse_assigned_pipeline(
         (made (t.Assign (pairs_tree pairs.items))
         (pipe_by (read below) (cmd_tree first.value) (lexemes_of tokens.entry))) }
 {
-    let (body, rest) = parse_pipeline(alloc, below, first, tokens)?;
+    let (body, rest) = if begins_bar(tokens) {
+        parse_pipeline(alloc, below, first, tokens)?
+    } else {
+        (first, tokens)
+    };
     Ok((Box::new(alloc, Cmd::Assign(pairs, Some(body)))?, rest))
 }
 
