@@ -131,6 +131,21 @@ impl Drop for Code {
     }
 }
 
+impl Clone for Code {
+    ghost use Rattle.std.specs.Prelude.{◌≡◌};
+    ghost use Rattle.rc_code.specs.Views.{code_of};
+
+    ghost is_clone = { λ c d. code_of d ≡ code_of c };
+
+    /// Another handle to the code. It fails only if the code has too many owners.
+    #[tactic(auto, unfolding(crate::specs::Views::code_of))]
+    fn clone(&self) -> Result<Code, AllocError> {
+        Ok(Code {
+            listing: self.listing.clone()?,
+        })
+    }
+}
+
 impl Code {
     ghost use Rattle.rc_code.specs.Views.{code_of, names_of, tree_at, stages_at, pieces_at};
 
@@ -148,16 +163,6 @@ impl Code {
         written?;
         Ok(Code {
             listing: Rc::new(alloc, listing)?,
-        })
-    }
-
-    /// Another handle to the code. It fails only if the code has too many owners.
-    #[tactic(auto, unfolding(crate::specs::Views::code_of))]
-    pub fn share(&self) -> Result<Code, AllocError>
-        ensures { IfOk result (λ shared. code_of shared ≡ code_of self.now) }
-    {
-        Ok(Code {
-            listing: self.listing.clone()?,
         })
     }
 

@@ -99,7 +99,7 @@ fn itself(alloc: Global, word: &Word) -> Result<List, Stop>
     ensures { MatchResult result (λ list. list ≡ word.now ∷ []) (λ stop. stop ≡ NoMemory) }
 {
     let mut list = List::new(alloc);
-    list.push(word.copy()?)?;
+    list.push(word.clone()?)?;
     Ok(list)
 }
 

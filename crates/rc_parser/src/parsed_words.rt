@@ -36,14 +36,11 @@ fn begins_keyword(len: usize, first: u8) -> bool
     }
 }
 
-/// Which keyword an unquoted word is. Most words are known to be none by their length and their first byte.
-#[tactic(auto, using(crate::proofs::Keywords::no_first))]
-pub(crate) fn keyword_of(word: &[u8]) -> Keyword
+/// Which keyword an unquoted word is, by looking at each of them. It is never inlined, since few words come so far.
+#[inline(never)]
+fn compared_keyword(word: &[u8]) -> Keyword
     ensures { result ≡ keyword word.now }
 {
-    if word.is_empty() || !begins_keyword(word.len(), word[0]) {
-        return Keyword::Plain;
-    }
     if word == "for".as_bytes() {
         Keyword::For
     } else if word == "in".as_bytes() {
@@ -67,6 +64,18 @@ pub(crate) fn keyword_of(word: &[u8]) -> Keyword
     } else {
         Keyword::Plain
     }
+}
+
+/// Which keyword an unquoted word is. Most words are known to be none by their length and their first byte.
+#[inline(always)]
+#[tactic(auto, using(crate::proofs::Keywords::no_first))]
+pub(crate) fn keyword_of(word: &[u8]) -> Keyword
+    ensures { result ≡ keyword word.now }
+{
+    if word.is_empty() || !begins_keyword(word.len(), word[0]) {
+        return Keyword::Plain;
+    }
+    compared_keyword(word)
 }
 
 /// Whether an unquoted word begins a case line.

@@ -74,7 +74,7 @@ impl Clone for Function {
     /// The body and its code are shared. The entry is not kept.
     fn clone(&self) -> Result<Function, AllocError> {
         let compiled = match &self.compiled {
-            Some(code) => Some(code.share()?),
+            Some(code) => Some(code.clone()?),
             None => None,
         };
         Ok(Function {
@@ -110,10 +110,10 @@ impl Function {
         ensures same { self.new ≡ self.old }
     {
         if let Some(code) = &self.compiled {
-            return code.share();
+            return code.clone();
         }
         let code = compile(alloc, &self.body)?;
-        let shared = code.share()?;
+        let shared = code.clone()?;
         self.compiled = Some(code);
         Ok(shared)
     }

@@ -37,7 +37,7 @@ impl CompiledText {
         ensures { IfOk result (λ found. IfSome found (λ code. IsCodeOfText text.now code)) }
     {
         if self.text.as_str() == text {
-            return Ok(Some(self.code.share()?));
+            return Ok(Some(self.code.clone()?));
         }
         Ok(None)
     }
@@ -82,7 +82,7 @@ impl RecentCodes {
         if self.texts.len() >= MOST_TEXTS {
             self.texts.remove(0);
         }
-        let code = code.share()?;
+        let code = code.clone()?;
         self.texts.push(CompiledText { text, code })?;
         Ok(())
     }

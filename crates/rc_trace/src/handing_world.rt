@@ -66,7 +66,7 @@ fn with_words(mut words: Vec<Text>, launch: &Launch) -> Result<Launch, AllocErro
     ensures { IfOk result (λ handed.
         launch_of handed ≡ with_words (map text_bytes words.items) (launch_of launch.now)) }
 {
-    let mut handed = launch.copy()?;
+    let mut handed = launch.clone()?;
     words.append(&mut handed.args)?;
     handed.args = words;
     Ok(handed)

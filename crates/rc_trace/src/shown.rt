@@ -55,7 +55,7 @@ impl<'a> ShownCall<'a> {
             ShownCall::Close(file) => Call::Close(file),
             ShownCall::Read(file) => Call::Read(file),
             ShownCall::Write(slot, text) => Call::Write(slot, Vec::from_slice(alloc, text)?),
-            ShownCall::Start(launch) => Call::Start(launch.copy()?),
+            ShownCall::Start(launch) => Call::Start(launch.clone()?),
             ShownCall::Wait(child) => Call::Wait(child),
             ShownCall::List(path) => Call::List(String::from_str(alloc, path)?),
             ShownCall::Probe(path) => Call::Probe(String::from_str(alloc, path)?),

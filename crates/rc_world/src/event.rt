@@ -1,9 +1,9 @@
 //! The calls of a world and their answers, as values.
 
-ghost use Rattle.std.specs.Prelude.{◌≡◌, IfOk};
+ghost use Rattle.std.specs.Prelude.{◌≡◌};
 ghost use Rattle.rc_model.specs.Run.Calls.{is_halt, refused};
 ghost use Rattle.rc_world.specs.Tapes.{refusal};
-ghost use Rattle.rc_world.specs.Views.{call_of, answer_of};
+ghost use Rattle.rc_world.specs.Views.{answer_of};
 
 use crate::{ChildNo, Ending, Fault, Handle, Kind, Launch, Mode, Slot};
 use std::alloc::AllocError;
@@ -41,11 +41,13 @@ impl Drop for Call {
     }
 }
 
-impl Call {
-    /// Copies the call.
-    pub fn copy(&self) -> Result<Call, AllocError>
-        ensures { IfOk result (λ copy. call_of copy ≡ call_of self.now) }
-    {
+impl Clone for Call {
+    ghost use Rattle.std.specs.Prelude.{◌≡◌};
+    ghost use Rattle.rc_world.specs.Views.{call_of};
+
+    ghost is_clone = { λ c d. call_of d ≡ call_of c };
+
+    fn clone(&self) -> Result<Call, AllocError> {
         match self {
             Call::Open(path, mode) => Ok(Call::Open(path.clone()?, *mode)),
             Call::Here(text) => Ok(Call::Here(text.clone()?)),
@@ -53,7 +55,7 @@ impl Call {
             Call::Close(handle) => Ok(Call::Close(*handle)),
             Call::Read(handle) => Ok(Call::Read(*handle)),
             Call::Write(slot, text) => Ok(Call::Write(*slot, text.clone()?)),
-            Call::Start(launch) => Ok(Call::Start(launch.copy()?)),
+            Call::Start(launch) => Ok(Call::Start(launch.clone()?)),
             Call::Wait(child) => Ok(Call::Wait(*child)),
             Call::List(path) => Ok(Call::List(path.clone()?)),
             Call::Probe(path) => Ok(Call::Probe(path.clone()?)),
@@ -77,12 +79,14 @@ pub enum Answer {
     Refused(Fault),
 }
 
-impl Answer {
-    /// Copies the answer.
+impl Clone for Answer {
+    ghost use Rattle.std.specs.Prelude.{◌≡◌};
+    ghost use Rattle.rc_world.specs.Views.{answer_of};
+
+    ghost is_clone = { λ a b. answer_of b ≡ answer_of a };
+
     #[tactic(auto, using(crate::proofs::Copies::same_strings))]
-    pub fn copy(&self) -> Result<Answer, AllocError>
-        ensures { IfOk result (λ copy. answer_of copy ≡ answer_of self.now) }
-    {
+    fn clone(&self) -> Result<Answer, AllocError> {
         match self {
             Answer::File(handle) => Ok(Answer::File(*handle)),
             Answer::Pair(reader, writer) => Ok(Answer::Pair(*reader, *writer)),
@@ -95,7 +99,9 @@ impl Answer {
             Answer::Refused(fault) => Ok(Answer::Refused(*fault)),
         }
     }
+}
 
+impl Answer {
     pub(crate) fn is_halt(&self) -> bool
         ensures { result ≡ is_halt (answer_of self.now) }
     {

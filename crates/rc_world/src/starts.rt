@@ -1,7 +1,6 @@
 //! Launches of children, and why work over a world stops.
 
-ghost use Rattle.std.specs.Prelude.{◌≡◌, IfOk};
-ghost use Rattle.rc_world.specs.Views.{launch_of};
+ghost use Rattle.std.specs.Prelude.{◌≡◌};
 ghost use Rattle.rc_world.specs.declared.starts.Stop.TheVariants.{NoMemory};
 
 use rc_model::Slots;
@@ -41,12 +40,14 @@ impl Drop for Launch {
     }
 }
 
-impl Launch {
-    /// Copies the launch.
+impl Clone for Launch {
+    ghost use Rattle.std.specs.Prelude.{◌≡◌};
+    ghost use Rattle.rc_world.specs.Views.{launch_of};
+
+    ghost is_clone = { λ l m. launch_of m ≡ launch_of l };
+
     #[tactic(auto, using(crate::proofs::Copies::same_texts))]
-    pub fn copy(&self) -> Result<Launch, AllocError>
-        ensures { IfOk result (λ copy. launch_of copy ≡ launch_of self.now) }
-    {
+    fn clone(&self) -> Result<Launch, AllocError> {
         let program = match &self.program {
             Program::Shell => Program::Shell,
             Program::Path(path) => Program::Path(path.clone()?),

@@ -79,7 +79,7 @@ impl Tape {
         ensures err { IfErr result (λ fault. fault ≡ NoMemory) }
     {
         match self.answers.get(self.calls.len()) {
-            Some(answer) => answer.copy().map_err(|_| Fault::NoMemory),
+            Some(answer) => answer.clone().map_err(|_| Fault::NoMemory),
             None => Ok(Answer::Refused(Fault::Halt)),
         }
     }
@@ -180,7 +180,7 @@ impl World for Tape {
     fn start(&mut self, launch: &Launch) -> Result<ChildNo, Fault>
         ensures { Plays self.old self.new (start (launch_of launch.now)) (child_answer result) }
     {
-        let Ok(launch) = launch.copy() else {
+        let Ok(launch) = launch.clone() else {
             return Err(Fault::NoMemory);
         };
         match self.play(Call::Start(launch))? {

@@ -135,7 +135,7 @@ fn are_same_answers(one: &Answer, other: &Answer) -> bool {
 #[test]
 fn out_of_memory_leaves_no_copy_of_a_call(rt: HostRuntime) -> Result<(), Fail> {
     for (place, call) in calls(rt.alloc())?.iter().enumerate() {
-        assert!(rt; are_same_calls(call, &call.copy()?), "call {place}");
+        assert!(rt; are_same_calls(call, &call.clone()?), "call {place}");
     }
     Ok(())
 }
@@ -144,7 +144,7 @@ fn out_of_memory_leaves_no_copy_of_a_call(rt: HostRuntime) -> Result<(), Fail> {
 #[test]
 fn out_of_memory_leaves_no_copy_of_an_answer(rt: HostRuntime) -> Result<(), Fail> {
     for (place, answer) in answers(rt.alloc())?.iter().enumerate() {
-        assert!(rt; are_same_answers(answer, &answer.copy()?), "answer {place}");
+        assert!(rt; are_same_answers(answer, &answer.clone()?), "answer {place}");
     }
     Ok(())
 }

@@ -51,7 +51,7 @@ impl Calls {
     pub fn answers(&self, alloc: Global) -> Result<Vec<Answer>, AllocError> {
         let mut answers = Vec::new(alloc);
         for answer in self.answers.iter() {
-            answers.push(answer.copy()?)?;
+            answers.push(answer.clone()?)?;
         }
         Ok(answers)
     }

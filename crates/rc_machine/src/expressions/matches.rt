@@ -18,7 +18,7 @@ fn take_subject(alloc: Global, words: &mut Stack<Word>) -> Result<Option<Word>, 
 {
     let subject = match words.top() {
         None => return Ok(None),
-        Some([word]) => word.copy()?.unmarked()?,
+        Some([word]) => word.clone()?.unmarked()?,
         Some(list) => spaced_unmarked(alloc, list)?,
     };
     words.drop_top();

@@ -172,7 +172,7 @@ fn parse_parts(
     ensures { Gives (λ x. (args_tree x.0.items, lexemes_of x.1)) result
         (parts_by (read left (a_part inside)) inside (lexemes_of tokens.entry)) }
 {
-    let mut others = Vec::new(alloc);
+    let mut others = Vec::with_capacity(alloc, 2)?;
     let mut rest = tokens;
     let turns = tokens.len();
     for _ in 0..turns {

@@ -163,7 +163,7 @@ fn parse_links(
     ensures { Gives (λ x. (links_tree x.0.items, lexemes_of x.1)) result
         (links_by (read below) (lexemes_of tokens.entry)) }
 {
-    let mut links = Vec::new(alloc);
+    let mut links = Vec::with_capacity(alloc, 1)?;
     let mut rest = tokens;
     let turns = tokens.len();
     for _ in 0..turns {

@@ -56,8 +56,8 @@ pub(crate) fn change_of(
     let pending = next_call(alloc, &process.cmd, &process.state, answers, limit)?;
     let child = child_of(alloc, call, answer, limit)?;
     Ok(Change {
-        kept: call.copy()?,
-        answered: call.copy()?,
+        kept: call.clone()?,
+        answered: call.clone()?,
         pending,
         child,
     })

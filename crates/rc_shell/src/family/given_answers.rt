@@ -15,7 +15,7 @@ fn push_answer(answers: &mut Vec<Answer>, process: usize, step: &Step) -> Result
         ≡ map answer_of answers.old.items ++ answers_at process (step_of step.now ∷ [])) }
 {
     if step.process == process {
-        answers.push(step.answer.copy()?)?;
+        answers.push(step.answer.clone()?)?;
     }
     Ok(())
 }
@@ -43,6 +43,6 @@ pub(crate) fn answers_with(
         ≡ answers_at process (map step_of steps.now) ++ answer_of more.now ∷ []) }
 {
     let mut answers = answers_of(alloc, steps, process)?;
-    answers.push(more.copy()?)?;
+    answers.push(more.clone()?)?;
     Ok(answers)
 }

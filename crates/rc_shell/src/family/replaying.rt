@@ -33,7 +33,7 @@ fn last_call(calls: &[Call]) -> Result<Call, AllocError>
     requires { 0 < length calls.now }
     ensures { IfOk result (λ call. IsLast (call_of call) (map call_of calls.now)) }
 {
-    calls[calls.len() - 1].copy()
+    calls[calls.len() - 1].clone()
 }
 
 /// How far a run with these calls came.

@@ -69,6 +69,36 @@ impl Model for Word {
     ghost invariant = { λ w. AreMarked w.0 };
 }
 
+impl Clone for Word {
+    ghost use Rattle.std.specs.Prelude.{◌≡◌};
+
+    ghost is_clone = { λ w v. v ≡ w };
+
+    /// Copies the characters and their marks.
+    fn clone(&self) -> Result<Word, AllocError> {
+        match &self.0 {
+            Letters::Plain(text) => Ok(Word::plain(text.clone()?)),
+            Letters::Marked(text) => Ok(Word(Letters::Marked(text.clone()?))),
+            Letters::Halves {
+                first,
+                second,
+                cut,
+                text,
+            } => Ok(Word(Letters::Halves {
+                first: *first,
+                second: *second,
+                cut: *cut,
+                text: text.clone()?,
+            })),
+            Letters::Mixed(mixed) => {
+                let alloc = *mixed.chars.allocator();
+                Word::mixed(alloc, mixed.text.clone()?, mixed.chars.clone()?)
+            }
+            Letters::Literal(literal) => Word::literal(literal),
+        }
+    }
+}
+
 impl MadeWith<Global> for Word {
     ghost use Rattle.std.specs.Prelude.{◌≡◌, []};
 
@@ -390,31 +420,5 @@ impl Word {
         ensures { result ≡ has_pattern self.now }
     {
         self.pattern().is_some()
-    }
-
-    /// Copies the characters and their marks.
-    pub fn copy(&self) -> Result<Word, AllocError>
-        ensures { IfOk result (λ copy. copy ≡ self.now) }
-    {
-        match &self.0 {
-            Letters::Plain(text) => Ok(Word::plain(text.clone()?)),
-            Letters::Marked(text) => Ok(Word(Letters::Marked(text.clone()?))),
-            Letters::Halves {
-                first,
-                second,
-                cut,
-                text,
-            } => Ok(Word(Letters::Halves {
-                first: *first,
-                second: *second,
-                cut: *cut,
-                text: text.clone()?,
-            })),
-            Letters::Mixed(mixed) => {
-                let alloc = *mixed.chars.allocator();
-                Word::mixed(alloc, mixed.text.clone()?, mixed.chars.clone()?)
-            }
-            Letters::Literal(literal) => Word::literal(literal),
-        }
     }
 }

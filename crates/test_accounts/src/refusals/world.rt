@@ -173,7 +173,7 @@ impl World for RefusingWorld {
     }
 
     fn start(&mut self, launch: &Launch) -> Result<ChildNo, Fault> {
-        let Ok(launch) = launch.copy() else {
+        let Ok(launch) = launch.clone() else {
             return Err(Fault::NoMemory);
         };
         let child = ChildNo(self.next_child);
