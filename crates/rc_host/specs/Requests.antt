@@ -1,5 +1,6 @@
 -- What Linux is asked for when a child is started.
-use Rattle.std.specs.Prelude.{◌≡◌, ℕ, ◌==◌, Bool, true, false, not, ◌||◌, List, [], ◌∷◌, ◌++◌, flat_map, string_bytes}
+use Rattle.std.specs.Prelude.{◌≡◌, ℕ, ◌==◌, if◌then◌else◌, Bool, true, false, not, ◌||◌, List, [], ◌∷◌, ◌++◌}
+use Rattle.std.specs.Prelude.{flat_map}
 use Rattle.std.specs.List.{list_any}
 use Rattle.rc_model.specs.declared.call.Fault.{Fault}
 use Rattle.rc_model.specs.declared.call.Fault.TheVariants.{NoMemory, Other}
@@ -25,18 +26,16 @@ pub record Holds (is_unfit : List ℕ → Bool) (bytes : List ℕ) (texts : List
 
 -- Linux is asked for a plan, except its descriptors: the program's own name is the first of the arguments
 pub record AsksFor (request : Request) (plan : Plan) : Type 0 where
-  pub program : string_bytes request.program ≡ plan.program
-  pub args : Holds has_zero request.args.items (plan.program ∷ plan.args)
-  pub env : Holds is_no_entry request.env.items plan.env
+  pub program : request.program.now ≡ plan.program
+  pub args : Holds has_zero request.args.now (plan.program ∷ plan.args)
+  pub env : Holds is_no_entry request.env.now plan.env
+
+-- the entries that are handed over: those that are kept, or none
+abbrev pub handed_over : (is_kept : Bool) → List (List ℕ) → List (List ℕ)
+handed_over is_kept kept = if is_kept then kept else []
 
 -- why texts are not held: out of memory, or one of this sort is among them
 abbrev pub IsNotHeld : (is_unfit : List ℕ → Bool) → (texts : List (List ℕ)) → Fault → Type 0
 IsNotHeld is_unfit texts NoMemory = Unit {0}
 IsNotHeld is_unfit texts Other = list_any is_unfit texts ≡ true
 IsNotHeld is_unfit texts _ = ⊥
-
--- why a plan is not asked for: out of memory, or one of its texts can't be held
-abbrev pub IsNotAsked : Plan → Fault → Type 0
-IsNotAsked plan NoMemory = Unit {0}
-IsNotAsked plan Other = (list_any has_zero (plan.program ∷ plan.args) || list_any is_no_entry plan.env) ≡ true
-IsNotAsked plan _ = ⊥

@@ -17,7 +17,8 @@ ghost use Rattle.rc_host.specs.Host.{descriptor_at, AreNamed, AsksForPlanOf};
 use crate::answers::{answer, end_of, kind_found};
 use crate::directory::names_in;
 use crate::files::{OpenFile, here_file, options_of, write_text};
-use crate::launches::launch_request::{Request, request_of};
+use crate::launches::kept_environment::KeptEnvironment;
+use crate::launches::launch_request::{Command, Request};
 use crate::launches::planning::plan;
 use crate::launches::started::{Started, start};
 use crate::leaving::{Leaving, give_up};
@@ -41,6 +42,8 @@ pub struct HostWorld {
     shell: Option<String>,
     files: Table<OpenFile>,
     children: Table<Child<Started>>,
+    /// The entries of the last launch that had some, as Linux takes them.
+    environment: KeptEnvironment,
     leaving: Leaving,
 }
 
@@ -51,6 +54,7 @@ impl Drop for HostWorld {
             shell: _,
             files: _,
             children: _,
+            environment: _,
             leaving: _,
         } = self;
     }
@@ -69,6 +73,7 @@ impl HostWorld {
             shell,
             files: Table::new(rt.alloc()),
             children: Table::new(rt.alloc()),
+            environment: KeptEnvironment::new(rt.alloc()),
             leaving: Leaving::never(),
         }
     }
@@ -328,11 +333,14 @@ impl World for HostWorld {
         self.find_shell(launch)?;
         let plan = plan(self.rt.alloc(), launch, path_or_empty(&self.shell))?;
         let number = self.children.room()?;
-        let request = request_of(self.rt.alloc(), &plan)?;
+        let command = Command::of(self.rt.alloc(), &plan)?;
+        let is_kept = self.environment.keep(self.rt.alloc(), plan.env)?;
         let slots = plan.slots;
         drop(plan);
-        let descriptors = self.descriptors(slots)?;
-        let said = self.spawn(number, launch, &request, descriptors);
+        let world = &*self;
+        let descriptors = world.descriptors(slots)?;
+        let request = command.request(world.environment.block(is_kept));
+        let said = world.spawn(number, launch, &request, descriptors);
         self.hold(number, said)
     }
 

@@ -1,51 +1,67 @@
 //! What Linux is asked for when a child is started.
-ghost use Rattle.std.specs.Prelude.{◌≡◌, ◌++◌, ◌∷◌, [], false, map, IfOk, IfErr, OnOk};
-ghost use Rattle.rc_text.specs.Texts.{text_bytes};
-ghost use Rattle.rc_host.specs.Plan.{has_equals};
-ghost use Rattle.rc_host.specs.PlanViews.{plan_view, texts_lent};
-ghost use Rattle.rc_host.specs.Requests.{AsksFor, Holds, IsNotAsked, IsNotHeld, has_zero, is_no_entry};
+ghost use Rattle.std.specs.Prelude.{◌≡◌, ◌++◌, ◌∷◌, [], false, IfOk, IfErr, OnOk, string_bytes};
+ghost use Rattle.rc_host.specs.PlanViews.{texts_lent};
+ghost use Rattle.rc_host.specs.Requests.{Holds, IsNotHeld, has_zero};
 
 use crate::launches::planned::Plan;
-use crate::launches::planning::has_equals;
-use rc_text::Text;
 use rc_world::Fault;
 use std::alloc::Global;
 
 /// For how many bytes of the arguments, and of the environment, there is room at first.
 const USUAL_BYTES: usize = 1_024;
 
-/// A program, its arguments and its environment. The last two are as Linux takes them: texts in a sequence, each
-/// terminated by a byte 0, the first of the arguments the program's own name.
-pub(crate) struct Request {
-    pub program: String,
-    pub args: Vec<u8>,
-    pub env: Vec<u8>,
+/// A program and its arguments. These are as Linux takes them: texts in a sequence, each terminated by a byte 0, the
+/// first of them the program's own name.
+pub(crate) struct Command {
+    program: String,
+    args: Vec<u8>,
 }
 
-impl Drop for Request {
+impl Drop for Command {
     fn drop(self) {
-        let Request {
+        let Command {
             program: _,
             args: _,
-            env: _,
         } = self;
     }
 }
 
-/// Asks for a plan, except its descriptors. `Other`: a text has a byte 0, or an entry has no equals sign, so that they
-/// can't be passed on.
-pub(crate) fn request_of(alloc: Global, plan: &Plan) -> Result<Request, Fault>
-    ensures asks { IfOk result (λ request. AsksFor request (plan_view plan.now)) }
-    ensures err { IfErr result (IsNotAsked (plan_view plan.now)) }
-{
-    let Ok(program) = String::from_str(alloc, plan.program) else {
-        return Err(Fault::NoMemory);
-    };
-    Ok(Request {
-        program,
-        args: args_of(alloc, plan.program, &plan.args)?,
-        env: env_of(alloc, plan.env)?,
-    })
+impl Command {
+    /// The program and the arguments of a plan. `Other`: one of them has a byte 0, so that it can't be passed on.
+    pub(crate) fn of(alloc: Global, plan: &Plan) -> Result<Command, Fault>
+        ensures program { IfOk result (λ command. string_bytes command.program ≡ plan.now.program.now) }
+        ensures args { IfOk result (λ command.
+            Holds has_zero command.args.items (plan.now.program.now ∷ texts_lent plan.now.args.items)) }
+        ensures err { IfErr result (IsNotHeld has_zero
+            (plan.now.program.now ∷ texts_lent plan.now.args.items)) }
+    {
+        let Ok(program) = String::from_str(alloc, plan.program) else {
+            return Err(Fault::NoMemory);
+        };
+        let args = args_of(alloc, plan.program, &plan.args)?;
+        Ok(Command { program, args })
+    }
+
+    /// Asks for the program with this environment.
+    pub(crate) fn request<'a>(&'a self, env: &'a [u8]) -> Request<'a>
+        ensures program { result.program.now ≡ string_bytes self.now.program }
+        ensures args { result.args.now ≡ self.now.args.items }
+        ensures env { result.env.now ≡ env.now }
+    {
+        Request {
+            program: self.program.as_str(),
+            args: self.args.as_slice(),
+            env,
+        }
+    }
+}
+
+/// A program, its arguments and its environment, the last two as Linux takes them.
+#[derive(Clone, Copy)]
+pub(crate) struct Request<'a> {
+    pub program: &'a str,
+    pub args: &'a [u8],
+    pub env: &'a [u8],
 }
 
 fn args_of(alloc: Global, program: &str, args: &[&str]) -> Result<Vec<u8>, Fault>
@@ -60,18 +76,8 @@ fn args_of(alloc: Global, program: &str, args: &[&str]) -> Result<Vec<u8>, Fault
     Ok(texts)
 }
 
-fn env_of(alloc: Global, entries: &[Text]) -> Result<Vec<u8>, Fault>
-    ensures held { IfOk result (λ held. Holds is_no_entry held.items (map text_bytes entries.now)) }
-    ensures err { IfErr result (IsNotHeld is_no_entry (map text_bytes entries.now)) }
-{
-    let mut texts = room(alloc)?;
-    for entry in entries {
-        push_entry(&mut texts, entry.as_str())?;
-    }
-    Ok(texts)
-}
-
-fn room(alloc: Global) -> Result<Vec<u8>, Fault>
+/// Room for texts.
+pub(crate) fn room(alloc: Global) -> Result<Vec<u8>, Fault>
     ensures empty { IfOk result (λ texts. texts.items ≡ []) }
     ensures err { IfErr result (λ fault. fault ≡ Fault.NoMemory) }
 {
@@ -81,20 +87,8 @@ fn room(alloc: Global) -> Result<Vec<u8>, Fault>
     }
 }
 
-/// Adds an entry of an environment and the byte 0 that terminates it.
-fn push_entry(texts: &mut Vec<u8>, entry: &str) -> Result<(), Fault>
-    ensures pushed { OnOk result (texts.new.items ≡ texts.old.items ++ (entry.now ++ 0 ∷ [])) }
-    ensures fit { OnOk result (is_no_entry entry.now ≡ false) }
-    ensures err { IfErr result (IsNotHeld is_no_entry (entry.now ∷ [])) }
-{
-    if !has_equals(entry) {
-        return Err(Fault::Other);
-    }
-    push_text(texts, entry)
-}
-
 /// Adds a text and the byte 0 that terminates it.
-fn push_text(texts: &mut Vec<u8>, text: &str) -> Result<(), Fault>
+pub(crate) fn push_text(texts: &mut Vec<u8>, text: &str) -> Result<(), Fault>
     ensures pushed { OnOk result (texts.new.items ≡ texts.old.items ++ (text.now ++ 0 ∷ [])) }
     ensures fit { OnOk result (has_zero text.now ≡ false) }
     ensures err { IfErr result (IsNotHeld has_zero (text.now ∷ [])) }

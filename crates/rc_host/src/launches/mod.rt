@@ -1,5 +1,6 @@
-//! Launches: the request that starts a child, and the descriptors that the child gets.
+//! Launches: the request that starts a child, the descriptors that the child gets, and the environment that is kept.
 
+pub(crate) mod kept_environment;
 pub(crate) mod launch_request;
 pub(crate) mod planned;
 pub(crate) mod planning;

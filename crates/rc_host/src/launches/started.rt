@@ -44,7 +44,7 @@ impl OpenProcess for Started {
 /// three, and no others.
 pub(crate) fn start(request: &Request, descriptors: [RawFd; 3]) -> io::Result<Child<Started>> {
     let program = request.program.as_bytes();
-    let number = os::spawn(program, &request.args, &request.env, b"", descriptors);
+    let number = os::spawn(program, request.args, request.env, b"", descriptors);
     if number <= 0 {
         return Err(io::Error::from_raw_os_error(os::errno()));
     }

@@ -3,7 +3,7 @@ use Rattle.std.proofs.lemmas.List.{get_or-map, length-map}
 use Rattle.std.proofs.lemmas.Result.{err_from_is_err_and}
 use Rattle.rc_text.specs.Texts.{text_bytes}
 use Rattle.rc_host.proofs.Requests.{not_held_at}
-use Rattle.rc_host.proofs.launches.launch_request.env_of.Goals as goal
+use Rattle.rc_host.proofs.launches.kept_environment.env_of.Goals as goal
 
 pub returns-in_err-push_entry-clause-err : goal.returns-in_err-push_entry-clause-err
 returns-in_err-push_entry-clause-err c =
