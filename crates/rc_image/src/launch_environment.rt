@@ -12,7 +12,7 @@ ghost use Rattle.rc_image.specs.Additions.{is_handed, handed, PushesBelow};
 ghost use Rattle.rc_text.specs.Texts.{text_bytes};
 
 use crate::escaped_bytes::has_marks;
-use rc_scope::{Binding, Definition, State};
+use rc_scope::{Binding, Definition, Environment, State};
 use rc_spelling::push_spelling;
 use rc_text::Text;
 use rc_tree::Cmd;
@@ -99,19 +99,23 @@ pub(crate) fn variable_entry(alloc: Global, name: &str, value: &[Text]) -> Resul
     Text::from_string(alloc, text)
 }
 
-/// The entry of a variable, as it is kept or anew.
-fn entry(alloc: Global, variable: &Binding) -> Result<Text, AllocError>
+/// Adds the entry of a variable, as it is kept or anew.
+fn push_entry(alloc: Global, out: &mut Vec<Text>, variable: &Binding) -> Result<(), AllocError>
     ensures { let value = map text_bytes variable.now.value.now in
-        IfOk result (λ text. text_bytes text ≡ entry (variable.now.name.now, value_text value)) }
+        OnOk result (map text_bytes out.new.items
+        ≡ map text_bytes out.old.items ++ entry (variable.now.name.now, value_text value) ∷ []) }
 {
-    match variable.value.entry(variable.name) {
-        Some(kept) => kept.clone(),
-        None => variable_entry(alloc, variable.name, variable.value.as_slice()),
+    if let Some(kept) = variable.value.entry(variable.name) {
+        out.push(kept.clone()?)?;
+        return Ok(());
     }
+    let value = variable.value.as_slice();
+    out.push(variable_entry(alloc, variable.name, value)?)?;
+    Ok(())
 }
 
 /// Whether no variable of this name is handed over.
-fn is_kept(name: &str) -> bool
+pub(crate) fn stays_behind(name: &str) -> bool
     ensures { result ≡ stays_behind name.now }
 {
     name == "*" || name == "status"
@@ -119,10 +123,10 @@ fn is_kept(name: &str) -> bool
 
 /// Whether a variable is handed over.
 #[tactic(auto, using(rc_scope::proofs::Stacks::length_texts))]
-pub(crate) fn is_handed(variable: &Binding) -> bool
+fn is_handed(variable: &Binding) -> bool
     ensures { result ≡ is_handed (binding_of variable.now) }
 {
-    !variable.value.as_slice().is_empty() && !is_kept(variable.name)
+    !variable.value.as_slice().is_empty() && !stays_behind(variable.name)
 }
 
 /// The entry of the status.
@@ -193,7 +197,7 @@ fn push_below(
         match bound.cmp(variable.name) {
             Ordering::Less => return Ok(place),
             Ordering::Equal => return Ok(place + 1),
-            Ordering::Greater => out.push(entry(alloc, variable)?)?,
+            Ordering::Greater => push_entry(alloc, out, variable)?,
         }
     }
     Ok(variables.len())
@@ -212,7 +216,7 @@ fn push_rest(
     for place in start..variables.len() {
         let variable = &variables[place];
         if is_handed(variable) {
-            out.push(entry(alloc, variable)?)?;
+            push_entry(alloc, out, variable)?;
         }
     }
     Ok(())
@@ -222,8 +226,10 @@ fn push_rest(
 pub fn entries(alloc: Global, state: &State) -> Result<Vec<Text>, AllocError>
     ensures { IfOk result (λ all. map text_bytes all.items ≡ entries (state_of state.now)) }
 {
-    let variables = state.bindings()?;
-    let functions = state.definitions()?;
+    let Environment {
+        variables,
+        functions,
+    } = state.environment()?;
     let count = variables.len().saturating_add(functions.len());
     let mut all = Vec::with_capacity(alloc, count.saturating_add(1))?;
     let mut place = 0;

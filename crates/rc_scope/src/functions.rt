@@ -129,6 +129,11 @@ impl Function {
         }
     }
 
+    /// Whether its entry isn't kept.
+    fn is_unkept(&self) -> bool {
+        self.kept.is_none()
+    }
+
     /// Keeps an entry that an environment has for the function.
     pub(crate) fn keep(&mut self, kept: KeptEntry)
         requires { kept_text kept ≡ image (cmd_tree self.old) }
@@ -161,9 +166,23 @@ pub(crate) fn definitions(
 ) -> Result<Vec<Definition<'_>>, AllocError>
     ensures { IfOk result (λ all. definitions_of all.items ≡ functions_of functions.now.entries) }
 {
-    let mut all = Vec::new(alloc);
+    let mut all = Vec::with_capacity(alloc, functions.len())?;
     for (name, function) in functions {
         all.push(Definition { name, function })?;
     }
     Ok(all)
+}
+
+/// The names of the functions whose entry isn't kept.
+pub(crate) fn unkept(
+    alloc: Global,
+    functions: &BTreeMap<String, Function>,
+) -> Result<Vec<String>, AllocError> {
+    let mut names = Vec::new(alloc);
+    for (name, function) in functions {
+        if function.is_unkept() {
+            names.push(name.clone()?)?;
+        }
+    }
+    Ok(names)
 }

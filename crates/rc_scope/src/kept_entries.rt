@@ -27,7 +27,9 @@ impl KeptEntry {
         let whole = self.entry.as_str();
         let after_mark = whole.strip_prefix(mark)?;
         let after_name = after_mark.strip_prefix(name)?;
-        let text = after_name.strip_prefix("=")?;
+        let [b'=', text @ ..] = after_name.as_bytes() else {
+            return None;
+        };
         if whole.len() - text.len() == self.start {
             Some(&self.entry)
         } else {

@@ -21,14 +21,15 @@ ghost use Rattle.rc_scope.specs.Stacks.{flat_names};
 ghost use Rattle.rc_scope.specs.Children.{child_numbers};
 
 use crate::background_children::place_of;
-use crate::functions::{Definition, Function, definitions, names};
+use crate::environments::{Environment, Unkept};
+use crate::functions::{Function, definitions, names, unkept};
 use crate::kept_entries::KeptEntry;
 use crate::names::{NameFault, has_digits, is_function_name, is_name, is_status};
 use crate::recent_codes::RecentCodes;
 use crate::text_lists::strings_of;
+use crate::variables::Variables;
 use crate::variables::positional_members::member;
 use crate::variables::value_members::Members;
-use crate::variables::{Binding, Variables};
 use rc_code::Code;
 use rc_model::{ChildNo, InputError};
 use rc_text::{Text, flat};
@@ -62,6 +63,27 @@ impl Drop for State {
             background: _,
             recent_codes: _,
         } = self;
+    }
+}
+
+impl Clone for State {
+    ghost use Rattle.std.specs.Prelude.{◌≡◌};
+    ghost use Rattle.rc_scope.specs.States.{state_of};
+
+    ghost is_clone = { λ s t. state_of t ≡ state_of s };
+
+    /// Copies the state. The bodies of functions are shared.
+    #[tactic(auto, using(crate::proofs::Copies::functions), unfolding(crate::specs::States::state_of))]
+    fn clone(&self) -> Result<State, AllocError> {
+        Ok(State {
+            variables: self.variables.copy()?,
+            functions: self.functions.clone()?,
+            status: self.status.clone()?,
+            if_not: self.if_not,
+            strict: self.strict,
+            background: self.background.clone()?,
+            recent_codes: RecentCodes::new(*self.background.allocator()),
+        })
     }
 }
 
@@ -264,12 +286,18 @@ impl State {
         self.variables.names(*self.background.allocator())
     }
 
-    /// Each variable with its visible value, in byte order of the names.
+    /// Each variable with its visible value, and each function, in byte order of the names.
     #[tactic(auto, unfolding(crate::specs::States::state_of))]
-    pub fn bindings(&self) -> Result<Vec<Binding<'_>>, AllocError>
-        ensures { IfOk result (λ all. bindings_of all.items ≡ visible_values (state_of self.now).variables) }
+    pub fn environment(&self) -> Result<Environment<'_>, AllocError>
+        ensures variables { IfOk result
+            (λ all. bindings_of all.variables.items ≡ visible_values (state_of self.now).variables) }
+        ensures functions { IfOk result (λ all. definitions_of all.functions.items ≡ (state_of self.now).functions) }
     {
-        self.variables.bindings(*self.background.allocator())
+        let alloc = *self.background.allocator();
+        Ok(Environment {
+            variables: self.variables.bindings(alloc)?,
+            functions: definitions(alloc, &self.functions)?,
+        })
     }
 
     /// Defines a function. On `Err` nothing has changed.
@@ -364,6 +392,19 @@ impl State {
         self.recent_codes.keep(text, code)
     }
 
+    /// The names of the variables that have members, and of the functions, whose entry isn't kept. A variable that is
+    /// named by one call is named by the next one only if a value has changed since.
+    #[tactic(auto, unfolding(crate::specs::States::state_of))]
+    pub fn unkept(&mut self) -> Result<Unkept, AllocError>
+        ensures { state_of self.new ≡ state_of self.old }
+    {
+        let alloc = *self.background.allocator();
+        Ok(Unkept {
+            functions: unkept(alloc, &self.functions)?,
+            variables: self.variables.unkept(alloc)?,
+        })
+    }
+
     /// Keeps an entry that an environment has for a function, until that is defined anew or removed.
     #[tactic(auto, using(crate::proofs::Bodies::bodies), unfolding(crate::specs::States::state_of))]
     pub fn keep_function(&mut self, name: &str, kept: KeptEntry)
@@ -374,14 +415,6 @@ impl State {
             return;
         };
         function.keep(kept);
-    }
-
-    /// Each function with its name, in byte order of the names.
-    #[tactic(auto, unfolding(crate::specs::States::state_of))]
-    pub fn definitions(&self) -> Result<Vec<Definition<'_>>, AllocError>
-        ensures { IfOk result (λ all. definitions_of all.items ≡ (state_of self.now).functions) }
-    {
-        definitions(*self.background.allocator(), &self.functions)
     }
 
     /// The names of the functions, in byte order.
@@ -492,22 +525,6 @@ impl State {
         ensures { state_of self.new ≡ record (state_of self.old) { background = [] } }
     {
         self.background.clear();
-    }
-
-    /// Copies the state. The bodies of functions are shared.
-    #[tactic(auto, using(crate::proofs::Copies::functions), unfolding(crate::specs::States::state_of))]
-    pub fn copy(&self) -> Result<State, AllocError>
-        ensures { IfOk result (λ copy. state_of copy ≡ state_of self.now) }
-    {
-        Ok(State {
-            variables: self.variables.copy()?,
-            functions: self.functions.clone()?,
-            status: self.status.clone()?,
-            if_not: self.if_not,
-            strict: self.strict,
-            background: self.background.clone()?,
-            recent_codes: RecentCodes::new(*self.background.allocator()),
-        })
     }
 
     /// The invariant of states: the names of variables and functions are valid and in byte order, and the body of each

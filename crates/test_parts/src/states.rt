@@ -129,7 +129,7 @@ fn out_of_memory_shares_no_body(rt: HostRuntime) -> Result<(), Fail> {
 fn out_of_memory_makes_no_copy(rt: HostRuntime) -> Result<(), Fail> {
     let alloc = rt.alloc();
     let state = covering_state(alloc)?;
-    let copied = state.copy();
+    let copied = state.clone();
     assert_eq!(rt; state.value("x").len(), 2);
     let copy = copied?;
     assert_eq!(rt; copy.value("x").len(), 2);
@@ -144,7 +144,7 @@ fn a_copy_is_a_state_of_its_own(rt: HostRuntime) -> Result<(), Fail> {
     assert!(rt; state.code("f")?.is_some());
     state.set_if_not(true);
     state.add_child(ChildNo(7))?;
-    let mut copy = state.copy()?;
+    let mut copy = state.clone()?;
     state.remove("f");
     state.set_if_not(false);
     state.clear_children();

@@ -4,6 +4,7 @@ mod locals;
 mod member_lists;
 mod name_rows;
 pub(crate) mod positional_members;
+mod unkept;
 pub(crate) mod value_members;
 mod value_rows;
 
@@ -27,6 +28,7 @@ use name_rows::Row;
 use rc_text::Text;
 use std::alloc::{AllocError, Global};
 use std::collections::BTreeMap;
+use unkept::unkept_in;
 use value_members::Members;
 use value_rows::{Value, Values};
 
@@ -36,6 +38,8 @@ pub(crate) struct Variables {
     values: Values,
     /// The open locals, the newest last.
     log: Vec<Local>,
+    /// Whether a value has changed since it was looked which entries aren't kept.
+    changed: bool,
 }
 
 /// A variable with its visible value.
@@ -113,6 +117,7 @@ fn push_map_bindings<'a>(
 ) -> Result<(), AllocError>
     ensures { OnOk result (bindings_of all.new.items ≡ bindings_of all.old.items ++ bindings_in entries.now.entries) }
 {
+    all.reserve(entries.len())?;
     for (name, value) in entries {
         push_binding(all, name, value)?;
     }
@@ -144,6 +149,7 @@ impl Variables {
         Variables {
             values: Values::new(alloc),
             log: Vec::new(alloc),
+            changed: true,
         }
     }
 
@@ -172,6 +178,7 @@ impl Variables {
         ensures locals { locals_of self.new ≡ locals_of self.old }
         ensures err { OnErr result (stacks_of self.new ≡ stacks_of self.old) }
     {
+        self.changed = true;
         let Err(texts) = self.values.write(name, texts) else {
             return Ok(());
         };
@@ -197,6 +204,7 @@ impl Variables {
         ensures locals { locals_of self.new ≡ locals_of self.old }
         ensures err { OnErr result (stacks_of self.new ≡ stacks_of self.old) }
     {
+        self.changed = true;
         let Err(text) = self.values.write_one(name, text) else {
             return Ok(());
         };
@@ -214,6 +222,7 @@ impl Variables {
         ensures locals { locals_of self.new ≡ locals_of self.old }
         ensures err { OnErr result (stacks_of self.new ≡ stacks_of self.old) }
     {
+        self.changed = true;
         let Some(text) = self.values.append(name, text)? else {
             return Ok(());
         };
@@ -245,6 +254,7 @@ impl Variables {
         ensures locals { locals_of self.new ≡ locals_of self.old }
         ensures err { OnErr result (stacks_of self.new ≡ stacks_of self.old) }
     {
+        self.changed = true;
         let nothing = Value {
             texts: Members::none(alloc),
             covers: false,
@@ -310,6 +320,7 @@ impl Variables {
         ensures err { OnErr result (stacks_of self.new ≡ stacks_of self.old) }
         ensures err_locals { OnErr result (locals_of self.new ≡ locals_of self.old) }
     {
+        self.changed = true;
         let local = LocalName::of(alloc, name)?;
         self.log.reserve(1)?;
         let covered = self.cover(alloc, name, texts)?;
@@ -404,6 +415,7 @@ impl Variables {
         let Some(local) = self.log.pop() else {
             return;
         };
+        self.changed = true;
         self.uncover(local);
     }
 
@@ -431,6 +443,21 @@ impl Variables {
         Ok(all)
     }
 
+    /// The names of the variables that have members whose entry isn't kept: none if no value has changed since the last
+    /// call.
+    #[tactic(auto, unfolding(crate::specs::Stacks::stacks_of, crate::specs::Stacks::locals_of))]
+    pub(crate) fn unkept(&mut self, alloc: Global) -> Result<Vec<String>, AllocError>
+        ensures stacks { stacks_of self.new ≡ stacks_of self.old }
+        ensures locals { locals_of self.new ≡ locals_of self.old }
+    {
+        if !self.changed {
+            return Ok(Vec::new(alloc));
+        }
+        let names = unkept_in(alloc, self.values.rows())?;
+        self.changed = false;
+        Ok(names)
+    }
+
     /// Copies the variables, with the open locals.
     #[tactic(auto, using(crate::proofs::Copies::variables))]
     pub(crate) fn copy(&self) -> Result<Variables, AllocError>
@@ -440,6 +467,7 @@ impl Variables {
         Ok(Variables {
             values: self.values.copy()?,
             log: self.log.clone()?,
+            changed: true,
         })
     }
 }

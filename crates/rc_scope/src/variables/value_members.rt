@@ -190,6 +190,11 @@ impl Members {
         }
     }
 
+    /// Whether there are members whose entry isn't kept.
+    pub(crate) fn is_unkept(&self) -> bool {
+        self.kept.is_none() && !self.as_slice().is_empty()
+    }
+
     /// Keeps an entry that an environment has for the members, if there is memory.
     pub(crate) fn keep(&mut self, kept: KeptEntry)
         requires { kept_text kept ≡ value_text (map text_bytes self.old) }

@@ -33,7 +33,7 @@ pub(crate) fn next_call(
     ensures err { let given = before_first is_halt (map answer_of answers.items) in
         IfErr result (λ fault. ComesNot limit (cmd_tree cmd.now) (state_of state.now) given fault) }
 {
-    match replay(alloc, cmd, state.copy()?, answers, limit)? {
+    match replay(alloc, cmd, state.clone()?, answers, limit)? {
         Reached::Waiting(call) => Ok(Some(call)),
         Reached::Ended => Ok(None),
         Reached::Limit => Err(FamilyFault::Limit),

@@ -28,8 +28,7 @@ pub loop-place-preserved : goal.loop-place-preserved
 loop-place-preserved c =
     let v = c.index-variables-place.result in
     let next = left_on c.args.variables.now c.loop-place.place v c.loop-place-test.true c.index-variables-place.is (sym c.if-not-is_handed.ensures) in
-    let more : map text_bytes c.push.new.self.items ≡ map text_bytes c.loop-place.out.items ++ text_bytes c.in_ok-entry-in-Greater.field-0 ∷ [] = grind (arith, common_steps) in
-    rw more (keeps_on _ _ _ _ _ _ _ _ (sym c.in-Greater.ensures) c.in_ok-entry-in-Greater.ensures next c.loop-place.invariant)
+    rw c.in_ok-push_entry-in-Greater.ensures (keeps_on _ _ _ _ _ _ _ _ (sym c.in-Greater.ensures) refl next c.loop-place.invariant)
 
 pub returns : goal.returns
 returns c =
