@@ -10,7 +10,7 @@ use Rattle.rc_model.specs.declared.call.Mode.{Mode}
 use Rattle.rc_model.specs.declared.call.Mode.TheVariants.{Read}
 use Rattle.rc_model.specs.Run.Calls.{to_file, with_slot, Launch, open_file, here, make_pipe, close, read, write, start, wait, list_names, probe, as_file, as_pair, as_bytes, as_kind, as_child, as_names}
 use Rattle.rc_model.specs.Run.Lists.{concatenated, list_words}
-use Rattle.rc_model.specs.Run.State.{State, got, is_name, is_readable, is_function_name, define}
+use Rattle.rc_model.specs.Run.State.{State, dollar_value, is_name, is_readable, is_function_name, define}
 use Rattle.rc_model.specs.Run.Shell.{Shell, ◌>>=◌, pure, call, say, change, exits}
 use Rattle.rc_model.specs.Run.FileNames.{components, directory, fitting_names, each_name, if_there, listed, step, walk, paths_of, or_itself, names_of, expanded_word, expanded}
 use Rattle.rc_model.specs.Run.Acts.{set_status, report, runtime_error, fails, close_end, one_name, variable, value, value_words, count_words, flat_words, selected_words, joined_lists, concat_words, define_each, opened, open_one, here_text, open_here, is_path, candidates, is_program, first_program, find_program, waited, wait_each, Started, Child, NoChild, as_started, ask_start, start_shell, refuse, wait_started, run_found, run_program, wait_subshell, subshell, kept_child, background_with, background, Got, got_all, read_on, reading, read_all, longest_output, output_members, back_status, back_child, back_pipe, backquote, back_words}
@@ -152,7 +152,7 @@ module _ (P : ℕ → Type 0) (o : Bool) (slots : Slots) (w : AreAmong P slots) 
 
   -- values
   keeps_value : (x : List Word) → Keeps P o (value slots x)
-  keeps_value x = bind (one_name slots is_readable (word_texts x)) _ (keeps_one_name is_readable (word_texts x)) (λ y. keeps_from (λ s. pure (got s y)) (λ t. keeps_pure (got t y)))
+  keeps_value x = bind (one_name slots is_readable (word_texts x)) _ (keeps_one_name is_readable (word_texts x)) (λ y. keeps_from (λ s. pure (dollar_value s y)) (λ t. keeps_pure (dollar_value t y)))
 
   pub keeps_value_words : (x : List Word) → Keeps P o (value_words slots x)
   keeps_value_words x = bind (value slots x) _ (keeps_value x) (λ v. keeps_pure (plain_words v))

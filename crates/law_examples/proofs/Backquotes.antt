@@ -4,7 +4,7 @@ use Rattle.std.specs.Prelude.{codes}
 use Rattle.rc_model.specs.Run.Calls.{Event, make_pipe, close, read, wait, pair, done, bytes, child, ended, refused}
 use Rattle.rc_model.specs.declared.call.Ending.TheVariants.{Code}
 use Rattle.rc_model.specs.declared.call.Fault.TheVariants.{Other}
-use Rattle.law_examples.specs.Shown.{fresh, with_value, usual, writing_to, subshell, runs, Does, meant, ran, Leaves, meant_value, ran_value, ◌▸◌}
+use Rattle.law_examples.specs.Shown.{fresh, with_value, usual, writing_to, subshell, runs, Performs, meant, ran, Leaves, meant_value, ran_value, ◌▸◌}
 
 -- the calls of a backquote whose child writes this in one piece
 abbrev backquote_of : (output : List ℕ) → List Event
@@ -19,7 +19,7 @@ backquote_of output =
 
 -- characters may be cut by a read; the status is that of the child
 output_is_read_to_its_end :
-    Does (codes "x=`{c} exit $x $#x $status") (with_value fresh (codes "ifs") (codes " \t\n" ∷ []))
+    Performs (codes "x=`{c} exit $x $#x $status") (with_value fresh (codes "ifs") (codes " \t\n" ∷ []))
     (make_pipe ▸ pair 3 4
     ∷ subshell (codes "rc1;s1,;c1,w1:c") (codes "ifs= \t\n" ∷ usual) (writing_to 4) ▸ child 1
     ∷ close 4 ▸ done
@@ -34,7 +34,7 @@ output_is_read_to_its_end = (refl, refl)
 
 -- what was read is used
 a_refused_read_ends_the_reading :
-    Does (codes "x=`{c}") (with_value fresh (codes "ifs") (codes " \t\n" ∷ []))
+    Performs (codes "x=`{c}") (with_value fresh (codes "ifs") (codes " \t\n" ∷ []))
     (make_pipe ▸ pair 3 4
     ∷ subshell (codes "rc1;s1,;c1,w1:c") (codes "ifs= \t\n" ∷ usual) (writing_to 4) ▸ child 1
     ∷ close 4 ▸ done
@@ -64,7 +64,7 @@ what_was_read_is_used = (refl, refl)
 
 -- without `$ifs` the output is one member
 no_separators_give_one_member :
-    Does (codes "x=`{c} exit $#x") fresh
+    Performs (codes "x=`{c} exit $#x") fresh
     (backquote_of (codes "a b\n"))
     (codes "1")
 unfolding meant ran
@@ -72,7 +72,7 @@ no_separators_give_one_member = (refl, refl)
 
 -- also without separators
 empty_output_has_no_members :
-    Does (codes "x=`{c} exit $#x") fresh
+    Performs (codes "x=`{c} exit $#x") fresh
     (make_pipe ▸ pair 3 4
     ∷ subshell (codes "rc1;s1,;c1,w1:c") usual (writing_to 4) ▸ child 1
     ∷ close 4 ▸ done
@@ -101,7 +101,7 @@ bytes_zero_are_dropped_first = (refl, refl)
 
 -- a backquote without a pipe is the empty list
 a_refused_pipe_gives_nothing :
-    Does (codes "x=`{c} exit $#x $status") fresh
+    Performs (codes "x=`{c} exit $#x $status") fresh
     (make_pipe ▸ refused Other ∷ [])
     (codes "0 cannot pipe")
 unfolding meant ran
@@ -109,7 +109,7 @@ a_refused_pipe_gives_nothing = (refl, refl)
 
 -- both ends are closed
 a_refused_start_gives_nothing :
-    Does (codes "x=`{c}") (with_value fresh (codes "x") (codes "q" ∷ []))
+    Performs (codes "x=`{c}") (with_value fresh (codes "x") (codes "q" ∷ []))
     (make_pipe ▸ pair 3 4
     ∷ subshell (codes "rc1;s1,;c1,w1:c") (usual ++ codes "x=q" ∷ []) (writing_to 4) ▸ refused Other
     ∷ close 4 ▸ done
@@ -120,7 +120,7 @@ a_refused_start_gives_nothing = (refl, refl)
 
 -- what was read is used
 a_refused_wait_is_the_status :
-    Does (codes "x=`{c} exit $x $status") fresh
+    Performs (codes "x=`{c} exit $x $status") fresh
     (make_pipe ▸ pair 3 4
     ∷ subshell (codes "rc1;s1,;c1,w1:c") usual (writing_to 4) ▸ child 1
     ∷ close 4 ▸ done
@@ -134,7 +134,7 @@ a_refused_wait_is_the_status = (refl, refl)
 
 -- words are evaluated from left to right, then the command is run
 a_backquote_is_read_before_later_words :
-    Does (codes "echo `{c} $status") fresh
+    Performs (codes "echo `{c} $status") fresh
     (make_pipe ▸ pair 3 4
     ∷ subshell (codes "rc1;s1,;c1,w1:c") usual (writing_to 4) ▸ child 1
     ∷ close 4 ▸ done
@@ -149,7 +149,7 @@ a_backquote_is_read_before_later_words = (refl, refl)
 
 -- output stands for no file names
 pattern_characters_of_output_are_plain :
-    Does (codes "echo `{c}") fresh
+    Performs (codes "echo `{c}") fresh
     (make_pipe ▸ pair 3 4
     ∷ subshell (codes "rc1;s1,;c1,w1:c") usual (writing_to 4) ▸ child 1
     ∷ close 4 ▸ done

@@ -5,7 +5,7 @@ use Rattle.rc_model.specs.Run.Calls.{plain, make_pipe, close, read, write, wait,
 use Rattle.rc_model.specs.declared.call.Slot.TheVariants.{Own}
 use Rattle.rc_model.specs.declared.call.Kind.TheVariants.{Program}
 use Rattle.rc_model.specs.declared.call.Ending.TheVariants.{Code}
-use Rattle.law_examples.specs.Shown.{fresh, with_value, usual, writing_to, subshell, Does, meant, ran, tree, ◌▸◌}
+use Rattle.law_examples.specs.Shown.{fresh, with_value, usual, writing_to, subshell, Performs, meant, ran, tree, ◌▸◌}
 use Rattle.rc_model.specs.Syntax.Tree.{Node, cmd, Simple, Lit, more, none}
 use Rattle.rc_model.specs.Handed.Image.{image_words, node_image, many_image}
 use Rattle.rc_model.specs.Handed.Pieces.{pieces, last_cut}
@@ -47,20 +47,20 @@ letters zero = []
 letters (suc n) = 97 ∷ letters n
 
 -- an entry of 100,000 bytes is handed over
-largest_entry : Does (codes "@ c") (with_value fresh (codes "x") (letters 99998 ∷ []))
+largest_entry : Performs (codes "@ c") (with_value fresh (codes "x") (letters 99998 ∷ []))
     (subshell (codes "rc1;c1,w1:c") (usual ++ (codes "x=" ++ letters 99998) ∷ []) plain ▸ child 1 ∷ wait 1 ▸ ended (Code 0) ∷ [])
     []
 unfolding meant ran letters
 largest_entry = (refl, refl)
 
 -- one of a byte more is not
-too_large_an_entry : Does (codes "@ c") (with_value fresh (codes "x") (letters 99999 ∷ [])) [] (codes "too large")
+too_large_an_entry : Performs (codes "@ c") (with_value fresh (codes "x") (letters 99999 ∷ [])) [] (codes "too large")
 unfolding meant ran letters
 too_large_an_entry = (refl, refl)
 
 -- an argument of 100,001 bytes is not handed to a program, which is reported
 too_large_an_argument :
-    Does (codes "c $1") (with_value fresh (codes "*") (letters 100001 ∷ []))
+    Performs (codes "c $1") (with_value fresh (codes "*") (letters 100001 ∷ []))
     (probe (codes "/bin/c") ▸ found Program ∷ write (Own 2) (codes "rc: c: too large\n") ▸ done ∷ [])
     (codes "too large")
 unfolding meant ran letters
@@ -99,7 +99,7 @@ no_character_is_cut = refl
 
 -- an answer of more than 4096 bytes is a refusal
 too_long_a_read :
-    Does (codes "x=`{c}") fresh
+    Performs (codes "x=`{c}") fresh
     (make_pipe ▸ pair 3 4
     ∷ subshell (codes "rc1;s1,;c1,w1:c") usual (writing_to 4) ▸ child 1
     ∷ close 4 ▸ done

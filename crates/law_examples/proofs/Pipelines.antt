@@ -7,11 +7,11 @@ use Rattle.rc_model.specs.declared.call.Slot.TheVariants.{Own}
 use Rattle.rc_model.specs.declared.call.Kind.TheVariants.{Program}
 use Rattle.rc_model.specs.declared.call.Ending.TheVariants.{Code, Signal}
 use Rattle.rc_model.specs.declared.call.Fault.TheVariants.{Other}
-use Rattle.law_examples.specs.Shown.{fresh, usual, slots, writing_to, reading_from, program, subshell, runs_in, Does, meant, ran, ◌▸◌}
+use Rattle.law_examples.specs.Shown.{fresh, usual, slots, writing_to, reading_from, program, subshell, runs_in, Performs, meant, ran, ◌▸◌}
 
 -- the write end is closed before the last stage begins, and the read end before the wait for the first
 a_pipeline :
-    Does (codes "a | b") fresh
+    Performs (codes "a | b") fresh
     (make_pipe ▸ pair 3 4
     ∷ subshell (codes "rc1;c1,w1:a") usual (writing_to 4) ▸ child 1
     ∷ close 4 ▸ done
@@ -24,7 +24,7 @@ a_pipeline = (refl, refl)
 
 -- the statuses of three stages
 statuses_stand_in_the_order_of_the_stages :
-    Does (codes "a | b | c") fresh
+    Performs (codes "a | b | c") fresh
     (make_pipe ▸ pair 3 4
     ∷ subshell (codes "rc1;c1,w1:a") usual (writing_to 4) ▸ child 1
     ∷ close 4 ▸ done
@@ -42,7 +42,7 @@ statuses_stand_in_the_order_of_the_stages = (refl, refl)
 
 -- `|[2]` puts the write end in the place of the errors
 errors_through_a_pipe :
-    Does (codes "a |[2] b") fresh
+    Performs (codes "a |[2] b") fresh
     (make_pipe ▸ pair 3 4
     ∷ subshell (codes "rc1;c1,w1:a") usual (slots (Own 0) (Own 1) (to_file 4)) ▸ child 1
     ∷ close 4 ▸ done
@@ -55,7 +55,7 @@ errors_through_a_pipe = (refl, refl)
 
 -- the child so far is waited for
 a_refused_pipe_ends_the_pipeline :
-    Does (codes "a | b | c") fresh
+    Performs (codes "a | b | c") fresh
     (make_pipe ▸ pair 3 4
     ∷ subshell (codes "rc1;c1,w1:a") usual (writing_to 4) ▸ child 1
     ∷ close 4 ▸ done
@@ -68,7 +68,7 @@ a_refused_pipe_ends_the_pipeline = (refl, refl)
 
 -- both ends of the new pipe are closed, and that of the one before
 a_refused_start_ends_the_pipeline :
-    Does (codes "a | b | c") fresh
+    Performs (codes "a | b | c") fresh
     (make_pipe ▸ pair 3 4
     ∷ subshell (codes "rc1;c1,w1:a") usual (writing_to 4) ▸ child 1
     ∷ close 4 ▸ done
@@ -84,7 +84,7 @@ a_refused_start_ends_the_pipeline = (refl, refl)
 
 -- what it assigns stays
 the_last_stage_is_run_by_the_shell_itself :
-    Does (codes "a | x=b; exit $x") fresh
+    Performs (codes "a | x=b; exit $x") fresh
     (make_pipe ▸ pair 3 4
     ∷ subshell (codes "rc1;c1,w1:a") usual (writing_to 4) ▸ child 1
     ∷ close 4 ▸ done
@@ -96,7 +96,7 @@ the_last_stage_is_run_by_the_shell_itself = (refl, refl)
 
 -- all files are closed before the child is waited for
 exit_in_the_last_stage_closes_then_waits :
-    Does (codes "{a | {exit 3}} >f") fresh
+    Performs (codes "{a | {exit 3}} >f") fresh
     (open_file (codes "f") Write ▸ file 5
     ∷ make_pipe ▸ pair 3 4
     ∷ subshell (codes "rc1;c1,w1:a") usual (writing_to 4) ▸ child 1
@@ -110,7 +110,7 @@ exit_in_the_last_stage_closes_then_waits = (refl, refl)
 
 -- read ends and files are closed from the innermost, and its child is waited for first
 exit_in_an_inner_pipeline :
-    Does (codes "a | {b | exit 4} >h") fresh
+    Performs (codes "a | {b | exit 4} >h") fresh
     (make_pipe ▸ pair 3 4
     ∷ subshell (codes "rc1;c1,w1:a") usual (writing_to 4) ▸ child 1
     ∷ close 4 ▸ done
@@ -129,7 +129,7 @@ exit_in_an_inner_pipeline = (refl, refl)
 
 -- the status is that of the program
 exec_in_the_last_stage :
-    Does (codes "a | exec b; c") fresh
+    Performs (codes "a | exec b; c") fresh
     (make_pipe ▸ pair 3 4
     ∷ subshell (codes "rc1;c1,w1:a") usual (writing_to 4) ▸ child 1
     ∷ close 4 ▸ done
@@ -142,7 +142,7 @@ exec_in_the_last_stage = (refl, refl)
 
 -- no call is refused
 a_pipeline_into_a_file :
-    Does (codes "{a | b} >f") fresh
+    Performs (codes "{a | b} >f") fresh
     (open_file (codes "f") Write ▸ file 3
     ∷ make_pipe ▸ pair 4 5
     ∷ subshell (codes "rc1;c1,w1:a") usual (writing_to 5) ▸ child 1
@@ -157,7 +157,7 @@ a_pipeline_into_a_file = (refl, refl)
 
 -- the first call is refused
 a_pipeline_whose_file_is_refused :
-    Does (codes "{a | b} >f") fresh
+    Performs (codes "{a | b} >f") fresh
     (open_file (codes "f") Write ▸ refused Other
     ∷ write (Own 2) (codes "rc: cannot open f\n") ▸ done ∷ [])
     (codes "error")
@@ -166,7 +166,7 @@ a_pipeline_whose_file_is_refused = (refl, refl)
 
 -- the file is closed
 a_pipeline_whose_pipe_is_refused :
-    Does (codes "{a | b} >f") fresh
+    Performs (codes "{a | b} >f") fresh
     (open_file (codes "f") Write ▸ file 3 ∷ make_pipe ▸ refused Other ∷ close 3 ▸ done ∷ [])
     (codes "cannot pipe")
 unfolding meant ran
@@ -174,7 +174,7 @@ a_pipeline_whose_pipe_is_refused = (refl, refl)
 
 -- both ends of the pipe are closed, and then the file
 a_pipeline_whose_first_start_is_refused :
-    Does (codes "{a | b} >f") fresh
+    Performs (codes "{a | b} >f") fresh
     (open_file (codes "f") Write ▸ file 3
     ∷ make_pipe ▸ pair 4 5
     ∷ subshell (codes "rc1;c1,w1:a") usual (writing_to 5) ▸ refused Other
@@ -187,7 +187,7 @@ a_pipeline_whose_first_start_is_refused = (refl, refl)
 
 -- the child is waited for all the same
 a_pipeline_whose_last_program_is_missing :
-    Does (codes "{a | b} >f") fresh
+    Performs (codes "{a | b} >f") fresh
     (open_file (codes "f") Write ▸ file 3
     ∷ make_pipe ▸ pair 4 5
     ∷ subshell (codes "rc1;c1,w1:a") usual (writing_to 5) ▸ child 1
@@ -203,7 +203,7 @@ a_pipeline_whose_last_program_is_missing = (refl, refl)
 
 -- its status says so
 a_pipeline_whose_last_wait_is_refused :
-    Does (codes "{a | b} >f") fresh
+    Performs (codes "{a | b} >f") fresh
     (open_file (codes "f") Write ▸ file 3
     ∷ make_pipe ▸ pair 4 5
     ∷ subshell (codes "rc1;c1,w1:a") usual (writing_to 5) ▸ child 1
@@ -220,7 +220,7 @@ a_pipeline_whose_last_wait_is_refused = (refl, refl)
 
 -- so does that of the first stage
 a_pipeline_whose_first_wait_is_refused :
-    Does (codes "{a | b} >f") fresh
+    Performs (codes "{a | b} >f") fresh
     (open_file (codes "f") Write ▸ file 3
     ∷ make_pipe ▸ pair 4 5
     ∷ subshell (codes "rc1;c1,w1:a") usual (writing_to 5) ▸ child 1
@@ -235,7 +235,7 @@ a_pipeline_whose_first_wait_is_refused = (refl, refl)
 
 -- each is called once
 refused_closes_change_nothing :
-    Does (codes "{a | b} >f") fresh
+    Performs (codes "{a | b} >f") fresh
     (open_file (codes "f") Write ▸ file 3
     ∷ make_pipe ▸ pair 4 5
     ∷ subshell (codes "rc1;c1,w1:a") usual (writing_to 5) ▸ child 1

@@ -6,11 +6,11 @@ use Rattle.rc_model.specs.declared.call.Slot.TheVariants.{Own}
 use Rattle.rc_model.specs.declared.call.Kind.TheVariants.{Program, Directory, Other as OtherKind}
 use Rattle.rc_model.specs.declared.call.Ending.TheVariants.{Code, Signal}
 use Rattle.rc_model.specs.declared.call.Fault.TheVariants.{Other, NoMemory}
-use Rattle.law_examples.specs.Shown.{fresh, with_value, usual, program, runs, Does, meant, ran, ◌▸◌}
+use Rattle.law_examples.specs.Shown.{fresh, with_value, usual, program, runs, Performs, meant, ran, ◌▸◌}
 
 -- it is reported in one write
 a_program_that_is_not_found :
-    Does (codes "nope") fresh
+    Performs (codes "nope") fresh
     (probe (codes "/bin/nope") ▸ refused Other
     ∷ write (Own 2) (codes "rc: nope: not found\n") ▸ done ∷ [])
     (codes "not found")
@@ -19,7 +19,7 @@ a_program_that_is_not_found = (refl, refl)
 
 -- a path is started without a probe; a refusal is reported
 a_path_is_not_looked_for :
-    Does (codes "/bin/x") fresh
+    Performs (codes "/bin/x") fresh
     (start (program (codes "/bin/x") [] usual plain) ▸ refused Other
     ∷ write (Own 2) (codes "rc: /bin/x: cannot start\n") ▸ done ∷ [])
     (codes "cannot start")
@@ -28,7 +28,7 @@ a_path_is_not_looked_for = (refl, refl)
 
 -- an empty member and `.` are this directory
 the_path_is_searched_in_order :
-    Does (codes "c") (with_value fresh (codes "path") (codes "/a" ∷ [] ∷ codes "." ∷ codes "b" ∷ []))
+    Performs (codes "c") (with_value fresh (codes "path") (codes "/a" ∷ [] ∷ codes "." ∷ codes "b" ∷ []))
     (probe (codes "/a/c") ▸ found Directory
     ∷ probe (codes "./c") ▸ refused Other
     ∷ probe (codes "./c") ▸ found OtherKind
@@ -41,20 +41,20 @@ the_path_is_searched_in_order = (refl, refl)
 
 -- without a call but its report
 the_empty_name_is_not_found :
-    Does (codes "''") fresh
+    Performs (codes "''") fresh
     (write (Own 2) (codes "rc: : not found\n") ▸ done ∷ [])
     (codes "not found")
 unfolding meant ran
 the_empty_name_is_not_found = (refl, refl)
 
 -- a code is its decimal
-codes_are_statuses : Does (codes "c") fresh (runs (codes "c") [] usual 1 255) (codes "255")
+codes_are_statuses : Performs (codes "c") fresh (runs (codes "c") [] usual 1 255) (codes "255")
 unfolding meant ran
 codes_are_statuses = (refl, refl)
 
 -- a child that a signal ended
 a_signal_is_a_status :
-    Does (codes "c") fresh
+    Performs (codes "c") fresh
     (probe (codes "/bin/c") ▸ found Program
     ∷ start (program (codes "/bin/c") [] usual plain) ▸ child 1
     ∷ wait 1 ▸ ended Signal ∷ [])
@@ -64,7 +64,7 @@ a_signal_is_a_status = (refl, refl)
 
 -- a wait that is refused
 a_refused_wait_is_a_status :
-    Does (codes "c") fresh
+    Performs (codes "c") fresh
     (probe (codes "/bin/c") ▸ found Program
     ∷ start (program (codes "/bin/c") [] usual plain) ▸ child 1
     ∷ wait 1 ▸ refused Other ∷ [])
@@ -74,7 +74,7 @@ a_refused_wait_is_a_status = (refl, refl)
 
 -- a probe that is answered by a file
 an_answer_of_another_kind_is_a_refusal :
-    Does (codes "c") fresh
+    Performs (codes "c") fresh
     (probe (codes "/bin/c") ▸ file 3 ∷ write (Own 2) (codes "rc: c: not found\n") ▸ done ∷ [])
     (codes "not found")
 unfolding meant ran
@@ -82,7 +82,7 @@ an_answer_of_another_kind_is_a_refusal = (refl, refl)
 
 -- in a list of answers
 refused_memory_is_a_refusal :
-    Does (codes "c") fresh
+    Performs (codes "c") fresh
     (probe (codes "/bin/c") ▸ found Program
     ∷ start (program (codes "/bin/c") [] usual plain) ▸ refused NoMemory
     ∷ write (Own 2) (codes "rc: c: cannot start\n") ▸ done ∷ [])

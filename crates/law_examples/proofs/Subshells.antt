@@ -5,11 +5,11 @@ use Rattle.rc_model.specs.Run.Calls.{calls, answers, plain, open_file, close, st
 use Rattle.rc_model.specs.declared.call.Mode.TheVariants.{Read, Write}
 use Rattle.rc_model.specs.declared.call.Ending.TheVariants.{Code}
 use Rattle.rc_model.specs.declared.call.Fault.TheVariants.{Other}
-use Rattle.law_examples.specs.Shown.{fresh, with_value, usual, writing_to, reading_from, shell, subshell, runs, Does, meant, ran, Leaves, meant_value, ran_value, does_handed, ◌▸◌}
+use Rattle.law_examples.specs.Shown.{fresh, with_value, usual, writing_to, reading_from, shell, subshell, runs, Performs, meant, ran, Leaves, meant_value, ran_value, does_handed, ◌▸◌}
 
 -- bytes 1 and 2 inside of members are escaped
 a_subshell_is_handed_arguments_and_variables :
-    Does (codes "@{echo $x}") (with_value (with_value fresh (codes "*") (codes "p" ∷ [])) (codes "x") (codes "A\u{1}B" ∷ [] ∷ codes "\u{2}" ∷ []))
+    Performs (codes "@{echo $x}") (with_value (with_value fresh (codes "*") (codes "p" ∷ [])) (codes "x") (codes "A\u{1}B" ∷ [] ∷ codes "\u{2}" ∷ []))
     (start (shell (codes "-S" ∷ codes "rc1;bs1,;c2,w4:echo$w1:x" ∷ codes "p" ∷ []) (usual ++ codes "x=A\u{2}AB\u{1}\u{1}\u{2}B" ∷ []) plain) ▸ child 1
     ∷ wait 1 ▸ ended (Code 5) ∷ [])
     (codes "5")
@@ -18,7 +18,7 @@ a_subshell_is_handed_arguments_and_variables = (refl, refl)
 
 -- entries stand in byte order, functions among them
 a_subshell_is_handed_functions :
-    Does (codes "fn f {echo hi}; @ f") fresh
+    Performs (codes "fn f {echo hi}; @ f") fresh
     (subshell (codes "rc1;c1,w1:f") (codes "fn#f=rc1;s1,;c2,w4:echow2:hi" ∷ usual) plain ▸ child 1
     ∷ wait 1 ▸ ended (Code 0) ∷ [])
     []
@@ -27,7 +27,7 @@ a_subshell_is_handed_functions = (refl, refl)
 
 -- a refused start is not reported
 a_refused_subshell :
-    Does (codes "@ c") fresh
+    Performs (codes "@ c") fresh
     (subshell (codes "rc1;c1,w1:c") usual plain ▸ refused Other ∷ [])
     (codes "cannot start")
 unfolding meant ran
@@ -35,7 +35,7 @@ a_refused_subshell = (refl, refl)
 
 -- a refused wait
 a_subshell_that_is_not_waited_for :
-    Does (codes "@ c") fresh
+    Performs (codes "@ c") fresh
     (subshell (codes "rc1;c1,w1:c") usual plain ▸ child 1 ∷ wait 1 ▸ refused Other ∷ [])
     (codes "cannot wait")
 unfolding meant ran
@@ -43,7 +43,7 @@ a_subshell_that_is_not_waited_for = (refl, refl)
 
 -- a redirection before a subshell
 a_subshell_takes_the_shells_descriptors :
-    Does (codes ">f @ c") fresh
+    Performs (codes ">f @ c") fresh
     (open_file (codes "f") Write ▸ file 3
     ∷ subshell (codes "rc1;c1,w1:c") usual (writing_to 3) ▸ child 1
     ∷ wait 1 ▸ ended (Code 0)
@@ -54,7 +54,7 @@ a_subshell_takes_the_shells_descriptors = (refl, refl)
 
 -- its input is empty, and its wait is made once
 a_command_in_the_background :
-    Does (codes "a & wait; wait") fresh
+    Performs (codes "a & wait; wait") fresh
     (open_file (codes "/dev/null") Read ▸ file 3
     ∷ subshell (codes "rc1;c1,w1:a") usual (reading_from 3) ▸ child 9
     ∷ close 3 ▸ done
@@ -76,7 +76,7 @@ the_number_of_the_last_child = (refl, refl)
 
 -- a child that was started leaves the status
 the_background_keeps_the_status :
-    Does (codes "~ a b; a &") fresh
+    Performs (codes "~ a b; a &") fresh
     (open_file (codes "/dev/null") Read ▸ file 3
     ∷ subshell (codes "rc1;c1,w1:a") (codes "path=/bin" ∷ codes "status=no match" ∷ []) (reading_from 3) ▸ child 9
     ∷ close 3 ▸ done ∷ [])
@@ -86,7 +86,7 @@ the_background_keeps_the_status = (refl, refl)
 
 -- the empty file is refused
 a_refused_background :
-    Does (codes "a &") fresh
+    Performs (codes "a &") fresh
     (open_file (codes "/dev/null") Read ▸ refused Other ∷ [])
     (codes "cannot open")
 unfolding meant ran
@@ -94,7 +94,7 @@ a_refused_background = (refl, refl)
 
 -- the file is closed
 a_refused_background_start :
-    Does (codes "a &") fresh
+    Performs (codes "a &") fresh
     (open_file (codes "/dev/null") Read ▸ file 3
     ∷ subshell (codes "rc1;c1,w1:a") usual (reading_from 3) ▸ refused Other
     ∷ close 3 ▸ done ∷ [])
@@ -104,7 +104,7 @@ a_refused_background_start = (refl, refl)
 
 -- the others stay; the status is that of the child
 waiting_for_one_child :
-    Does (codes "a & b & wait 9; wait") fresh
+    Performs (codes "a & b & wait 9; wait") fresh
     (open_file (codes "/dev/null") Read ▸ file 3
     ∷ subshell (codes "rc1;c1,w1:a") usual (reading_from 3) ▸ child 9
     ∷ close 3 ▸ done
@@ -118,13 +118,13 @@ unfolding meant ran
 waiting_for_one_child = (refl, refl)
 
 -- no call is made
-waiting_for_a_stranger : Does (codes "wait 7") fresh [] (codes "no such child")
+waiting_for_a_stranger : Performs (codes "wait 7") fresh [] (codes "no such child")
 unfolding meant ran
 waiting_for_a_stranger = (refl, refl)
 
 -- a refused wait is not made again
 a_child_is_forgotten_as_its_wait_is_called :
-    Does (codes "a & wait; wait 9") fresh
+    Performs (codes "a & wait; wait 9") fresh
     (open_file (codes "/dev/null") Read ▸ file 3
     ∷ subshell (codes "rc1;c1,w1:a") usual (reading_from 3) ▸ child 9
     ∷ close 3 ▸ done
@@ -149,7 +149,7 @@ it_has_its_arguments_and_functions = refl
 
 -- it is handed over as a whole
 a_pipeline_in_the_background :
-    Does (codes "a | b &") fresh
+    Performs (codes "a | b &") fresh
     (open_file (codes "/dev/null") Read ▸ file 3
     ∷ subshell (codes "rc1;p1,1c1,w1:ac1,w1:b") usual (reading_from 3) ▸ child 9
     ∷ close 3 ▸ done ∷ [])
@@ -159,7 +159,7 @@ a_pipeline_in_the_background = (refl, refl)
 
 -- so is one in braces
 a_pipeline_in_a_subshell :
-    Does (codes "@{b | c}") fresh
+    Performs (codes "@{b | c}") fresh
     (subshell (codes "rc1;bs1,;p1,1c1,w1:bc1,w1:c") usual plain ▸ child 1 ∷ wait 1 ▸ ended (Code 0) ∷ [])
     []
 unfolding meant ran

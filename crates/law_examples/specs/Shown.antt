@@ -182,8 +182,8 @@ unfolding tree
 ran text s given = seen (then ended_so (by_code text s given))
 
 -- The script makes these calls, with all their answers, and ends with this status: by its meaning and by its code.
-abbrev pub Does : (text : List ℕ) → State → List Event → (status : List ℕ) → Type 0
-Does text s trace status =
+abbrev pub Performs : (text : List ℕ) → State → List Event → (status : List ℕ) → Type 0
+Performs text s trace status =
     (meant text s (answers trace) ≡ Some (calls trace, status, [])) ×
     (ran text s (answers trace) ≡ Some (calls trace, status, []))
 

@@ -3,9 +3,9 @@
 #![tactic(auto)]
 
 ghost use Rattle.std.specs.Prelude.{[], ◌∷◌, codes};
-ghost use Rattle.law_examples.specs.Shown.{Does, fresh, runs, usual};
+ghost use Rattle.law_examples.specs.Shown.{Performs, fresh, runs, usual};
 
 /// A program is found in the path, started with the environment, and waited for.
 pub fn echo_hello()
-    ensures { Does (codes "echo hello") fresh (runs (codes "echo") (codes "hello" ∷ []) usual 7 0) [] }
+    ensures { Performs (codes "echo hello") fresh (runs (codes "echo") (codes "hello" ∷ []) usual 7 0) [] }
 {}

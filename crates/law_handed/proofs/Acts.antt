@@ -11,7 +11,7 @@ use Rattle.rc_model.specs.declared.call.Mode.{Mode}
 use Rattle.rc_model.specs.declared.call.Mode.TheVariants.{Read}
 use Rattle.rc_model.specs.Run.Calls.{to_file, with_slot, Launch, open_file, here, make_pipe, close, read, write, start, wait, list_names, probe, as_file, as_pair, as_bytes, as_kind, as_child, as_names}
 use Rattle.rc_model.specs.Run.Lists.{concatenated, list_words}
-use Rattle.rc_model.specs.Run.State.{State, got, is_name, is_readable, is_function_name, define, add_child}
+use Rattle.rc_model.specs.Run.State.{State, dollar_value, is_name, is_readable, is_function_name, define, add_child}
 use Rattle.rc_model.specs.Run.Plans.{Plan}
 use Rattle.rc_model.specs.Run.Shell.{Shell, ShellResult, under, leaves, ◌>>=◌, pure, call, say, change, exits}
 use Rattle.rc_model.specs.Run.FileNames.{components, directory, fitting_names, each_name, if_there, listed, step, walk, paths_of, or_itself, names_of, expanded_word, expanded}
@@ -54,7 +54,7 @@ gives_variable slots x = gives_one_name slots is_name (word_texts x)
 
 -- values
 keeps_value : (slots : Slots) (x : List Word) → Keeps (value slots x)
-keeps_value slots x = bind_so (one_name slots is_readable (word_texts x)) _ (gives_one_name slots is_readable (word_texts x)) (λ y h. gives_from (λ s. pure (got s y)) (λ t p. keeps_pure (got t y)))
+keeps_value slots x = bind_so (one_name slots is_readable (word_texts x)) _ (gives_one_name slots is_readable (word_texts x)) (λ y h. gives_from (λ s. pure (dollar_value s y)) (λ t p. keeps_pure (dollar_value t y)))
 
 pub keeps_value_words : (slots : Slots) (x : List Word) → Keeps (value_words slots x)
 keeps_value_words slots x = bind (value slots x) _ (keeps_value slots x) (λ v. keeps_pure (plain_words v))

@@ -3,19 +3,19 @@ use Rattle.std.proofs.Common.{◌≡◌, refl, ◌∙◌, ap, List, [], ◌∷�
 use Rattle.std.specs.Prelude.{true, if◌then◌else◌}
 use Rattle.rc_model.specs.Run.Calls.{Call, Answer, Event, event, extend, recorded_by, was_made, refused}
 use Rattle.rc_model.specs.declared.call.Fault.TheVariants.{Halt}
-use Rattle.rc_model.specs.Run.Plans.{Plan, done_with, ask, and_then, IsAnswered, Ran, Halted}
+use Rattle.rc_model.specs.Run.Plans.{Plan, done_with, ask, and_then, IsAnswered, RanBetween, Halted}
 use Rattle.rc_model.specs.Run.State.{State}
 use Rattle.rc_model.specs.Run.Shell.{ShellResult, Next, Exit, under}
 use Rattle.law_plans.proofs.Goes.{goes_append, goes_then, goes_under}
 use Rattle.law_plans.proofs.Recordings.{extend_nil, recorded_append, recorded_further}
 
 -- nothing was called
-pub ran_none : {X : Type 0} (a : Option (List Event)) (p : Plan X) → Ran a a p p
+pub ran_none : {X : Type 0} (a : Option (List Event)) (p : Plan X) → RanBetween a a p p
 ran_none a p = record { trace = []; recorded = extend_nil a; goes = refl }
 
 -- one call was made and answered
 pub ran_call : {X : Type 0} (a b : Option (List Event)) (call : Call) (x : Answer) (go : Answer → Plan X) →
-    was_made x ≡ true → IsAnswered call x → b ≡ extend a (recorded_by call x) → Ran a b (ask call go) (go x)
+    was_made x ≡ true → IsAnswered call x → b ≡ extend a (recorded_by call x) → RanBetween a b (ask call go) (go x)
 ran_call a b call x go made answered h =
     record {
       trace = event call x ∷ [];
@@ -30,7 +30,7 @@ halted_call a b call go h = record { trace = []; call = call; go = go; recorded 
 
 -- ** one run after another
 
-pub ran_join : {X : Type 0} (a b c : Option (List Event)) (p q r : Plan X) → Ran a b p q → Ran b c q r → Ran a c p r
+pub ran_join : {X : Type 0} (a b c : Option (List Event)) (p q r : Plan X) → RanBetween a b p q → RanBetween b c q r → RanBetween a c p r
 ran_join a b c p q r f g =
     record {
       trace = f.trace ++ g.trace;
@@ -38,7 +38,7 @@ ran_join a b c p q r f g =
       goes = goes_append p f.trace q g.trace r f.goes g.goes;
     }
 
-pub halted_join : {X : Type 0} (a b c : Option (List Event)) (p q : Plan X) → Ran a b p q → Halted b c q → Halted a c p
+pub halted_join : {X : Type 0} (a b c : Option (List Event)) (p q : Plan X) → RanBetween a b p q → Halted b c q → Halted a c p
 halted_join a b c p q f g =
     record {
       trace = f.trace ++ g.trace;
@@ -50,7 +50,7 @@ halted_join a b c p q f g =
 
 -- ** the first of two plans
 
-pub ran_then : {X Y : Type 0} (a b : Option (List Event)) (p q : Plan X) (next : X → Plan Y) → Ran a b p q → Ran a b (and_then p next) (and_then q next)
+pub ran_then : {X Y : Type 0} (a b : Option (List Event)) (p q : Plan X) (next : X → Plan Y) → RanBetween a b p q → RanBetween a b (and_then p next) (and_then q next)
 ran_then a b p q next f = record { trace = f.trace; recorded = f.recorded; goes = goes_then p f.trace q next f.goes }
 
 pub halted_then : {X Y : Type 0} (a b : Option (List Event)) (p : Plan X) (next : X → Plan Y) → Halted a b p → Halted a b (and_then p next)
@@ -65,13 +65,13 @@ halted_then a b p next f =
 
 -- a plan ended, and the one that follows went on
 pub ran_bind : {X Y : Type 0} (a b c : Option (List Event)) (p : Plan X) (x : X) (next : X → Plan Y) (q : Plan Y) →
-    Ran a b p (done_with x) → Ran b c (next x) q → Ran a c (and_then p next) q
+    RanBetween a b p (done_with x) → RanBetween b c (next x) q → RanBetween a c (and_then p next) q
 ran_bind a b c p x next q f g = ran_join a b c (and_then p next) (next x) q (ran_then a b p (done_with x) next f) g
 
 -- ** a piece of the shell with what follows it
 
 pub ran_under : {A X : Type 0} (a b : Option (List Event)) (p q : Plan (ShellResult A)) (go : A → State → Plan X) (leave : State → List ℕ → Plan X) →
-    Ran a b p q → Ran a b (under p go leave) (under q go leave)
+    RanBetween a b p q → RanBetween a b (under p go leave) (under q go leave)
 ran_under a b p q go leave f = record { trace = f.trace; recorded = f.recorded; goes = goes_under p f.trace q go leave f.goes }
 
 pub halted_under : {A X : Type 0} (a b : Option (List Event)) (p : Plan (ShellResult A)) (go : A → State → Plan X) (leave : State → List ℕ → Plan X) →
@@ -88,11 +88,11 @@ halted_under a b p go leave f =
 -- the piece came to a next state, and what follows went on
 pub ran_next : {A X : Type 0} (a b c : Option (List Event)) (p : Plan (ShellResult A)) (x : A) (s : State)
     (go : A → State → Plan X) (leave : State → List ℕ → Plan X) (q : Plan X) →
-    Ran a b p (done_with (Next x s)) → Ran b c (go x s) q → Ran a c (under p go leave) q
+    RanBetween a b p (done_with (Next x s)) → RanBetween b c (go x s) q → RanBetween a c (under p go leave) q
 ran_next a b c p x s go leave q f g = ran_join a b c (under p go leave) (go x s) q (ran_under a b p (done_with (Next x s)) go leave f) g
 
 -- the piece ended the shell, and what follows its end went on
 pub ran_exit : {A X : Type 0} (a b c : Option (List Event)) (p : Plan (ShellResult A)) (s : State) (owed : List ℕ)
     (go : A → State → Plan X) (leave : State → List ℕ → Plan X) (q : Plan X) →
-    Ran a b p (done_with (Exit s owed)) → Ran b c (leave s owed) q → Ran a c (under p go leave) q
+    RanBetween a b p (done_with (Exit s owed)) → RanBetween b c (leave s owed) q → RanBetween a c (under p go leave) q
 ran_exit a b c p s owed go leave q f g = ran_join a b c (under p go leave) (leave s owed) q (ran_under a b p (done_with (Exit s owed)) go leave f) g

@@ -8,7 +8,7 @@ use Rattle.std.specs.Str.{encode_utf8_all, bytes_eq}
 use Rattle.rc_model.specs.Syntax.Tokens as t
 use Rattle.rc_model.specs.Syntax.Tokens.{Lexeme, Token, PendingHereDoc, Outcome}
 use Rattle.rc_model.specs.Mirrors.Reading as r
-use Rattle.rc_model.specs.Mirrors.Reading.{State, AfterCharacter, goes, emit, bare_here, without_here, begin_line, bare, follow}
+use Rattle.rc_model.specs.Mirrors.Reading.{LexerState, AfterCharacter, goes, emit, bare_here, without_here, begin_line, bare, follow}
 use Rattle.law_syntax.proofs.Steps.{join_nil, follow_emit}
 use Rattle.law_syntax.proofs.Operators.{operated_run, LexemeEnds, operator_ends, plain_ends, same_due}
 use Rattle.law_syntax.specs.ByteReading as b
@@ -21,7 +21,7 @@ use Rattle.rc_model.specs.declared.syntax.Class.TheVariants as class
 
 -- a text is read as its bytes are, from each state
 abbrev pub Reads : List ℕ → Type 0
-Reads cs = (s : State) (due : List PendingHereDoc) (p : Place) → b.run s due p (encode_utf8_all cs) ≡ r.run s due p cs
+Reads cs = (s : LexerState) (due : List PendingHereDoc) (p : Place) → b.run s due p (encode_utf8_all cs) ≡ r.run s due p cs
 
 -- what comes of a step of each machine, with these characters after it
 abbrev pub by_bytes : Place → List ℕ → AfterCharacter → Outcome
@@ -132,7 +132,7 @@ same_at : (cs : List ℕ) (p : Place) (c : ℕ) (x y : AfterCharacter) → Reads
 same_at cs p c x y h a e = same_step (after_byte p c) (t.after_char p c) cs x y h (a.place p) e
 
 -- both go on alike
-goes_at : (cs : List ℕ) (p : Place) (c : ℕ) (ts : List Token) (s : State) (due : List PendingHereDoc) → Reads cs → IsAscii c → SameAt cs p c (goes ts s due) (goes ts s due)
+goes_at : (cs : List ℕ) (p : Place) (c : ℕ) (ts : List Token) (s : LexerState) (due : List PendingHereDoc) → Reads cs → IsAscii c → SameAt cs p c (goes ts s due) (goes ts s due)
 goes_at cs p c ts s due h a = same_at cs p c (goes ts s due) (goes ts s due) h a refl
 
 operator_same : (cs : List ℕ) (prev : Previous) (due : List PendingHereDoc) (p : Place) (c : ℕ) (v : Bool) → Reads cs → IsAscii c → t.awaits_mark prev ≡ false →
@@ -206,7 +206,7 @@ name_same : (cs : List ℕ) (q : Place) (text : List ℕ) (due : List PendingHer
 name_same cs q text due p c k true h a = same_at cs p c _ _ h a (ap (λ z. goes [] (r.Name q (text ++ z)) due) (sym a.byte))
 name_same cs q text due p c k false h a = ends_same cs previous.Dollar (t.Name text) q due p c k h a
 
-pub step_same : (cs : List ℕ) (s : State) (due : List PendingHereDoc) (p : Place) (c : ℕ) (k : Class) → Reads cs → IsAscii c →
+pub step_same : (cs : List ℕ) (s : LexerState) (due : List PendingHereDoc) (p : Place) (c : ℕ) (k : Class) → Reads cs → IsAscii c →
     SameAt cs p c (b.step s due p c k) (r.step s due p c k)
 step_same cs (r.Between prev) due p c k h a = begin_same cs prev due p c k h a
 step_same cs r.Comment due p c class.LineEnd h a = begin_same cs previous.Apart due p c class.LineEnd h a

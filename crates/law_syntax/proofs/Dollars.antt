@@ -5,7 +5,7 @@ use Rattle.std.proofs.lemmas.List.{append-nil, map-append}
 use Rattle.std.proofs.lemmas.Bool.{eqb-true}
 use Rattle.rc_model.specs.Syntax.Tokens as t
 use Rattle.rc_model.specs.Syntax.Tokens.{Lexeme, Token, PendingHereDoc, Outcome}
-use Rattle.rc_model.specs.Mirrors.Reading.{State, Between, Operator, goes, emit, begin, bare, after_dollars, closed, follow, run}
+use Rattle.rc_model.specs.Mirrors.Reading.{LexerState, Between, Operator, goes, emit, begin, bare, after_dollars, closed, follow, run}
 use Rattle.law_syntax.proofs.Steps.{join_nil, join_tokens, follow_emit, join_closed}
 use Rattle.law_syntax.proofs.Operators.{operated_run, operator_ends, LexemeEnds, same_due}
 use Rattle.rc_model.specs.declared.syntax.Place.{Place}
@@ -144,14 +144,14 @@ resolves_at c cs ih a true e f = subst (λ z. Resolves (z ∷ cs)) (sym (eqb-tru
     known ds due p = join_nil (run (Operator previous.Dollar ds p (36 ∷ [])) due (t.after_char p 36) cs) ∙ another ds due p cs ih
 resolves_at c cs ih true false e f =
     λ ds due p.
-    let go : State → List PendingHereDoc → Outcome = λ s' due'. run s' due' (t.after_char p c) cs in
+    let go : LexerState → List PendingHereDoc → Outcome = λ s' due'. run s' due' (t.after_char p c) cs in
     let k = t.class_of c in
     ap (λ b. follow (cond b (emit ds (begin previous.Dollar due p c k)) (cond (c == 36) (goes [] (Operator previous.Dollar ds p (c ∷ [])) due) (emit (bare ds) (begin previous.Apart due p c k)))) go) e
     ∙ follow_emit ds (begin previous.Dollar due p c k) go
     ∙ sym (ap (λ b. resolved (cond b true (cond (c == 36) (t.names cs) false)) ds due p (c ∷ cs)) e)
 resolves_at c cs ih false false e f =
     λ ds due p.
-    let go : State → List PendingHereDoc → Outcome = λ s' due'. run s' due' (t.after_char p c) cs in
+    let go : LexerState → List PendingHereDoc → Outcome = λ s' due'. run s' due' (t.after_char p c) cs in
     let k = t.class_of c in
     ap (λ b. follow (cond b (emit ds (begin previous.Dollar due p c k)) (cond (c == 36) (goes [] (Operator previous.Dollar ds p (c ∷ [])) due) (emit (bare ds) (begin previous.Apart due p c k)))) go) e
     ∙ ap (λ b. follow (cond b (goes [] (Operator previous.Dollar ds p (c ∷ [])) due) (emit (bare ds) (begin previous.Apart due p c k))) go) f

@@ -9,7 +9,7 @@ use Rattle.std.specs.Str.{encode_utf8_all}
 use Rattle.rc_model.specs.Syntax.Tokens as t
 use Rattle.rc_model.specs.Syntax.Tokens.{Lexeme, Token, PendingHereDoc, Outcome}
 use Rattle.rc_model.specs.Mirrors.Reading as r
-use Rattle.rc_model.specs.Mirrors.Reading.{State, AfterCharacter, goes, emit, bare, follow}
+use Rattle.rc_model.specs.Mirrors.Reading.{LexerState, AfterCharacter, goes, emit, bare, follow}
 use Rattle.law_syntax.proofs.Steps.{join_nil, follow_emit}
 use Rattle.law_syntax.specs.ByteReading as b
 use Rattle.law_syntax.specs.ByteReading.{after_byte, after_bytes}
@@ -21,14 +21,14 @@ use Rattle.rc_model.specs.declared.syntax.Previous.TheVariants as previous
 use Rattle.rc_model.specs.declared.syntax.Class.TheVariants as class
 
 -- states that a byte that is not ASCII only lengthens
-pub data Grows : (List ℕ → State) → Type 0 where
+pub data Grows : (List ℕ → LexerState) → Type 0 where
   word : (prev : Previous) (q : Place) (text : List ℕ) → Grows (λ xs. r.Word prev q (text ++ xs))
   word_begins : (prev : Previous) (q : Place) → Grows (λ xs. r.Word prev q xs)
   quoted : (prev : Previous) (q : Place) (text : List ℕ) → Grows (λ xs. r.Quoted prev q (text ++ xs))
   body : (d : PendingHereDoc) (body line : List ℕ) → Grows (λ xs. r.Body d body (line ++ xs))
   comment : Grows (λ xs. r.Comment)
 
-longer : (w : List ℕ → State) → Grows w → (xs : List ℕ) (due : List PendingHereDoc) (p : Place) (c : ℕ) →
+longer : (w : List ℕ → LexerState) → Grows w → (xs : List ℕ) (due : List PendingHereDoc) (p : Place) (c : ℕ) →
     b.step (w xs) due p c class.Ordinary ≡ goes [] (w (xs ++ c ∷ [])) due
 longer w (word prev q text) xs due p c = ap (λ z. goes [] (r.Word prev q z) due) (append_assoc text xs (c ∷ []))
 longer w (word_begins prev q) xs due p c = refl
@@ -37,11 +37,11 @@ longer w (body d body' line) xs due p c = ap (λ z. goes [] (r.Body d body' z) d
 longer w comment xs due p c = refl
 
 -- bytes that are not ASCII
-pub lengthened : (w : List ℕ → State) → Grows w → (xs bs rest : List ℕ) (due : List PendingHereDoc) (p : Place) → Highs bs →
+pub lengthened : (w : List ℕ → LexerState) → Grows w → (xs bs rest : List ℕ) (due : List PendingHereDoc) (p : Place) → Highs bs →
     b.run (w xs) due p (bs ++ rest) ≡ b.run (w (xs ++ bs)) due (after_bytes p bs) rest
 lengthened w g xs [] rest due p h = ap (λ z. b.run (w z) due p rest) (sym (append-nil xs))
 lengthened w g xs (c ∷ bs) rest due p (one c' bs' h hs) =
-    let then' : State → List PendingHereDoc → Outcome = λ s' due'. b.run s' due' (after_byte p c) (bs ++ rest) in
+    let then' : LexerState → List PendingHereDoc → Outcome = λ s' due'. b.run s' due' (after_byte p c) (bs ++ rest) in
     ap (λ k. follow (b.step (w xs) due p c k) then') (high_class c h)
     ∙ ap (λ z. follow z then') (longer w g xs due p c)
     ∙ join_nil (b.run (w (xs ++ c ∷ [])) due (after_byte p c) (bs ++ rest))
@@ -69,7 +69,7 @@ place_after cs p c first more h =
     (omega (arith, ap length h.are, length-encode c)) refl
     ∙ ap (λ v. record { byte = p.byte + len_utf8 c; line = cond v (suc p.line) p.line }) (sym (not_equal c 10 (omega (arith, h.high))))
 
-high_goes : (cs : List ℕ) (p : Place) (c first : ℕ) (more : List ℕ) → IsHigh cs c first more → (w : List ℕ → State) → Grows w → (due : List PendingHereDoc) →
+high_goes : (cs : List ℕ) (p : Place) (c first : ℕ) (more : List ℕ) → IsHigh cs c first more → (w : List ℕ → LexerState) → Grows w → (due : List PendingHereDoc) →
     SameHigh cs p c first more (goes [] (w (first ∷ [])) due) (goes [] (w (encode_utf8 c)) due)
 high_goes cs p c first more h w g due =
     ap (t.join [] [])
@@ -137,7 +137,7 @@ high_operator cs prev dollars q (Some t.DollarFlat) due p c first more h =
     (r.after_dollars (t.token t.DollarFlat q p ∷ []) due p c class.Ordinary) (high_dollars cs (t.token t.DollarFlat q p ∷ []) due p c first more h)
 high_operator cs prev dollars q (Some l) due p c first more h = high_ends cs prev (t.meant prev [] l) q due p c first more h
 
-pub high_step : (cs : List ℕ) (s : State) (due : List PendingHereDoc) (p : Place) (c first : ℕ) (more : List ℕ) → IsHigh cs c first more →
+pub high_step : (cs : List ℕ) (s : LexerState) (due : List PendingHereDoc) (p : Place) (c first : ℕ) (more : List ℕ) → IsHigh cs c first more →
     SameHigh cs p c first more (b.step s due p first class.Ordinary) (r.step s due p c class.Ordinary)
 high_step cs (r.Between prev) due p c first more h = high_begin cs prev due p c first more h
 high_step cs r.Comment due p c first more h = high_goes cs p c first more h (λ xs. r.Comment) comment due

@@ -4,13 +4,13 @@ use Rattle.std.specs.Prelude.{Ok, Err}
 use Rattle.std.proofs.lemmas.Bool.{eqb-true}
 use Rattle.rc_model.specs.Syntax.Tokens as t
 use Rattle.rc_model.specs.Syntax.Tokens.{Token, PendingHereDoc, Outcome}
-use Rattle.rc_model.specs.Mirrors.Reading.{State, AfterCharacter, emit, step, closed, follow, run}
+use Rattle.rc_model.specs.Mirrors.Reading.{LexerState, AfterCharacter, emit, step, closed, follow, run}
 use Rattle.rc_model.specs.declared.syntax.Place.{Place}
 use Rattle.rc_model.specs.declared.syntax.Class.{Class}
 use Rattle.rc_model.specs.declared.syntax.Class.TheVariants as class
 
 -- the run from a character of this class on
-abbrev pub run_at : State → List PendingHereDoc → Place → ℕ → List ℕ → Class → Outcome
+abbrev pub run_at : LexerState → List PendingHereDoc → Place → ℕ → List ℕ → Class → Outcome
 run_at s due p c cs k = follow (step s due p c k) (λ s' due'. run s' due' (t.after_char p c) cs)
 
 pub join_nil : (o : Outcome) → t.join [] [] o ≡ o
@@ -27,7 +27,7 @@ join_join ts us bs cs (Err f) = refl
 pub join_tokens : (ts us : List Token) (o : Outcome) → t.join (ts ++ us) [] o ≡ t.join ts [] (t.join us [] o)
 join_tokens ts us o = join_join ts us [] [] o
 
-pub follow_emit : (ts : List Token) (x : AfterCharacter) (f : State → List PendingHereDoc → Outcome) → follow (emit ts x) f ≡ t.join ts [] (follow x f)
+pub follow_emit : (ts : List Token) (x : AfterCharacter) (f : LexerState → List PendingHereDoc → Outcome) → follow (emit ts x) f ≡ t.join ts [] (follow x f)
 follow_emit ts (Ok x) f = join_join ts x.0 [] x.1 (f x.2 x.3)
 follow_emit ts (Err e) f = refl
 

@@ -6,8 +6,8 @@ use Rattle.std.specs.Str.{bytes_eq}
 use Rattle.rc_model.specs.Syntax.Tokens as t
 use Rattle.rc_model.specs.Syntax.Tokens.{Lexeme, Token, PendingHereDoc, Outcome}
 use Rattle.rc_model.specs.Mirrors.Reading as r
-use Rattle.rc_model.specs.Mirrors.Reading.{State, AfterCharacter, goes, emit, bare_here, without_here, begin_line, bare}
-use Rattle.rc_model.specs.Mirrors.Reading.{finish, follow}
+use Rattle.rc_model.specs.Mirrors.Reading.{LexerState, AfterCharacter, goes, emit, bare_here, without_here}
+use Rattle.rc_model.specs.Mirrors.Reading.{begin_line, bare, finish, follow}
 use Rattle.rc_model.specs.declared.fault.FaultKind.TheVariants.{BadDescriptor}
 use Rattle.rc_model.specs.declared.syntax.Place.{Place}
 use Rattle.rc_model.specs.declared.syntax.Previous.{Previous}
@@ -88,7 +88,7 @@ end_operator prev dollars q (Some t.DollarFlat) due p b k =
 end_operator prev dollars q (Some l) due p b k = ends prev (t.meant prev [] l) q due p b k
 
 -- one byte
-abbrev pub step : State → List PendingHereDoc → Place → ℕ → Class → AfterCharacter
+abbrev pub step : LexerState → List PendingHereDoc → Place → ℕ → Class → AfterCharacter
 step (r.Between prev) due p b k = begin prev due p b k
 step r.Comment due p b class.LineEnd = begin previous.Apart due p b class.LineEnd
 step r.Comment due p b k = goes [] r.Comment due
@@ -114,7 +114,7 @@ step (r.Body d body line) due p b class.LineEnd =
 step (r.Body d body line) due p b k = goes [] (r.Body d body (line ++ b ∷ [])) due
 
 -- the rest of a text
-abbrev pub run : State → List PendingHereDoc → Place → List ℕ → Outcome
+abbrev pub run : LexerState → List PendingHereDoc → Place → List ℕ → Outcome
 run s due p [] = finish s due p
 run s due p (b ∷ bs) = follow (step s due p b (t.class_of b)) (λ s' due'. run s' due' (after_byte p b) bs)
 
@@ -124,11 +124,11 @@ put ts bodies (Ok x) = Ok (ts ++ x.0, bodies ++ x.1, x.2, x.3)
 put ts bodies (Err f) = Err f
 
 -- one step, and then others
-abbrev pub chain : AfterCharacter → (State → List PendingHereDoc → AfterCharacter) → AfterCharacter
+abbrev pub chain : AfterCharacter → (LexerState → List PendingHereDoc → AfterCharacter) → AfterCharacter
 chain (Ok x) then' = put x.0 x.1 (then' x.2 x.3)
 chain (Err f) then' = Err f
 
 -- the steps over a part of a text
-abbrev pub through : State → List PendingHereDoc → Place → List ℕ → AfterCharacter
+abbrev pub through : LexerState → List PendingHereDoc → Place → List ℕ → AfterCharacter
 through s due p [] = goes [] s due
 through s due p (b ∷ bs) = chain (step s due p b (t.class_of b)) (λ s' due'. through s' due' (after_byte p b) bs)

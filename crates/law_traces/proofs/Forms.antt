@@ -8,7 +8,7 @@ use Rattle.rc_model.specs.Run.Lists.{concatenated, list_words}
 use Rattle.rc_model.specs.Run.Calls.{list_names, probe, change_dir, write, as_names}
 use Rattle.rc_model.specs.declared.call.Slots.{Slots}
 use Rattle.rc_model.specs.Run.Plans.{done_with}
-use Rattle.rc_model.specs.Run.State.{State, got, is_name, is_readable, is_function_name, define}
+use Rattle.rc_model.specs.Run.State.{State, dollar_value, is_name, is_readable, is_function_name, define}
 use Rattle.rc_model.specs.Run.Shell.{Shell, Exit, under, leaves, pure, call, get, change}
 use Rattle.rc_model.specs.Run.Acts.{one_name, variable, value, value_words, count_words, flat_words, selected_words, joined_lists, concat_words, define_each}
 use Rattle.rc_model.specs.Run.FileNames.{components, fitting_names, directory, each_name, listed, step, walk, paths_of, or_itself, names_of, expanded_word, expanded}
@@ -63,7 +63,7 @@ pub clean_variable : {slots : Slots} (x : List Word) → Clean slots (variable s
 clean_variable x = clean_one_name is_name (word_texts x)
 
 clean_value : {slots : Slots} (x : List Word) → Clean slots (value slots x)
-clean_value {slots = slots} x = clean_bind (one_name slots is_readable (word_texts x)) _ (clean_one_name is_readable (word_texts x)) (λ y. clean_from (λ s. pure (got s y)) (λ t. clean_pure (got t y)))
+clean_value {slots = slots} x = clean_bind (one_name slots is_readable (word_texts x)) _ (clean_one_name is_readable (word_texts x)) (λ y. clean_from (λ s. pure (dollar_value s y)) (λ t. clean_pure (dollar_value t y)))
 
 pub clean_value_words : {slots : Slots} (x : List Word) → Clean slots (value_words slots x)
 clean_value_words {slots = slots} x = clean_bind (value slots x) _ (clean_value x) (λ v. clean_pure (plain_words v))

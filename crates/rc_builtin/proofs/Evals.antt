@@ -18,7 +18,7 @@ use Rattle.rc_model.specs.Code.Layout.{code}
 use Rattle.rc_model.specs.Mirrors.TreeOfText.{tree_of}
 use Rattle.rc_model.specs.Run.Builtins.{Body, BodyWith, Finished, as_body, as_body_with, dot, whole_file}
 use Rattle.rc_model.specs.Run.Calls.{Event}
-use Rattle.rc_model.specs.Run.Plans.{Ran, done_with}
+use Rattle.rc_model.specs.Run.Plans.{RanBetween, done_with}
 use Rattle.rc_model.specs.Run.Shell.{Next}
 use Rattle.rc_model.specs.Run.State.{State, with_status}
 use Rattle.rc_model.specs.Syntax.Accepted.{IsAccepted, IsRefused}
@@ -100,25 +100,25 @@ module _ (recorded : Option (List Event)) (s t : State) (text : List ℕ) where
 -- ** a file of commands
 
 module _ (a b : Option (List Event)) (s : State) (ws : List (List ℕ)) (name : List ℕ) (args : List (List ℕ)) (is : ws ≡ name ∷ args)
-    (file : Option ReadFile) (f : Ran a b (dot (name ∷ args) s) (after_file args s file)) where
-  came_to : (this : Option ReadFile) → file ≡ this → Ran a b (dot ws s) (after_file args s this)
-  came_to this e = subst (λ o. Ran a b (dot ws s) (after_file args s o)) e (ran_as a b _ _ _ (ap (λ xs. dot xs s) is) f)
+    (file : Option ReadFile) (f : RanBetween a b (dot (name ∷ args) s) (after_file args s file)) where
+  came_to : (this : Option ReadFile) → file ≡ this → RanBetween a b (dot ws s) (after_file args s this)
+  came_to this e = subst (λ o. RanBetween a b (dot ws s) (after_file args s o)) e (ran_as a b _ _ _ (ap (λ xs. dot xs s) is) f)
 
   -- memory was refused after it was read
   pub left_file : Left a b (dot ws s) NoMemory
   left_file = left_here a b _ _ (came_to file refl)
 
   -- no file was opened
-  pub not_opened : (t : State) → file ≡ None → t ≡ with_status s (codes "cannot open") → Ran a b (dot ws s) (done_with (Next Finished t))
-  not_opened t e set = subst (λ u. Ran a b (dot ws s) (done_with (Next Finished u))) (sym set) (came_to None e)
+  pub not_opened : (t : State) → file ≡ None → t ≡ with_status s (codes "cannot open") → RanBetween a b (dot ws s) (done_with (Next Finished t))
+  not_opened t e set = subst (λ u. RanBetween a b (dot ws s) (done_with (Next Finished u))) (sym set) (came_to None e)
 
   module _ (read : ReadFile) (e : file ≡ Some read) where
-    came_so : (why : Option (List ℕ)) → (got_of read).why ≡ why → Ran a b (dot ws s) (whole_file args read.reader why s)
-    came_so why h = subst (λ o. Ran a b (dot ws s) (whole_file args read.reader o s)) h (came_to (Some read) e)
+    came_so : (why : Option (List ℕ)) → (got_of read).why ≡ why → RanBetween a b (dot ws s) (whole_file args read.reader why s)
+    came_so why h = subst (λ o. RanBetween a b (dot ws s) (whole_file args read.reader o s)) h (came_to (Some read) e)
 
     -- it was not read to the end
-    pub not_read : (why : List ℕ) (t : State) → (got_of read).why ≡ Some why → t ≡ with_status s why → Ran a b (dot ws s) (done_with (Next Finished t))
-    not_read why t h set = subst (λ u. Ran a b (dot ws s) (done_with (Next Finished u))) (sym set) (came_so (Some why) h)
+    pub not_read : (why : List ℕ) (t : State) → (got_of read).why ≡ Some why → t ≡ with_status s why → RanBetween a b (dot ws s) (done_with (Next Finished t))
+    not_read why t h set = subst (λ u. RanBetween a b (dot ws s) (done_with (Next Finished u))) (sym set) (came_so (Some why) h)
 
     -- it is run
     pub runs_file : (d : Option (List Event)) (t : State) (r : Result Outcome Stop) → (got_of read).why ≡ None

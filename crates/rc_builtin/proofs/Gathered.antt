@@ -3,7 +3,7 @@ use Rattle.std.proofs.Common.{◌≡◌, ℕ, List, [], ◌∷◌, ◌++◌, Opt
 use Rattle.std.proofs.lemmas.List.{append-nil}
 use Rattle.rc_model.specs.Run.Builtins.{Known, known_of, known_each, later}
 use Rattle.rc_model.specs.Run.Calls.{Event}
-use Rattle.rc_model.specs.Run.Plans.{Plan, done_with, Ran}
+use Rattle.rc_model.specs.Run.Plans.{Plan, done_with, RanBetween}
 use Rattle.rc_model.specs.Run.Shell.{ShellResult, Next, under, leaves}
 use Rattle.rc_model.specs.Run.State.{State}
 use Rattle.rc_world.specs.Comes.{Left}
@@ -25,7 +25,7 @@ abbrev pub gathered : List Known → Known → Known
 gathered [] k = k
 gathered (f ∷ ks) k = gathered ks (f.0 ++ k.0, later f.1 k.1)
 
-ran_led : (a b : Option (List Event)) (ks : List Known) (p q : Plan (ShellResult Known)) → Ran a b p q → Ran a b (led_by_all ks p) (led_by_all ks q)
+ran_led : (a b : Option (List Event)) (ks : List Known) (p q : Plan (ShellResult Known)) → RanBetween a b p q → RanBetween a b (led_by_all ks p) (led_by_all ks q)
 ran_led a b [] p q f = f
 ran_led a b (k ∷ ks) p q f = ran_led a b ks (led_by k p) (led_by k q) (ran_under a b p q (λ others t. done_with (Next (k.0 ++ others.0, later k.1 others.1) t)) leaves f)
 
@@ -48,7 +48,7 @@ later_none (Some status) = refl
 -- some names are shown, with these lines and this status, and the others are left
 pub record Gathers (a b : Option (List Event)) (names left : List (List ℕ)) (s : State) (lines : List ℕ) (status : Option (List ℕ)) : Type 0 where
   pub before : List Known
-  pub ran : Ran a b (known_each names s) (led_by_all before (known_each left s))
+  pub ran : RanBetween a b (known_each names s) (led_by_all before (known_each left s))
   pub sums : (k : Known) → gathered before k ≡ (lines ++ k.0, later status k.1)
 
 pub gathers_none : (a : Option (List Event)) (names : List (List ℕ)) (s : State) → Gathers a a names names s [] None
@@ -59,7 +59,7 @@ gathers_none a names s = record {
 }
 
 pub gathers_on : (a b c : Option (List Event)) (names left : List (List ℕ)) (s : State) (lines : List ℕ) (status : Option (List ℕ)) (name : List ℕ) (k : Known) →
-    Gathers a b names (name ∷ left) s lines status → Ran b c (known_of name s) (done_with (Next k s)) → Gathers a c names left s (lines ++ k.0) (later status k.1)
+    Gathers a b names (name ∷ left) s lines status → RanBetween b c (known_of name s) (done_with (Next k s)) → Gathers a c names left s (lines ++ k.0) (later status k.1)
 gathers_on a b c names left s lines status name k g f = record {
   before = k ∷ g.before;
   ran = ran_join a b c _ _ _ g.ran (ran_led b c g.before (known_each (name ∷ left) s) (led_by k (known_each left s))
@@ -77,7 +77,7 @@ gathers_left a b c stop names left s lines status name g f =
     (left_under b c stop (known_of name s) (λ first t. led_by first (known_each left t)) leaves f))
 
 pub gathers_all : (a b : Option (List Event)) (names : List (List ℕ)) (s : State) (lines : List ℕ) (status : Option (List ℕ)) →
-    Gathers a b names [] s lines status → Ran a b (known_each names s) (done_with (Next (lines, status) s))
+    Gathers a b names [] s lines status → RanBetween a b (known_each names s) (done_with (Next (lines, status) s))
 gathers_all a b names s lines status g =
-    subst (λ p. Ran a b (known_each names s) p)
+    subst (λ p. RanBetween a b (known_each names s) p)
     (ended g.before ([], None) s ∙ ap (λ k. done_with (Next k s)) (g.sums ([], None) ∙ ap (λ t. (t, status)) (append-nil lines))) g.ran

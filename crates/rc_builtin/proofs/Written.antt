@@ -4,7 +4,7 @@ use Rattle.std.specs.Prelude.{codes}
 use Rattle.rc_model.specs.declared.call.Slots.{Slots}
 use Rattle.rc_model.specs.Run.Builtins.{met, write_lines}
 use Rattle.rc_model.specs.Run.Calls.{Event, write, as_done}
-use Rattle.rc_model.specs.Run.Plans.{done_with, asks, Ran}
+use Rattle.rc_model.specs.Run.Plans.{done_with, asks, RanBetween}
 use Rattle.rc_model.specs.Run.Shell.{Next}
 use Rattle.rc_model.specs.Run.State.{State, with_status}
 use Rattle.rc_world.specs.Comes.{Left}
@@ -17,12 +17,12 @@ abbrev pub after_writing : Option (List ℕ) → Bool → List ℕ
 after_writing status done = cond done (met status) (codes "cannot write")
 
 pub ran_no_lines : (slots : Slots) (lines : List ℕ) (status : Option (List ℕ)) (s : State) (a : Option (List Event)) → length lines ≡ 0 →
-    Ran a a (write_lines slots lines status s) (done_with (Next tt (with_status s (met status))))
+    RanBetween a a (write_lines slots lines status s) (done_with (Next tt (with_status s (met status))))
 ran_no_lines slots [] status s a h = ran_none a _
 ran_no_lines slots (b ∷ bs) status s a h = absurd (omega (arith, h))
 
 pub ran_lines : (slots : Slots) (lines : List ℕ) (status : Option (List ℕ)) (s : State) (a b : Option (List Event)) (d : Bool) → (length lines ≡ 0 → ⊥) →
-    Ran a b (asks (write slots.output lines) as_done) (done_with d) → Ran a b (write_lines slots lines status s) (done_with (Next tt (with_status s (after_writing status d))))
+    RanBetween a b (asks (write slots.output lines) as_done) (done_with d) → RanBetween a b (write_lines slots lines status s) (done_with (Next tt (with_status s (after_writing status d))))
 ran_lines slots [] status s a b d h f = absurd (h refl)
 ran_lines slots (c ∷ cs) status s a b d h f =
     ran_answered a b b (write slots.output (c ∷ cs)) as_done d (λ x. done_with (Next tt (with_status s (after_writing status x)))) _ f (ran_none b _)

@@ -2,7 +2,7 @@
 -- characters.
 use Rattle.std.specs.Prelude.{◌≡◌, ℕ, ◌+◌, ◌≤◌, ◌==◌, ◌||◌, if◌then◌else◌, Bool, List, length, take, fold, nat_lt}
 use Rattle.rc_model.specs.Syntax.Accepted.{line_of}
-use Rattle.rc_check.specs.declared.positions.Reached.{Reached}
+use Rattle.rc_check.specs.declared.positions.ReachedPlace.{ReachedPlace}
 
 -- whether a byte begins a character
 abbrev pub begins_char : ℕ → Bool
@@ -26,7 +26,7 @@ pub record IsOnLine (text : List ℕ) (line : ℕ) (place : ℕ) : Type 0 where
   pub line_is : line_of text place ≡ line
 
 -- The place is in the text, or its end, and has this line and this column, which are bounded by it.
-pub record IsReached (text : List ℕ) (reached : Reached) : Type 0 where
+pub record IsReachedPlace (text : List ℕ) (reached : ReachedPlace) : Type 0 where
   pub within : reached.place ≤ length text
   pub line_is : reached.position.line ≡ line_of text reached.place
   pub column_is : reached.position.column ≡ column_of text reached.place

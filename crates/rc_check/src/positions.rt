@@ -2,7 +2,7 @@
 
 ghost use Rattle.std.specs.Prelude.{◌≡◌, ◌<◌, ◌≤◌, ◌+◌, ◌^◌, length, IfSome};
 ghost use Rattle.rc_model.specs.Syntax.Accepted.{line_of};
-ghost use Rattle.rc_check.specs.Positions.{IsOnLine, IsReached, column_of, next_column, next_line};
+ghost use Rattle.rc_check.specs.Positions.{IsOnLine, IsReachedPlace, column_of, next_column, next_line};
 
 /// The position of a byte in a text. Both numbers count from 1, and columns are of characters.
 #[derive(Clone, Copy)]
@@ -13,7 +13,7 @@ pub struct Position {
 
 /// A place in a text, with its position.
 #[derive(Clone, Copy)]
-pub(crate) struct Reached {
+pub(crate) struct ReachedPlace {
     pub(crate) place: usize,
     pub(crate) position: Position,
 }
@@ -28,19 +28,19 @@ pub fn position_of(text: &[u8], place: usize) -> Position
 }
 
 /// The beginning of a text.
-pub(crate) fn beginning(text: &[u8]) -> Reached
-    ensures reached { IsReached text.now result }
+pub(crate) fn beginning(text: &[u8]) -> ReachedPlace
+    ensures reached { IsReachedPlace text.now result }
     ensures there { result.place ≡ 0 }
 {
     let position = Position { line: 1, column: 1 };
-    Reached { place: 0, position }
+    ReachedPlace { place: 0, position }
 }
 
 /// Goes to a place in a text. If that is not before the place that is reached, only the bytes between them are read.
-pub(crate) fn go_to(text: &[u8], reached: Reached, place: usize) -> Reached
+pub(crate) fn go_to(text: &[u8], reached: ReachedPlace, place: usize) -> ReachedPlace
     requires within { place ≤ length text.now }
-    requires reached { IsReached text.now reached }
-    ensures reached { IsReached text.now result }
+    requires reached { IsReachedPlace text.now reached }
+    ensures reached { IsReachedPlace text.now result }
     ensures there { result.place ≡ place }
 {
     if reached.place <= place {
@@ -52,11 +52,11 @@ pub(crate) fn go_to(text: &[u8], reached: Reached, place: usize) -> Reached
 
 /// Goes forward to a place in a text.
 #[tactic(auto, using(std::proofs::lemmas::List::Sums::fold_more, crate::proofs::Lines::line_more))]
-fn walk(text: &[u8], reached: Reached, place: usize) -> Reached
+fn walk(text: &[u8], reached: ReachedPlace, place: usize) -> ReachedPlace
     requires before { reached.place ≤ place }
     requires within { place ≤ length text.now }
-    requires reached { IsReached text.now reached }
-    ensures reached { IsReached text.now result }
+    requires reached { IsReachedPlace text.now reached }
+    ensures reached { IsReachedPlace text.now result }
     ensures there { result.place ≡ place }
 {
     let Position {
@@ -68,7 +68,7 @@ fn walk(text: &[u8], reached: Reached, place: usize) -> Reached
         column = next_column(column, text[at]);
     }
     let position = Position { line, column };
-    Reached { place, position }
+    ReachedPlace { place, position }
 }
 
 /// The line after a byte.

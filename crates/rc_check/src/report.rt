@@ -4,7 +4,7 @@ ghost use Rattle.std.specs.Prelude.{IsTrue, ◌↔◌, IfOk};
 ghost use Rattle.rc_check.specs.Findings.{IsScript};
 
 use crate::faults::findings::{Finding, first_fault};
-use crate::positions::{Position, Reached, beginning, go_to, position_of};
+use crate::positions::{Position, ReachedPlace, beginning, go_to, position_of};
 use crate::warnings::walk::warnings_of;
 use crate::warnings::warning::WarningKind;
 use std::alloc::{AllocError, Global};
@@ -92,7 +92,7 @@ fn show_warning(
     name: &str,
     script: &[u8],
     kind: WarningKind,
-    reached: Reached,
+    reached: ReachedPlace,
 ) -> Result<(), AllocError> {
     let short = kind.name();
     show_place(out, name, reached.position)?;

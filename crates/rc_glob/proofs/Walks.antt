@@ -8,7 +8,7 @@ use Rattle.std.specs.declared.string.String.{String}
 use Rattle.rc_model.specs.Syntax.Words.{Word, has_pattern, plain_words, word_text}
 use Rattle.rc_model.specs.Run.Calls.{Event, list_names, as_names, probe, as_kind}
 use Rattle.rc_model.specs.declared.call.Kind.{Kind}
-use Rattle.rc_model.specs.Run.Plans.{Plan, done_with, asks, Ran}
+use Rattle.rc_model.specs.Run.Plans.{Plan, done_with, asks, RanBetween}
 use Rattle.rc_model.specs.Run.Shell.{ShellResult, Next, Shell, ◌>>=◌, leaves, pure, under}
 use Rattle.rc_model.specs.Run.State.{State}
 use Rattle.rc_model.specs.Run.FileNames.{components, each_name, expanded, expanded_word, fitting_names, directory, if_there, listed, names_of, or_itself, ordered, walk}
@@ -29,21 +29,21 @@ both m rest = m >>= (λ first. rest >>= (λ others. pure (first ++ others)))
 
 -- Of a whole list, these were found between two records of the world, and the rest is still to be found.
 pub record Collected {A : Type 0} (before now : Option (List Event)) (s : State) (whole rest : Plan (ShellResult (List A))) (found : List A) : Type 0 where
-  pub ends : (later : Option (List Event)) (others : List A) → Ran now later rest (done_with (Next others s)) → Ran before later whole (done_with (Next (found ++ others) s))
+  pub ends : (later : Option (List Event)) (others : List A) → RanBetween now later rest (done_with (Next others s)) → RanBetween before later whole (done_with (Next (found ++ others) s))
   pub left : (later : Option (List Event)) (stop : Stop) → Left now later rest stop → Left before later whole stop
 
 module _ {A : Type 0} (s : State) where
-  pub collected_from : (a b : Option (List Event)) (whole rest : Plan (ShellResult (List A))) → Ran a b whole rest → Collected a b s whole rest []
+  pub collected_from : (a b : Option (List Event)) (whole rest : Plan (ShellResult (List A))) → RanBetween a b whole rest → Collected a b s whole rest []
   collected_from a b whole rest h = record {
     ends = λ later others r. ran_join a b later whole rest (done_with (Next others s)) h r;
     left = λ later stop l. left_join a b later stop whole rest h l;
   }
 
   pub collected_step : (a b c : Option (List Event)) (whole : Plan (ShellResult (List A))) (m rest : Shell (List A)) (found first : List A) →
-      Collected a b s whole (both m rest s) found → Ran b c (m s) (done_with (Next first s)) → Collected a c s whole (rest s) (found ++ first)
+      Collected a b s whole (both m rest s) found → RanBetween b c (m s) (done_with (Next first s)) → Collected a c s whole (rest s) (found ++ first)
   collected_step a b c whole m rest found first so_far h = record {
     ends = λ later others r.
-        subst (λ l. Ran a later whole (done_with (Next l s))) (sym (append_assoc found first others))
+        subst (λ l. RanBetween a later whole (done_with (Next l s))) (sym (append_assoc found first others))
         (so_far.ends later (first ++ others)
         (ran_do m (λ first. rest >>= (λ others. pure (first ++ others))) h (ran_do rest (λ others. pure (first ++ others)) r (ran_none later (done_with (Next (first ++ others) s))))));
     left = λ later stop l. so_far.left later stop (left_done m (λ first. rest >>= (λ others. pure (first ++ others))) h (left_do rest (λ others. pure (first ++ others)) l));
@@ -56,10 +56,10 @@ module _ {A : Type 0} (s : State) where
   pub collected_memory : (a b : Option (List Event)) (whole rest : Plan (ShellResult (List A))) (found : List A) → Collected a b s whole rest found → Left a b whole NoMemory
   collected_memory a b whole rest found so_far = so_far.left b NoMemory (left_memory b rest)
 
-  pub collected_end : (a b : Option (List Event)) (whole rest : Plan (ShellResult (List A))) (found : List A) → rest ≡ done_with (Next [] s) → Collected a b s whole rest found → Ran a b whole (done_with (Next found s))
+  pub collected_end : (a b : Option (List Event)) (whole rest : Plan (ShellResult (List A))) (found : List A) → rest ≡ done_with (Next [] s) → Collected a b s whole rest found → RanBetween a b whole (done_with (Next found s))
   collected_end a b whole rest found e so_far =
-      subst (λ l. Ran a b whole (done_with (Next l s))) (append-nil found)
-      (so_far.ends b [] (subst (λ p. Ran b b p (done_with (Next [] s))) (sym e) (ran_none b (done_with (Next [] s)))))
+      subst (λ l. RanBetween a b whole (done_with (Next l s))) (append-nil found)
+      (so_far.ends b [] (subst (λ p. RanBetween b b p (done_with (Next [] s))) (sym e) (ran_none b (done_with (Next [] s)))))
 
 -- ** the names in a directory
 
@@ -73,11 +73,11 @@ module _ (c : Word) (path : List ℕ) where
       Left a b (asks (list_names (directory path)) (λ x. fitting_names c (as_names x))) stop
   left_listing a b stop p e l = left_asked a b stop (list_names (directory path)) as_names (λ v. done_with (fitting_names c v)) (subst (λ p. Left a b (asks (list_names p) as_names) stop) e l)
 
-  pub ran_listing : (a b : Option (List Event)) (p : List ℕ) (v : Option (List (List ℕ))) (names : List (List ℕ)) → p ≡ directory path → Ran a b (asks (list_names p) as_names) (done_with v) → names ≡ fitting_names c v →
-      Ran a b (asks (list_names (directory path)) (λ x. fitting_names c (as_names x))) (done_with names)
+  pub ran_listing : (a b : Option (List Event)) (p : List ℕ) (v : Option (List (List ℕ))) (names : List (List ℕ)) → p ≡ directory path → RanBetween a b (asks (list_names p) as_names) (done_with v) → names ≡ fitting_names c v →
+      RanBetween a b (asks (list_names (directory path)) (λ x. fitting_names c (as_names x))) (done_with names)
   ran_listing a b p v names e h q =
-      ran_answered a b b (list_names (directory path)) as_names v (λ v. done_with (fitting_names c v)) (done_with names) (subst (λ p. Ran a b (asks (list_names p) as_names) (done_with v)) e h)
-      (subst (λ l. Ran b b (done_with (fitting_names c v)) (done_with l)) (sym q) (ran_none b (done_with (fitting_names c v))))
+      ran_answered a b b (list_names (directory path)) as_names v (λ v. done_with (fitting_names c v)) (done_with names) (subst (λ p. RanBetween a b (asks (list_names p) as_names) (done_with v)) e h)
+      (subst (λ l. RanBetween b b (done_with (fitting_names c v)) (done_with l)) (sym q) (ran_none b (done_with (fitting_names c v))))
 
   -- and then each of them
   pub left_listed : (a b : Option (List Event)) (stop : Stop) (s : State) (next : List ℕ → Shell (List (List ℕ))) (whole : Shell (List (List ℕ))) (p : List ℕ) → whole ≡ listed c next path → p ≡ path →
@@ -88,31 +88,31 @@ module _ (c : Word) (path : List ℕ) where
       (subst (λ p. Left a b (asks (list_names (directory p)) (λ x. fitting_names c (as_names x))) stop) e l))
 
   pub begun : (a b : Option (List Event)) (s : State) (next : List ℕ → Shell (List (List ℕ))) (whole : Shell (List (List ℕ))) (p : List ℕ) (items given : List (String Global)) (found : List Text) →
-      whole ≡ listed c next path → p ≡ path → Ran a b (asks (list_names (directory p)) (λ x. fitting_names c (as_names x))) (done_with (map string_bytes items)) → given ≡ items → found ≡ [] →
+      whole ≡ listed c next path → p ≡ path → RanBetween a b (asks (list_names (directory p)) (λ x. fitting_names c (as_names x))) (done_with (map string_bytes items)) → given ≡ items → found ≡ [] →
       Collected a b s (whole s) (each_name next path (map string_bytes given) s) (map text_bytes found)
   begun a b s next whole p items given found w e h g n =
       let names = map string_bytes given in
-      let listing : Ran a b (asks (list_names (directory path)) (λ x. fitting_names c (as_names x))) (done_with names) =
-      subst (λ l. Ran a b (asks (list_names (directory path)) (λ x. fitting_names c (as_names x))) (done_with (map string_bytes l))) (sym g)
-      (subst (λ p. Ran a b (asks (list_names (directory p)) (λ x. fitting_names c (as_names x))) (done_with (map string_bytes items))) e h) in
-      let ran : Ran a b (listed c next path s) (each_name next path names s) =
+      let listing : RanBetween a b (asks (list_names (directory path)) (λ x. fitting_names c (as_names x))) (done_with names) =
+      subst (λ l. RanBetween a b (asks (list_names (directory path)) (λ x. fitting_names c (as_names x))) (done_with (map string_bytes l))) (sym g)
+      (subst (λ p. RanBetween a b (asks (list_names (directory p)) (λ x. fitting_names c (as_names x))) (done_with (map string_bytes items))) e h) in
+      let ran : RanBetween a b (listed c next path s) (each_name next path names s) =
       ran_answered a b b (list_names (directory path)) (λ x. fitting_names c (as_names x)) names (λ ns. each_name next path ns s) (each_name next path names s) listing (ran_none b (each_name next path names s)) in
       subst (λ f. Collected a b s (whole s) (each_name next path names s) (map text_bytes f)) (sym n)
-      (collected_from s a b (whole s) (each_name next path names s) (subst (λ m. Ran a b (m s) (each_name next path names s)) (sym w) ran))
+      (collected_from s a b (whole s) (each_name next path names s) (subst (λ m. RanBetween a b (m s) (each_name next path names s)) (sym w) ran))
 
   module _ (a b : Option (List Event)) (s : State) (next : List ℕ → Shell (List (List ℕ))) (whole : Shell (List (List ℕ))) (p : List ℕ) (items : List (String Global))
-      (w : whole ≡ listed c next path) (e : p ≡ path) (h : Ran a b (asks (list_names (directory p)) (λ x. fitting_names c (as_names x))) (done_with (map string_bytes items))) where
+      (w : whole ≡ listed c next path) (e : p ≡ path) (h : RanBetween a b (asks (list_names (directory p)) (λ x. fitting_names c (as_names x))) (done_with (map string_bytes items))) where
     pub left_alone : Left a b (whole s) NoMemory
     left_alone = collected_memory s a b (whole s) (each_name next path (map string_bytes items) s) [] (begun a b s next whole p items items [] w e h refl refl)
 
     pub ran_alone : (q : List ℕ) (paths : List Text) → next ≡ walk [] → q ≡ path → map text_bytes paths ≡ map (λ n. q ++ n) (map string_bytes items) →
-        Ran a b (whole s) (done_with (Next (map text_bytes paths) s))
+        RanBetween a b (whole s) (done_with (Next (map text_bytes paths) s))
     ran_alone q paths n d k =
         let names = map string_bytes items in
         let alone : each_name next path names s ≡ done_with (Next (map text_bytes paths) s) =
         ap (λ f. each_name f path names s) n ∙ (each_name_alone path names s ∙ ap (λ l. done_with (Next l s)) (ap (λ t. map (λ n. t ++ n) names) (sym d) ∙ sym k)) in
         (begun a b s next whole p items items [] w e h refl refl).ends b (map text_bytes paths)
-        (subst (λ m. Ran b b m (done_with (Next (map text_bytes paths) s))) (sym alone) (ran_none b (done_with (Next (map text_bytes paths) s))))
+        (subst (λ m. RanBetween b b m (done_with (Next (map text_bytes paths) s))) (sym alone) (ran_none b (done_with (Next (map text_bytes paths) s))))
 
 pub joined_is : (w a b p n : List ℕ) → w ≡ a ++ b → a ≡ p → b ≡ n → w ≡ p ++ n
 joined_is w a b p n h e k = h ∙ (ap (λ t. t ++ b) e ∙ ap (λ t. p ++ t) k)
@@ -137,12 +137,12 @@ module _ (a b : Option (List Event)) (s : State) (whole : Plan (ShellResult (Lis
   at_name name lt is so_far = subst (λ ns. Collected a b s whole (each_name f path ns s) (map text_bytes found)) (names_left names i name lt is) so_far
 
   pub next_name : (c : Option (List Event)) (name : String Global) (below new : List Text) (w : List ℕ) → i < length names → name ≡ get_or names i name → w ≡ path ++ string_bytes name → new ≡ found ++ below →
-      At b i found → Ran b c (f w s) (done_with (Next (map text_bytes below) s)) → At c (i + 1) new
+      At b i found → RanBetween b c (f w s) (done_with (Next (map text_bytes below) s)) → At c (i + 1) new
   next_name c name below new w lt is e n so_far h =
       let rest = each_name f path (map string_bytes (drop (i + 1) names)) in
       subst (λ l. Collected a c s whole (rest s) l) (sym (ap (map text_bytes) n ∙ map-append text_bytes found below))
       (collected_step s a b c whole (f (path ++ string_bytes name)) rest (map text_bytes found) (map text_bytes below) (at_name name lt is so_far)
-      (subst (λ w. Ran b c (f w s) (done_with (Next (map text_bytes below) s))) e h))
+      (subst (λ w. RanBetween b c (f w s) (done_with (Next (map text_bytes below) s))) e h))
 
   pub left_name : (c : Option (List Event)) (stop : Stop) (name : String Global) (w : List ℕ) → i < length names → name ≡ get_or names i name → w ≡ path ++ string_bytes name →
       At b i found → Left b c (f w s) stop → Left a c whole stop
@@ -155,14 +155,14 @@ module _ (a b : Option (List Event)) (s : State) (whole : Plan (ShellResult (Lis
 
   -- a name was walked, and what it gave could not be added
   pub memory_after_name : (c : Option (List Event)) (name : String Global) (below : List Text) (w : List ℕ) → i < length names → name ≡ get_or names i name → w ≡ path ++ string_bytes name →
-      At b i found → Ran b c (f w s) (done_with (Next (map text_bytes below) s)) → Left a c whole NoMemory
+      At b i found → RanBetween b c (f w s) (done_with (Next (map text_bytes below) s)) → Left a c whole NoMemory
   memory_after_name c name below w lt is e so_far h =
       let rest = each_name f path (map string_bytes (drop (i + 1) names)) in
       collected_memory s a c whole (rest s) (map text_bytes found ++ map text_bytes below)
       (collected_step s a b c whole (f (path ++ string_bytes name)) rest (map text_bytes found) (map text_bytes below) (at_name name lt is so_far)
-      (subst (λ w. Ran b c (f w s) (done_with (Next (map text_bytes below) s))) e h))
+      (subst (λ w. RanBetween b c (f w s) (done_with (Next (map text_bytes below) s))) e h))
 
-  pub no_names_left : length names ≤ i → At b i found → Ran a b whole (done_with (Next (map text_bytes found) s))
+  pub no_names_left : length names ≤ i → At b i found → RanBetween a b whole (done_with (Next (map text_bytes found) s))
   no_names_left l so_far =
       collected_end s a b whole (each_name f path (map string_bytes (drop i names)) s) (map text_bytes found) (ap (λ ns. each_name f path (map string_bytes ns) s) (drop_all i names l)) so_far
 
@@ -175,7 +175,7 @@ module _ (a b : Option (List Event)) (s : State) (whole : Plan (ShellResult (Lis
   at_word w lt is so_far = subst (λ ws. Collected a b s whole (expanded ws s) found) (words_left words i w lt is) so_far
 
   pub next_word : (c : Option (List Event)) (w : Word) (first new : List Word) → i < length words → w ≡ get_or words i w → new ≡ found ++ first → AtWord b i found →
-      Ran b c (expanded_word w s) (done_with (Next first s)) → AtWord c (i + 1) new
+      RanBetween b c (expanded_word w s) (done_with (Next first s)) → AtWord c (i + 1) new
   next_word c w first new lt is n so_far h =
       subst (λ l. Collected a c s whole (expanded (drop (i + 1) words) s) l) (sym n)
       (collected_step s a b c whole (expanded_word w) (expanded (drop (i + 1) words)) found first (at_word w lt is so_far) h)
@@ -183,12 +183,12 @@ module _ (a b : Option (List Event)) (s : State) (whole : Plan (ShellResult (Lis
   pub left_word : (c : Option (List Event)) (stop : Stop) (w : Word) → i < length words → w ≡ get_or words i w → AtWord b i found → Left b c (expanded_word w s) stop → Left a c whole stop
   left_word c stop w lt is so_far l = collected_left s a b c stop whole (expanded_word w) (expanded (drop (i + 1) words)) found (at_word w lt is so_far) l
 
-  pub memory_after_word : (c : Option (List Event)) (w : Word) (first : List Word) → i < length words → w ≡ get_or words i w → AtWord b i found → Ran b c (expanded_word w s) (done_with (Next first s)) → Left a c whole NoMemory
+  pub memory_after_word : (c : Option (List Event)) (w : Word) (first : List Word) → i < length words → w ≡ get_or words i w → AtWord b i found → RanBetween b c (expanded_word w s) (done_with (Next first s)) → Left a c whole NoMemory
   memory_after_word c w first lt is so_far h =
       collected_memory s a c whole (expanded (drop (i + 1) words) s) (found ++ first)
       (collected_step s a b c whole (expanded_word w) (expanded (drop (i + 1) words)) found first (at_word w lt is so_far) h)
 
-  pub no_words_left : length words ≤ i → AtWord b i found → Ran a b whole (done_with (Next found s))
+  pub no_words_left : length words ≤ i → AtWord b i found → RanBetween a b whole (done_with (Next found s))
   no_words_left l so_far = collected_end s a b whole (expanded (drop i words) s) found (ap (λ ws. expanded ws s) (drop_all i words l)) so_far
 
 -- ** a path that is there
@@ -200,28 +200,28 @@ module _ (path : List ℕ) (s : State) where
   pub left_probe : (a b : Option (List Event)) (stop : Stop) (p : List ℕ) → p ≡ path → Left a b (asks (probe p) as_kind) stop → Left a b (if_there path s) stop
   left_probe a b stop p e l = left_asked a b stop (probe path) as_kind next (subst (λ p. Left a b (asks (probe p) as_kind) stop) e l)
 
-  pub left_probed : (a b : Option (List Event)) (p : List ℕ) (k : Option Kind) → p ≡ path → Ran a b (asks (probe p) as_kind) (done_with k) → Left a b (if_there path s) NoMemory
-  left_probed a b p k e h = left_answered a b b NoMemory (probe path) as_kind k next (subst (λ p. Ran a b (asks (probe p) as_kind) (done_with k)) e h) (left_memory b (next k))
+  pub left_probed : (a b : Option (List Event)) (p : List ℕ) (k : Option Kind) → p ≡ path → RanBetween a b (asks (probe p) as_kind) (done_with k) → Left a b (if_there path s) NoMemory
+  left_probed a b p k e h = left_answered a b b NoMemory (probe path) as_kind k next (subst (λ p. RanBetween a b (asks (probe p) as_kind) (done_with k)) e h) (left_memory b (next k))
 
-  pub ran_probed : (a b : Option (List Event)) (p : List ℕ) (k : Option Kind) (paths : List (List ℕ)) → p ≡ path → Ran a b (asks (probe p) as_kind) (done_with k) → paths ≡ (if is_some k then path ∷ [] else []) →
-      Ran a b (if_there path s) (done_with (Next paths s))
+  pub ran_probed : (a b : Option (List Event)) (p : List ℕ) (k : Option Kind) (paths : List (List ℕ)) → p ≡ path → RanBetween a b (asks (probe p) as_kind) (done_with k) → paths ≡ (if is_some k then path ∷ [] else []) →
+      RanBetween a b (if_there path s) (done_with (Next paths s))
   ran_probed a b p k paths d h e =
-      ran_answered a b b (probe path) as_kind k next (done_with (Next paths s)) (subst (λ p. Ran a b (asks (probe p) as_kind) (done_with k)) d h)
-      (subst (λ l. Ran b b (next k) (done_with (Next l s))) (sym e) (ran_none b (next k)))
+      ran_answered a b b (probe path) as_kind k next (done_with (Next paths s)) (subst (λ p. RanBetween a b (asks (probe p) as_kind) (done_with k)) d h)
+      (subst (λ l. RanBetween b b (next k) (done_with (Next l s))) (sym e) (ran_none b (next k)))
 
 -- ** one word
 
 -- a plan that came to its value
-pub ran_value : {X : Type 0} (a : Option (List Event)) (s : State) (x y : X) → x ≡ y → Ran a a (done_with (Next y s)) (done_with (Next x s))
-ran_value a s x y h = subst (λ z. Ran a a (done_with (Next y s)) (done_with (Next z s))) (sym h) (ran_none a (done_with (Next y s)))
+pub ran_value : {X : Type 0} (a : Option (List Event)) (s : State) (x y : X) → x ≡ y → RanBetween a a (done_with (Next y s)) (done_with (Next x s))
+ran_value a s x y h = subst (λ z. RanBetween a a (done_with (Next y s)) (done_with (Next z s))) (sym h) (ran_none a (done_with (Next y s)))
 
 pub comes_alone : (a b : Option (List Event)) (s : State) (p : Plan (ShellResult (List Word))) (x : List Word) (r : Outcome (List Word) Stop) → MatchResult r (λ list. list ≡ x) (λ stop. stop ≡ NoMemory) →
-    Ran a b p (done_with (Next x s)) → Comes a b p (λ list. Next list s) r
-comes_alone a b s p x (Ok v) h ran = subst (λ l. Ran a b p (done_with (Next l s))) (sym h) ran
+    RanBetween a b p (done_with (Next x s)) → Comes a b p (λ list. Next list s) r
+comes_alone a b s p x (Ok v) h ran = subst (λ l. RanBetween a b p (done_with (Next l s))) (sym h) ran
 comes_alone a b s p x (Err stop) h ran = subst (λ t. Left a b p t) (sym h) (left_here a b p (done_with (Next x s)) ran)
 
-pub ran_plain : (a : Option (List Event)) (s : State) (w : Word) → has_pattern w ≡ false → Ran a a (expanded_word w s) (done_with (Next (w ∷ []) s))
-ran_plain a s w h = subst (λ m. Ran a a (m s) (done_with (Next (w ∷ []) s))) (sym (ap (λ c. cond c (names_of w) (pure (w ∷ []))) h)) (ran_none a (done_with (Next (w ∷ []) s)))
+pub ran_plain : (a : Option (List Event)) (s : State) (w : Word) → has_pattern w ≡ false → RanBetween a a (expanded_word w s) (done_with (Next (w ∷ []) s))
+ran_plain a s w h = subst (λ m. RanBetween a a (m s) (done_with (Next (w ∷ []) s))) (sym (ap (λ c. cond c (names_of w) (pure (w ∷ []))) h)) (ran_none a (done_with (Next (w ∷ []) s)))
 
 module _ (s : State) (w v : Word) (p : List ℕ) (h : has_pattern w ≡ true) (e : v ≡ w) (q : p ≡ []) where
   -- what follows the paths
@@ -236,10 +236,10 @@ module _ (s : State) (w v : Word) (p : List ℕ) (h : has_pattern w ≡ true) (e
   pub left_names : (a c : Option (List Event)) (stop : Stop) → Left a c (paths_from (components v) p s) stop → Left a c (expanded_word w s) stop
   left_names a c stop l = subst (λ m. Left a c (m s) stop) (sym names_are) (left_do (paths_from (components v) p) after l)
 
-  pub ran_names : (a c : Option (List Event)) (paths : List (List ℕ)) (ws : List Word) → Ran a c (paths_from (components v) p s) (done_with (Next paths s)) → ws ≡ or_itself w paths →
-      Ran a c (expanded_word w s) (done_with (Next ws s))
+  pub ran_names : (a c : Option (List Event)) (paths : List (List ℕ)) (ws : List Word) → RanBetween a c (paths_from (components v) p s) (done_with (Next paths s)) → ws ≡ or_itself w paths →
+      RanBetween a c (expanded_word w s) (done_with (Next ws s))
   ran_names a c paths ws r n =
-      subst (λ m. Ran a c (m s) (done_with (Next ws s))) (sym names_are) (ran_do (paths_from (components v) p) after r (ran_value c s ws (or_itself w paths) n))
+      subst (λ m. RanBetween a c (m s) (done_with (Next ws s))) (sym names_are) (ran_do (paths_from (components v) p) after r (ran_value c s ws (or_itself w paths) n))
 
 pub no_paths : (w : Word) (items xs : List Text) (b : Bool) → b ≡ (length xs == 0) → xs ≡ items → b ≡ true → w ∷ [] ≡ or_itself w (map text_bytes items)
 no_paths w items [] b h e k = ap (λ l. or_itself w (map text_bytes l)) e

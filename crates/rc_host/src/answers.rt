@@ -6,7 +6,7 @@ ghost use Rattle.rc_model.specs.declared.call.Fault.TheVariants.{Halt};
 ghost use Rattle.rc_host.specs.Answers.{ending_of, IsProgram, FindsKind};
 ghost use Rattle.rc_world.specs.Faults.{fault_at};
 
-use crate::launches::started::Started;
+use crate::launches::linux_child::LinuxChild;
 use rc_world::{Ending, Fault, Kind, fault_of};
 use std::fs::Metadata;
 use std::io;
@@ -28,7 +28,7 @@ pub(crate) fn answer<T>(said: io::Result<T>) -> Result<T, Fault>
 }
 
 /// Waits for the end of the child, and returns how it ended. A child whose end is known ends the same way.
-pub(crate) fn end_of(child: &mut Child<Started>) -> Result<Ending, Fault>
+pub(crate) fn end_of(child: &mut Child<LinuxChild>) -> Result<Ending, Fault>
     ensures recorded { IfOk result (λ ending.
         IsSomeAnd (child_status child.new) (λ status. ending ≡ ending_of status)) }
     ensures again { IfSome (child_status child.old) (λ status. result ≡ Ok (ending_of status)) }

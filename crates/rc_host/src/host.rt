@@ -19,8 +19,8 @@ use crate::directory::names_in;
 use crate::files::{OpenFile, here_file, options_of, write_text};
 use crate::launches::kept_environment::KeptEnvironment;
 use crate::launches::launch_request::{Command, Request};
+use crate::launches::linux_child::{LinuxChild, start};
 use crate::launches::planning::plan;
-use crate::launches::started::{Started, start};
 use crate::leaving::{Leaving, give_up};
 use crate::process::own_program;
 use crate::table::Table;
@@ -41,7 +41,7 @@ pub struct HostWorld {
     /// The path of the shell's own program, if it is known.
     shell: Option<String>,
     files: Table<OpenFile>,
-    children: Table<Child<Started>>,
+    children: Table<Child<LinuxChild>>,
     /// The entries of the last launch that had some, as Linux takes them.
     environment: KeptEnvironment,
     leaving: Leaving,
@@ -184,7 +184,7 @@ impl HostWorld {
         _launch: &Launch,
         request: &Request,
         descriptors: [RawFd; 3],
-    ) -> io::Result<Child<Started>>
+    ) -> io::Result<Child<LinuxChild>>
         requires place { _number < length (children_of self.now) }
         requires known { IsShellOf self.now (launch_of _launch.now) (known_shell self.now) }
         requires planned { AsksForPlanOf self.now (launch_of _launch.now) request.now descriptors }
@@ -193,7 +193,7 @@ impl HostWorld {
     }
 
     /// Holds the child at this number, if Linux started one.
-    fn hold(&mut self, number: u32, said: io::Result<Child<Started>>) -> Result<ChildNo, Fault>
+    fn hold(&mut self, number: u32, said: io::Result<Child<LinuxChild>>) -> Result<ChildNo, Fault>
         requires { number < length (children_of self.old) }
         ensures held { IfOk said (λ child. (result ≡ Ok (record { 0 = number }))
             × ChangesOnly (children_of self.old) (children_of self.new) number (Some child)) }

@@ -3,7 +3,7 @@ use Rattle.std.proofs.Common.{◌≡◌, ◌≢◌, ◌⊎◌, inl, inr, ℕ, Bo
 use Rattle.std.specs.Prelude.{Option, Some, Result, Ok, Err}
 use Rattle.rc_model.specs.Syntax.Tokens as t
 use Rattle.rc_lexer.specs.Spans as spans
-use Rattle.rc_lexer.specs.Spans.{Step}
+use Rattle.rc_lexer.specs.Spans.{AfterByte}
 use Rattle.rc_lexer.specs.Answers.{ScriptError}
 use Rattle.rc_lexer.specs.Machine.{pending_of, pending_in, appended, Takes, Adds, AddsWord, PushedDollars}
 use Rattle.rc_model.specs.declared.fault.InputError.TheVariants.{Fault, NoMemory}
@@ -13,31 +13,31 @@ use Rattle.rc_model.specs.declared.syntax.Previous.TheVariants as previous
 use Rattle.rc_lexer.specs.declared.TokenKind.{TokenKind}
 use Rattle.rc_lexer.specs.declared.TokenKind.TheVariants as tk
 use Rattle.rc_lexer.specs.declared.operators.Op.TheVariants.{Dollar0}
-use Rattle.rc_lexer.specs.declared.lexer_state.State.TheVariants as state
+use Rattle.rc_lexer.specs.declared.lexer_state.LexerState.TheVariants as state
 use Rattle.rc_lexer.specs.declared.Span.{Span}
 use Rattle.rc_lexer.specs.declared.Token.{Token}
-use Rattle.rc_lexer.specs.declared.lexer_state.State.{State}
+use Rattle.rc_lexer.specs.declared.lexer_state.LexerState.{LexerState}
 use Rattle.rc_lexer.specs.declared.lexer_state.TokenStart.{TokenStart}
 use Rattle.rc_lexer.specs.declared.lexer_state.Reading.{Reading}
 use Rattle.rc_lexer.specs.declared.byte_classes.ByteClass.{ByteClass}
 
-pub appended_emit : (ts us : List Token) (bodies : List Span) (x : Step) → appended ts bodies (spans.emit us x) ≡ appended (ts ++ us) bodies x
+pub appended_emit : (ts us : List Token) (bodies : List Span) (x : AfterByte) → appended ts bodies (spans.emit us x) ≡ appended (ts ++ us) bodies x
 appended_emit ts us bodies (Ok x) = ap (λ z. Ok (z, bodies ++ x.1, x.2, x.3, x.4)) (sym (append_assoc ts us x.0))
 appended_emit ts us bodies (Err f) = refl
 
 -- the tokens of a step come after those so far
-pub emits : (us : List Token) (x : Step) (old mid new : Reading) (r : Result State ScriptError) → mid.tokens.items ≡ old.tokens.items ++ us →
+pub emits : (us : List Token) (x : AfterByte) (old mid new : Reading) (r : Result LexerState ScriptError) → mid.tokens.items ≡ old.tokens.items ++ us →
     mid.bodies.items ≡ old.bodies.items → Takes mid new r x → Takes old new r (spans.emit us x)
 emits us x old mid new (Ok s) t b d =
     appended_emit old.tokens.items us old.bodies.items x ∙ ap (λ z. appended z old.bodies.items x) (sym t) ∙ ap (λ z. appended mid.tokens.items z x) (sym b) ∙ d
 emits us x old mid new (Err (Fault f)) t b d = ap (spans.emit us) d
 emits us x old mid new (Err NoMemory) t b d = d
 
-pub along : (old new : Reading) (r : Result State ScriptError) (x y : Step) → x ≡ y → Takes old new r x → Takes old new r y
+pub along : (old new : Reading) (r : Result LexerState ScriptError) (x y : AfterByte) → x ≡ y → Takes old new r x → Takes old new r y
 along old new r x y e d = subst (λ z. Takes old new r z) e d
 
 -- a word ends, and the byte begins something
-pub word_does : (script : List ℕ) (quoted : Bool) (start : TokenStart) (after : Previous) (p : Place) (b : ℕ) (k : ByteClass) (old mid new : Reading) (r : Result State ScriptError) →
+pub word_does : (script : List ℕ) (quoted : Bool) (start : TokenStart) (after : Previous) (p : Place) (b : ℕ) (k : ByteClass) (old mid new : Reading) (r : Result LexerState ScriptError) →
     AddsWord quoted script start.previous after start.place p old mid → Takes mid new r (spans.begin after (pending_in mid) p b k) →
     Takes old new r (spans.ends_word quoted script start (pending_in old) p b k)
 word_does script quoted start after p b k old mid new r a d =
@@ -46,7 +46,7 @@ word_does script quoted start after p b k old mid new r a d =
     (along mid new r _ _ (ap (λ z. spans.begin z (pending_in mid) p b k) a.after_word ∙ ap (λ z. spans.begin (spans.word_after quoted start.previous) z p b k) a.pending) d)
 
 -- after `$`s
-pub named_does : (p : Place) (b : ℕ) (k : ByteClass) (old mid new : Reading) (r : Result State ScriptError) → (t.is_name_char b || (b == 39)) ≡ true →
+pub named_does : (p : Place) (b : ℕ) (k : ByteClass) (old mid new : Reading) (r : Result LexerState ScriptError) → (t.is_name_char b || (b == 39)) ≡ true →
     PushedDollars (λ dollars. dollars) old mid → Takes mid new r (spans.begin previous.Dollar (pending_in mid) p b k) →
     Takes old new r (spans.after_dollars old.dollars.items (pending_in old) p b k)
 named_does p b k old mid new r h s d =
@@ -57,11 +57,11 @@ named_does p b k old mid new r h s d =
     (along mid new r _ _ (ap (λ q. spans.begin previous.Dollar (map pending_of q) p b k) s.pending) d))
 
 end_along : (start : TokenStart) (dollars : List Token) (o : Option TokenKind) (kind : TokenKind) (due : List t.PendingHereDoc) (p : Place) (b : ℕ) (k : ByteClass) (old new : Reading)
-    (r : Result State ScriptError) → o ≡ Some kind → Takes old new r (spans.end_operator start dollars (Some kind) due p b k) → Takes old new r (spans.end_operator start dollars o due p b k)
+    (r : Result LexerState ScriptError) → o ≡ Some kind → Takes old new r (spans.end_operator start dollars (Some kind) due p b k) → Takes old new r (spans.end_operator start dollars o due p b k)
 end_along start dollars o kind due p b k old new r e d = along old new r _ _ (ap (λ z. spans.end_operator start dollars z due p b k) (sym e)) d
 
 -- a `$`
-pub dollar_does : (start : TokenStart) (o : Option TokenKind) (p : Place) (b : ℕ) (k : ByteClass) (old mid mid' new : Reading) (r : Result State ScriptError) → o ≡ Some tk.Dollar →
+pub dollar_does : (start : TokenStart) (o : Option TokenKind) (p : Place) (b : ℕ) (k : ByteClass) (old mid mid' new : Reading) (r : Result LexerState ScriptError) → o ≡ Some tk.Dollar →
     Adds (spans.caret start.previous tk.Dollar start.place) old mid → mid'.tokens.items ≡ mid.tokens.items → mid'.bodies.items ≡ mid.bodies.items → mid'.pending.items ≡ mid.pending.items →
     mid'.dollars.items ≡ mid.dollars.items ++ spans.token tk.Dollar start.place p ∷ [] →
     Takes mid' new r (spans.after_dollars mid'.dollars.items (pending_in mid') p b k) →
@@ -74,7 +74,7 @@ dollar_does start o p b k old mid mid' new r e a mt mb mp md d =
     ∙ ap (λ q. spans.after_dollars ds (map pending_of q) p b k) (mp ∙ a.pending)) d))
 
 -- a `$#` or a `$"`
-sigil_does : (start : TokenStart) (kind : TokenKind) (p : Place) (b : ℕ) (k : ByteClass) (old mid bared mid' new : Reading) (r : Result State ScriptError) →
+sigil_does : (start : TokenStart) (kind : TokenKind) (p : Place) (b : ℕ) (k : ByteClass) (old mid bared mid' new : Reading) (r : Result LexerState ScriptError) →
     Adds (spans.caret start.previous tk.Dollar start.place) old mid → PushedDollars spans.bare mid bared → mid'.tokens.items ≡ bared.tokens.items → mid'.bodies.items ≡ bared.bodies.items →
     mid'.pending.items ≡ bared.pending.items → mid'.dollars.items ≡ bared.dollars.items ++ spans.token kind start.place p ∷ [] →
     Takes mid' new r (spans.after_dollars mid'.dollars.items (pending_in mid') p b k) →
@@ -87,7 +87,7 @@ sigil_does start kind p b k old mid bared mid' new r a s mt mb mp md d =
     (along mid' new r _ _ (ap (λ z. spans.after_dollars z (pending_in mid') p b k) (md ∙ ap (λ z. z ++ spans.token kind start.place p ∷ []) s.dollars)
     ∙ ap (λ q. spans.after_dollars (spans.token kind start.place p ∷ []) (map pending_of q) p b k) (mp ∙ s.pending ∙ a.pending)) d)
 
-pub sigils_do : (start : TokenStart) (o : Option TokenKind) (kind : TokenKind) (p : Place) (b : ℕ) (k : ByteClass) (old mid bared mid' new : Reading) (r : Result State ScriptError) → o ≡ Some kind →
+pub sigils_do : (start : TokenStart) (o : Option TokenKind) (kind : TokenKind) (p : Place) (b : ℕ) (k : ByteClass) (old mid bared mid' new : Reading) (r : Result LexerState ScriptError) → o ≡ Some kind →
     (kind ≡ tk.DollarCount) ⊎ (kind ≡ tk.DollarFlat) →
     Adds (spans.caret start.previous tk.Dollar start.place) old mid → PushedDollars spans.bare mid bared → mid'.tokens.items ≡ bared.tokens.items → mid'.bodies.items ≡ bared.bodies.items →
     mid'.pending.items ≡ bared.pending.items → mid'.dollars.items ≡ bared.dollars.items ++ spans.token kind start.place p ∷ [] →
@@ -113,7 +113,7 @@ plain tk.DollarCount a b' d e start dollars due p b k = absurd (d refl)
 plain tk.DollarFlat a b' d e start dollars due p b k = absurd (e refl)
 plain kind a b' d e start dollars due p b k = refl
 
-pub plain_does : (start : TokenStart) (o : Option TokenKind) (kind meaning : TokenKind) (after : Previous) (p : Place) (b : ℕ) (k : ByteClass) (old mid new : Reading) (r : Result State ScriptError) → o ≡ Some kind →
+pub plain_does : (start : TokenStart) (o : Option TokenKind) (kind meaning : TokenKind) (after : Previous) (p : Place) (b : ℕ) (k : ByteClass) (old mid new : Reading) (r : Result LexerState ScriptError) → o ≡ Some kind →
     kind ≢ tk.BareHere → kind ≢ tk.Dollar → kind ≢ tk.DollarCount → kind ≢ tk.DollarFlat →
     meaning ≡ spans.meaning start.previous kind → after ≡ t.after_token start.previous (spans.shape meaning) →
     Adds (spans.tokens_of start.previous meaning start.place p) old mid →

@@ -20,7 +20,7 @@ use Rattle.rc_lexer.specs.Ends as e
 use Rattle.rc_lexer.specs.Ends.{Ends, outcome_seen, after}
 use Rattle.rc_lexer.specs.Answers.{IsLexed, ScriptError}
 use Rattle.rc_lexer.specs.Machine.{pending_in, dollars_in}
-use Rattle.rc_lexer.specs.Reads.{answers, whole, HasRead, IsReading, ReadsOn, Comes}
+use Rattle.rc_lexer.specs.Reads.{answers, whole, HasRead, IsReading, ReadsOn, HasOutcome}
 use Rattle.law_syntax.specs.ByteReading as b
 use Rattle.rc_lexer.proofs.EndsRead.{law as ends_law}
 use Rattle.rc_model.specs.declared.fault.SyntaxFault.{SyntaxFault}
@@ -30,7 +30,7 @@ use Rattle.rc_model.specs.declared.syntax.Place.{Place}
 use Rattle.rc_model.specs.declared.syntax.Previous.TheVariants as previous
 use Rattle.rc_lexer.specs.declared.Span.{Span}
 use Rattle.rc_lexer.specs.declared.Token.{Token}
-use Rattle.rc_lexer.specs.declared.lexer_state.State.{State}
+use Rattle.rc_lexer.specs.declared.lexer_state.LexerState.{LexerState}
 use Rattle.rc_lexer.specs.declared.lexer_state.Reading.{Reading}
 
 -- a byte 0 among bytes and among characters
@@ -70,13 +70,13 @@ lexed_as text z x u e f =
     sym (bytes_law (r.Between previous.Apart) [] t.first_place (chars text)) ∙ ap whole (encodes-chars text u) in
     subst (λ y. t.IsCut text y) (ap (λ y. r.unless_zero y (r.run (r.Between previous.Apart) [] t.first_place (chars text))) zero ∙ ap (r.unless_zero z) run ∙ f) (reading_law text)
 
-pub lexed_comes : {Z : Type 0} (text : List ℕ) (res : Result (Vec Token Z) ScriptError) → IsUtf8 text → r.zero_line 1 text ≡ None → Comes text res → IsLexed text res
+pub lexed_comes : {Z : Type 0} (text : List ℕ) (res : Result (Vec Token Z) ScriptError) → IsUtf8 text → r.zero_line 1 text ≡ None → HasOutcome text res → IsLexed text res
 lexed_comes text (Ok tokens) u z h = lexed_as text None _ u z h
 lexed_comes text (Err (Fault f)) u z h = lexed_as text None _ u z h
 lexed_comes text (Err NoMemory) u z h = tt
 
 -- the end of a reading
-no_more : (text : List ℕ) (reading : Reading) (s : State) (p : Place) → HasRead text reading s p → answers text reading s p ≡ whole text
+no_more : (text : List ℕ) (reading : Reading) (s : LexerState) (p : Place) → HasRead text reading s p → answers text reading s p ≡ whole text
 no_more text reading s p has = subst (λ z. answers z reading s p ≡ whole z) (append-nil text) (has.so_far [])
 
 drop_all : (text : List ℕ) (n : ℕ) → n ≡ length text → drop n text ≡ []
@@ -89,7 +89,7 @@ after_seen text ts bodies (Ok x) =
     ∙ ap (λ z. Ok (tokens_of text (ts ++ x.0), z)) (sym (map-append (slice_at text) bodies x.1))
 after_seen text ts bodies (Err f) = refl
 
-at_end : (text : List ℕ) (reading : Reading) (s : State) (p : Place) → HasRead text reading s p → p.byte ≡ length text →
+at_end : (text : List ℕ) (reading : Reading) (s : LexerState) (p : Place) → HasRead text reading s p → p.byte ≡ length text →
     whole text ≡ outcome_seen text (after reading.tokens.items reading.bodies.items (e.finish text s (dollars_in s reading) (pending_in reading) p))
 at_end text reading s p has h =
     let put : t.Outcome → t.Outcome = λ o. t.join (tokens_of text reading.tokens.items) (map (slice_at text) reading.bodies.items) o in
@@ -98,26 +98,26 @@ at_end text reading s p has h =
     ∙ ap put (sym (ends_law text s (dollars_in s reading) (pending_in reading) p has.stands))
     ∙ after_seen text reading.tokens.items reading.bodies.items (e.finish text s (dollars_in s reading) (pending_in reading) p)
 
-pub finished : {Z : Type 0} (text : List ℕ) (old new : Reading) (s : State) (p : Place) (tokens : Vec Token Z) → HasRead text old s p → p.byte ≡ length text →
+pub finished : {Z : Type 0} (text : List ℕ) (old new : Reading) (s : LexerState) (p : Place) (tokens : Vec Token Z) → HasRead text old s p → p.byte ≡ length text →
     Ends old new (Ok tt) (e.finish text s (dollars_in s old) (pending_in old) p) →
     ((script : List ℕ) → tokens_of script tokens.items ≡ t.filled (tokens_of script new.tokens.items) (map (slice_at script) new.bodies.items)) →
-    Comes text (Ok tokens)
+    HasOutcome text (Ok tokens)
 finished text old new s p tokens has h d f =
     ap t.result_of (at_end text old s p has h ∙ ap (outcome_seen text) d) ∙ ap (λ z. Ok z) (sym (f text))
 
-pub finish_fails : {Z : Type 0} (text : List ℕ) (old new : Reading) (s : State) (p : Place) (res : Result (Vec Token Z) ScriptError) (e' e'' : ScriptError) → HasRead text old s p → p.byte ≡ length text →
-    res ≡ Err e'' → e'' ≡ e' → Ends old new (Err e') (e.finish text s (dollars_in s old) (pending_in old) p) → Comes text res
-finish_fails {Z} text old new s p res e' e'' has h f g d = subst (λ z. Comes {Z = Z} text z) (sym (f ∙ ap (λ z. Err z) g)) (by e' d)
+pub finish_fails : {Z : Type 0} (text : List ℕ) (old new : Reading) (s : LexerState) (p : Place) (res : Result (Vec Token Z) ScriptError) (e' e'' : ScriptError) → HasRead text old s p → p.byte ≡ length text →
+    res ≡ Err e'' → e'' ≡ e' → Ends old new (Err e') (e.finish text s (dollars_in s old) (pending_in old) p) → HasOutcome text res
+finish_fails {Z} text old new s p res e' e'' has h f g d = subst (λ z. HasOutcome {Z = Z} text z) (sym (f ∙ ap (λ z. Err z) g)) (by e' d)
   where
-    by : (x : ScriptError) → Ends old new (Err x) (e.finish text s (dollars_in s old) (pending_in old) p) → Comes {Z = Z} text (Err x)
+    by : (x : ScriptError) → Ends old new (Err x) (e.finish text s (dollars_in s old) (pending_in old) p) → HasOutcome {Z = Z} text (Err x)
     by (Fault x) k = ap t.result_of (at_end text old s p has h ∙ ap (λ z. outcome_seen text (after old.tokens.items old.bodies.items z)) k)
     by NoMemory k = tt
 
 pub read_fails : {Z : Type 0} (text : List ℕ) (res : Result (Vec Token Z) ScriptError) (e' e'' : ScriptError) (new : Reading) →
-    res ≡ Err e'' → e'' ≡ e' → ReadsOn text new (Err e') → Comes text res
-read_fails {Z} text res e' e'' new f g d = subst (λ z. Comes {Z = Z} text z) (sym (f ∙ ap (λ z. Err z) g)) (by e' d)
+    res ≡ Err e'' → e'' ≡ e' → ReadsOn text new (Err e') → HasOutcome text res
+read_fails {Z} text res e' e'' new f g d = subst (λ z. HasOutcome {Z = Z} text z) (sym (f ∙ ap (λ z. Err z) g)) (by e' d)
   where
-    by : (x : ScriptError) → ReadsOn text new (Err x) → Comes {Z = Z} text (Err x)
+    by : (x : ScriptError) → ReadsOn text new (Err x) → HasOutcome {Z = Z} text (Err x)
     by (Fault x) k = ap t.result_of (ap whole (sym (append-nil text)) ∙ k [])
     by NoMemory k = tt
 
@@ -127,13 +127,13 @@ pub zero_finish : (Z : Type 0) (self text slice : List ℕ) (line : ℕ) (x : Sc
 zero_finish Z self text slice line x e f h g u =
     subst (λ z. IsLexed {Z = Z} self (Err z)) (sym g) (lexed_as self (Some line) (Err (record { kind = ZeroByte; line = line })) u (ap (r.zero_line 1) (e ∙ sym f) ∙ h) refl)
 
-pub fault_finish : (self text slice : List ℕ) (reading : Reading) (s : State) (p : Place) (f : SyntaxFault) (o : Option SyntaxFault) → self ≡ text → slice ≡ text → r.zero_line 1 slice ≡ None →
+pub fault_finish : (self text slice : List ℕ) (reading : Reading) (s : LexerState) (p : Place) (f : SyntaxFault) (o : Option SyntaxFault) → self ≡ text → slice ≡ text → r.zero_line 1 slice ≡ None →
     IsReading text reading s p o → o ≡ Some f → IsUtf8 self → t.IsCut self (Err f)
 fault_finish self text slice reading s p f o e g h i j u =
     let k : (more : List ℕ) → whole (text ++ more) ≡ Err f = subst (λ z. IsReading text reading s p z) j i in
     lexed_as self None (Err f) u (ap (r.zero_line 1) (e ∙ sym g) ∙ h) (ap t.result_of (ap whole (e ∙ sym (append-nil text)) ∙ k []))
 
 pub comes_finish : {Z : Type 0} (self text slice slice' : List ℕ) (res : Result (Vec Token Z) ScriptError) → self ≡ text → slice ≡ text → slice' ≡ text → r.zero_line 1 slice ≡ None →
-    Comes slice' res → IsUtf8 self → IsLexed self res
+    HasOutcome slice' res → IsUtf8 self → IsLexed self res
 comes_finish {Z} self text slice slice' res e f g h k u =
-    lexed_comes self res u (ap (r.zero_line 1) (e ∙ sym f) ∙ h) (subst (λ z. Comes {Z = Z} z res) (g ∙ sym e) k)
+    lexed_comes self res u (ap (r.zero_line 1) (e ∙ sym f) ∙ h) (subst (λ z. HasOutcome {Z = Z} z res) (g ∙ sym e) k)

@@ -10,8 +10,8 @@ use Rattle.rc_model.specs.declared.syntax.Place.{Place}
 use Rattle.rc_model.specs.declared.syntax.Previous.{Previous}
 use Rattle.rc_model.specs.declared.syntax.Previous.TheVariants as previous
 use Rattle.rc_lexer.specs.declared.Token.{Token}
-use Rattle.rc_lexer.specs.declared.lexer_state.State.{State}
-use Rattle.rc_lexer.specs.declared.lexer_state.State.TheVariants as state
+use Rattle.rc_lexer.specs.declared.lexer_state.LexerState.{LexerState}
+use Rattle.rc_lexer.specs.declared.lexer_state.LexerState.TheVariants as state
 use Rattle.rc_lexer.specs.declared.lexer_state.TokenStart.{TokenStart}
 use Rattle.rc_lexer.specs.declared.byte_classes.ByteClass.{ByteClass}
 use Rattle.rc_lexer.specs.declared.byte_classes.ByteClass.TheVariants.{LineEnd, Quote, Backslash, Ordinary}
@@ -20,7 +20,7 @@ pub slice_more : (xs ys : List ℕ) (a b : ℕ) → a ≤ b → b ≤ length xs 
 slice_more xs ys a b h k =
     ap (take (b - a)) (drop-append-le a xs ys (omega (arith, h, k))) ∙ take-append-le (b - a) (drop a xs) ys (omega (arith, h, k, length-drop a xs))
 
-pub stands_more : (xs ys : List ℕ) (end : ℕ) (s : State) → end ≤ length xs → Stands xs end s → Stands (xs ++ ys) end s
+pub stands_more : (xs ys : List ℕ) (end : ℕ) (s : LexerState) → end ≤ length xs → Stands xs end s → Stands (xs ++ ys) end s
 stands_more xs ys end (state.Between prev) h g = tt
 stands_more xs ys end state.Comment h g = tt
 stands_more xs ys end (state.Backslash start) h g = (g.0, slice_more xs ys start.place.byte end g.0 h ∙ g.1)
@@ -55,7 +55,7 @@ in_word_more xs ys start due p b Ordinary h l = refl
 in_word_more xs ys start due p b Backslash h l = refl
 in_word_more xs ys start due p b k h l = word_more false xs ys start due p b k h l
 
-pub step_more : (xs ys : List ℕ) (s : State) (dollars : List Token) (due : List PendingHereDoc) (p : Place) (b : ℕ) (k : ByteClass) → p.byte ≤ length xs → Stands xs p.byte s →
+pub step_more : (xs ys : List ℕ) (s : LexerState) (dollars : List Token) (due : List PendingHereDoc) (p : Place) (b : ℕ) (k : ByteClass) → p.byte ≤ length xs → Stands xs p.byte s →
     spans.step (xs ++ ys) s dollars due p b k ≡ spans.step xs s dollars due p b k
 step_more xs ys (state.Between prev) dollars due p b k h g = refl
 step_more xs ys state.Comment dollars due p b k h g = refl

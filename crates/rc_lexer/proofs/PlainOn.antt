@@ -7,7 +7,7 @@ use Rattle.rc_model.specs.Mirrors.Reading.{follow, without_here}
 use Rattle.law_syntax.specs.ByteReading as bytes
 use Rattle.law_syntax.specs.ByteReading.{after_byte}
 use Rattle.rc_lexer.specs.Spans as spans
-use Rattle.rc_lexer.specs.Spans.{EndsQuoted, EndsWord, IsWhole, in_quotes, Step, byte_class}
+use Rattle.rc_lexer.specs.Spans.{EndsQuoted, EndsWord, IsWhole, in_quotes, AfterByte, byte_class}
 use Rattle.rc_lexer.specs.Trie.{first_op, next_op, op_kind}
 use Rattle.rc_lexer.specs.SpanLaws.{seen, Stands}
 use Rattle.rc_lexer.specs.Machine.{pending_of, pending_in, dollars_in, appended, Takes, Adds, AddsWord}
@@ -22,15 +22,15 @@ use Rattle.rc_lexer.specs.declared.TokenKind.{TokenKind}
 use Rattle.rc_lexer.specs.declared.TokenKind.TheVariants as tk
 use Rattle.rc_lexer.specs.declared.operators.Op.{Op}
 use Rattle.rc_lexer.specs.declared.operators.Op.TheVariants.{Dollar0}
-use Rattle.rc_lexer.specs.declared.lexer_state.State.{State}
-use Rattle.rc_lexer.specs.declared.lexer_state.State.TheVariants as state
+use Rattle.rc_lexer.specs.declared.lexer_state.LexerState.{LexerState}
+use Rattle.rc_lexer.specs.declared.lexer_state.LexerState.TheVariants as state
 use Rattle.rc_lexer.specs.declared.lexer_state.TokenStart.{TokenStart}
 use Rattle.rc_lexer.specs.declared.lexer_state.Reading.{Reading}
 use Rattle.rc_lexer.specs.declared.byte_classes.ByteClass.{ByteClass}
 use Rattle.rc_lexer.specs.declared.byte_classes.ByteClass.TheVariants as k
 
 -- a step that changes the state alone
-goes_takes : (reading : Reading) (s : State) → dollars_in s reading ≡ [] → Takes reading reading (Ok s) (spans.goes [] s (pending_in reading))
+goes_takes : (reading : Reading) (s : LexerState) → dollars_in s reading ≡ [] → Takes reading reading (Ok s) (spans.goes [] s (pending_in reading))
 goes_takes reading s e =
     ap (λ z. Ok (z, reading.bodies.items ++ [], s, [], pending_in reading)) (append-nil reading.tokens.items)
     ∙ ap (λ z. Ok (reading.tokens.items, z, s, [], pending_in reading)) (append-nil reading.bodies.items)
@@ -48,7 +48,7 @@ pub alone_on : (text : List ℕ) (old new : Reading) (prev after : Previous) (p 
 alone_on text old new prev after p q b c h e f g j has d =
     class_reads_on text old new (state.Between prev) (state.Between after) p q b 0 k.Alone h e (sym g ∙ f) j has d
 
-pub line_end_on : (text : List ℕ) (old new : Reading) (prev : Previous) (s : State) (p q : Place) (b : ℕ) (c : ByteClass) → p.byte < length text → b ≡ get_or text p.byte 0 → c ≡ byte_class b → c ≡ k.LineEnd →
+pub line_end_on : (text : List ℕ) (old new : Reading) (prev : Previous) (s : LexerState) (p q : Place) (b : ℕ) (c : ByteClass) → p.byte < length text → b ≡ get_or text p.byte 0 → c ≡ byte_class b → c ≡ k.LineEnd →
     q ≡ after_byte p b → HasRead text old (state.Between prev) p →
     Takes old new (Ok s) (spans.begin prev (pending_in old) p b k.LineEnd) → HasRead text new s q
 line_end_on text old new prev s p q b c h e f g j has d =
@@ -74,7 +74,7 @@ in_word_ends text start due p b k.Backslash h = absurd h
 in_word_ends text start due p b c h = refl
 
 -- a reading goes on from one state as another one does from another
-pub goes_on_as : (text : List ℕ) (old new : Reading) (s s' : State) (p : Place) (b : ℕ) → p.byte < length text → b ≡ get_or text p.byte 0 →
+pub goes_on_as : (text : List ℕ) (old new : Reading) (s s' : LexerState) (p : Place) (b : ℕ) → p.byte < length text → b ≡ get_or text p.byte 0 →
     appended old.tokens.items old.bodies.items (spans.step text s (dollars_in s old) (pending_in old) p b (byte_class b))
     ≡ appended new.tokens.items new.bodies.items (spans.step text s' (dollars_in s' new) (pending_in new) p b (byte_class b)) →
     Stands text p.byte s' → HasRead text old s p → HasRead text new s' p
@@ -165,7 +165,7 @@ operator_takes prev start op p b old new m n x y z w =
     ∙ ap (λ i. Ok (new.tokens.items, new.bodies.items, state.Operator start op, i, pending_in old)) (sym w)
     ∙ ap (λ i. Ok (new.tokens.items, new.bodies.items, state.Operator start op, new.dollars.items, map pending_of i)) (sym z)
 
-emit_emit : (ts us : List Token) (x : Step) → spans.emit ts (spans.emit us x) ≡ spans.emit (ts ++ us) x
+emit_emit : (ts us : List Token) (x : AfterByte) → spans.emit ts (spans.emit us x) ≡ spans.emit (ts ++ us) x
 emit_emit ts us (Ok x) = ap (λ z. Ok (z, x.1, x.2, x.3, x.4)) (sym (append_assoc ts us x.0))
 emit_emit ts us (Err f) = refl
 

@@ -13,7 +13,7 @@ use Rattle.law_syntax.proofs.Ascii.{apart}
 use Rattle.law_syntax.proofs.Operators.{same_due}
 use Rattle.std.proofs.lemmas.Bool.{eqb-true}
 use Rattle.rc_lexer.specs.Spans as spans
-use Rattle.rc_lexer.specs.Spans.{Step, shape, meaning, token, starts}
+use Rattle.rc_lexer.specs.Spans.{AfterByte, shape, meaning, token, starts}
 use Rattle.rc_lexer.specs.SpanLaws.{state_of, due_of, Stands, seen, StandsAt, SpansLaw}
 use Rattle.rc_lexer.specs.Trie.{spelled, first_op, next_op, op_kind}
 use Rattle.rc_lexer.specs.Views.{slice_at, token_of, tokens_of, lexeme_of}
@@ -28,8 +28,8 @@ use Rattle.rc_lexer.specs.declared.Token.{Token}
 use Rattle.rc_lexer.specs.declared.TokenKind.{TokenKind}
 use Rattle.rc_lexer.specs.declared.TokenKind.TheVariants as tk
 use Rattle.rc_lexer.specs.declared.operators.Op.{Op}
-use Rattle.rc_lexer.specs.declared.lexer_state.State.{State}
-use Rattle.rc_lexer.specs.declared.lexer_state.State.TheVariants as state
+use Rattle.rc_lexer.specs.declared.lexer_state.LexerState.{LexerState}
+use Rattle.rc_lexer.specs.declared.lexer_state.LexerState.TheVariants as state
 use Rattle.rc_lexer.specs.declared.lexer_state.TokenStart.{TokenStart}
 use Rattle.rc_lexer.specs.declared.byte_classes.ByteClass.{ByteClass}
 use Rattle.rc_lexer.specs.declared.byte_classes.ByteClass.TheVariants.{Alone, Begins, Blank, LineEnd, Hash, Quote, Backslash, Ordinary}
@@ -48,7 +48,7 @@ slices_join script a b c h k =
 one_byte : (script : List ℕ) (at b : ℕ) → StandsAt script at b → slice_range script at (at + 1) ≡ b ∷ []
 one_byte script at b h = h at (omega arith) ∙ ap (λ z. z ++ b ∷ []) (slice_empty script at)
 
-ok : {ts ts' : List t.Token} {bs bs' : List (List ℕ)} {s s' : r.State} {due due' : List PendingHereDoc} → ts ≡ ts' → bs ≡ bs' → s ≡ s' → due ≡ due' →
+ok : {ts ts' : List t.Token} {bs bs' : List (List ℕ)} {s s' : r.LexerState} {due due' : List PendingHereDoc} → ts ≡ ts' → bs ≡ bs' → s ≡ s' → due ≡ due' →
     ◌≡◌ {A = r.AfterCharacter} (Ok (ts, bs, s, due)) (Ok (ts', bs', s', due'))
 ok {ts} {ts'} {bs} {bs'} {s} {s'} {due} {due'} e f g h =
     ap (λ z. Ok (z, bs, s, due)) e ∙ ap (λ z. Ok (ts', z, s, due)) f ∙ ap (λ z. Ok (ts', bs', z, due)) g ∙ ap (λ z. Ok (ts', bs', s', z)) h
@@ -56,11 +56,11 @@ ok {ts} {ts'} {bs} {bs'} {s} {s'} {due} {due'} e f g h =
 pub seen_append : (script : List ℕ) (ts us : List Token) → tokens_of script (ts ++ us) ≡ tokens_of script ts ++ tokens_of script us
 seen_append script ts us = map-append (token_of script) ts us
 
-pub seen_emit : (script : List ℕ) (end : ℕ) (ts : List Token) (x : Step) → seen script end (spans.emit ts x) ≡ r.emit (tokens_of script ts) (seen script end x)
+pub seen_emit : (script : List ℕ) (end : ℕ) (ts : List Token) (x : AfterByte) → seen script end (spans.emit ts x) ≡ r.emit (tokens_of script ts) (seen script end x)
 seen_emit script end ts (Ok x) = ok (seen_append script ts x.0) refl refl refl
 seen_emit script end ts (Err f) = refl
 
-emits : (script : List ℕ) (end : ℕ) (ts : List Token) (us : List t.Token) (x : Step) (y : r.AfterCharacter) → tokens_of script ts ≡ us → seen script end x ≡ y →
+emits : (script : List ℕ) (end : ℕ) (ts : List Token) (us : List t.Token) (x : AfterByte) (y : r.AfterCharacter) → tokens_of script ts ≡ us → seen script end x ≡ y →
     seen script end (spans.emit ts x) ≡ r.emit us y
 emits script end ts us x y e f = seen_emit script end ts x ∙ ap (λ z. r.emit z (seen script end x)) e ∙ ap (r.emit us) f
 
@@ -311,7 +311,7 @@ body_line_seen script body line d due p b false h f g =
     (h body (omega (arith, f, g)) ∙ ap (λ z. z ++ b ∷ []) (sym (slices_join script body line p.byte f g)))
     ∙ ap (λ z. r.goes [] (r.Body d (slice_range script body line ++ slice_range script line p.byte ++ b ∷ []) z) due) (slice_empty script (p.byte + 1))
 
-step_seen : (script : List ℕ) (s : State) (dollars : List Token) (due : List PendingHereDoc) (p : Place) (b : ℕ) (k : ByteClass) → StandsAt script p.byte b → Fits k b → Stands script p.byte s →
+step_seen : (script : List ℕ) (s : LexerState) (dollars : List Token) (due : List PendingHereDoc) (p : Place) (b : ℕ) (k : ByteClass) → StandsAt script p.byte b → Fits k b → Stands script p.byte s →
     seen script (p.byte + 1) (spans.step script s dollars due p b k) ≡ bytes.step (state_of script p.byte dollars due s) (due_of due s) p b (seen_class k)
 step_seen script (state.Between prev) dollars due p b k h f g = begin_seen script prev due p b k h f
 step_seen script state.Comment dollars due p b LineEnd h f g = begin_seen script previous.Apart due p b LineEnd h f

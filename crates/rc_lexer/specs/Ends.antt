@@ -18,8 +18,8 @@ use Rattle.rc_lexer.specs.declared.Span.{Span}
 use Rattle.rc_lexer.specs.declared.Token.{Token}
 use Rattle.rc_lexer.specs.declared.TokenKind.{TokenKind}
 use Rattle.rc_lexer.specs.declared.TokenKind.TheVariants as tk
-use Rattle.rc_lexer.specs.declared.lexer_state.State.{State}
-use Rattle.rc_lexer.specs.declared.lexer_state.State.TheVariants as state
+use Rattle.rc_lexer.specs.declared.lexer_state.LexerState.{LexerState}
+use Rattle.rc_lexer.specs.declared.lexer_state.LexerState.TheVariants as state
 use Rattle.rc_lexer.specs.declared.lexer_state.TokenStart.{TokenStart}
 use Rattle.rc_lexer.specs.declared.lexer_state.Reading.{Reading}
 
@@ -53,7 +53,7 @@ finish_line (b ∷ bs) body line d due =
     else Err (t.fault OpenHere d.line)
 
 -- the end, in each state
-abbrev pub finish : List ℕ → State → List Token → List PendingHereDoc → Place → Outcome
+abbrev pub finish : List ℕ → LexerState → List Token → List PendingHereDoc → Place → Outcome
 finish script (state.Between prev) dollars due p = closed (spans.bare_here prev) [] due
 finish script state.Comment dollars due p = closed [] [] due
 finish script (state.Backslash start) dollars due p = ended false script start due p
@@ -73,7 +73,7 @@ outcome_seen script (Err f) = Err f
 
 -- The end by spans is the end of the machine.
 abbrev pub EndsLaw : Type 0
-EndsLaw = (script : List ℕ) (s : State) (dollars : List Token) (due : List PendingHereDoc) (p : Place) →
+EndsLaw = (script : List ℕ) (s : LexerState) (dollars : List Token) (due : List PendingHereDoc) (p : Place) →
     Stands script p.byte s → outcome_seen script (finish script s dollars due p)
     ≡ r.finish (state_of script p.byte dollars due s) (due_of due s) p
 

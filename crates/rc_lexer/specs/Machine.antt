@@ -3,7 +3,7 @@ use Rattle.std.specs.Prelude.{◌≡◌, ℕ, Bool, List, [], ◌∷◌, ◌++�
 use Rattle.rc_model.specs.Syntax.Tokens as t
 use Rattle.rc_lexer.specs.Answers.{ScriptError}
 use Rattle.rc_lexer.specs.Spans as spans
-use Rattle.rc_lexer.specs.Spans.{Step}
+use Rattle.rc_lexer.specs.Spans.{AfterByte}
 use Rattle.rc_model.specs.declared.fault.InputError.TheVariants.{Fault, NoMemory}
 use Rattle.rc_model.specs.declared.syntax.Place.{Place}
 use Rattle.rc_model.specs.declared.syntax.Previous.{Previous}
@@ -11,8 +11,8 @@ use Rattle.rc_model.specs.declared.syntax.Previous.TheVariants as previous
 use Rattle.rc_lexer.specs.declared.byte_classes.ByteClass.{ByteClass}
 use Rattle.rc_lexer.specs.declared.Span.{Span}
 use Rattle.rc_lexer.specs.declared.Token.{Token}
-use Rattle.rc_lexer.specs.declared.lexer_state.State.{State}
-use Rattle.rc_lexer.specs.declared.lexer_state.State.TheVariants.{Between, Operator, Body}
+use Rattle.rc_lexer.specs.declared.lexer_state.LexerState.{LexerState}
+use Rattle.rc_lexer.specs.declared.lexer_state.LexerState.TheVariants.{Between, Operator, Body}
 use Rattle.rc_lexer.specs.declared.lexer_state.PendingHereDoc.{PendingHereDoc}
 use Rattle.rc_lexer.specs.declared.lexer_state.Reading.{Reading}
 
@@ -25,17 +25,17 @@ abbrev pub pending_in : Reading → List t.PendingHereDoc
 pending_in r = map pending_of r.pending.items
 
 -- the `$`s whose name is still to come; they count only while an operator is read
-abbrev pub dollars_in : State → Reading → List Token
+abbrev pub dollars_in : LexerState → Reading → List Token
 dollars_in (Operator start op) r = r.dollars.items
 dollars_in s r = []
 
 -- a step, after these tokens and bodies
-abbrev pub appended : List Token → List Span → Step → Step
+abbrev pub appended : List Token → List Span → AfterByte → AfterByte
 appended ts bodies (Ok x) = Ok (ts ++ x.0, bodies ++ x.1, x.2, x.3, x.4)
 appended ts bodies (Err f) = Err f
 
 -- the reading does this step, or memory ran out
-abbrev pub Takes : Reading → Reading → Result State ScriptError → Step → Type 0
+abbrev pub Takes : Reading → Reading → Result LexerState ScriptError → AfterByte → Type 0
 Takes old new (Ok s) x =
     appended old.tokens.items old.bodies.items x
     ≡ Ok (new.tokens.items, new.bodies.items, s, dollars_in s new, pending_in new)
@@ -43,12 +43,13 @@ Takes old new (Err (Fault f)) x = x ≡ Err f
 Takes old new (Err NoMemory) x = Unit {0}
 
 -- the reading does the step of the definitions for a byte in this state, or memory ran out
-abbrev pub TakesStep : List ℕ → State → Place → ℕ → ByteClass → Reading → Reading → Result State ScriptError → Type 0
+abbrev pub TakesStep : List ℕ → LexerState → Place → ℕ → ByteClass → Reading → Reading →
+    Result LexerState ScriptError → Type 0
 TakesStep script s place b class old new result =
     Takes old new result (spans.step script s (dollars_in s old) (pending_in old) place b class)
 
 -- what a step that leaves this state comes to
-abbrev pub left : State → Result (Unit {0}) ScriptError → Result State ScriptError
+abbrev pub left : LexerState → Result (Unit {0}) ScriptError → Result LexerState ScriptError
 left s (Ok u) = Ok s
 left s (Err e) = Err e
 
@@ -75,6 +76,6 @@ pub record PushedDollars (seen : List Token → List Token) (old new : Reading) 
   pub pending : new.pending.items ≡ old.pending.items
 
 -- the state at the beginning of a line
-abbrev pub line_of : List PendingHereDoc → ℕ → State
+abbrev pub line_of : List PendingHereDoc → ℕ → LexerState
 line_of [] at = Between previous.Apart
 line_of (d ∷ pending) at = Body at at

@@ -21,8 +21,8 @@ use Rattle.rc_lexer.specs.declared.TokenKind.{TokenKind}
 use Rattle.rc_lexer.specs.declared.TokenKind.TheVariants as tk
 use Rattle.rc_lexer.specs.declared.operators.Op.{Op}
 use Rattle.rc_lexer.specs.declared.operators.Op.TheVariants.{Dollar0}
-use Rattle.rc_lexer.specs.declared.lexer_state.State.{State}
-use Rattle.rc_lexer.specs.declared.lexer_state.State.TheVariants as state
+use Rattle.rc_lexer.specs.declared.lexer_state.LexerState.{LexerState}
+use Rattle.rc_lexer.specs.declared.lexer_state.LexerState.TheVariants as state
 use Rattle.rc_lexer.specs.declared.lexer_state.TokenStart.{TokenStart}
 use Rattle.rc_lexer.specs.declared.byte_classes.ByteClass.{ByteClass}
 use Rattle.rc_lexer.specs.declared.byte_classes.ByteClass.TheVariants.{Alone, Begins, Blank, LineEnd, Hash, Quote}
@@ -62,15 +62,15 @@ meaning prev kind = kind
 
 -- a step: the tokens and bodies that a byte ends, then the state, the `$`s whose name is still to come and the here
 -- documents due; or a fault
-abbrev pub Step : Type 0
-Step = Result (List Token × List Span × State × List Token × List PendingHereDoc) SyntaxFault
+abbrev pub AfterByte : Type 0
+AfterByte = Result (List Token × List Span × LexerState × List Token × List PendingHereDoc) SyntaxFault
 
 -- the machine goes on in this state, after these tokens
-abbrev pub goes : List Token → State → List PendingHereDoc → Step
+abbrev pub goes : List Token → LexerState → List PendingHereDoc → AfterByte
 goes ts s due = Ok (ts, [], s, [], due)
 
 -- a step, after these tokens
-abbrev pub emit : List Token → Step → Step
+abbrev pub emit : List Token → AfterByte → AfterByte
 emit ts (Ok x) = Ok (ts ++ x.0, x.1, x.2, x.3, x.4)
 emit ts (Err f) = Err f
 
@@ -80,7 +80,7 @@ bare_here (previous.Here begin end) = token tk.BareHere begin end ∷ []
 bare_here _ = []
 
 -- the beginning of a line: a body, if a here document is due
-abbrev pub begin_line : List Token → List Span → List PendingHereDoc → ℕ → Step
+abbrev pub begin_line : List Token → List Span → List PendingHereDoc → ℕ → AfterByte
 begin_line ts bodies [] at = Ok (ts, bodies, state.Between previous.Apart, [], [])
 begin_line ts bodies (d ∷ due) at = Ok (ts, bodies, state.Body at at, [], d ∷ due)
 
@@ -97,7 +97,7 @@ abbrev pub starts : Previous → Place → TokenStart
 starts prev p = record { previous = prev; place = p }
 
 -- what a byte begins, in each class
-abbrev pub begin : Previous → List PendingHereDoc → Place → ℕ → ByteClass → Step
+abbrev pub begin : Previous → List PendingHereDoc → Place → ℕ → ByteClass → AfterByte
 begin prev due p b Alone =
     let before = without_here prev in
     let kind = meaning before (alone_kind b) in
@@ -133,13 +133,13 @@ word_due quoted script (previous.Here begin end) p q due =
 word_due quoted script prev p q due = due
 
 -- the byte ends a word
-abbrev pub ends_word : Bool → List ℕ → TokenStart → List PendingHereDoc → Place → ℕ → ByteClass → Step
+abbrev pub ends_word : Bool → List ℕ → TokenStart → List PendingHereDoc → Place → ℕ → ByteClass → AfterByte
 ends_word quoted script start due p b k =
     emit (word_tokens quoted start.previous start.place p)
     (begin (word_after quoted start.previous) (word_due quoted script start.previous start.place p due) p b k)
 
 -- one byte of a word, or the first after it
-abbrev pub in_word : List ℕ → TokenStart → List PendingHereDoc → Place → ℕ → ByteClass → Step
+abbrev pub in_word : List ℕ → TokenStart → List PendingHereDoc → Place → ℕ → ByteClass → AfterByte
 in_word script start due p b Ordinary = goes [] (state.Word start) due
 in_word script start due p b Backslash = goes [] (state.WordBackslash start p) due
 in_word script start due p b k = ends_word false script start due p b k
@@ -149,7 +149,7 @@ abbrev pub bare : List Token → List Token
 bare dollars = map (λ d. record { kind = tk.BareDollar; span = d.span; line = d.line }) dollars
 
 -- after `$`s: a name begins, a further `$`, or they are bare
-abbrev pub after_dollars : List Token → List PendingHereDoc → Place → ℕ → ByteClass → Step
+abbrev pub after_dollars : List Token → List PendingHereDoc → Place → ℕ → ByteClass → AfterByte
 after_dollars dollars due p b k =
     if t.is_name_char b || (b == 39) then emit dollars (begin previous.Dollar due p b k)
     else (if b == 36 then Ok ([], [], state.Operator (starts previous.Dollar p) Dollar0, dollars, due)
@@ -157,7 +157,7 @@ after_dollars dollars due p b k =
 
 -- the byte ends an operator
 abbrev pub end_operator : TokenStart → List Token → Option TokenKind → List PendingHereDoc → Place → ℕ → ByteClass →
-    Step
+    AfterByte
 end_operator start dollars None due p b k = Err (t.fault BadDescriptor start.place.line)
 end_operator start dollars (Some tk.BareHere) due p b k = begin (previous.Here start.place p) due p b k
 end_operator start dollars (Some tk.Dollar) due p b k =
@@ -174,18 +174,19 @@ end_operator start dollars (Some kind) due p b k =
     emit (tokens_of start.previous kind' start.place p) (begin (t.after_token start.previous (shape kind')) due p b k)
 
 -- one byte of an operator, or the first after it
-abbrev pub in_operator : TokenStart → Op → List Token → Option Op → List PendingHereDoc → Place → ℕ → ByteClass → Step
+abbrev pub in_operator : TokenStart → Op → List Token → Option Op → List PendingHereDoc → Place → ℕ → ByteClass →
+    AfterByte
 in_operator start op dollars (Some op') due p b k = Ok ([], [], state.Operator start op', dollars, due)
 in_operator start op dollars None due p b k = end_operator start dollars (op_kind op) due p b k
 
 -- a newline in a body, whose last line is the mark, or is not
-abbrev pub end_line : Bool → ℕ → ℕ → PendingHereDoc → List PendingHereDoc → Place → Step
+abbrev pub end_line : Bool → ℕ → ℕ → PendingHereDoc → List PendingHereDoc → Place → AfterByte
 end_line is_mark body line d due p =
     if is_mark then begin_line [] (record { start = body; stop = line } ∷ []) due (p.byte + 1)
     else goes [] (state.Body body (p.byte + 1)) (d ∷ due)
 
 -- one byte
-abbrev pub step : List ℕ → State → List Token → List PendingHereDoc → Place → ℕ → ByteClass → Step
+abbrev pub step : List ℕ → LexerState → List Token → List PendingHereDoc → Place → ℕ → ByteClass → AfterByte
 step script (state.Between prev) dollars due p b k = begin prev due p b k
 step script state.Comment dollars due p b LineEnd = begin previous.Apart due p b LineEnd
 step script state.Comment dollars due p b k = goes [] state.Comment due
@@ -226,7 +227,7 @@ IsWhole (tk.CopyTo to from) = Unit {0}
 IsWhole _ = ⊥
 
 -- in a quoted word, whether a quote is directly before that ends the word unless another follows
-abbrev pub in_quotes : TokenStart → Bool → State
+abbrev pub in_quotes : TokenStart → Bool → LexerState
 in_quotes start true = state.Closed start
 in_quotes start false = state.Quoted start
 

@@ -3,11 +3,11 @@
 ghost use Rattle.std.specs.Prelude.{◌≡◌, ◌<◌, ◌+◌, ◌^◌, ◌++◌, List, ℕ, [], length};
 ghost use Rattle.std.specs.Prelude.{MatchOption, Some, None, OnErr, OnOk};
 ghost use Rattle.rc_model.specs.Mirrors.Reading as reading;
-ghost use Rattle.rc_lexer.specs.Reads.{Comes, Finishes, HasRead, IsReading, ReadsOn, left_at};
+ghost use Rattle.rc_lexer.specs.Reads.{HasOutcome, Finishes, HasRead, IsReading, ReadsOn, left_at};
 
 use crate::byte_classes::class_of;
 use crate::lexer_state::tokens::after_byte;
-use crate::lexer_state::{Reading, State};
+use crate::lexer_state::{LexerState, Reading};
 use crate::plain::{line_end, read_plain};
 use crate::{ScriptError, Token, fault};
 use rc_model::{FaultKind, InputError, Place, Previous, SyntaxFault};
@@ -18,9 +18,9 @@ use std::marker::Model;
 fn read_on(
     reading: &mut Reading,
     text: &[u8],
-    state: State,
+    state: LexerState,
     place: Place,
-) -> Result<(State, Place), ScriptError>
+) -> Result<(LexerState, Place), ScriptError>
     requires short { length text.now < 2 ^ 63 }
     requires read { HasRead text.now reading.old state place }
     ensures { ReadsOn text.now reading.new result }
@@ -32,10 +32,10 @@ fn read_on(
         state = reading.step(text, state, place, b, class_of(b))?;
         place = after_byte(place, b);
         match state {
-            State::Between(previous) => {
+            LexerState::Between(previous) => {
                 (state, place) = read_plain(reading, text, previous, place)?;
             }
-            State::Body { start, line } => {
+            LexerState::Body { start, line } => {
                 place = line_end(reading, text, start, line, place);
             }
             _ => {}
@@ -48,7 +48,7 @@ fn read_on(
 fn read_last(
     reading: &mut Reading,
     text: &[u8],
-    state: &mut State,
+    state: &mut LexerState,
     place: &mut Place,
 ) -> Result<(), ScriptError>
     requires short { length text.now < 2 ^ 63 }
@@ -66,7 +66,7 @@ fn read_last(
 fn read_rest(
     reading: &mut Reading,
     text: &[u8],
-    state: &mut State,
+    state: &mut LexerState,
     place: &mut Place,
 ) -> Result<(), ScriptError>
     requires short { length text.now < 2 ^ 63 }
@@ -83,7 +83,7 @@ fn read_rest(
 fn read_more(
     reading: &mut Reading,
     text: &[u8],
-    state: &mut State,
+    state: &mut LexerState,
     place: &mut Place,
 ) -> Result<(), ScriptError>
     requires short { length text.now < 2 ^ 63 }
@@ -98,11 +98,11 @@ fn read_more(
 
 /// Discards what was read.
 #[inline(never)]
-fn begin_anew(reading: &mut Reading, state: &mut State, place: &mut Place)
+fn begin_anew(reading: &mut Reading, state: &mut LexerState, place: &mut Place)
     ensures { (text : List ℕ) → HasRead text reading.new state.new place.new }
 {
     *reading = Reading::new(reading.alloc);
-    *state = State::Between(Previous::Apart);
+    *state = LexerState::Between(Previous::Apart);
     *place = Place { byte: 0, line: 1 };
 }
 
@@ -121,12 +121,12 @@ fn add(text: &mut Vec<u8>, piece: &[u8]) -> Result<(), AllocError>
 fn finish_reading(
     reading: Reading,
     text: &[u8],
-    state: State,
+    state: LexerState,
     place: Place,
 ) -> Result<Vec<Token>, ScriptError>
     requires short { length text.now < 2 ^ 63 }
     requires read { HasRead text.now reading state place }
-    ensures { Comes text.now result }
+    ensures { HasOutcome text.now result }
 {
     let mut reading = reading;
     let (state, place) = read_on(&mut reading, text, state, place)?;
@@ -159,7 +159,7 @@ fn zero_line(text: &[u8]) -> Option<usize>
 fn finished(
     reading: Reading,
     text: &[u8],
-    state: State,
+    state: LexerState,
     place: Place,
     found: Option<SyntaxFault>,
 ) -> Result<Vec<Token>, ScriptError>
@@ -180,7 +180,7 @@ fn finished(
 pub struct Pieces {
     text: Vec<u8>,
     reading: Reading,
-    state: State,
+    state: LexerState,
     place: Place,
     fault: Option<SyntaxFault>,
 }
@@ -213,7 +213,7 @@ impl Pieces {
         Pieces {
             text: Vec::new(alloc),
             reading: Reading::new(alloc),
-            state: State::Between(Previous::Apart),
+            state: LexerState::Between(Previous::Apart),
             place: Place { byte: 0, line: 1 },
             fault: None,
         }

@@ -4,14 +4,14 @@ ghost use Rattle.std.specs.Prelude.{◌≡◌, ◌<◌, ◌≤◌, ◌^◌, fals
 ghost use Rattle.rc_model.specs.Syntax.Tokens.{is_name_char};
 ghost use Rattle.rc_lexer.specs.Spans.{EndsQuoted, EndsWord, IsWhole, byte_class, in_quotes};
 ghost use Rattle.rc_lexer.specs.Trie.{next_op};
-ghost use Rattle.rc_lexer.specs.declared.lexer_state.State.TheVariants as state;
+ghost use Rattle.rc_lexer.specs.declared.lexer_state.LexerState.TheVariants as state;
 ghost use Rattle.rc_lexer.specs.Reads.{HasRead};
 
 use crate::TokenKind;
 use crate::byte_classes::{ByteClass, class_of, is_name_byte};
 use crate::lexer_state::dollars::begins_dollar_name;
 use crate::lexer_state::tokens::{after_byte, token_between};
-use crate::lexer_state::{Reading, State, TokenStart};
+use crate::lexer_state::{LexerState, Reading, TokenStart};
 use crate::operators::{Op, first_op};
 use crate::previous::{after_blank, begins_name};
 use rc_model::{Place, Previous};
@@ -45,17 +45,17 @@ fn read_word(
     text: &[u8],
     start: TokenStart,
     place: Place,
-) -> Result<(State, Place), AllocError>
+) -> Result<(LexerState, Place), AllocError>
     requires short { length text.now < 2 ^ 63 }
     requires read { HasRead text.now reading.old (state.Word start) place }
     ensures { IfOk result (λ x. HasRead text.now reading.new x.0 x.1 × (place.byte ≤ x.1.byte)) }
 {
     let (end, is_ended) = word_end(reading, text, start, place);
     if !is_ended {
-        return Ok((State::Word(start), end));
+        return Ok((LexerState::Word(start), end));
     }
     let after = reading.push_word(text, false, start, end)?;
-    Ok((State::Between(after), end))
+    Ok((LexerState::Between(after), end))
 }
 
 /// The end of a name that has begun, if it is in the text yet.
@@ -83,19 +83,19 @@ fn read_name(
     text: &[u8],
     start: Place,
     place: Place,
-) -> Result<(State, Place), AllocError>
+) -> Result<(LexerState, Place), AllocError>
     requires short { length text.now < 2 ^ 63 }
     requires read { HasRead text.now reading.old (state.Name start) place }
     ensures { IfOk result (λ x. HasRead text.now reading.new x.0 x.1 × (place.byte ≤ x.1.byte)) }
 {
     let end = name_end(reading, text, start, place);
     if end.byte >= text.len() {
-        return Ok((State::Name(start), end));
+        return Ok((LexerState::Name(start), end));
     }
     reading
         .tokens
         .push(token_between(TokenKind::Name, start, end)?)?;
-    Ok((State::Between(Previous::Name), end))
+    Ok((LexerState::Between(Previous::Name), end))
 }
 
 /// An operator that has begun, as far as the text has it, and its end.
@@ -147,14 +147,14 @@ fn read_operator(
     start: TokenStart,
     op: Op,
     place: Place,
-) -> Result<(State, Place), AllocError>
+) -> Result<(LexerState, Place), AllocError>
     requires short { length text.now < 2 ^ 63 }
     requires read { HasRead text.now reading.old (state.Operator start op) place }
     requires dollars { reading.old.dollars.items ≡ [] }
     ensures { IfOk result (λ x. HasRead text.now reading.new x.0 x.1 × (place.byte ≤ x.1.byte)) }
 {
     let (op, end) = operator_end(reading, text, start, op, place);
-    let unread = State::Operator(start, op);
+    let unread = LexerState::Operator(start, op);
     if end.byte >= text.len() {
         return Ok((unread, end));
     }
@@ -164,11 +164,11 @@ fn read_operator(
     match kind {
         TokenKind::Dollar if begins_dollar_name(text[end.byte]) => {
             reading.push_token(start.previous, TokenKind::Dollar, start.place, end)?;
-            Ok((State::Between(Previous::Dollar), end))
+            Ok((LexerState::Between(Previous::Dollar), end))
         }
         _ if is_whole(kind) => {
             reading.tokens.push(token_between(kind, start.place, end)?)?;
-            Ok((State::Between(Previous::Apart), end))
+            Ok((LexerState::Between(Previous::Apart), end))
         }
         _ => Ok((unread, end)),
     }
@@ -209,7 +209,7 @@ fn read_quoted(
     text: &[u8],
     start: TokenStart,
     place: Place,
-) -> Result<(State, Place), AllocError>
+) -> Result<(LexerState, Place), AllocError>
     requires short { length text.now < 2 ^ 63 }
     requires read { HasRead text.now reading.old (state.Quoted start) place }
     ensures { IfOk result (λ x. HasRead text.now reading.new x.0 x.1 × (place.byte ≤ x.1.byte)) }
@@ -217,16 +217,16 @@ fn read_quoted(
     let (is_closed, end) = quoted_end(reading, text, start, false, place);
     if end.byte < text.len() {
         let after = reading.push_word(text, true, start, end)?;
-        return Ok((State::Between(after), end));
+        return Ok((LexerState::Between(after), end));
     }
     if is_closed {
-        return Ok((State::Closed(start), end));
+        return Ok((LexerState::Closed(start), end));
     }
-    Ok((State::Quoted(start), end))
+    Ok((LexerState::Quoted(start), end))
 }
 
 /// Reads the rest of a comment, up to its newline, if that is in the text yet.
-fn read_comment(reading: &Reading, text: &[u8], place: Place) -> (State, Place)
+fn read_comment(reading: &Reading, text: &[u8], place: Place) -> (LexerState, Place)
     requires short { length text.now < 2 ^ 63 }
     requires read { HasRead text.now reading.now state.Comment place }
     ensures read { HasRead text.now reading.now result.0 result.1 }
@@ -236,11 +236,11 @@ fn read_comment(reading: &Reading, text: &[u8], place: Place) -> (State, Place)
     while place.byte < text.len() {
         let b = text[place.byte];
         match class_of(b) {
-            ByteClass::LineEnd => return (State::Between(Previous::Apart), place),
+            ByteClass::LineEnd => return (LexerState::Between(Previous::Apart), place),
             _ => place = after_byte(place, b),
         }
     }
-    (State::Comment, place)
+    (LexerState::Comment, place)
 }
 
 /// The end of a line in the body of a here document, if it is in the text yet.
@@ -277,7 +277,7 @@ fn read_token(
     text: &[u8],
     previous: Previous,
     place: Place,
-) -> Result<(State, Place), AllocError>
+) -> Result<(LexerState, Place), AllocError>
     requires short { length text.now < 2 ^ 63 }
     requires read { HasRead text.now reading.old (state.Between previous) place }
     requires within { place.byte < length text.now }
@@ -286,10 +286,10 @@ fn read_token(
     let b = text[place.byte];
     let next = after_byte(place, b);
     match class_of(b) {
-        ByteClass::Blank => Ok((State::Between(after_blank(previous)), next)),
+        ByteClass::Blank => Ok((LexerState::Between(after_blank(previous)), next)),
         ByteClass::Alone => {
             let after = reading.push_one(previous, place, b)?;
-            Ok((State::Between(after), next))
+            Ok((LexerState::Between(after), next))
         }
         ByteClass::LineEnd => {
             let state = reading.push_newline(previous, place, b)?;
@@ -306,7 +306,7 @@ fn read_token(
             reading.push_bare_here(previous)?;
             Ok(read_comment(reading, text, next))
         }
-        ByteClass::Backslash => Ok((State::Backslash(TokenStart { previous, place }), next)),
+        ByteClass::Backslash => Ok((LexerState::Backslash(TokenStart { previous, place }), next)),
     }
 }
 
@@ -316,7 +316,7 @@ pub(crate) fn read_plain(
     text: &[u8],
     previous: Previous,
     place: Place,
-) -> Result<(State, Place), AllocError>
+) -> Result<(LexerState, Place), AllocError>
     requires short { length text.now < 2 ^ 63 }
     requires read { HasRead text.now reading.old (state.Between previous) place }
     ensures { IfOk result (λ x. HasRead text.now reading.new x.0 x.1 × (place.byte ≤ x.1.byte)) }
@@ -325,11 +325,11 @@ pub(crate) fn read_plain(
     let mut place = place;
     while place.byte < text.len() {
         let (state, next) = read_token(reading, text, previous, place)?;
-        let State::Between(after) = state else {
+        let LexerState::Between(after) = state else {
             return Ok((state, next));
         };
         previous = after;
         place = next;
     }
-    Ok((State::Between(previous), place))
+    Ok((LexerState::Between(previous), place))
 }

@@ -6,7 +6,7 @@ use Rattle.rc_text.specs.Texts.{text_bytes}
 use Rattle.rc_model.specs.Run.Acts.{set_status}
 use Rattle.rc_model.specs.Run.Builtins.{Finished, finished, cd, dirs_of, first_dir, first_member}
 use Rattle.rc_model.specs.Run.Calls.{Event, change_dir, as_done}
-use Rattle.rc_model.specs.Run.Plans.{Plan, done_with, asks, Ran}
+use Rattle.rc_model.specs.Run.Plans.{Plan, done_with, asks, RanBetween}
 use Rattle.rc_model.specs.Run.Shell.{ShellResult, Next, Shell, leaves}
 use Rattle.rc_model.specs.Run.State.{State, value_of, with_status}
 use Rattle.rc_world.specs.Comes.{Left, Comes}
@@ -27,10 +27,10 @@ module _ (dir : List ℕ) (dirs : List (List ℕ)) (s : State) where
   abbrev next : Bool → Plan (ShellResult (Unit {0}))
   next b = (cond b (set_status []) (first_dir dirs)) s
 
-  pub ran_changed : (a b : Option (List Event)) → Ran a b (asks (change_dir dir) as_done) (done_with true) → Ran a b (first_dir (dir ∷ dirs) s) (done_with (Next tt (with_status s [])))
+  pub ran_changed : (a b : Option (List Event)) → RanBetween a b (asks (change_dir dir) as_done) (done_with true) → RanBetween a b (first_dir (dir ∷ dirs) s) (done_with (Next tt (with_status s [])))
   ran_changed a b f = ran_answered a b b (change_dir dir) as_done true next _ f (ran_none b _)
 
-  pub ran_refused : (a b : Option (List Event)) → Ran a b (asks (change_dir dir) as_done) (done_with false) → Ran a b (first_dir (dir ∷ dirs) s) (first_dir dirs s)
+  pub ran_refused : (a b : Option (List Event)) → RanBetween a b (asks (change_dir dir) as_done) (done_with false) → RanBetween a b (first_dir (dir ∷ dirs) s) (first_dir dirs s)
   ran_refused a b f = ran_answered a b b (change_dir dir) as_done false next _ f (ran_none b _)
 
   pub left_at_change : (a b : Option (List Event)) (stop : Stop) → Left a b (asks (change_dir dir) as_done) stop → Left a b (first_dir (dir ∷ dirs) s) stop

@@ -6,7 +6,7 @@ use Rattle.std.specs.List.{list_any}
 use Rattle.rc_model.specs.declared.call.ChildNo.{ChildNo}
 use Rattle.rc_model.specs.Run.Builtins.{Called, Finished, finished, wait_child, wait_all, wait_for}
 use Rattle.rc_model.specs.Run.Calls.{Event}
-use Rattle.rc_model.specs.Run.Plans.{done_with, Ran}
+use Rattle.rc_model.specs.Run.Plans.{done_with, RanBetween}
 use Rattle.rc_model.specs.Run.Shell.{Shell, Next, pure, leaves}
 use Rattle.rc_model.specs.Run.Acts.{waited, set_status}
 use Rattle.rc_model.specs.Run.State.{State, drop_child, with_status, without_child}
@@ -39,7 +39,7 @@ first_dropped s status n ns =
 
 -- all children in the background are waited for, and those before this place were
 module _ (s : State) (a b : Option (List Event)) (xs : List ChildNo) (i : ℕ) (status : List ℕ)
-    (h : Ran a b (wait_all (child_numbers xs) (with_jobs s [] (child_numbers xs)))
+    (h : RanBetween a b (wait_all (child_numbers xs) (with_jobs s [] (child_numbers xs)))
     (wait_all (child_numbers (drop i xs)) (with_jobs s status (child_numbers (drop i xs))))) where
   module _ (d : ChildNo) (c : Option (List Event)) (lt : i < length xs) where
     abbrev x : ChildNo
@@ -48,19 +48,19 @@ module _ (s : State) (a b : Option (List Event)) (xs : List ChildNo) (i : ℕ) (
     abbrev rest : List ℕ
     rest = child_numbers (drop (i + 1) xs)
 
-    here : Ran a b (wait_all (child_numbers xs) (with_jobs s [] (child_numbers xs))) (wait_all (x.0 ∷ rest) (with_jobs s status (x.0 ∷ rest)))
+    here : RanBetween a b (wait_all (child_numbers xs) (with_jobs s [] (child_numbers xs))) (wait_all (x.0 ∷ rest) (with_jobs s status (x.0 ∷ rest)))
     here =
-        let P : List ChildNo → Type 0 = λ left. Ran a b (wait_all (child_numbers xs) (with_jobs s [] (child_numbers xs)))
+        let P : List ChildNo → Type 0 = λ left. RanBetween a b (wait_all (child_numbers xs) (with_jobs s [] (child_numbers xs)))
         (wait_all (child_numbers left) (with_jobs s status (child_numbers left))) in
         subst P (at_place xs i d lt) h
 
     -- one more was waited for
-    pub waited_more : (ended : List ℕ) → ((t : State) → Ran b c (waited x.0 t) (done_with (Next ended t))) →
-        Ran a c (wait_all (child_numbers xs) (with_jobs s [] (child_numbers xs))) (wait_all rest (with_jobs s ended rest))
+    pub waited_more : (ended : List ℕ) → ((t : State) → RanBetween b c (waited x.0 t) (done_with (Next ended t))) →
+        RanBetween a c (wait_all (child_numbers xs) (with_jobs s [] (child_numbers xs))) (wait_all rest (with_jobs s ended rest))
     waited_more ended f =
         let t = with_jobs s status (x.0 ∷ rest) in
         let u = drop_child t x.0 in
-        let P : State → Type 0 = λ v. Ran b c (wait_child x.0 t) (done_with (Next tt (with_status v ended))) in
+        let P : State → Type 0 = λ v. RanBetween b c (wait_child x.0 t) (done_with (Next tt (with_status v ended))) in
         let done = subst P (first_dropped s status x.0 rest) (ran_do {s = u} {t = u} (waited x.0) (λ text. set_status text) (f u) (ran_none c _)) in
         ran_join a b c _ _ _ here (ran_both b c c t (with_jobs s ended rest) (wait_child x.0) (wait_all rest) _ done (ran_none c _))
 
@@ -74,9 +74,9 @@ module _ (s : State) (a b : Option (List Event)) (xs : List ChildNo) (i : ℕ) (
         (left_first b c c t t (wait_child x.0) (wait_all rest) stop (left_do {s = u} (waited x.0) (λ text. set_status text) (f u)))
 
   -- all were waited for
-  pub waited_all : length xs ≤ i → Ran a b (wait_all (child_numbers xs) (with_jobs s [] (child_numbers xs))) (done_with (Next tt (with_jobs s status [])))
+  pub waited_all : length xs ≤ i → RanBetween a b (wait_all (child_numbers xs) (with_jobs s [] (child_numbers xs))) (done_with (Next tt (with_jobs s status [])))
   waited_all le =
-      let P : List ChildNo → Type 0 = λ left. Ran a b (wait_all (child_numbers xs) (with_jobs s [] (child_numbers xs)))
+      let P : List ChildNo → Type 0 = λ left. RanBetween a b (wait_all (child_numbers xs) (with_jobs s [] (child_numbers xs)))
       (wait_all (child_numbers left) (with_jobs s status (child_numbers left))) in
       subst P (past xs i le) h
 
@@ -85,8 +85,8 @@ module _ (a b : Option (List Event)) (s : State) where
   abbrev every : Shell Called
   every = wait_for []
 
-  pub every_waited : (status : List ℕ) → Ran a b (wait_all s.background (with_jobs s [] s.background)) (done_with (Next tt (with_jobs s status []))) →
-      Ran a b (every s) (done_with (Next Finished (with_jobs s status [])))
+  pub every_waited : (status : List ℕ) → RanBetween a b (wait_all s.background (with_jobs s [] s.background)) (done_with (Next tt (with_jobs s status []))) →
+      RanBetween a b (every s) (done_with (Next Finished (with_jobs s status [])))
   every_waited status f =
       ran_next a b b (wait_all s.background (with_status s [])) tt (with_jobs s status []) (λ x. pure Finished) leaves _ f (ran_none b _)
 

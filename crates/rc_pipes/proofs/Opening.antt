@@ -3,7 +3,7 @@ use Rattle.std.proofs.Common.{List, ◌∷◌, ℕ, Option, Some, None, Ok, Err}
 use Rattle.std.specs.Prelude.{Result as Outcome}
 use Rattle.rc_model.specs.Run.Builtins.{open_first, opened_or}
 use Rattle.rc_model.specs.Run.Calls.{Event, open_file, as_file}
-use Rattle.rc_model.specs.Run.Plans.{Plan, done_with, asks, Ran}
+use Rattle.rc_model.specs.Run.Plans.{Plan, done_with, asks, RanBetween}
 use Rattle.rc_model.specs.Run.Shell.{ShellResult, Shell, Next, ◌>>=◌}
 use Rattle.rc_model.specs.Run.State.{State}
 use Rattle.rc_model.specs.declared.call.Mode.TheVariants.{Read}
@@ -18,12 +18,12 @@ module _ (path : List ℕ) (paths : List (List ℕ)) (s : State) (a b : Option (
   abbrev next : Option ℕ → Plan (ShellResult (Option ℕ))
   next file = opened_or (open_first paths) file s
 
-  pub ran_opened : (n : ℕ) → Ran a b (asks (open_file path Read) as_file) (done_with (Some n)) →
-      Ran a b (open_first (path ∷ paths) s) (done_with (Next (Some n) s))
+  pub ran_opened : (n : ℕ) → RanBetween a b (asks (open_file path Read) as_file) (done_with (Some n)) →
+      RanBetween a b (open_first (path ∷ paths) s) (done_with (Next (Some n) s))
   ran_opened n f = ran_answered a b b (open_file path Read) as_file (Some n) next _ f (ran_none b _)
 
-  pub ran_unopened : Ran a b (asks (open_file path Read) as_file) (done_with None) →
-      Ran a b (open_first (path ∷ paths) s) (open_first paths s)
+  pub ran_unopened : RanBetween a b (asks (open_file path Read) as_file) (done_with None) →
+      RanBetween a b (open_first (path ∷ paths) s) (open_first paths s)
   ran_unopened f = ran_answered a b b (open_file path Read) as_file None next _ f (ran_none b _)
 
   pub left_opening : (stop : Stop) → Left a b (asks (open_file path Read) as_file) stop →

@@ -5,7 +5,7 @@ use Rattle.rc_text.specs.Texts.{text_bytes}
 use Rattle.rc_model.specs.Run.Acts.{candidate, is_program, first_program}
 use Rattle.rc_model.specs.Run.Calls.{Event, probe, as_kind}
 use Rattle.rc_model.specs.declared.call.Kind.{Kind}
-use Rattle.rc_model.specs.Run.Plans.{Plan, done_with, asks, Ran}
+use Rattle.rc_model.specs.Run.Plans.{Plan, done_with, asks, RanBetween}
 use Rattle.rc_model.specs.Run.Shell.{ShellResult, Next, pure}
 use Rattle.rc_model.specs.Run.State.{State}
 use Rattle.rc_world.specs.Comes.{Left}
@@ -26,13 +26,13 @@ module _ (name dir : List ℕ) (paths : List (List ℕ)) (s : State) where
   abbrev next : Option Kind → Plan (ShellResult (Option (List ℕ)))
   next k = (cond (is_program k) (pure (Some (candidate dir name))) (first_program paths)) s
 
-  next_is : (a : Option (List Event)) (k : Option Kind) (b : Bool) → is_program k ≡ b → Ran a a (next k) ((cond b (pure (Some (candidate dir name))) (first_program paths)) s)
-  next_is a k b h = subst (λ t. Ran a a (next k) ((cond t (pure (Some (candidate dir name))) (first_program paths)) s)) h (ran_none a (next k))
+  next_is : (a : Option (List Event)) (k : Option Kind) (b : Bool) → is_program k ≡ b → RanBetween a a (next k) ((cond b (pure (Some (candidate dir name))) (first_program paths)) s)
+  next_is a k b h = subst (λ t. RanBetween a a (next k) ((cond t (pure (Some (candidate dir name))) (first_program paths)) s)) h (ran_none a (next k))
 
-  pub ran_found : (a b : Option (List Event)) (k : Option Kind) → Ran a b (asks (probe (candidate dir name)) as_kind) (done_with k) → is_program k ≡ true → Ran a b (first_program (candidate dir name ∷ paths) s) (done_with (Next (Some (candidate dir name)) s))
+  pub ran_found : (a b : Option (List Event)) (k : Option Kind) → RanBetween a b (asks (probe (candidate dir name)) as_kind) (done_with k) → is_program k ≡ true → RanBetween a b (first_program (candidate dir name ∷ paths) s) (done_with (Next (Some (candidate dir name)) s))
   ran_found a b k f h = ran_answered a b b (probe (candidate dir name)) as_kind k next _ f (next_is b k true h)
 
-  pub ran_further : (a b : Option (List Event)) (k : Option Kind) → Ran a b (asks (probe (candidate dir name)) as_kind) (done_with k) → is_program k ≡ false → Ran a b (first_program (candidate dir name ∷ paths) s) (first_program paths s)
+  pub ran_further : (a b : Option (List Event)) (k : Option Kind) → RanBetween a b (asks (probe (candidate dir name)) as_kind) (done_with k) → is_program k ≡ false → RanBetween a b (first_program (candidate dir name ∷ paths) s) (first_program paths s)
   ran_further a b k f h = ran_answered a b b (probe (candidate dir name)) as_kind k next _ f (next_is b k false h)
 
   pub left_at_probe : (a b : Option (List Event)) (stop : Stop) → Left a b (asks (probe (candidate dir name)) as_kind) stop → Left a b (first_program (candidate dir name ∷ paths) s) stop

@@ -2,7 +2,7 @@
 use Rattle.std.proofs.Common.{ℕ, List, [], ◌∷◌, ◌++◌, Option, Some, None, Bool, codes}
 use Rattle.rc_model.specs.Run.Calls.{Event, make_pipe, close, as_pair, as_done, with_slot, to_file}
 use Rattle.rc_model.specs.declared.call.Slots.{Slots}
-use Rattle.rc_model.specs.Run.Plans.{Plan, done_with, asks, Ran}
+use Rattle.rc_model.specs.Run.Plans.{Plan, done_with, asks, RanBetween}
 use Rattle.rc_model.specs.Run.Shell.{ShellResult, Shell, Next, ◌>>◌, ◌>>=◌, say, pure, leaves}
 use Rattle.rc_model.specs.Run.State.{State}
 use Rattle.rc_model.specs.Run.Acts.{Started, Child, NoChild, LaunchedStages, NotLaunched, start_shell, close_end, from_pipe}
@@ -21,7 +21,7 @@ refusal children why = pure (NotLaunched children why)
 
 -- once the end before is closed
 pub ran_refusal : (a b : Option (List Event)) (before : Option ℕ) (children why : List ℕ) (s : State) →
-    Ran a b (close_end before s) (done_with (Next tt s)) → Ran a b (no_stages before children why s) (done_with (Next (NotLaunched children why) s))
+    RanBetween a b (close_end before s) (done_with (Next tt s)) → RanBetween a b (no_stages before children why s) (done_with (Next (NotLaunched children why) s))
 ran_refusal a b before children why s f = ran_both a b b s s (close_end before) (refusal children why) _ f (ran_none b _)
 
 pub left_refusal : (a b : Option (List Event)) (stop : Stop) (before : Option ℕ) (children why : List ℕ) (s : State) →
@@ -46,7 +46,7 @@ module _ (slots : Slots) (rest : Many stage) (body : Node cmd) (number : ℕ) (b
   pub left_at_pipe : (a b : Option (List Event)) (stop : Stop) → Left a b (asks make_pipe as_pair) stop → Left a b plan stop
   left_at_pipe a b stop f = left_asked a b stop make_pipe as_pair piped f
 
-  pub no_pipe : (a b : Option (List Event)) → Ran a b (asks make_pipe as_pair) (done_with None) → Ran a b plan (no_stages before children (codes "cannot pipe") s)
+  pub no_pipe : (a b : Option (List Event)) → RanBetween a b (asks make_pipe as_pair) (done_with None) → RanBetween a b plan (no_stages before children (codes "cannot pipe") s)
   no_pipe a b f = ran_answered a b b make_pipe as_pair None piped _ f (ran_none b _)
 
   module _ (r w : ℕ) where
@@ -54,17 +54,17 @@ module _ (slots : Slots) (rest : Many stage) (body : Node cmd) (number : ℕ) (b
     abbrev pub started_stage : Started → Plan (ShellResult LaunchedStages)
     started_stage st = next_stage go before children r w st s
 
-    with_pipe : (a b : Option (List Event)) → Ran a b (asks make_pipe as_pair) (done_with (Some (r, w))) → Ran a b plan (piped (Some (r, w)))
+    with_pipe : (a b : Option (List Event)) → RanBetween a b (asks make_pipe as_pair) (done_with (Some (r, w))) → RanBetween a b plan (piped (Some (r, w)))
     with_pipe a b f = ran_answered a b b make_pipe as_pair (Some (r, w)) piped _ f (ran_none b _)
 
-    pub left_at_start : (a b c : Option (List Event)) (stop : Stop) → Ran a b (asks make_pipe as_pair) (done_with (Some (r, w))) →
+    pub left_at_start : (a b c : Option (List Event)) (stop : Stop) → RanBetween a b (asks make_pipe as_pair) (done_with (Some (r, w))) →
         Left b c (start_shell (inner w) body s) stop → Left a c plan stop
     left_at_start a b c stop f g =
         left_join a b c stop _ _ (with_pipe a b f)
         (left_under b c stop (start_shell (inner w) body s) (λ st t. next_stage go before children r w st t) leaves g)
 
-    pub with_start : (a b c : Option (List Event)) (st : Started) → Ran a b (asks make_pipe as_pair) (done_with (Some (r, w))) →
-        Ran b c (start_shell (inner w) body s) (done_with (Next st s)) → Ran a c plan (started_stage st)
+    pub with_start : (a b c : Option (List Event)) (st : Started) → RanBetween a b (asks make_pipe as_pair) (done_with (Some (r, w))) →
+        RanBetween b c (start_shell (inner w) body s) (done_with (Next st s)) → RanBetween a c plan (started_stage st)
     with_start a b c st f g =
         ran_join a b c _ _ _ (with_pipe a b f)
         (ran_next b c c (start_shell (inner w) body s) st s (λ st t. next_stage go before children r w st t) leaves _ g (ran_none c _))
@@ -74,8 +74,8 @@ module _ (slots : Slots) (rest : Many stage) (body : Node cmd) (number : ℕ) (b
     cut_off (Child n) = close_end before >> go (Some r) (children ++ n ∷ [])
     cut_off (NoChild why) = say (close r) >> no_stages before children why
 
-    pub ran_cut_off : (a b : Option (List Event)) (st : Started) (d : Bool) → Ran a b (asks (close w) as_done) (done_with d) →
-        Ran a b (started_stage st) (cut_off st s)
+    pub ran_cut_off : (a b : Option (List Event)) (st : Started) (d : Bool) → RanBetween a b (asks (close w) as_done) (done_with d) →
+        RanBetween a b (started_stage st) (cut_off st s)
     ran_cut_off a b (Child n) d f = ran_said a b b s (close w) as_done (cut_off (Child n)) d _ f (ran_none b _)
     ran_cut_off a b (NoChild why) d f = ran_said a b b s (close w) as_done (cut_off (NoChild why)) d _ f (ran_none b _)
 
@@ -84,16 +84,16 @@ module _ (slots : Slots) (rest : Many stage) (body : Node cmd) (number : ℕ) (b
     left_cut_off a b stop (NoChild why) f = left_saying a b b s (close w) as_done (cut_off (NoChild why)) stop f
 
     -- a child was started: the end before is closed
-    pub ran_child : (a b : Option (List Event)) (n : ℕ) → Ran a b (close_end before s) (done_with (Next tt s)) →
-        Ran a b (cut_off (Child n) s) (go (Some r) (children ++ n ∷ []) s)
+    pub ran_child : (a b : Option (List Event)) (n : ℕ) → RanBetween a b (close_end before s) (done_with (Next tt s)) →
+        RanBetween a b (cut_off (Child n) s) (go (Some r) (children ++ n ∷ []) s)
     ran_child a b n f = ran_both a b b s s (close_end before) (go (Some r) (children ++ n ∷ [])) _ f (ran_none b _)
 
     pub left_child : (a b : Option (List Event)) (stop : Stop) (n : ℕ) → Left a b (close_end before s) stop → Left a b (cut_off (Child n) s) stop
     left_child a b stop n f = left_first a b b s s (close_end before) (go (Some r) (children ++ n ∷ [])) stop f
 
     -- none was started: the read end is closed
-    pub ran_no_child : (a b : Option (List Event)) (why : List ℕ) (d : Bool) → Ran a b (asks (close r) as_done) (done_with d) →
-        Ran a b (cut_off (NoChild why) s) (no_stages before children why s)
+    pub ran_no_child : (a b : Option (List Event)) (why : List ℕ) (d : Bool) → RanBetween a b (asks (close r) as_done) (done_with d) →
+        RanBetween a b (cut_off (NoChild why) s) (no_stages before children why s)
     ran_no_child a b why d f = ran_said a b b s (close r) as_done (no_stages before children why) d _ f (ran_none b _)
 
     pub left_no_child : (a b : Option (List Event)) (stop : Stop) (why : List ℕ) → Left a b (asks (close r) as_done) stop → Left a b (cut_off (NoChild why) s) stop

@@ -3,7 +3,7 @@ use Rattle.std.proofs.Common.{◌≡◌, ℕ, ◌+◌, ◌<◌, ◌≤◌, List,
 use Rattle.std.proofs.lemmas.List.{append-nil}
 use Rattle.rc_model.specs.declared.call.ChildNo.{ChildNo}
 use Rattle.rc_model.specs.Run.Calls.{Event}
-use Rattle.rc_model.specs.Run.Plans.{Plan, done_with, Ran}
+use Rattle.rc_model.specs.Run.Plans.{Plan, done_with, RanBetween}
 use Rattle.rc_model.specs.Run.Shell.{ShellResult, Next, pure, ◌>>=◌}
 use Rattle.rc_model.specs.Run.State.{State}
 use Rattle.rc_model.specs.Run.Acts.{waited, wait_each}
@@ -19,7 +19,7 @@ use Rattle.rc_pipes.proofs.Rows.{past}
 -- after the waits so far, what the waits that are left come to is what all of them come to
 pub record HasWaited (s : State) (a b : Option (List Event)) (all left : List ℕ) (statuses : List (List ℕ)) : Type 0 where
   pub ends : (c : Option (List Event)) (others : List (List ℕ)) →
-      Ran b c (wait_each left s) (done_with (Next others s)) → Ran a c (wait_each all s) (done_with (Next (statuses ++ others) s))
+      RanBetween b c (wait_each left s) (done_with (Next others s)) → RanBetween a c (wait_each all s) (done_with (Next (statuses ++ others) s))
   pub stops : (c : Option (List Event)) (stop : Stop) → Left b c (wait_each left s) stop → Left a c (wait_each all s) stop
 
 pub none_yet : (s : State) (a : Option (List Event)) (all : List ℕ) → HasWaited s a a all all []
@@ -31,11 +31,11 @@ module _ (s : State) (a b : Option (List Event)) (all : List ℕ) (n : ℕ) (lef
   next first = wait_each left >>= (λ others. pure (first ∷ others))
 
   pub one_more : (c : Option (List Event)) (status : List ℕ) → HasWaited s a b all (n ∷ left) statuses →
-      Ran b c (waited n s) (done_with (Next status s)) → HasWaited s a c all left (statuses ++ status ∷ [])
+      RanBetween b c (waited n s) (done_with (Next status s)) → HasWaited s a c all left (statuses ++ status ∷ [])
   one_more c status h f =
       record {
         ends = λ d others g.
-            let P : List (List ℕ) → Type 0 = λ all_statuses. Ran a d (wait_each all s) (done_with (Next all_statuses s)) in
+            let P : List (List ℕ) → Type 0 = λ all_statuses. RanBetween a d (wait_each all s) (done_with (Next all_statuses s)) in
             subst P (sym (append_assoc statuses (status ∷ []) others))
             (h.ends d (status ∷ others) (ran_do (waited n) next f (ran_do (wait_each left) (λ rest. pure (status ∷ rest)) g (ran_none d _))));
         stops = λ d stop g. h.stops d stop (left_done (waited n) next f (left_do (wait_each left) (λ rest. pure (status ∷ rest)) g));
@@ -47,7 +47,7 @@ module _ (s : State) (a b : Option (List Event)) (all : List ℕ) (n : ℕ) (lef
 
 -- all were waited for
 pub all_waited : (s : State) (a b : Option (List Event)) (all : List ℕ) (statuses : List (List ℕ)) → HasWaited s a b all [] statuses →
-    Ran a b (wait_each all s) (done_with (Next (statuses ++ []) s))
+    RanBetween a b (wait_each all s) (done_with (Next (statuses ++ []) s))
 all_waited s a b all statuses h = h.ends b [] (ran_none b _)
 
 -- nothing more was called, and memory was refused
@@ -70,7 +70,7 @@ module _ (s : State) (a b : Option (List Event)) (all : List ℕ) (xs : List Chi
   at_place d lt h = let P : List ℕ → Type 0 = λ left. HasWaited s a b all left statuses in subst P (left_at_place xs i d lt) h
 
   pub next_waited : (c : Option (List Event)) (d : ChildNo) (status : List ℕ) → i < length xs →
-      HasWaited s a b all (map number (drop i xs)) statuses → Ran b c (waited (get_or xs i d).0 s) (done_with (Next status s)) →
+      HasWaited s a b all (map number (drop i xs)) statuses → RanBetween b c (waited (get_or xs i d).0 s) (done_with (Next status s)) →
       HasWaited s a c all (map number (drop (i + 1) xs)) (statuses ++ status ∷ [])
   next_waited c d status lt h f =
       one_more s a b all (number (get_or xs i d)) (map number (drop (i + 1) xs)) statuses c status (at_place d lt h) f
@@ -80,8 +80,8 @@ module _ (s : State) (a b : Option (List Event)) (all : List ℕ) (xs : List Chi
   left_waiting c d stop lt h f =
       left_at_wait s a b all (number (get_or xs i d)) (map number (drop (i + 1) xs)) statuses c stop (at_place d lt h) f
 
-  pub has_waited : length xs ≤ i → HasWaited s a b all (map number (drop i xs)) statuses → Ran a b (wait_each all s) (done_with (Next statuses s))
+  pub has_waited : length xs ≤ i → HasWaited s a b all (map number (drop i xs)) statuses → RanBetween a b (wait_each all s) (done_with (Next statuses s))
   has_waited le h =
       let P : List ℕ → Type 0 = λ left. HasWaited s a b all left statuses in
-      let Q : List (List ℕ) → Type 0 = λ given. Ran a b (wait_each all s) (done_with (Next given s)) in
+      let Q : List (List ℕ) → Type 0 = λ given. RanBetween a b (wait_each all s) (done_with (Next given s)) in
       subst Q (append-nil statuses) (all_waited s a b all statuses (subst P (ap (map number) (past xs i le)) h))

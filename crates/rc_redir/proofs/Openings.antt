@@ -4,7 +4,7 @@ use Rattle.std.specs.Result.{IsErrAnd}
 use Rattle.std.specs.declared.alloc.Global.{Global}
 use Rattle.std.specs.declared.string.String.{String}
 use Rattle.rc_model.specs.Run.Calls.{Call, Event, as_file}
-use Rattle.rc_model.specs.Run.Plans.{done_with, asks, Ran}
+use Rattle.rc_model.specs.Run.Plans.{done_with, asks, RanBetween}
 use Rattle.rc_model.specs.Run.Shell.{Shell}
 use Rattle.rc_model.specs.Run.Acts.{fails, opened}
 use Rattle.law_plans.proofs.Runs.{ran_none}
@@ -37,28 +37,28 @@ module _ (a b : Option (List Event)) (old new : Redirections) (slot : ℕ) (c : 
       (λ s. left_asked a b stop c as_file (λ file. opened old.slots name file s) f)
 
   pub at_name : (result : Result (Unit {0}) RedirError) (answer : Option ℕ) → IsErrAnd result (λ e. e ≡ Stopped NoMemory) →
-      Ran a b (asks c as_file) (done_with answer) → Opens a b old new slot (open_by c old.slots name) result
+      RanBetween a b (asks c as_file) (done_with answer) → Opens a b old new slot (open_by c old.slots name) result
   at_name result answer h f =
       stopped a b old new slot (open_by c old.slots name) result NoMemory h
       (λ s. left_answered a b b NoMemory c as_file answer (λ file. opened old.slots name file s) f (left_memory b _))
 
   -- the call was refused
-  refused : Ran a b (asks c as_file) (done_with None) → (s : _) → Ran a b (open_by c old.slots name s) (fails old.slots (cannot_open name) s)
+  refused : RanBetween a b (asks c as_file) (done_with None) → (s : _) → RanBetween a b (open_by c old.slots name s) (fails old.slots (cannot_open name) s)
   refused f s = ran_answered a b b c as_file None (λ file. opened old.slots name file s) _ f (ran_none b _)
 
-  pub refused_by : (text : String Global) → string_bytes text ≡ name → Ran a b (asks c as_file) (done_with None) →
+  pub refused_by : (text : String Global) → string_bytes text ≡ name → RanBetween a b (asks c as_file) (done_with None) →
       Opens a b old new slot (open_by c old.slots name) (Err (Fault (CannotOpen text)))
   refused_by text e f s =
-      let P : List ℕ → Type 0 = λ n. Ran a b (open_by c old.slots name s) (fails old.slots (cannot_open n) s) in
+      let P : List ℕ → Type 0 = λ n. RanBetween a b (open_by c old.slots name s) (fails old.slots (cannot_open n) s) in
       subst P (sym e) (refused f s)
 
   -- there was no room for the name of what was refused
-  pub held_by_none : (result : Result (Unit {0}) RedirError) → IsErrAnd result (λ e. e ≡ Stopped NoMemory) → Ran a b (asks c as_file) (done_with None) →
+  pub held_by_none : (result : Result (Unit {0}) RedirError) → IsErrAnd result (λ e. e ≡ Stopped NoMemory) → RanBetween a b (asks c as_file) (done_with None) →
       HoldsNothing a b old.slots (open_by c old.slots name) result
   held_by_none (Err e) h f =
       subst (λ e. HoldsNothing a b old.slots (open_by c old.slots name) (Err e)) (sym h) (inr (cannot_open name, refused f))
   held_by_none (Ok x) h f = absurd h
 
-  pub opened_by : (file : ℕ) → new ≡ with_file old slot file → Ran a b (asks c as_file) (done_with (Some file)) →
+  pub opened_by : (file : ℕ) → new ≡ with_file old slot file → RanBetween a b (asks c as_file) (done_with (Some file)) →
       Opens a b old new slot (open_by c old.slots name) (Ok tt)
   opened_by file e f = (file, e, λ s. ran_answered a b b c as_file (Some file) (λ file. opened old.slots name file s) _ f (ran_none b _))

@@ -2,7 +2,7 @@
 use Rattle.std.specs.Prelude.{◌≡◌, ◌⊎◌, ℕ, List, Option, Some, Result, Ok, Err, string_bytes}
 use Rattle.rc_model.specs.Run.Calls.{Call, Event, here, as_file, to_file, with_slot}
 use Rattle.rc_model.specs.declared.call.Slots.{Slots}
-use Rattle.rc_model.specs.Run.Plans.{done_with, Ran}
+use Rattle.rc_model.specs.Run.Plans.{done_with, RanBetween}
 use Rattle.rc_model.specs.Run.State.{State}
 use Rattle.rc_model.specs.Run.Shell.{Shell, Next, ◌>>=◌, call}
 use Rattle.rc_model.specs.Run.Acts.{fails, opened, cannot_open, here_name, not_one_word}
@@ -38,9 +38,10 @@ redir_words (CannotOpen name) = cannot_open (string_bytes name)
 abbrev pub Opens : (before after : Option (List Event)) → (old new : Redirections) → (slot : ℕ) → Shell ℕ →
     Result (Unit {0}) RedirError → Type 0
 Opens before after old new slot act (Ok x) =
-    (file : ℕ) × (new ≡ with_file old slot file) × ((s : State) → Ran before after (act s) (done_with (Next file s)))
+    (file : ℕ) × (new ≡ with_file old slot file) ×
+    ((s : State) → RanBetween before after (act s) (done_with (Next file s)))
 Opens before after old new slot act (Err (Fault fault)) =
-    (s : State) → Ran before after (act s) (fails old.slots (redir_words fault) s)
+    (s : State) → RanBetween before after (act s) (fails old.slots (redir_words fault) s)
 Opens before after old new slot act (Err (Stopped stop)) = (s : State) → Left before after (act s) stop
 
 -- if memory ran out, no file is held: no call was made, or the act came to a runtime error, so that its call was
@@ -48,5 +49,5 @@ Opens before after old new slot act (Err (Stopped stop)) = (s : State) → Left 
 abbrev pub HoldsNothing : (before after : Option (List Event)) → Slots → Shell ℕ →
     Result (Unit {0}) RedirError → Type 0
 HoldsNothing before after slots act (Err (Stopped NoMemory)) =
-    (after ≡ before) ⊎ ((text : List ℕ) × ((s : State) → Ran before after (act s) (fails slots text s)))
+    (after ≡ before) ⊎ ((text : List ℕ) × ((s : State) → RanBetween before after (act s) (fails slots text s)))
 HoldsNothing before after slots act _ = Unit {0}

@@ -4,7 +4,8 @@ ghost use Rattle.std.specs.Prelude.{◌≡◌, ◌↔◌, ◌∷◌, ◌++◌, [
 ghost use Rattle.std.specs.Prelude.{string_bytes, option_map, codes, drop, take, length, ◌-◌, IsTrue};
 ghost use Rattle.std.specs.Option.{option_copied};
 ghost use Rattle.std.specs.Result.{IsErrOf};
-ghost use Rattle.rc_model.specs.Run.State.{new_state, value_of, got, set_value, with_status, with_flag, is_name};
+ghost use Rattle.rc_model.specs.Run.State.{new_state, value_of, dollar_value, set_value, with_status};
+ghost use Rattle.rc_model.specs.Run.State.{with_flag, is_name};
 ghost use Rattle.rc_model.specs.Run.State.{push_local, pop_local, is_function_name, define, undefine, function_of};
 ghost use Rattle.rc_model.specs.Run.State.{add_child, drop_child};
 ghost use Rattle.rc_model.specs.Syntax.Text.{spaced};
@@ -119,7 +120,7 @@ impl State {
 
     /// Borrows the value of `$` and a name: for digits the member of `$*` at that place, counted from 1, or nothing.
     pub fn lookup(&self, name: &str) -> &[Text]
-        ensures { map text_bytes result.now ≡ got (state_of self.now) name.now }
+        ensures { map text_bytes result.now ≡ dollar_value (state_of self.now) name.now }
     {
         if !has_digits(name) || name.is_empty() {
             return self.value(name);
@@ -129,7 +130,7 @@ impl State {
 
     /// Returns the value of `$` and a name: for digits the member of `$*` at that place, counted from 1, or nothing.
     pub fn get(&self, name: &str) -> Result<Vec<String>, AllocError>
-        ensures { IfOk result (λ value. map string_bytes value.items ≡ got (state_of self.now) name.now) }
+        ensures { IfOk result (λ value. map string_bytes value.items ≡ dollar_value (state_of self.now) name.now) }
     {
         strings_of(*self.background.allocator(), self.lookup(name))
     }

@@ -22,13 +22,13 @@ use Rattle.rc_shell.specs.Changes.{Changes, WaitsAt, IsAnsweredAt, IsNotAnswered
 use Rattle.rc_shell.specs.Families.{Holds, made_of}
 use Rattle.rc_shell.specs.Held.{Held}
 use Rattle.rc_shell.specs.Made.{BeginsNot, IsAnswering, PendingAt, StepsNot, answering, first_process, processes, waits, ended, no_process}
-use Rattle.rc_shell.specs.Reached.{IsReached, ComesTo, ComesNot}
+use Rattle.rc_shell.specs.ReplayEnds.{IsReached, ComesTo, ComesNot}
 use Rattle.rc_shell.specs.Standings.{StandsAt, StandsFor, StartsAs, StartsNot, step_of}
 use Rattle.rc_shell.specs.declared.family.family_fault.FamilyFault.{FamilyFault}
 use Rattle.rc_shell.specs.declared.family.family_fault.FamilyFault.TheVariants as fault
 use Rattle.rc_shell.specs.declared.family.process_steps.Change.{Change}
 use Rattle.rc_shell.specs.declared.family.process_steps.Process.{Process}
-use Rattle.rc_shell.specs.declared.family.replaying.Reached.TheVariants.{Limit}
+use Rattle.rc_shell.specs.declared.family.replaying.ReplayEnd.TheVariants.{Limit}
 
 -- ** a process whose code was run again over its answers
 module _ (limit : ℕ) (q : family.Process) (either : IsInTime limit q ⊎ HitsLimit limit q) (t : Node cmd) (s : model.State) (given : List calls.Answer) (same_tree : t ≡ q.tree) (same_state : s ≡ q.state) (same_answers : given ≡ answers q.trace) where

@@ -10,7 +10,7 @@ use Rattle.law_family.proofs.Grow.{answers_at_more}
 use Rattle.rc_world.specs.Views.{answer_of}
 use Rattle.rc_world.specs.declared.event.Answer.{Answer as WorldAnswer}
 use Rattle.rc_shell.specs.Standings.{step_of}
-use Rattle.rc_shell.specs.declared.family.process_steps.Step.{Step}
+use Rattle.rc_shell.specs.declared.family.process_steps.FamilyStep.{FamilyStep}
 
 at_false : {X : Type 0} (b : Bool) (x y : X) → b ≡ false → (if b then x else y) ≡ y
 at_false b x y e = ap (λ t. if t then x else y) e
@@ -26,19 +26,19 @@ pub given_elsewhere : (k : ℕ) (e : family.FamilyEvent) → (e.at ≡ k → ⊥
 given_elsewhere k e h = at_false (nat_eq e.at k) (e.answer ∷ []) [] (ne_eqb e.at k h)
 
 -- the answer of a step of this process was added
-pub pushed_here : (k : ℕ) (step : Step) (old new : List WorldAnswer) (copy : WorldAnswer) → step.process ≡ k → new ≡ old ++ copy ∷ [] → answer_of copy ≡ answer_of step.answer
+pub pushed_here : (k : ℕ) (step : FamilyStep) (old new : List WorldAnswer) (copy : WorldAnswer) → step.process ≡ k → new ≡ old ++ copy ∷ [] → answer_of copy ≡ answer_of step.answer
     → map answer_of new ≡ map answer_of old ++ answers_at k (step_of step ∷ [])
 pushed_here k step old new copy h n c =
     ap (map answer_of) n ∙ (map-append answer_of old (copy ∷ []) ∙ ap (λ l. map answer_of old ++ l) (ap (λ x. x ∷ []) c ∙ sym (given_here k (step_of step) h)))
 
 -- nothing was added for a step of another
-pub pushed_elsewhere : (k : ℕ) (step : Step) (old new : List WorldAnswer) → (step.process ≡ k → ⊥) → new ≡ old
+pub pushed_elsewhere : (k : ℕ) (step : FamilyStep) (old new : List WorldAnswer) → (step.process ≡ k → ⊥) → new ≡ old
     → map answer_of new ≡ map answer_of old ++ answers_at k (step_of step ∷ [])
 pushed_elsewhere k step old new h n =
     ap (map answer_of) n ∙ (sym (append-nil (map answer_of old)) ∙ ap (λ l. map answer_of old ++ l) (sym (given_elsewhere k (step_of step) h)))
 
 -- one turn of the loop
-pub given_more : (k i : ℕ) (steps : List Step) (step : Step) (old new : List WorldAnswer) → i < length steps → step ≡ get_or steps i step
+pub given_more : (k i : ℕ) (steps : List FamilyStep) (step : FamilyStep) (old new : List WorldAnswer) → i < length steps → step ≡ get_or steps i step
     → map answer_of old ≡ answers_at k (map step_of (take i steps)) → map answer_of new ≡ map answer_of old ++ answers_at k (step_of step ∷ [])
     → map answer_of new ≡ answers_at k (map step_of (take (i + 1) steps))
 given_more k i steps step old new l s h n =

@@ -5,7 +5,7 @@ use Rattle.std.specs.declared.alloc.AllocError.{AllocError}
 use Rattle.rc_model.specs.Run.Calls.{Call, Answer, refused, Event, event, calls, extend}
 use Rattle.rc_model.specs.declared.call.Fault.TheVariants.{Halt}
 use Rattle.rc_model.specs.Code.Machine.{Config, exec, begin}
-use Rattle.rc_model.specs.Run.Plans.{done_with, ask, cut, Ends, Waits, Cut, Ran, Halted}
+use Rattle.rc_model.specs.Run.Plans.{done_with, ask, cut, Ends, Waits, Cut, RanBetween, Halted}
 use Rattle.rc_model.specs.Run.Script.{run}
 use Rattle.rc_model.specs.Run.State.{State}
 use Rattle.rc_model.specs.Syntax.Tree.{Node, cmd}
@@ -15,10 +15,10 @@ use Rattle.rc_machine.specs.declared.machine.Progress.{Progress}
 use Rattle.rc_machine.specs.declared.machine.Progress.TheVariants as progress
 use Rattle.rc_world.specs.Tapes.{played}
 use Rattle.rc_world.proofs.Tapes.{played_calls}
-use Rattle.rc_shell.specs.Reached.{IsReached, IsSaid}
+use Rattle.rc_shell.specs.ReplayEnds.{IsReached, IsSaid}
 use Rattle.rc_shell.specs.Replays.{announced}
-use Rattle.rc_shell.specs.declared.family.replaying.Reached.{Reached}
-use Rattle.rc_shell.specs.declared.family.replaying.Reached.TheVariants.{Waiting, Ended, Limit}
+use Rattle.rc_shell.specs.declared.family.replaying.ReplayEnd.{ReplayEnd}
+use Rattle.rc_shell.specs.declared.family.replaying.ReplayEnd.TheVariants.{Waiting, Ended, Limit}
 use Rattle.rc_shell.proofs.Replays.{NoHalt, same_announced, plays_on, waits_there, calls_are, not_empty}
 
 -- how far the code came over these answers, with these calls
@@ -42,13 +42,13 @@ module _ (limit : ℕ) (t : Node cmd) (s : State) (given all kept : List Answer)
   abbrev After : Option (List Event)
   After = Some (announced kept ++ played made kept)
 
-  came_to_end : (end : State) → Ran Before After (exec limit (begin t s)) (done_with end) → CameTo limit t s given progress.Ended made
+  came_to_end : (end : State) → RanBetween Before After (exec limit (begin t s)) (done_with end) → CameTo limit t s given progress.Ended made
   came_to_end end r =
       let e = trace_is given all kept es made r.trace a n r.recorded in
       let g = plays_on (exec limit (begin t s)) r.trace (done_with end) [] made given h (e ∙ sym (append-nil r.trace)) r.goes in
       (end, g.left, g.plays ∙ (preceded_ends (calls r.trace) end g.left ∙ ap (λ l. Ends l end g.left) (calls_are made given r.trace e)))
 
-  came_to_limit : Ran Before After (exec limit (begin t s)) cut → CameTo limit t s given progress.Limit made
+  came_to_limit : RanBetween Before After (exec limit (begin t s)) cut → CameTo limit t s given progress.Limit made
   came_to_limit r =
       let e = trace_is given all kept es made r.trace a n r.recorded in
       let g = plays_on (exec limit (begin t s)) r.trace cut [] made given h (e ∙ sym (append-nil r.trace)) r.goes in
@@ -67,7 +67,7 @@ module _ (limit : ℕ) (t : Node cmd) (s : State) (given all kept : List Answer)
   came now progress.Ended r = came_to_end now.state r
   came now progress.Limit r =
       let e : limit + 0 ≡ limit = omega arith in
-      came_to_limit (subst (λ k. Ran Before After (exec k (begin t s)) cut) e (r 0))
+      came_to_limit (subst (λ k. RanBetween Before After (exec k (begin t s)) cut) e (r 0))
   came now progress.Halted r = came_to_halt r
 
   -- the same of a machine at its beginning, by the calls that the world shows
@@ -76,7 +76,7 @@ module _ (limit : ℕ) (t : Node cmd) (s : State) (given all kept : List Answer)
   came_so m now progress called e k r =
       subst (CameTo limit t s given progress) (sym (k ∙ sym (played_calls made kept))) (came now progress (subst (λ z. RunsTo Before After limit z now (Ok progress)) e r))
 
-reached_so : (limit : ℕ) (t : Node cmd) (s : State) (given : List Answer) (came : Progress) (made : List Call) (r : Reached)
+reached_so : (limit : ℕ) (t : Node cmd) (s : State) (given : List Answer) (came : Progress) (made : List Call) (r : ReplayEnd)
     → CameTo limit t s given came made → IsSaid came made r → IsReached limit t s given r
 reached_so limit t s given progress.Ended made Ended c h = (made, c.0, c.1, c.2)
 reached_so limit t s given progress.Limit made Limit c h = (made, c)
@@ -88,7 +88,7 @@ reached_so limit t s given progress.Limit made (Waiting d) c h = absurd h
 reached_so limit t s given progress.Halted made Ended c h = absurd h
 reached_so limit t s given progress.Halted made Limit c h = absurd h
 
-pub is_reached : (limit : ℕ) (t : Node cmd) (s : State) (given : List Answer) (came : Progress) (made : List Call) (r : Result Reached AllocError)
+pub is_reached : (limit : ℕ) (t : Node cmd) (s : State) (given : List Answer) (came : Progress) (made : List Call) (r : Result ReplayEnd AllocError)
     → CameTo limit t s given came made → IfOk r (λ x. IsSaid came made x) → IfOk r (λ x. IsReached limit t s given x)
 is_reached limit t s given came made (Ok x) c h = reached_so limit t s given came made x c h
 is_reached limit t s given came made (Err e) c h = tt

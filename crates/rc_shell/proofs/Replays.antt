@@ -13,7 +13,7 @@ use Rattle.rc_world.specs.Views.{call_of}
 use Rattle.rc_world.specs.declared.event.Call.{Call as WorldCall}
 use Rattle.rc_world.specs.declared.tape.Tape.{Tape}
 use Rattle.rc_world.proofs.Tapes.{played_calls}
-use Rattle.rc_shell.specs.Reached.{IsLast}
+use Rattle.rc_shell.specs.ReplayEnds.{IsLast}
 use Rattle.rc_shell.specs.Replays.{announced}
 
 -- ** what a world records that announces its answers

@@ -4,7 +4,7 @@ use Rattle.std.specs.declared.alloc.AllocError.{AllocError}
 use Rattle.rc_model.specs.Run.Calls.{Event, refused, event, calls, answers, plain}
 use Rattle.rc_model.specs.declared.call.Fault.TheVariants.{Halt as halt}
 use Rattle.rc_model.specs.Code.Machine.{Config, exec, begin}
-use Rattle.rc_model.specs.Run.Plans.{Plan, done_with, ask, cut, calls_made, Goes, Ran, Halted}
+use Rattle.rc_model.specs.Run.Plans.{Plan, done_with, ask, cut, calls_made, Goes, RanBetween, Halted}
 use Rattle.rc_model.specs.Code.Layout.{Code, code}
 use Rattle.rc_model.specs.Run.Script.{Recorded, IsPrefix, StopsAtLimit, run, script}
 use Rattle.rc_model.specs.Run.State.{State}
@@ -28,14 +28,14 @@ begins_run limit t s trace (ask call go) g = record { rest = call ∷ []; is = a
 begins_run limit t s trace cut g = record { rest = []; is = ap calls_made (cut_over (exec limit (begin t s)) trace g) ∙ sym (append-nil (calls trace)) }
 
 module _ (limit : ℕ) (t : Node cmd) (s : State) (a b : Option (List Event)) where
-  pub recorded_ended : (end : State) → Ran a b (exec limit (begin t s)) (done_with end) → Recorded a b (λ trace. EndsWithin limit t s trace end)
+  pub recorded_ended : (end : State) → RanBetween a b (exec limit (begin t s)) (done_with end) → Recorded a b (λ trace. EndsWithin limit t s trace end)
   recorded_ended end f =
       (f.trace, f.recorded, record { ran = ends_over (exec limit (begin t s)) f.trace end f.goes; meant = recorded.ended_as_meant limit t s end f.trace f.goes })
 
   pub recorded_limit : (now : Config) → Reached a b limit (begin t s) now → Recorded a b (λ trace. StopsAtLimit limit t s trace)
   recorded_limit now here =
       let e : limit + 0 ≡ limit = omega arith in
-      let f : Ran a b (exec limit (begin t s)) cut = subst (λ n. Ran a b (exec n (begin t s)) cut) e (here 0) in
+      let f : RanBetween a b (exec limit (begin t s)) cut = subst (λ n. RanBetween a b (exec n (begin t s)) cut) e (here 0) in
       (f.trace, f.recorded, recorded.stopped_at_limit limit t s f.trace f.goes)
 
   pub recorded_halted : Halted a b (exec limit (begin t s)) → Recorded a b (λ trace. HaltsWithin limit t s trace)

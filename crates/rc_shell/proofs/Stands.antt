@@ -28,7 +28,7 @@ use Rattle.rc_shell.specs.Made.{Made, Steps, answering, first_process, processes
 use Rattle.rc_shell.specs.Standings.{StandsFor, Stand, StartsAs, step_of}
 use Rattle.rc_shell.specs.declared.family.process_steps.Change.{Change}
 use Rattle.rc_shell.specs.declared.family.process_steps.Process.{Process}
-use Rattle.rc_shell.specs.declared.family.process_steps.Step.{Step}
+use Rattle.rc_shell.specs.declared.family.process_steps.FamilyStep.{FamilyStep}
 use Rattle.rc_shell.proofs.Advances.{in_time, some_process, stands_for_child}
 use Rattle.rc_shell.proofs.Launches.{empty_proper}
 
@@ -51,7 +51,7 @@ holds_first limit p t s h =
       stand = stands_alone limit p (cmd_tree p.cmd) (state_of p.state) k;
     }
 
-pub holds_alone : (limit : ℕ) (p : Process) (t : Node cmd) (s : model.State) (ps : List Process) (es : List Step) → ps ≡ p ∷ [] → es ≡ [] → StandsFor limit p (first_process t s) → Holds (held limit ps es)
+pub holds_alone : (limit : ℕ) (p : Process) (t : Node cmd) (s : model.State) (ps : List Process) (es : List FamilyStep) → ps ≡ p ∷ [] → es ≡ [] → StandsFor limit p (first_process t s) → Holds (held limit ps es)
 holds_alone limit p t s ps es a b h = subst (λ x. Holds (held limit ps x)) (sym b) (subst (λ x. Holds (held limit x [])) (sym a) (holds_first limit p t s h))
 
 -- ** one step more
@@ -108,7 +108,7 @@ state_stays (p ∷ ps) (suc k) d o more l = refl
 abbrev made : ℕ → Node cmd → model.State → List family.FamilyEvent → Made
 made limit t s es = record { limit = limit; tree = t; state = s; steps = es }
 
-module _ (h : Held) (holds : Holds h) (k : ℕ) (answer : Answer) (change : Change) (c : Changes h k (answer_of answer) change) (ps : List Process) (es : List Step)
+module _ (h : Held) (holds : Holds h) (k : ℕ) (answer : Answer) (change : Change) (c : Changes h k (answer_of answer) change) (ps : List Process) (es : List FamilyStep)
     (changed : IsChanged h.processes k change.pending change.child ps) (more : es ≡ h.steps ++ record { process = k; call = change.kept; answer = answer } ∷ []) where
   d : Process
   d = some_process h.processes k c.in_family

@@ -11,7 +11,7 @@ use Rattle.rc_shell.specs.Held.{Held}
 use Rattle.rc_shell.specs.Made.{Made, processes}
 use Rattle.rc_shell.specs.Standings.{step_of, Stand}
 use Rattle.rc_shell.specs.declared.family.process_steps.Process.{Process}
-use Rattle.rc_shell.specs.declared.family.process_steps.Step.{Step}
+use Rattle.rc_shell.specs.declared.family.process_steps.FamilyStep.{FamilyStep}
 
 -- the tree that the first process was handed
 abbrev pub first_tree : List Process → Node cmd
@@ -24,7 +24,7 @@ first_state [] = new_state
 first_state (p ∷ ps) = state_of p.state
 
 -- the values of a family
-abbrev pub held : ℕ → List Process → List Step → Held
+abbrev pub held : ℕ → List Process → List FamilyStep → Held
 held limit ps es = record { limit = limit; processes = ps; steps = es }
 
 -- the family that values represent

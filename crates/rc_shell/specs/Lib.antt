@@ -2,7 +2,7 @@ pub mod Outcome
 pub mod Executed
 pub mod Made
 pub mod Replays
-pub mod Reached
+pub mod ReplayEnds
 pub mod Held
 pub mod Standings
 pub mod Families

@@ -20,8 +20,8 @@ pub record Made : Type 0 where
   pub steps : List FamilyEvent
 
 -- a family before any step
-abbrev pub begun : ℕ → Node cmd → State → Made
-begun limit t s = record { limit = limit; tree = t; state = s; steps = [] }
+abbrev pub newly_made : ℕ → Node cmd → State → Made
+newly_made limit t s = record { limit = limit; tree = t; state = s; steps = [] }
 
 -- the processes of shells that read what they are handed
 abbrev pub processes : Made → Family

@@ -16,10 +16,10 @@ use Rattle.rc_shell.specs.Made.{BeginsNot, first_process}
 use Rattle.rc_shell.specs.declared.family.family_fault.FamilyFault.{FamilyFault}
 use Rattle.rc_shell.specs.declared.family.family_fault.FamilyFault.TheVariants as fault
 use Rattle.rc_shell.specs.declared.family.process_steps.Process.{Process}
-use Rattle.rc_shell.specs.declared.family.process_steps.Step.{Step}
+use Rattle.rc_shell.specs.declared.family.process_steps.FamilyStep.{FamilyStep}
 
 -- a step
-abbrev pub step_of : Step → family.FamilyEvent
+abbrev pub step_of : FamilyStep → family.FamilyEvent
 step_of e = record { at = e.process; call = call_of e.call; answer = answer_of e.answer }
 
 -- the options of a shell by its arguments

@@ -74,7 +74,7 @@ fn with_words(mut words: Vec<Text>, launch: &Launch) -> Result<Launch, AllocErro
 
 impl<W: World> HandingWorld<W> {
     /// Starts a shell, which is handed further words.
-    fn start_shell(&mut self, launch: &Launch) -> Result<ChildNo, Fault>
+    fn start_handed(&mut self, launch: &Launch) -> Result<ChildNo, Fault>
         ensures { HandsOn W.events self.old self.new (launch_of launch.now) (child_answer result) }
     {
         self.started = self.started.saturating_add(1);
@@ -130,7 +130,7 @@ impl<W: World> World for HandingWorld<W> {
     {
         match &launch.program {
             Program::Path(_) => self.world.start(launch),
-            Program::Shell => self.start_shell(launch),
+            Program::Shell => self.start_handed(launch),
         }
     }
 

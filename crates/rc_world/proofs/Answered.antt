@@ -8,7 +8,7 @@ use Rattle.rc_model.specs.Run.Calls.{Call, Answer, Event, file, pair, done, byte
 use Rattle.rc_model.specs.Run.Calls.{names, found, refused, extend, recorded_by, was_made, is_halt, want, taken_as, Want}
 use Rattle.rc_model.specs.Run.Calls.{WantsFile, WantsPair, WantsDone, WantsBytes, WantsChild, WantsEnding, WantsNames, WantsKind}
 use Rattle.rc_model.specs.Run.Calls.{as_file, as_pair, as_done, as_bytes, as_child, as_ending, as_names, as_kind}
-use Rattle.rc_model.specs.Run.Plans.{Plan, done_with, asks, Ran}
+use Rattle.rc_model.specs.Run.Plans.{Plan, done_with, asks, RanBetween}
 use Rattle.rc_world.specs.Comes.{Comes, unless_refused, was_done}
 use Rattle.rc_world.specs.Views.{answer_or_refused, file_answer, pair_answer, done_answer, bytes_answer, child_answer}
 use Rattle.rc_world.specs.Views.{ending_answer, names_answer, kind_answer}
@@ -41,15 +41,15 @@ record Gives {V : Type 0} (c : Call) (seen : Answer → V) (x : Answer) (v : V) 
   viewed : seen x ≡ v
 
 ran_asks : {V : Type 0} (a b : Option (List Event)) (c : Call) (seen : Answer → V) (x : Answer) (v : V) →
-    Gives c seen x v → b ≡ extend a (recorded_by c x) → Ran a b (asks c seen) (done_with v)
+    Gives c seen x v → b ≡ extend a (recorded_by c x) → RanBetween a b (asks c seen) (done_with v)
 ran_asks {V = V} a b c seen x v g h =
-    let P : V → Type 0 = λ v. Ran a b (asks c seen) (done_with v) in
+    let P : V → Type 0 = λ v. RanBetween a b (asks c seen) (done_with v) in
     subst P g.viewed (ran_call a b c x (λ x. done_with (seen x)) g.made (record { came = g.came; fits = g.fits }) h)
 
 -- a refusal, by a fault that is neither a halt nor memory that was refused
 ran_refused : {V : Type 0} (a b : Option (List Event)) (c : Call) (seen : Answer → V) (f : Fault) (v : V) →
     was_made (refused f) ≡ true → is_halt (refused f) ≡ false → taken_as WantsFile (refused f) ≡ refused f → seen (refused f) ≡ v →
-    b ≡ extend a (recorded_by c (refused f)) → Ran a b (asks c seen) (done_with v)
+    b ≡ extend a (recorded_by c (refused f)) → RanBetween a b (asks c seen) (done_with v)
 ran_refused a b c seen f v made came fits viewed h =
     ran_asks a b c seen (refused f) v (record { made = made; came = came; fits = same_refusal (want c) f ∙ fits; viewed = viewed }) h
 

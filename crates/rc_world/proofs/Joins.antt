@@ -3,7 +3,7 @@ use Rattle.std.proofs.Common.{◌≡◌, sym, subst, List, [], ◌∷◌, Option
 use Rattle.std.specs.Result.{IsErrAnd}
 use Rattle.rc_model.specs.Run.Calls.{Call, Answer, Event, event, extend, refused}
 use Rattle.rc_model.specs.declared.call.Fault.TheVariants.{Halt as halt}
-use Rattle.rc_model.specs.Run.Plans.{Plan, done_with, ask, asks, and_then, Ran}
+use Rattle.rc_model.specs.Run.Plans.{Plan, done_with, ask, asks, and_then, RanBetween}
 use Rattle.law_plans.proofs.Runs.{ran_none, halted_call, ran_join, halted_join, ran_then, halted_then, ran_bind}
 use Rattle.rc_world.specs.Comes.{Left, for_memory, by_halt, GoesOn, Comes}
 use Rattle.rc_world.specs.declared.starts.Stop.{Stop}
@@ -16,7 +16,7 @@ pub left_memory : {X : Type 0} (a : Option (List Event)) (p : Plan X) → Left a
 left_memory a p = for_memory p (ran_none a p)
 
 -- between two calls
-pub left_here : {X : Type 0} (a b : Option (List Event)) (p q : Plan X) → Ran a b p q → Left a b p NoMemory
+pub left_here : {X : Type 0} (a b : Option (List Event)) (p q : Plan X) → RanBetween a b p q → Left a b p NoMemory
 left_here a b p q f = for_memory q f
 
 -- a call was not made
@@ -41,18 +41,18 @@ passed_up a b plan view result stop h k = given_up a b plan (λ v. done_with (vi
 
 -- ** after a run
 
-pub left_join : {X : Type 0} (a b c : Option (List Event)) (stop : Stop) (p q : Plan X) → Ran a b p q → Left b c q stop → Left a c p stop
+pub left_join : {X : Type 0} (a b c : Option (List Event)) (stop : Stop) (p q : Plan X) → RanBetween a b p q → Left b c q stop → Left a c p stop
 left_join a b c NoMemory p q f (for_memory r g) = for_memory r (ran_join a b c p q r f g)
 left_join a b c Halt p q f (by_halt g) = by_halt (halted_join a b c p q f g)
 
 pub comes_join : {X T : Type 0} (a b c : Option (List Event)) (p q : Plan X) (view : T → X) (result : Result T Stop) →
-    Ran a b p q → Comes b c q view result → Comes a c p view result
+    RanBetween a b p q → Comes b c q view result → Comes a c p view result
 comes_join a b c p q view (Ok x) f g = ran_join a b c p q (done_with (view x)) f g
 comes_join a b c p q view (Err stop) f g = left_join a b c stop p q f g
 
 -- a plan that is another one
-pub ran_as : {X : Type 0} (a b : Option (List Event)) (p q r : Plan X) → p ≡ q → Ran a b q r → Ran a b p r
-ran_as a b p q r e f = subst (λ t. Ran a b t r) (sym e) f
+pub ran_as : {X : Type 0} (a b : Option (List Event)) (p q r : Plan X) → p ≡ q → RanBetween a b q r → RanBetween a b p r
+ran_as a b p q r e f = subst (λ t. RanBetween a b t r) (sym e) f
 
 pub left_as : {X : Type 0} (a b : Option (List Event)) (p q : Plan X) (stop : Stop) → p ≡ q → Left a b q stop → Left a b p stop
 left_as a b p q stop e f = subst (λ t. Left a b t stop) (sym e) f
@@ -71,14 +71,14 @@ left_bind a b Halt p next (by_halt f) = by_halt (halted_then a b p next f)
 
 -- the first ended, and the second was left
 pub left_after : {X Y : Type 0} (a b c : Option (List Event)) (stop : Stop) (p : Plan X) (x : X) (next : X → Plan Y) →
-    Ran a b p (done_with x) → Left b c (next x) stop → Left a c (and_then p next) stop
+    RanBetween a b p (done_with x) → Left b c (next x) stop → Left a c (and_then p next) stop
 left_after a b c stop p x next f g = left_join a b c stop (and_then p next) (next x) (ran_then a b p (done_with x) next f) g
 
 -- ** one call, and what follows its answer as that is taken
 
 -- the call was answered, and what follows went on
 pub ran_answered : {V X : Type 0} (a b c : Option (List Event)) (call : Call) (taken : Answer → V) (v : V) (next : V → Plan X) (q : Plan X) →
-    Ran a b (asks call taken) (done_with v) → Ran b c (next v) q → Ran a c (ask call (λ x. next (taken x))) q
+    RanBetween a b (asks call taken) (done_with v) → RanBetween b c (next v) q → RanBetween a c (ask call (λ x. next (taken x))) q
 ran_answered a b c call taken v next q f g = ran_bind a b c (asks call taken) v next q f g
 
 -- the call was not answered, or not even made
@@ -88,11 +88,11 @@ left_asked a b stop call taken next f = left_bind a b stop (asks call taken) nex
 
 -- the call was answered, and what follows was left
 pub left_answered : {V X : Type 0} (a b c : Option (List Event)) (stop : Stop) (call : Call) (taken : Answer → V) (v : V) (next : V → Plan X) →
-    Ran a b (asks call taken) (done_with v) → Left b c (next v) stop → Left a c (ask call (λ x. next (taken x))) stop
+    RanBetween a b (asks call taken) (done_with v) → Left b c (next v) stop → Left a c (ask call (λ x. next (taken x))) stop
 left_answered a b c stop call taken v next f g = left_after a b c stop (asks call taken) v next f g
 
 -- the call was answered, and what follows came to its value or was left
 pub comes_answered : {V X T : Type 0} (a b c : Option (List Event)) (call : Call) (taken : Answer → V) (v : V) (next : V → Plan X) (view : T → X) (result : Result T Stop) →
-    Ran a b (asks call taken) (done_with v) → Comes b c (next v) view result → Comes a c (ask call (λ x. next (taken x))) view result
+    RanBetween a b (asks call taken) (done_with v) → Comes b c (next v) view result → Comes a c (ask call (λ x. next (taken x))) view result
 comes_answered a b c call taken v next view (Ok x) f g = ran_answered a b c call taken v next (done_with (view x)) f g
 comes_answered a b c call taken v next view (Err stop) f g = left_answered a b c stop call taken v next f g

@@ -2,7 +2,7 @@
 use Rattle.std.specs.Prelude.{◌≡◌, List, Option, Some, None, Result, Ok, Err, Bool, true, false}
 use Rattle.std.specs.Result.{MatchResult}
 use Rattle.rc_model.specs.Run.Calls.{Call, Answer, Event, extend, recorded_by}
-use Rattle.rc_model.specs.Run.Plans.{Plan, done_with, asks, Ran, Halted}
+use Rattle.rc_model.specs.Run.Plans.{Plan, done_with, asks, RanBetween, Halted}
 use Rattle.rc_model.specs.Run.State.{State}
 use Rattle.rc_model.specs.Run.Shell as shell
 use Rattle.rc_model.specs.Run.Shell.{Shell}
@@ -21,20 +21,20 @@ Records events before after call answer = events after ≡ extend (events before
 
 -- between two records of a world, a plan was stopped: by out of memory, or by a halt with its last call unanswered
 pub data Left {X : Type 0} (before after : Option (List Event)) (plan : Plan X) : Stop → Type 0 where
-  for_memory : (rest : Plan X) → Ran before after plan rest → Left before after plan NoMemory
+  for_memory : (rest : Plan X) → RanBetween before after plan rest → Left before after plan NoMemory
   by_halt : Halted before after plan → Left before after plan Halt
 
 -- between two records of a world, a plan went on to another one, by the result, or it was stopped
 abbrev pub GoesOn : {X T : Type 0} → (before after : Option (List Event)) → Plan X → (T → Plan X) →
     Result T Stop → Type 0
 GoesOn before after plan rest result =
-    MatchResult result (λ v. Ran before after plan (rest v)) (Left before after plan)
+    MatchResult result (λ v. RanBetween before after plan (rest v)) (Left before after plan)
 
 -- between two records of a world, code returned the value of a plan, as its result is viewed, or the plan was stopped
 abbrev pub Comes : {X T : Type 0} → (before after : Option (List Event)) → Plan X →
     (T → X) → Result T Stop → Type 0
 Comes before after plan view result =
-    MatchResult result (λ v. Ran before after plan (done_with (view v))) (Left before after plan)
+    MatchResult result (λ v. RanBetween before after plan (done_with (view v))) (Left before after plan)
 
 -- ** the effect of code, unless it is stopped
 

@@ -2,6 +2,6 @@
 
 pub(crate) mod kept_environment;
 pub(crate) mod launch_request;
+pub(crate) mod linux_child;
 pub(crate) mod planned;
 pub(crate) mod planning;
-pub(crate) mod started;

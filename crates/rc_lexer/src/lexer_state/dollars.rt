@@ -8,7 +8,7 @@ ghost use Rattle.rc_lexer.specs.Machine.{PushedDollars, Takes, pending_in};
 
 use crate::byte_classes::{ByteClass, is_name_byte};
 use crate::lexer_state::tokens::token_between;
-use crate::lexer_state::{Reading, State, TokenStart};
+use crate::lexer_state::{LexerState, Reading, TokenStart};
 use crate::operators::Op;
 use crate::previous::{after_token, meaning_after};
 use crate::{ScriptError, Token, TokenKind, fault};
@@ -63,7 +63,7 @@ impl Reading {
         place: Place,
         b: u8,
         class: ByteClass,
-    ) -> Result<State, ScriptError>
+    ) -> Result<LexerState, ScriptError>
         requires byte { place.byte < 2 ^ 63 }
         requires line { place.line < 2 ^ 63 + 1 }
         ensures { Takes self.old self.new result
@@ -74,7 +74,7 @@ impl Reading {
             return self.begin_token(Previous::Dollar, place, b, class);
         }
         if b == b'$' {
-            return Ok(State::Operator(
+            return Ok(LexerState::Operator(
                 TokenStart {
                     previous: Previous::Dollar,
                     place,
@@ -95,7 +95,7 @@ impl Reading {
         place: Place,
         b: u8,
         class: ByteClass,
-    ) -> Result<State, ScriptError>
+    ) -> Result<LexerState, ScriptError>
         requires byte { place.byte < 2 ^ 63 }
         requires line { place.line < 2 ^ 63 + 1 }
         ensures { Takes self.old self.new result
@@ -138,14 +138,14 @@ impl Reading {
         place: Place,
         b: u8,
         class: ByteClass,
-    ) -> Result<State, ScriptError>
+    ) -> Result<LexerState, ScriptError>
         requires byte { place.byte < 2 ^ 63 }
         requires line { place.line < 2 ^ 63 + 1 }
         ensures { Takes self.old self.new result
             (spans.in_operator start op self.old.dollars.items (next_op op b) (pending_in self.old) place b class) }
     {
         if let Some(next) = op.next(b) {
-            return Ok(State::Operator(start, next));
+            return Ok(LexerState::Operator(start, next));
         }
         self.end_operator(start, op.kind(), place, b, class)
     }

@@ -8,10 +8,10 @@ ghost use Rattle.rc_lexer.specs.Views.{slice_at, token_of, tokens_of};
 ghost use Rattle.rc_lexer.specs.Ends as ends;
 ghost use Rattle.rc_lexer.specs.Ends.{Ends, IsClosed};
 ghost use Rattle.rc_lexer.specs.Machine.{dollars_in, pending_in};
-ghost use Rattle.rc_lexer.specs.declared.lexer_state.State.TheVariants as state;
+ghost use Rattle.rc_lexer.specs.declared.lexer_state.LexerState.TheVariants as state;
 
 use crate::lexer_state::tokens::{span_between, token_between};
-use crate::lexer_state::{Reading, State, TokenStart};
+use crate::lexer_state::{LexerState, Reading, TokenStart};
 use crate::previous::meaning_after;
 use crate::{ScriptError, Span, Token, TokenKind, fault};
 use rc_model::{FaultKind, Place};
@@ -131,7 +131,7 @@ impl Reading {
     pub(crate) fn finish(
         &mut self,
         script: &[u8],
-        state: State,
+        state: LexerState,
         place: Place,
     ) -> Result<(), ScriptError>
         requires stands { Stands script.now place.byte state }
@@ -140,24 +140,24 @@ impl Reading {
             (ends.finish script.now state (dollars_in state self.old) (pending_in self.old) place) }
     {
         match state {
-            State::Between(previous) => {
+            LexerState::Between(previous) => {
                 self.push_bare_here(previous)?;
                 self.expect_none_pending()
             }
-            State::Comment => self.expect_none_pending(),
-            State::Backslash(start) | State::Word(start) => self.finish_word(
+            LexerState::Comment => self.expect_none_pending(),
+            LexerState::Backslash(start) | LexerState::Word(start) => self.finish_word(
                 script, false, start, place,
             ),
-            State::WordBackslash(start, _) => self.finish_word(script, false, start, place),
-            State::Name(start) => {
+            LexerState::WordBackslash(start, _) => self.finish_word(script, false, start, place),
+            LexerState::Name(start) => {
                 self.tokens
                     .push(token_between(TokenKind::Name, start, place)?)?;
                 self.expect_none_pending()
             }
-            State::Quoted(start) => Err(fault(FaultKind::OpenQuote, start.place.line)),
-            State::Closed(start) => self.finish_word(script, true, start, place),
-            State::Operator(start, op) => self.finish_operator(start, op.kind(), place),
-            State::Body { start, line } => self.finish_body(script, start, line, place),
+            LexerState::Quoted(start) => Err(fault(FaultKind::OpenQuote, start.place.line)),
+            LexerState::Closed(start) => self.finish_word(script, true, start, place),
+            LexerState::Operator(start, op) => self.finish_operator(start, op.kind(), place),
+            LexerState::Body { start, line } => self.finish_body(script, start, line, place),
         }
     }
 

@@ -3,24 +3,24 @@
 ghost use Rattle.std.specs.Prelude.{◌≡◌, ◌<◌, ◌≤◌, ◌+◌, ◌^◌, length};
 ghost use Rattle.rc_lexer.specs.Spans as spans;
 ghost use Rattle.rc_lexer.specs.Machine.{Takes, line_of, pending_in};
-ghost use Rattle.rc_lexer.specs.declared.lexer_state.State.TheVariants as state;
+ghost use Rattle.rc_lexer.specs.declared.lexer_state.LexerState.TheVariants as state;
 
 use crate::ScriptError;
 use crate::byte_classes::ByteClass;
 use crate::lexer_state::tokens::span_between;
-use crate::lexer_state::{Reading, State};
+use crate::lexer_state::{LexerState, Reading};
 use rc_model::{Place, Previous};
 
 impl Reading {
     /// The state at the beginning of a line.
     #[inline(always)]
-    pub(crate) fn begin_line(&self, at: usize) -> State
+    pub(crate) fn begin_line(&self, at: usize) -> LexerState
         ensures { result ≡ line_of self.now.pending.items at }
     {
         if self.pending.is_empty() {
-            State::Between(Previous::Apart)
+            LexerState::Between(Previous::Apart)
         } else {
-            State::Body {
+            LexerState::Body {
                 start: at,
                 line: at,
             }
@@ -37,7 +37,7 @@ impl Reading {
         place: Place,
         b: u8,
         class: ByteClass,
-    ) -> Result<State, ScriptError>
+    ) -> Result<LexerState, ScriptError>
         requires byte { place.byte < 2 ^ 63 }
         requires line { place.line < 2 ^ 63 + 1 }
         requires order { line ≤ place.byte }
@@ -52,7 +52,7 @@ impl Reading {
             ByteClass::LineEnd => {
                 let next = place.byte + 1;
                 if &script[line..place.byte] != first.mark.as_slice() {
-                    return Ok(State::Body {
+                    return Ok(LexerState::Body {
                         start: body,
                         line: next,
                     });
@@ -61,7 +61,7 @@ impl Reading {
                 let _ = self.pending.pop_front();
                 Ok(self.begin_line(next))
             }
-            _ => Ok(State::Body { start: body, line }),
+            _ => Ok(LexerState::Body { start: body, line }),
         }
     }
 }

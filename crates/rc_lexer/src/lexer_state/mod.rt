@@ -24,7 +24,7 @@ pub(crate) struct TokenStart {
 
 /// What is being read.
 #[derive(Clone, Copy)]
-pub(crate) enum State {
+pub(crate) enum LexerState {
     Between(Previous),
     Comment,
     /// A backslash, which makes a newline a blank.

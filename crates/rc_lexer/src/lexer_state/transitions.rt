@@ -6,7 +6,7 @@ ghost use Rattle.rc_lexer.specs.Machine.{TakesStep, left};
 
 use crate::ScriptError;
 use crate::byte_classes::ByteClass;
-use crate::lexer_state::{Reading, State};
+use crate::lexer_state::{LexerState, Reading};
 use crate::previous::after_blank;
 use rc_model::{Place, Previous};
 
@@ -16,11 +16,11 @@ impl Reading {
     pub(crate) fn step(
         &mut self,
         script: &[u8],
-        state: State,
+        state: LexerState,
         place: Place,
         b: u8,
         class: ByteClass,
-    ) -> Result<State, ScriptError>
+    ) -> Result<LexerState, ScriptError>
         requires byte { place.byte < 2 ^ 63 }
         requires line { place.line < 2 ^ 63 + 1 }
         requires within { place.byte ≤ length script.now }
@@ -28,31 +28,33 @@ impl Reading {
         ensures { TakesStep script.now state place b class self.old self.new result }
     {
         match state {
-            State::Between(previous) => self.begin_token(previous, place, b, class),
-            State::Comment => match class {
+            LexerState::Between(previous) => self.begin_token(previous, place, b, class),
+            LexerState::Comment => match class {
                 ByteClass::LineEnd => self.begin_token(Previous::Apart, place, b, class),
                 _ => Ok(state),
             },
-            State::Backslash(start) => match class {
-                ByteClass::LineEnd => Ok(State::Between(after_blank(start.previous))),
+            LexerState::Backslash(start) => match class {
+                ByteClass::LineEnd => Ok(LexerState::Between(after_blank(start.previous))),
                 _ => self.continue_word(script, start, place, b, class),
             },
-            State::WordBackslash(start, stop) => match class {
+            LexerState::WordBackslash(start, stop) => match class {
                 ByteClass::LineEnd => self.end_continued(script, start, stop, place, b),
                 _ => self.continue_word(script, start, place, b, class),
             },
-            State::Word(start) => self.continue_word(script, start, place, b, class),
-            State::Name(start) => self.continue_name(start, place, b, class),
-            State::Quoted(start) => match class {
-                ByteClass::Quote => Ok(State::Closed(start)),
+            LexerState::Word(start) => self.continue_word(script, start, place, b, class),
+            LexerState::Name(start) => self.continue_name(start, place, b, class),
+            LexerState::Quoted(start) => match class {
+                ByteClass::Quote => Ok(LexerState::Closed(start)),
                 _ => Ok(state),
             },
-            State::Closed(start) => match class {
-                ByteClass::Quote => Ok(State::Quoted(start)),
+            LexerState::Closed(start) => match class {
+                ByteClass::Quote => Ok(LexerState::Quoted(start)),
                 _ => self.end_word(script, true, start, place, b, class),
             },
-            State::Operator(start, op) => self.continue_operator(start, op, place, b, class),
-            State::Body { start, line } => self.continue_body(script, start, line, place, b, class),
+            LexerState::Operator(start, op) => self.continue_operator(start, op, place, b, class),
+            LexerState::Body { start, line } => self.continue_body(
+                script, start, line, place, b, class,
+            ),
         }
     }
 
@@ -61,7 +63,7 @@ impl Reading {
     fn step_in_place(
         &mut self,
         script: &[u8],
-        state: &mut State,
+        state: &mut LexerState,
         place: Place,
         b: u8,
         class: ByteClass,
@@ -81,7 +83,7 @@ impl Reading {
     pub(crate) fn step_lightly(
         &mut self,
         script: &[u8],
-        state: &mut State,
+        state: &mut LexerState,
         place: Place,
         b: u8,
         class: ByteClass,
@@ -93,11 +95,11 @@ impl Reading {
         ensures { TakesStep script.now state.old place b class self.old self.new (left state.new result) }
     {
         match *state {
-            State::Between(previous) => {
+            LexerState::Between(previous) => {
                 self.begin_in_place(state, previous, place, b, class)?;
                 Ok(())
             }
-            State::Word(start) => self.continue_word_in_place(
+            LexerState::Word(start) => self.continue_word_in_place(
                 script, state, start, place, b, class,
             ),
             _ => self.step_in_place(script, state, place, b, class),

@@ -4,12 +4,12 @@ ghost use Rattle.std.specs.Prelude.{◌≡◌, ◌<◌, ◌≤◌, ◌+◌, ◌^
 ghost use Rattle.rc_model.specs.Mirrors.Reading.{without_here};
 ghost use Rattle.rc_lexer.specs.Spans as spans;
 ghost use Rattle.rc_lexer.specs.Machine.{Takes, left, pending_in};
-ghost use Rattle.rc_lexer.specs.declared.lexer_state.State.TheVariants as state;
+ghost use Rattle.rc_lexer.specs.declared.lexer_state.LexerState.TheVariants as state;
 ghost use Rattle.rc_lexer.specs.declared.byte_classes.ByteClass.TheVariants as byte_class;
 
 use crate::byte_classes::{ByteClass, alone_kind, is_name_byte};
 use crate::lexer_state::tokens::{after_byte, token_between};
-use crate::lexer_state::{Reading, State, TokenStart};
+use crate::lexer_state::{LexerState, Reading, TokenStart};
 use crate::operators::first_op;
 use crate::previous::{after_blank, after_token, begins_name, meaning_after, without_here};
 use crate::{ScriptError, TokenKind};
@@ -44,7 +44,7 @@ impl Reading {
         previous: Previous,
         place: Place,
         b: u8,
-    ) -> Result<State, AllocError>
+    ) -> Result<LexerState, AllocError>
         requires byte { place.byte < 2 ^ 63 }
         requires line { place.line < 2 ^ 63 + 1 }
         ensures { IfOk result (λ s. Takes self.old self.new (Ok s)
@@ -83,7 +83,7 @@ impl Reading {
     #[inline(always)]
     pub(crate) fn begin_in_place(
         &mut self,
-        state: &mut State,
+        state: &mut LexerState,
         previous: Previous,
         place: Place,
         b: u8,
@@ -95,22 +95,22 @@ impl Reading {
             (spans.begin previous (pending_in self.old) place b class)) }
     {
         match class {
-            ByteClass::Blank => *state = State::Between(after_blank(previous)),
-            ByteClass::Quote => *state = State::Quoted(TokenStart { previous, place }),
-            ByteClass::Backslash => *state = State::Backslash(TokenStart { previous, place }),
-            ByteClass::Ordinary if begins_name(previous, b) => *state = State::Name(place),
-            ByteClass::Ordinary => *state = State::Word(TokenStart { previous, place }),
+            ByteClass::Blank => *state = LexerState::Between(after_blank(previous)),
+            ByteClass::Quote => *state = LexerState::Quoted(TokenStart { previous, place }),
+            ByteClass::Backslash => *state = LexerState::Backslash(TokenStart { previous, place }),
+            ByteClass::Ordinary if begins_name(previous, b) => *state = LexerState::Name(place),
+            ByteClass::Ordinary => *state = LexerState::Word(TokenStart { previous, place }),
             ByteClass::Hash => {
                 self.push_bare_here(previous)?;
-                *state = State::Comment;
+                *state = LexerState::Comment;
             }
             ByteClass::Begins => {
                 let start = self.begin_operator(previous, place)?;
-                *state = State::Operator(start, first_op(b));
+                *state = LexerState::Operator(start, first_op(b));
             }
             ByteClass::Alone => {
                 let after = self.push_one(previous, place, b)?;
-                *state = State::Between(after);
+                *state = LexerState::Between(after);
             }
             ByteClass::LineEnd => *state = self.push_newline(previous, place, b)?,
         }
@@ -125,12 +125,12 @@ impl Reading {
         place: Place,
         b: u8,
         class: ByteClass,
-    ) -> Result<State, ScriptError>
+    ) -> Result<LexerState, ScriptError>
         requires byte { place.byte < 2 ^ 63 }
         requires line { place.line < 2 ^ 63 + 1 }
         ensures { Takes self.old self.new result (spans.begin previous (pending_in self.old) place b class) }
     {
-        let mut state = State::Between(previous);
+        let mut state = LexerState::Between(previous);
         self.begin_in_place(&mut state, previous, place, b, class)?;
         Ok(state)
     }
@@ -140,7 +140,7 @@ impl Reading {
     pub(crate) fn continue_word_in_place(
         &mut self,
         script: &[u8],
-        state: &mut State,
+        state: &mut LexerState,
         start: TokenStart,
         place: Place,
         b: u8,
@@ -154,8 +154,8 @@ impl Reading {
             (spans.in_word script.now start (pending_in self.old) place b class) }
     {
         match class {
-            ByteClass::Ordinary => *state = State::Word(start),
-            ByteClass::Backslash => *state = State::WordBackslash(start, place),
+            ByteClass::Ordinary => *state = LexerState::Word(start),
+            ByteClass::Backslash => *state = LexerState::WordBackslash(start, place),
             _ => return self.end_word_in_place(script, state, start, place, b, class),
         }
         Ok(())
@@ -166,7 +166,7 @@ impl Reading {
     fn end_word_in_place(
         &mut self,
         script: &[u8],
-        state: &mut State,
+        state: &mut LexerState,
         start: TokenStart,
         place: Place,
         b: u8,
@@ -193,7 +193,7 @@ impl Reading {
         place: Place,
         b: u8,
         class: ByteClass,
-    ) -> Result<State, ScriptError>
+    ) -> Result<LexerState, ScriptError>
         requires byte { place.byte < 2 ^ 63 }
         requires line { place.line < 2 ^ 63 + 1 }
         requires order { start.place.byte ≤ place.byte }
@@ -213,7 +213,7 @@ impl Reading {
         place: Place,
         b: u8,
         class: ByteClass,
-    ) -> Result<State, ScriptError>
+    ) -> Result<LexerState, ScriptError>
         requires byte { place.byte < 2 ^ 63 }
         requires line { place.line < 2 ^ 63 + 1 }
         requires order { start.place.byte ≤ place.byte }
@@ -222,8 +222,8 @@ impl Reading {
             (spans.in_word script.now start (pending_in self.old) place b class) }
     {
         match class {
-            ByteClass::Ordinary => Ok(State::Word(start)),
-            ByteClass::Backslash => Ok(State::WordBackslash(start, place)),
+            ByteClass::Ordinary => Ok(LexerState::Word(start)),
+            ByteClass::Backslash => Ok(LexerState::WordBackslash(start, place)),
             _ => self.end_word(script, false, start, place, b, class),
         }
     }
@@ -237,7 +237,7 @@ impl Reading {
         stop: Place,
         place: Place,
         b: u8,
-    ) -> Result<State, ScriptError>
+    ) -> Result<LexerState, ScriptError>
         requires order { start.place.byte ≤ stop.byte }
         requires within { stop.byte ≤ length script.now }
         ensures { Takes self.old self.new result
@@ -245,7 +245,7 @@ impl Reading {
             place b byte_class.LineEnd) }
     {
         let _ = self.push_word(script, false, start, stop)?;
-        Ok(State::Between(Previous::Apart))
+        Ok(LexerState::Between(Previous::Apart))
     }
 
     /// Reads the byte after a name so far.
@@ -256,14 +256,14 @@ impl Reading {
         place: Place,
         b: u8,
         class: ByteClass,
-    ) -> Result<State, ScriptError>
+    ) -> Result<LexerState, ScriptError>
         requires byte { place.byte < 2 ^ 63 }
         requires line { place.line < 2 ^ 63 + 1 }
         ensures { Takes self.old self.new result
             (spans.step [] (state.Name start) self.old.dollars.items (pending_in self.old) place b class) }
     {
         if is_name_byte(b) {
-            return Ok(State::Name(start));
+            return Ok(LexerState::Name(start));
         }
         self.tokens
             .push(token_between(TokenKind::Name, start, place)?)?;

@@ -13,30 +13,30 @@ use Rattle.rc_model.specs.declared.syntax.Previous.TheVariants as previous
 use Rattle.rc_model.specs.declared.syntax.Class.TheVariants as class
 
 -- what is being read
-pub data State : Type 0 where
+pub data LexerState : Type 0 where
   -- nothing, in this context
-  Between : Previous → State
-  Comment : State
+  Between : Previous → LexerState
+  Comment : LexerState
   -- a backslash at this place, alone and after a word: with a newline it is a blank
-  Backslash : Previous → (begin : Place) → State
-  WordBackslash : Previous → (begin : Place) → (text : List ℕ) → (end : Place) → State
+  Backslash : Previous → (begin : Place) → LexerState
+  WordBackslash : Previous → (begin : Place) → (text : List ℕ) → (end : Place) → LexerState
   -- a word or a name that begins at this place, with its text so far
-  Word : Previous → (begin : Place) → (text : List ℕ) → State
-  Name : (begin : Place) → (text : List ℕ) → State
+  Word : Previous → (begin : Place) → (text : List ℕ) → LexerState
+  Name : (begin : Place) → (text : List ℕ) → LexerState
   -- a quoted word, and one after a quote that ends it if no other follows
-  Quoted : Previous → (begin : Place) → (text : List ℕ) → State
-  Closed : Previous → (begin : Place) → (text : List ℕ) → State
+  Quoted : Previous → (begin : Place) → (text : List ℕ) → LexerState
+  Closed : Previous → (begin : Place) → (text : List ℕ) → LexerState
   -- an operator with its characters so far, after `$`s whose name is still to come
-  Operator : Previous → (dollars : List Token) → (begin : Place) → (cs : List ℕ) → State
+  Operator : Previous → (dollars : List Token) → (begin : Place) → (cs : List ℕ) → LexerState
   -- the body of a here document: its whole lines, and the last line so far
-  Body : PendingHereDoc → (body line : List ℕ) → State
+  Body : PendingHereDoc → (body line : List ℕ) → LexerState
 
 -- a step: the tokens and bodies that a character ends, the state and the here documents due after it; or a fault
 abbrev pub AfterCharacter : Type 0
-AfterCharacter = Result (List Token × List (List ℕ) × State × List PendingHereDoc) SyntaxFault
+AfterCharacter = Result (List Token × List (List ℕ) × LexerState × List PendingHereDoc) SyntaxFault
 
 -- these tokens have ended, and reading goes on in this state
-abbrev pub goes : List Token → State → List PendingHereDoc → AfterCharacter
+abbrev pub goes : List Token → LexerState → List PendingHereDoc → AfterCharacter
 goes ts s due = Ok (ts, [], s, due)
 
 -- the step with these tokens before its own
@@ -106,7 +106,7 @@ end_operator prev dollars q (Some t.DollarFlat) due p c k =
 end_operator prev dollars q (Some l) due p c k = ends prev (t.meant prev [] l) q due p c k
 
 -- one character
-abbrev pub step : State → List PendingHereDoc → Place → ℕ → Class → AfterCharacter
+abbrev pub step : LexerState → List PendingHereDoc → Place → ℕ → Class → AfterCharacter
 step (Between prev) due p c k = begin prev due p c k
 step Comment due p c class.LineEnd = begin previous.Apart due p c class.LineEnd
 step Comment due p c k = goes [] Comment due
@@ -146,7 +146,7 @@ finish_operator prev dollars q None due p = Err (t.fault t.BadDescriptor q.line)
 finish_operator prev dollars q (Some l) due p = closed (bare dollars ++ t.tokens_of prev (t.meant prev [] l) q p) [] due
 
 -- the end of the text, in each state
-abbrev pub finish : State → List PendingHereDoc → Place → Outcome
+abbrev pub finish : LexerState → List PendingHereDoc → Place → Outcome
 finish (Between prev) due p = closed (bare_here prev) [] due
 finish Comment due p = closed [] [] due
 finish (Backslash prev q) due p = ended prev (t.Word (92 ∷ [])) q due p
@@ -161,12 +161,12 @@ finish (Body d body (b ∷ line)) due p =
     if bytes_eq (b ∷ line) d.mark then closed [] (body ∷ []) due else Err (t.fault t.OpenHere d.line)
 
 -- goes on after a step, unless it is a fault
-abbrev pub follow : AfterCharacter → (State → List PendingHereDoc → Outcome) → Outcome
+abbrev pub follow : AfterCharacter → (LexerState → List PendingHereDoc → Outcome) → Outcome
 follow (Ok x) then' = t.join x.0 x.1 (then' x.2 x.3)
 follow (Err f) then' = Err f
 
 -- the outcome of the rest of a text
-abbrev pub run : State → List PendingHereDoc → Place → List ℕ → Outcome
+abbrev pub run : LexerState → List PendingHereDoc → Place → List ℕ → Outcome
 run s due p [] = finish s due p
 run s due p (c ∷ cs) = follow (step s due p c (t.class_of c)) (λ s' due'. run s' due' (t.after_char p c) cs)
 

@@ -12,7 +12,7 @@ use Rattle.rc_model.specs.Run.Calls.{Mode, Read, to_file, Slots, with_slot, Kind
 use Rattle.rc_model.specs.Run.Calls.{open_file, here, make_pipe, close, read, start, wait, probe, as_file}
 use Rattle.rc_model.specs.Run.Calls.{as_pair, as_bytes, as_kind, as_child, as_ending}
 use Rattle.rc_model.specs.Syntax.Tree.{Node, Many, cmd, stage, piece, none, more, Stage, Text, Name}
-use Rattle.rc_model.specs.Run.State.{State, value_of, set_value, got, is_readable}
+use Rattle.rc_model.specs.Run.State.{State, value_of, set_value, dollar_value, is_readable}
 use Rattle.rc_model.specs.Run.State.{with_status, add_child}
 use Rattle.rc_model.specs.Run.Shell.{Shell, ◌>>=◌, ◌>>◌, pure, call, say, get, change}
 use Rattle.rc_model.specs.Handed.Image.{program_launch, shell_launch, is_fit}
@@ -54,7 +54,8 @@ open_one slots mode (name ∷ other ∷ others) = fails slots not_one_word
 abbrev pub here_text : State → Many piece → List ℕ
 here_text s none = []
 here_text s (more (Text text) pieces) = text ++ here_text s pieces
-here_text s (more (Name name) pieces) = spaced (if is_readable name then got s name else []) ++ here_text s pieces
+here_text s (more (Name name) pieces) =
+    spaced (if is_readable name then dollar_value s name else []) ++ here_text s pieces
 
 -- a here document is passed on as a file, with the values of its names
 abbrev pub open_here : Slots → Many piece → Shell ℕ

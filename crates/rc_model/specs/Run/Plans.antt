@@ -57,7 +57,7 @@ Goes (ask c go) (e ∷ es) q = (e.call ≡ c) × IsAnswered c e.answer × Goes (
 Goes _ (e ∷ es) q = ⊥
 
 -- between two records of a world, the plan went on to another
-pub record Ran {X : Type 0} (before after : Option (List Event)) (plan rest : Plan X) : Type 0 where
+pub record RanBetween {X : Type 0} (before after : Option (List Event)) (plan rest : Plan X) : Type 0 where
   pub trace : List Event
   pub recorded : after ≡ extend before trace
   pub goes : Goes plan trace rest

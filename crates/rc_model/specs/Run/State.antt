@@ -99,8 +99,8 @@ abbrev pub is_true : List ℕ → Bool
 is_true status = list_all (λ c. (c == 48) || (c == 124)) status
 
 -- the value of `$` and a name: for digits a member of `$*`
-abbrev pub got : State → List ℕ → List (List ℕ)
-got s name =
+abbrev pub dollar_value : State → List ℕ → List (List ℕ)
+dollar_value s name =
     if list_all is_digit name && not (length name == 0)
     then member (value_of s (codes "*")) (Some (digits_value 0 name)) else value_of s name
 

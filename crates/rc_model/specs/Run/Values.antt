@@ -10,7 +10,7 @@ use Rattle.rc_model.specs.Run.Calls.{Slots}
 use Rattle.rc_model.specs.Run.Calls.{close, wait, write}
 use Rattle.rc_model.specs.Run.Plans.{Plan, ask, done_with}
 use Rattle.rc_model.specs.Syntax.Tree.{Node, cmd}
-use Rattle.rc_model.specs.Run.State.{is_true, got, is_name, is_readable, is_function_name}
+use Rattle.rc_model.specs.Run.State.{is_true, dollar_value, is_name, is_readable, is_function_name}
 use Rattle.rc_model.specs.Run.State.{with_status, define}
 use Rattle.rc_model.specs.Run.Shell.{Shell, Next, ◌>>=◌, ◌>>◌, pure, skip, say, get, change, exits}
 
@@ -73,7 +73,7 @@ abbrev pub value : Slots → List Word → Shell (List (List ℕ))
 value slots words = do
   x ← one_name slots is_readable (word_texts words)
   s ← get
-  pure (got s x)
+  pure (dollar_value s x)
 
 -- `$x`: the members of the value
 abbrev pub value_words : Slots → List Word → Shell (List Word)

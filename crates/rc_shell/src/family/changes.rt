@@ -11,7 +11,7 @@ use crate::family::family_fault::FamilyFault;
 use crate::family::fitting::fits;
 use crate::family::given_answers::answers_with;
 use crate::family::next_calls::next_call;
-use crate::family::process_steps::{Change, Process, Step};
+use crate::family::process_steps::{Change, FamilyStep, Process};
 use rc_world::{Answer, Call};
 use std::alloc::{AllocError, Global};
 
@@ -40,7 +40,7 @@ fn answered_call<'a>(
 pub(crate) fn change_of(
     alloc: Global,
     processes: &[Process],
-    steps: &[Step],
+    steps: &[FamilyStep],
     limit: u64,
     k: usize,
     answer: &Answer,
@@ -66,7 +66,7 @@ pub(crate) fn change_of(
 /// Reserves room for one more process and one more step.
 pub(crate) fn make_room(
     processes: &mut Vec<Process>,
-    steps: &mut Vec<Step>,
+    steps: &mut Vec<FamilyStep>,
 ) -> Result<(), AllocError>
     ensures processes { processes.new.items ≡ processes.old.items }
     ensures steps { steps.new.items ≡ steps.old.items }

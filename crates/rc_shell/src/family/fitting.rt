@@ -2,7 +2,7 @@
 
 ghost use Rattle.rc_model.specs.Run.Plans.{IsAnswered};
 ghost use Rattle.rc_world.specs.Views.{answer_of, call_of};
-ghost use Rattle.rc_shell.specs.Reached.{Tells};
+ghost use Rattle.rc_shell.specs.ReplayEnds.{Tells};
 
 use rc_model::limits::LONGEST_READ;
 use rc_world::{Answer, Call, Fault};

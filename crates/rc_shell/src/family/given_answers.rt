@@ -5,12 +5,16 @@ ghost use Rattle.rc_model.specs.Family.Steps.{answers_at};
 ghost use Rattle.rc_world.specs.Views.{answer_of};
 ghost use Rattle.rc_shell.specs.Standings.{step_of};
 
-use crate::family::process_steps::Step;
+use crate::family::process_steps::FamilyStep;
 use rc_world::Answer;
 use std::alloc::{AllocError, Global};
 
 /// Adds the answer of a step, if it is a step of this process.
-fn push_answer(answers: &mut Vec<Answer>, process: usize, step: &Step) -> Result<(), AllocError>
+fn push_answer(
+    answers: &mut Vec<Answer>,
+    process: usize,
+    step: &FamilyStep,
+) -> Result<(), AllocError>
     ensures { OnOk result (map answer_of answers.new.items
         ≡ map answer_of answers.old.items ++ answers_at process (step_of step.now ∷ [])) }
 {
@@ -21,7 +25,11 @@ fn push_answer(answers: &mut Vec<Answer>, process: usize, step: &Step) -> Result
 }
 
 /// The answers of the steps of a process.
-fn answers_of(alloc: Global, steps: &[Step], process: usize) -> Result<Vec<Answer>, AllocError>
+fn answers_of(
+    alloc: Global,
+    steps: &[FamilyStep],
+    process: usize,
+) -> Result<Vec<Answer>, AllocError>
     ensures { IfOk result (λ answers. map answer_of answers.items
         ≡ answers_at process (map step_of steps.now)) }
 {
@@ -35,7 +43,7 @@ fn answers_of(alloc: Global, steps: &[Step], process: usize) -> Result<Vec<Answe
 /// The answers of the steps of a process, and one more.
 pub(crate) fn answers_with(
     alloc: Global,
-    steps: &[Step],
+    steps: &[FamilyStep],
     process: usize,
     more: &Answer,
 ) -> Result<Vec<Answer>, AllocError>

@@ -20,7 +20,7 @@ ghost use Rattle.rc_world.specs.Views.{answer_of, call_of};
 use changes::{change_of, change_processes, make_room};
 pub use family_fault::FamilyFault;
 use next_calls::{alone, begin};
-use process_steps::{Change, Process, Step};
+use process_steps::{Change, FamilyStep, Process};
 use rc_scope::State;
 use rc_tree::{Cmd, clone_tree};
 use rc_world::{Answer, Call};
@@ -32,7 +32,7 @@ pub struct Family {
     limit: u64,
     processes: Vec<Process>,
     /// The steps so far: the answers of a process are those of its steps.
-    steps: Vec<Step>,
+    steps: Vec<FamilyStep>,
 }
 
 impl Drop for Family {
@@ -48,7 +48,7 @@ impl Drop for Family {
 impl Model for Family {
     ghost use Rattle.rc_shell.specs.Held.{Held};
     ghost use Rattle.rc_shell.specs.contracts.family.process_steps.Process as p;
-    ghost use Rattle.rc_shell.specs.contracts.family.process_steps.Step as q;
+    ghost use Rattle.rc_shell.specs.contracts.family.process_steps.FamilyStep as q;
     ghost use Rattle.std.specs.Coded.{codes};
 
     ghost Value = { Held };
@@ -64,13 +64,13 @@ impl Model for Family {
 
 impl Family {
     ghost use Rattle.rc_shell.specs.Families.{made_of};
-    ghost use Rattle.rc_shell.specs.Made.{BeginsNot, KeepsPromise, PendingAt, Steps, StepsNot, begun, processes};
+    ghost use Rattle.rc_shell.specs.Made.{BeginsNot, KeepsPromise, PendingAt, Steps, StepsNot, newly_made, processes};
 
     /// A family of one shell, which has run up to its first call or its end. No process of it runs more than `limit`
     /// instructions.
     pub fn new(alloc: Global, cmd: &Cmd, state: State, limit: u64) -> Result<Family, FamilyFault>
         requires { IsProperTree (cmd_tree cmd.now) }
-        ensures ok { IfOk result (λ family. made_of family ≡ begun limit (cmd_tree cmd.now) (state_of state)) }
+        ensures ok { IfOk result (λ family. made_of family ≡ newly_made limit (cmd_tree cmd.now) (state_of state)) }
         ensures err { IfErr result (λ fault. BeginsNot limit (cmd_tree cmd.now) (state_of state) fault) }
     {
         let first = begin(alloc, clone_tree(alloc, cmd)?, state, limit)?;
@@ -110,7 +110,7 @@ impl Family {
             child,
         } = change;
         change_processes(&mut self.processes, k, pending, child);
-        self.steps.push_reserved(Step {
+        self.steps.push_reserved(FamilyStep {
             process: k,
             call: kept,
             answer,

@@ -8,12 +8,12 @@ ghost use Rattle.rc_scope.specs.States.{state_of};
 ghost use Rattle.rc_tree.specs.View.{cmd_tree};
 ghost use Rattle.rc_world.specs.Views.{answer_of};
 ghost use Rattle.rc_shell.specs.Made.{BeginsNot, first_process};
-ghost use Rattle.rc_shell.specs.Reached.{ComesNot, ComesTo};
+ghost use Rattle.rc_shell.specs.ReplayEnds.{ComesNot, ComesTo};
 ghost use Rattle.rc_shell.specs.Standings.{StandsFor};
 
 use crate::family::family_fault::FamilyFault;
 use crate::family::process_steps::Process;
-use crate::family::replaying::{Reached, replay};
+use crate::family::replaying::{ReplayEnd, replay};
 use rc_scope::State;
 use rc_tree::Cmd;
 use rc_world::{Answer, Call};
@@ -34,9 +34,9 @@ pub(crate) fn next_call(
         IfErr result (λ fault. ComesNot limit (cmd_tree cmd.now) (state_of state.now) given fault) }
 {
     match replay(alloc, cmd, state.clone()?, answers, limit)? {
-        Reached::Waiting(call) => Ok(Some(call)),
-        Reached::Ended => Ok(None),
-        Reached::Limit => Err(FamilyFault::Limit),
+        ReplayEnd::Waiting(call) => Ok(Some(call)),
+        ReplayEnd::Ended => Ok(None),
+        ReplayEnd::Limit => Err(FamilyFault::Limit),
     }
 }
 

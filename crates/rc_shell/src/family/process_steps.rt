@@ -16,7 +16,7 @@ pub(crate) struct Process {
 
 /// A step that was made.
 #[derive(Drop)]
-pub(crate) struct Step {
+pub(crate) struct FamilyStep {
     pub process: usize,
     pub call: Call,
     pub answer: Answer,

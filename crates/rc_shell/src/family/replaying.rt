@@ -8,7 +8,7 @@ ghost use Rattle.rc_machine.specs.declared.machine.Progress.TheVariants.{Halted}
 ghost use Rattle.rc_scope.specs.States.{state_of};
 ghost use Rattle.rc_tree.specs.View.{cmd_tree};
 ghost use Rattle.rc_world.specs.Views.{answer_of, call_of};
-ghost use Rattle.rc_shell.specs.Reached.{IsLast, IsReached, IsSaid};
+ghost use Rattle.rc_shell.specs.ReplayEnds.{IsLast, IsReached, IsSaid};
 
 use crate::family::replay_world::Replay;
 use rc_code::compile;
@@ -20,7 +20,7 @@ use std::alloc::{AllocError, Global};
 
 /// How far the code of a process runs.
 #[derive(Drop)]
-pub(crate) enum Reached {
+pub(crate) enum ReplayEnd {
     /// Up to a call that wants an answer.
     Waiting(Call),
     Ended,
@@ -37,14 +37,14 @@ fn last_call(calls: &[Call]) -> Result<Call, AllocError>
 }
 
 /// How far a run with these calls came.
-fn reached_by(progress: Progress, calls: &[Call]) -> Result<Reached, AllocError>
+fn reached_by(progress: Progress, calls: &[Call]) -> Result<ReplayEnd, AllocError>
     requires { progress ≡ Halted → 0 < length calls.now }
     ensures { IfOk result (λ reached. IsSaid progress (map call_of calls.now) reached) }
 {
     match progress {
-        Progress::Ended => Ok(Reached::Ended),
-        Progress::Limit => Ok(Reached::Limit),
-        Progress::Halted => Ok(Reached::Waiting(last_call(calls)?)),
+        Progress::Ended => Ok(ReplayEnd::Ended),
+        Progress::Limit => Ok(ReplayEnd::Limit),
+        Progress::Halted => Ok(ReplayEnd::Waiting(last_call(calls)?)),
     }
 }
 
@@ -55,7 +55,7 @@ pub(crate) fn replay(
     state: State,
     answers: Vec<Answer>,
     limit: u64,
-) -> Result<Reached, AllocError>
+) -> Result<ReplayEnd, AllocError>
     requires { IsProperTree (cmd_tree cmd.now) }
     ensures { let given = before_first is_halt (map answer_of answers.items) in
         IfOk result (λ reached. IsReached limit (cmd_tree cmd.now) (state_of state) given reached) }

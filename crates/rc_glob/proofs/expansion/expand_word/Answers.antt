@@ -1,6 +1,6 @@
 use Rattle.std.proofs.Common.{◌∷◌, [], subst}
 use Rattle.rc_model.specs.Run.FileNames.{expanded_word}
-use Rattle.rc_model.specs.Run.Plans.{Ran, done_with}
+use Rattle.rc_model.specs.Run.Plans.{RanBetween, done_with}
 use Rattle.rc_model.specs.Run.Shell.{Next}
 use Rattle.rc_world.specs.declared.starts.Stop.TheVariants.{NoMemory}
 use Rattle.rc_world.proofs.Joins.{left_here, passed_up}
@@ -17,4 +17,4 @@ pub returns-in-None : goal.returns-in-None
 returns-in-None g c = λ s.
     let w = c.args.word.now in
     comes_alone _ _ s _ (w ∷ []) _ c.itself.ensures
-    (subst (λ names. Ran (g.W.World.events c.args.world.now) (g.W.World.events c.find_files.new.world) (expanded_word w s) (done_with (Next (words_for w names) s))) c.in-None.is (c.in_ok-names.ensures s))
+    (subst (λ names. RanBetween (g.W.World.events c.args.world.now) (g.W.World.events c.find_files.new.world) (expanded_word w s) (done_with (Next (words_for w names) s))) c.in-None.is (c.in_ok-names.ensures s))

@@ -1,6 +1,6 @@
 use Rattle.std.proofs.Common.{◌-◌, ◌≤◌, length}
 use Rattle.rc_lexer.specs.Reads.{HasRead}
-use Rattle.rc_lexer.specs.declared.lexer_state.State.TheVariants as state
+use Rattle.rc_lexer.specs.declared.lexer_state.LexerState.TheVariants as state
 use Rattle.rc_lexer.proofs.plain.read_comment.Given as goal
 
 abbrev pub invariant-loop-place : goal.invariant-loop-place

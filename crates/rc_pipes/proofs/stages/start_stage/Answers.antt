@@ -6,7 +6,7 @@ use Rattle.law_plans.proofs.Runs.{ran_join}
 use Rattle.rc_model.specs.Run.Acts as acts
 use Rattle.rc_model.specs.Run.Acts.{close_end, from_pipe, no_stages, stages_from, start_shell}
 use Rattle.rc_model.specs.Run.Calls.{Event, as_done, as_pair, close, make_pipe, to_file, with_slot}
-use Rattle.rc_model.specs.Run.Plans.{Ran, asks, done_with}
+use Rattle.rc_model.specs.Run.Plans.{RanBetween, asks, done_with}
 use Rattle.rc_model.specs.Run.Shell.{Next}
 use Rattle.rc_model.specs.Run.State as model
 use Rattle.rc_model.specs.Syntax.Tree.{Node, Many, cmd, stage}
@@ -39,33 +39,33 @@ module _ (slots : Slots) (rest : Many stage) (next : Stage) (before : Option Han
   abbrev w : ℕ
   w = write_end.0
 
-  module _ (made : Ran a b (asks make_pipe as_pair) (done_with (Some (r, w))))
-      (start : Ran b e (start_shell (with_slot (from_pipe held slots) next.slot (to_file w)) body s) (done_with (Next (started_of started) s))) where
-    begun : Ran a e (plan slots rest body next.slot held children s) (started_stage slots rest body next.slot held children s r w (started_of started))
+  module _ (made : RanBetween a b (asks make_pipe as_pair) (done_with (Some (r, w))))
+      (start : RanBetween b e (start_shell (with_slot (from_pipe held slots) next.slot (to_file w)) body s) (done_with (Next (started_of started) s))) where
+    begun : RanBetween a e (plan slots rest body next.slot held children s) (started_stage slots rest body next.slot held children s r w (started_of started))
     begun = with_start slots rest body next.slot held children s r w a b e (started_of started) made start
 
     left_at_close : (f : Option (List Event)) (stop : Stop) → Left e f (asks (close w) as_done) stop → Left a f (plan slots rest body next.slot held children s) stop
     left_at_close f stop h = left_join _ _ _ _ _ _ begun (left_cut_off slots rest body next.slot held children s r w e f stop (started_of started) h)
 
     -- the write end is closed
-    module _ (f : Option (List Event)) (d : Bool) (closed : Ran e f (asks (close w) as_done) (done_with d)) where
-      cut : (st : acts.Started) → started_of started ≡ st → Ran a f (plan slots rest body next.slot held children s) (cut_off slots rest body next.slot held children s r w st s)
+    module _ (f : Option (List Event)) (d : Bool) (closed : RanBetween e f (asks (close w) as_done) (done_with d)) where
+      cut : (st : acts.Started) → started_of started ≡ st → RanBetween a f (plan slots rest body next.slot held children s) (cut_off slots rest body next.slot held children s r w st s)
       cut st is =
-          subst (λ x. Ran a f (plan slots rest body next.slot held children s) (cut_off slots rest body next.slot held children s r w x s)) is
+          subst (λ x. RanBetween a f (plan slots rest body next.slot held children s) (cut_off slots rest body next.slot held children s r w x s)) is
           (ran_join _ _ _ _ _ _ begun (ran_cut_off slots rest body next.slot held children s r w e f (started_of started) d closed))
 
       module _ (n : ℕ) (is : started_of started ≡ acts.Child n) (h : Option (List Event)) where
         child_left : (stop : Stop) → Left f h (close_end held s) stop → Left a h (plan slots rest body next.slot held children s) stop
         child_left stop k = left_join _ _ _ _ _ _ (cut (acts.Child n) is) (left_child slots rest body next.slot held children s r w f h stop n k)
 
-        child_runs : Ran f h (close_end held s) (done_with (Next tt s)) → Ran a h (plan slots rest body next.slot held children s) (stages_from slots rest (Some r) (children ++ n ∷ []) s)
+        child_runs : RanBetween f h (close_end held s) (done_with (Next tt s)) → RanBetween a h (plan slots rest body next.slot held children s) (stages_from slots rest (Some r) (children ++ n ∷ []) s)
         child_runs k = ran_join _ _ _ _ _ _ (cut (acts.Child n) is) (ran_child slots rest body next.slot held children s r w f h n k)
 
       module _ (why : List ℕ) (is : started_of started ≡ acts.NoChild why) (h : Option (List Event)) where
         left_unstarted : (stop : Stop) → Left f h (asks (close r) as_done) stop → Left a h (plan slots rest body next.slot held children s) stop
         left_unstarted stop k = left_join _ _ _ _ _ _ (cut (acts.NoChild why) is) (left_no_child slots rest body next.slot held children s r w f h stop why k)
 
-        unstarted : (last : Bool) → Ran f h (asks (close r) as_done) (done_with last) → Ran a h (plan slots rest body next.slot held children s) (no_stages held children why s)
+        unstarted : (last : Bool) → RanBetween f h (asks (close r) as_done) (done_with last) → RanBetween a h (plan slots rest body next.slot held children s) (no_stages held children why s)
         unstarted last k = ran_join _ _ _ _ _ _ (cut (acts.NoChild why) is) (ran_no_child slots rest body next.slot held children s r w f h why last k)
 
 pub returns-in_err-read_end : goal.returns-in_err-read_end

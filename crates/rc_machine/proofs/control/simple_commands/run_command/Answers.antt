@@ -3,7 +3,7 @@ use Rattle.rc_text.specs.Texts.{text_bytes}
 use Rattle.rc_model.specs.Code.Layout as op
 use Rattle.rc_model.specs.Code.Machine.{On, act, enter, unwind}
 use Rattle.rc_model.specs.Code.Layout.{code}
-use Rattle.rc_model.specs.Run.Plans.{Ran, done_with}
+use Rattle.rc_model.specs.Run.Plans.{RanBetween, done_with}
 use Rattle.rc_code.specs.Views.{code_of}
 use Rattle.rc_machine.specs.Calls.{called, entered}
 use Rattle.rc_world.specs.Comes.{for_memory}
@@ -93,7 +93,7 @@ returns-in_ok-enter-in-Body g c place counted =
     left ∙ ap (λ n. entered (record d { place = n }) false (code_of c.in-Body.body)) counted in
     let to : done_with (On (entered d false (code f.0))) ≡ done_with (On (config_of c.enter.new.machine)) =
     ap (λ x. done_with (On (entered d false x))) (sym f.1) ∙ ap (λ x. done_with (On x)) (sym now) in
-    subst (λ p. Ran (g.W.World.events c.args.world.now) (g.W.World.events c.run_words.new.world) (act (Some op.Run) start) p) to
+    subst (λ p. RanBetween (g.W.World.events c.args.world.now) (g.W.World.events c.run_words.new.world) (act (Some op.Run) start) p) to
     (ran_as _ _ _ _ _ (runs_top start m.words refl top rest c.in_ok-texts.ensures.below)
     (ran_next _ _ _ (run_words m.redirs.slots (word_texts v) (state_of m.state)) (Body f.0) t (λ x s. enter start rest x s) (unwind start.scopes) _
     f.2 (ran_none _ _)))
@@ -133,7 +133,7 @@ returns-in_ok-call-in-Call g c place counted =
     left ∙ ap (λ n. called (record d { place = n }) args (code_of c.in-Call.body)) counted in
     let to : done_with (On (called d args (code f.0))) ≡ done_with (On (config_of c.call.new.machine)) =
     ap (λ x. done_with (On (called d args x))) (sym f.1) ∙ ap (λ x. done_with (On x)) (sym now) in
-    subst (λ p. Ran (g.W.World.events c.args.world.now) (g.W.World.events c.run_words.new.world) (act (Some op.Run) start) p) to
+    subst (λ p. RanBetween (g.W.World.events c.args.world.now) (g.W.World.events c.run_words.new.world) (act (Some op.Run) start) p) to
     (ran_as _ _ _ _ _ (runs_top start m.words refl top rest c.in_ok-texts.ensures.below)
     (ran_next _ _ _ (run_words m.redirs.slots (word_texts v) (state_of m.state)) (BodyWith args f.0) t (λ x s. enter start rest x s) (unwind start.scopes) _
     f.2 (ran_none _ _)))

@@ -2,7 +2,7 @@ use Rattle.std.proofs.Common.{rules, ◌≡◌, ◌∷◌, Some, sym, subst}
 use Rattle.rc_code.specs.Views.{tree_at}
 use Rattle.rc_model.specs.Code.Layout.{Back}
 use Rattle.rc_model.specs.Code.Machine.{On, act, next}
-use Rattle.rc_model.specs.Run.Plans.{Ran, done_with}
+use Rattle.rc_model.specs.Run.Plans.{RanBetween, done_with}
 use Rattle.rc_model.specs.Syntax.Words.{plain_words}
 use Rattle.rc_scope.specs.States.{state_of}
 use Rattle.rc_tree.specs.View.{cmd_tree}
@@ -46,5 +46,5 @@ returns g c place counted =
     let same : cmd_tree c.deref.result.now ≡ body = search rules in
     let own : c.slots-slots.result ≡ m.redirs.slots = search rules in
     let put : c.put_members.new.words ≡ plain_words members ∷ m.words = search rules in
-    rw counted (subst (λ ws. Ran (g.W.World.events c.args.world.now) (g.W.World.events c.backquote.new.world) (act (Some (Back c.args.number)) start) (done_with (On (next start ws t)))) (sym put)
+    rw counted (subst (λ ws. RanBetween (g.W.World.events c.args.world.now) (g.W.World.events c.backquote.new.world) (act (Some (Back c.args.number)) start) (done_with (On (next start ws t)))) (sym put)
     (backed _ _ start c.args.number body tree members t (rw (own, same) at c.in_ok-output.ensures.does)))

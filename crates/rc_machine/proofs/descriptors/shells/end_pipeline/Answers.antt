@@ -1,6 +1,6 @@
 use Rattle.std.proofs.Common.{rules, ◌≡◌, ◌∷◌, ap, sym, subst}
 use Rattle.rc_model.specs.Code.Machine.{On, act, next}
-use Rattle.rc_model.specs.Run.Plans.{Ran, done_with}
+use Rattle.rc_model.specs.Run.Plans.{RanBetween, done_with}
 use Rattle.rc_model.specs.Code.Layout.{EndPipe}
 use Rattle.std.specs.Prelude.{Some}
 use Rattle.rc_scope.specs.Children.{child_numbers}
@@ -45,6 +45,6 @@ returns g c place counted =
     let all : c.deref.result.now ≡ children.items = c.deref.ensures.value in
     let t = state_of c.end_stages.new.state in
     let now = λ (r : Redirections). record (next start start.words t) { scopes = scopes_of c.close.new.self r; slots = r.slots } in
-    rw counted (subst (λ (r : Redirections). Ran (g.W.World.events c.args.world.now) (g.W.World.events c.end_stages.new.world) (act (Some EndPipe) start) (done_with (On (now r)))) (sym c.in_ok-pop.ensures.ok)
+    rw counted (subst (λ (r : Redirections). RanBetween (g.W.World.events c.args.world.now) (g.W.World.events c.end_stages.new.world) (act (Some EndPipe) start) (done_with (On (now r)))) (sym c.in_ok-pop.ensures.ok)
     (ended_pipe _ _ start (newest_file m.redirs.scopes) (child_numbers children.items) outer.slots (scopes_of c.close.new.self outer) (ap (λ ss. scopes_of ss m.redirs) is)
     _ c.in_ok-pop.ensures.closed t (rw all at c.in_ok-end_stages.ensures.does)))

@@ -2,7 +2,7 @@ use Rattle.std.proofs.Common.{rules, ◌≡◌, ◌∙◌, ap, Some, option_map,
 use Rattle.rc_code.specs.Views.{stages_at}
 use Rattle.rc_model.specs.Code.Layout.{Stages}
 use Rattle.rc_model.specs.Code.Machine.{Config, On, act}
-use Rattle.rc_model.specs.Run.Plans.{Ran, done_with}
+use Rattle.rc_model.specs.Run.Plans.{RanBetween, done_with}
 use Rattle.rc_pipes.specs.Stages.{launched_of}
 use Rattle.rc_scope.specs.Children.{child_numbers}
 use Rattle.rc_scope.specs.States.{state_of}
@@ -48,7 +48,7 @@ returns-in_ok-begin_last-in-Running g c place counted =
     let children = child_numbers c.in-Running.children.items in
     let are : stages_at start.code c.args.number ≡ Some stages = search rules in
     let own : c.slots-slots.result ≡ m.redirs.slots = search rules in
-    subst (λ (z : Config). Ran (g.W.World.events c.args.world.now) (g.W.World.events c.start_stages.new.world) (act (Some (Stages c.args.number c.args.end)) start) (done_with (On z)))
+    subst (λ (z : Config). RanBetween (g.W.World.events c.args.world.now) (g.W.World.events c.start_stages.new.world) (act (Some (Stages c.args.number c.args.end)) start) (done_with (On z)))
     (sym (c.in_ok-begin_last-in-Running.ensures ∙ ap (λ t. last_begun (record (config_of m) { state = t }) read_end children) c.start_stages.ensures.same
     ∙ ap (λ n. last_begun (record (config_of m) { place = n }) read_end children) counted))
     (last_begins _ _ start c.args.number c.args.end stages are launched (rw own at c.in_ok-launched.ensures.launched)

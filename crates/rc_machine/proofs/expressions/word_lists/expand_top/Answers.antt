@@ -3,7 +3,7 @@ use Rattle.law_plans.proofs.Runs.{ran_next, ran_none}
 use Rattle.rc_model.specs.Code.Layout as op
 use Rattle.rc_model.specs.Code.Machine.{On, act, goes, next, unwind}
 use Rattle.rc_model.specs.Run.FileNames.{expanded}
-use Rattle.rc_model.specs.Run.Plans.{Ran, done_with}
+use Rattle.rc_model.specs.Run.Plans.{RanBetween, done_with}
 use Rattle.rc_scope.specs.States.{state_of}
 use Rattle.rc_machine.specs.Lists.{top_of}
 use Rattle.rc_world.specs.Comes.{for_memory}
@@ -65,7 +65,7 @@ returns g c place counted =
     let top : top_of m.words ≡ Some v = search rules in
     let put : c.put.new.self ≡ c.in_ok-names.names ∷ rest = search rules in
     rw counted
-    (subst (λ ws. Ran before after (act (Some op.Glob) start) (done_with (On (next start ws s)))) (sym put)
+    (subst (λ ws. RanBetween before after (act (Some op.Glob) start) (done_with (On (next start ws s)))) (sym put)
     (ran_as _ _ _ _ _ (globs_on start v rest (taken m.words rest v _ top c.drop_top.ensures))
     (ran_next _ _ _ (expanded v s) c.in_ok-names.names s (λ u t. goes (next start (u ∷ rest) t)) (unwind start.scopes) _
     (c.in_ok-names.ensures s) (ran_none _ _))))

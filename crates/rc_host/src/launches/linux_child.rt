@@ -12,19 +12,19 @@ use std::process::{Child, ChildStderr, ChildStdin, ChildStdout, ExitStatus, Open
 
 /// A child that Linux started, by its number. It is waited for once, after which Linux may give the number to another.
 #[derive(Drop)]
-pub(crate) struct Started {
+pub(crate) struct LinuxChild {
     number: i32,
 }
 
-impl Model for Started {
+impl Model for LinuxChild {
     ghost Value = { ℤ };
 
-    ghost view = { λ started. started.number };
+    ghost view = { λ child. child.number };
 
-    ghost invariant = { λ started. pos 0 <ℤ started.number };
+    ghost invariant = { λ child. pos 0 <ℤ child.number };
 }
 
-impl OpenProcess for Started {
+impl OpenProcess for LinuxChild {
     type Stdin = ChildStdin;
 
     type Stdout = ChildStdout;
@@ -42,13 +42,13 @@ impl OpenProcess for Started {
 
 /// Starts the program of a request, in the directory of this process. It gets copies of these descriptors as its own
 /// three, and no others.
-pub(crate) fn start(request: &Request, descriptors: [RawFd; 3]) -> io::Result<Child<Started>> {
+pub(crate) fn start(request: &Request, descriptors: [RawFd; 3]) -> io::Result<Child<LinuxChild>> {
     let program = request.program.as_bytes();
     let number = os::spawn(program, request.args, request.env, b"", descriptors);
     if number <= 0 {
         return Err(io::Error::from_raw_os_error(os::errno()));
     }
-    Ok(Child::from_parts(Started { number }, None, None, None))
+    Ok(Child::from_parts(LinuxChild { number }, None, None, None))
 }
 
 /// Waits for the end of the child with this number, and again if a signal interrupts that.

@@ -11,11 +11,11 @@ use Rattle.rc_world.specs.Views.{call_of}
 use Rattle.rc_world.specs.declared.event.Call.{Call}
 use Rattle.rc_shell.specs.declared.family.family_fault.FamilyFault.{FamilyFault}
 use Rattle.rc_shell.specs.declared.family.family_fault.FamilyFault.TheVariants as fault
-use Rattle.rc_shell.specs.declared.family.replaying.Reached.{Reached}
-use Rattle.rc_shell.specs.declared.family.replaying.Reached.TheVariants.{Waiting, Ended, Limit}
+use Rattle.rc_shell.specs.declared.family.replaying.ReplayEnd.{ReplayEnd}
+use Rattle.rc_shell.specs.declared.family.replaying.ReplayEnd.TheVariants.{Waiting, Ended, Limit}
 
 -- within the limit the code reached a call, or its end, or neither
-abbrev pub IsReached : ℕ → Node cmd → State → List calls.Answer → Reached → Type 0
+abbrev pub IsReached : ℕ → Node cmd → State → List calls.Answer → ReplayEnd → Type 0
 IsReached limit t s given (Waiting c) =
     (made : List calls.Call) × (run limit t s given ≡ Waits (made ++ call_of c ∷ []))
 IsReached limit t s given Ended =
@@ -27,7 +27,7 @@ abbrev pub IsLast : calls.Call → List calls.Call → Type 0
 IsLast c made = (before : List calls.Call) × (made ≡ before ++ c ∷ [])
 
 -- how far a run with these calls came
-abbrev pub IsSaid : Progress → List calls.Call → Reached → Type 0
+abbrev pub IsSaid : Progress → List calls.Call → ReplayEnd → Type 0
 IsSaid progress.Halted made (Waiting c) = IsLast (call_of c) made
 IsSaid progress.Ended made Ended = Unit {0}
 IsSaid progress.Limit made Limit = Unit {0}
