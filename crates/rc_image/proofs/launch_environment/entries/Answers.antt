@@ -17,11 +17,11 @@ pub loop-definition-init : goal.loop-definition-init
 loop-definition-init c =
     let s = state_of c.args.state.now in
     let ds = c.deref-definition-items.result.now in
-    let are : definitions_of ds ≡ s.functions = ap definitions_of c.deref-definition-items.ensures.value ∙ c.in_ok-functions.ensures in
+    let are : definitions_of ds ≡ s.functions = ap definitions_of c.deref-definition-items.ensures.value ∙ c.in_ok-variables.ensures.functions in
     let ordered = (is_proper c.args.state.now).functions_ordered in
     let none : map text_bytes c.in_ok-all.all.items ≡ [] = search rules in (
       subst Ordered (sym are) ordered,
-      rw none (all_to_come ds c.in_ok-variables.variables.items s are ordered c.in_ok-variables.ensures),
+      rw none (all_to_come ds c.in_ok-variables.field-0.variables.items s are ordered c.in_ok-variables.ensures.variables),
     )
 
 pub function_name-name-requires : goal.function_name-name-requires
@@ -34,7 +34,7 @@ pub loop-definition-preserved : goal.loop-definition-preserved
 loop-definition-preserved c =
     let status = (state_of c.args.state.now).status in
     let ds = c.deref-definition-items.result.now in
-    let vs = c.in_ok-variables.variables.items in
+    let vs = c.in_ok-variables.field-0.variables.items in
     let i = c.loop-definition.definition-index in
     let d = c.definition-item.result in
     let is = function_left ds i d c.loop-definition-test.true c.definition-item.is in
@@ -53,7 +53,7 @@ pub returns : goal.returns
 returns c =
     let status = (state_of c.args.state.now).status in
     let ds = c.deref-definition-items.result.now in
-    let vs = c.in_ok-variables.variables.items in
+    let vs = c.in_ok-variables.field-0.variables.items in
     let none = drop_all c.loop-definition.definition-index ds c.loop-definition-test.false in
     let x : text_bytes c.in_ok-status_entry.field-0 ≡ entry (status_name, value_text (status ∷ [])) = search rules in
     let more : map text_bytes c.push-2.new.self.items ≡ map text_bytes c.push_below-2.new.out.items ++ text_bytes c.in_ok-status_entry.field-0 ∷ [] = grind (arith, common_steps) in
