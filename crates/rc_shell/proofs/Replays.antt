@@ -1,6 +1,6 @@
 -- What comes of a plan over the answers that a world plays, by what that world has recorded.
 use Rattle.std.proofs.Common.{◌≡◌, ℕ, suc, ◌+◌, ◌-◌, ◌<◌, List, [], ◌∷◌, ◌++◌, append_assoc, map, length, get_or, take, Bool, true, false, Some, Result, Ok, Err, IfOk, refl, sym, ap, ◌∙◌, subst, arith}
-use Rattle.std.specs.Prelude.{if◌then◌else◌}
+use Rattle.std.specs.Prelude.{if◌then◌else◌, MatchResult}
 use Rattle.std.specs.List.{before_first, position_or_len}
 use Rattle.std.specs.declared.alloc.AllocError.{AllocError}
 use Rattle.rc_model.specs.Run.Calls.{Call, Answer, refused, Event, event, calls, extend, recorded_by, fitting, is_halt, want}
@@ -127,7 +127,7 @@ last_is (d ∷ (b ∷ calls)) n c e h =
     (call_of d ∷ r.0, ap (λ l. call_of d ∷ l) r.1)
 
 -- a copy of the last call
-pub last_copied : (calls : List WorldCall) (n : ℕ) (c : WorldCall) (copy : Result WorldCall AllocError) → length calls ≡ suc n → c ≡ get_or calls n c
-    → IfOk copy (λ d. call_of d ≡ call_of c) → IfOk copy (λ d. IsLast (call_of d) (map call_of calls))
+pub last_copied : (calls : List WorldCall) (n : ℕ) (c : WorldCall) (copy : Result WorldCall AllocError) {F : AllocError → Type 0} → length calls ≡ suc n → c ≡ get_or calls n c
+    → MatchResult copy (λ d. call_of d ≡ call_of c) F → IfOk copy (λ d. IsLast (call_of d) (map call_of calls))
 last_copied calls n c (Ok d) e h s = subst (λ k. IsLast k (map call_of calls)) (sym s) (last_is calls n c e h)
 last_copied calls n c (Err x) e h s = tt

@@ -11,4 +11,4 @@ shared text own a b same e h = subst (λ t. IsCodeOfText t b) same (h.0, h.1, e 
 pub returns-then-eq : goal.returns-then-eq
 returns-then-eq c =
     let same : string_bytes c.self.inside.text ≡ c.args.text.now = search rules in
-    shared c.args.text.now (string_bytes c.self.inside.text) c.self.inside.code c.in_ok-share.field-0 same c.in_ok-share.ensures c.self.invariant
+    shared c.args.text.now (string_bytes c.self.inside.text) c.self.inside.code c.in_ok-clone.field-0 same c.in_ok-clone.ensures.cases c.self.invariant

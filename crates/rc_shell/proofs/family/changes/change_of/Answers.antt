@@ -23,16 +23,16 @@ returns-in_err-answers-clause-err c =
     let e = err_from_is_err_and c.from_residual-in_err-answers.result c.from_residual-in_err-answers.ensures.1 in
     rw (e.1, e.2) (answers_call h c.requires c.args.k c.in_ok-call.call.now (answer_of c.args.answer.now) c.in_ok-call.ensures.ok)
 
-pub returns-in_err-copy-clause-err : goal.returns-in_err-copy-clause-err
-returns-in_err-copy-clause-err c =
+pub returns-in_err-clone-clause-err : goal.returns-in_err-clone-clause-err
+returns-in_err-clone-clause-err c =
     let h = held c.args.limit c.args.processes.now c.args.steps.now in
-    let e = err_from_is_err_and c.from_residual-in_err-copy.result c.from_residual-in_err-copy.ensures.1 in
+    let e = err_from_is_err_and c.from_residual-in_err-clone.result c.from_residual-in_err-clone.ensures.1 in
     rw (e.1, e.2) (answers_call h c.requires c.args.k c.in_ok-call.call.now (answer_of c.args.answer.now) c.in_ok-call.ensures.ok)
 
-pub returns-in_err-copy-2-clause-err : goal.returns-in_err-copy-2-clause-err
-returns-in_err-copy-2-clause-err c =
+pub returns-in_err-clone-2-clause-err : goal.returns-in_err-clone-2-clause-err
+returns-in_err-clone-2-clause-err c =
     let h = held c.args.limit c.args.processes.now c.args.steps.now in
-    let e = err_from_is_err_and c.from_residual-in_err-copy-2.result c.from_residual-in_err-copy-2.ensures.1 in
+    let e = err_from_is_err_and c.from_residual-in_err-clone-2.result c.from_residual-in_err-clone-2.ensures.1 in
     rw (e.1, e.2) (answers_call h c.requires c.args.k c.in_ok-call.call.now (answer_of c.args.answer.now) c.in_ok-call.ensures.ok)
 
 pub returns-in_err-pending-clause-err : goal.returns-in_err-pending-clause-err
@@ -55,4 +55,4 @@ pub returns-clause-ok : goal.returns-clause-ok
 returns-clause-ok c =
     let h = held c.args.limit c.args.processes.now c.args.steps.now in
     changes h c.requires c.args.k c.in_ok-call.call.now (answer_of c.args.answer.now) c.index-processes-k.result c.index-processes-k.is c.in_ok-call.ensures.ok
-    (map answer_of c.in_ok-answers.answers.items) c.in_ok-answers.ensures _ c.in_ok-copy.ensures c.in_ok-copy-2.ensures c.in_ok-pending.ensures.ok c.in_ok-child.ensures.ok
+    (map answer_of c.in_ok-answers.answers.items) c.in_ok-answers.ensures _ c.in_ok-clone.ensures.cases c.in_ok-clone-2.ensures.cases c.in_ok-pending.ensures.ok c.in_ok-child.ensures.ok
