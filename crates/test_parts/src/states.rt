@@ -4,7 +4,7 @@ use crate::support::{empty, list, state_with};
 use rc_scope::State;
 use rc_text::Text;
 use rc_world::ChildNo;
-use std::alloc::Global;
+use std::alloc::{AllocError, Global};
 use std::rc::Rc;
 use std::test::Fail;
 
@@ -129,7 +129,7 @@ fn out_of_memory_shares_no_body(rt: HostRuntime) -> Result<(), Fail> {
 fn out_of_memory_makes_no_copy(rt: HostRuntime) -> Result<(), Fail> {
     let alloc = rt.alloc();
     let state = covering_state(alloc)?;
-    let copied = state.clone();
+    let copied: Result<State, AllocError> = state.clone();
     assert_eq!(rt; state.value("x").len(), 2);
     let copy = copied?;
     assert_eq!(rt; copy.value("x").len(), 2);
