@@ -127,7 +127,7 @@ last_is (d ∷ (b ∷ calls)) n c e h =
     (call_of d ∷ r.0, ap (λ l. call_of d ∷ l) r.1)
 
 -- a copy of the last call
-pub last_copied : (calls : List WorldCall) (n : ℕ) (c : WorldCall) (copy : Result WorldCall AllocError) {F : AllocError → Type 0} → length calls ≡ suc n → c ≡ get_or calls n c
+pub last_copied : (calls : List WorldCall) (n : ℕ) (c : WorldCall) (copy : Result WorldCall AllocError) (F : AllocError → Type 0) → length calls ≡ suc n → c ≡ get_or calls n c
     → MatchResult copy (λ d. call_of d ≡ call_of c) F → IfOk copy (λ d. IsLast (call_of d) (map call_of calls))
-last_copied calls n c (Ok d) e h s = subst (λ k. IsLast k (map call_of calls)) (sym s) (last_is calls n c e h)
-last_copied calls n c (Err x) e h s = tt
+last_copied calls n c (Ok d) F e h s = subst (λ k. IsLast k (map call_of calls)) (sym s) (last_is calls n c e h)
+last_copied calls n c (Err x) F e h s = tt

@@ -6,4 +6,4 @@ pub returns : goal.returns
 returns c =
     let calls = c.args.calls.now in
     let some = c.requires in
-    last_copied calls (length calls - 1) c.index-calls-calls.result c.clone.result (omega (arith, some)) c.index-calls-calls.is c.clone.ensures.cases
+    last_copied calls (length calls - 1) c.index-calls-calls.result c.clone.result _ (omega (arith, some)) c.index-calls-calls.is c.clone.ensures.cases
