@@ -144,7 +144,10 @@ fn out_of_memory_leaves_no_copy_of_a_call(rt: HostRuntime) -> Result<(), Fail> {
 #[test]
 fn out_of_memory_leaves_no_copy_of_an_answer(rt: HostRuntime) -> Result<(), Fail> {
     for (place, answer) in answers(rt.alloc())?.iter().enumerate() {
-        assert!(rt; are_same_answers(answer, &answer.clone()?), "answer {place}");
+        assert!(rt;
+            are_same_answers(answer, &answer.clone()?),
+            "answer {place}"
+        );
     }
     Ok(())
 }
