@@ -96,7 +96,7 @@ CallsRun n call = (d : Node cmd) (c : Config) (s : State)
 
 module _ (n m : ℕ) (le : n ≤ suc m) (call : Caller) (calls_run : CallsRun m call) where
   enter_runs : (c : Config) (words : Words) (x : Called) (s : State)
-      → Runs m (mid (enter c words x s)) (λ a s1. at (spot c (c.place + 1) words s1)) c.scopes (called_means call c.slots x s)
+      → Runs m (mid (enter c words x s)) (λ a s1. at (spot c (c.counter + 1) words s1)) c.scopes (called_means call c.slots x s)
   enter_runs c words Finished s = runs_at tt s
   enter_runs c words (Body d) s =
       let inner = record c { frames = frame_of c false ∷ c.frames; words = words } in

@@ -16,7 +16,7 @@ Words = List (List Word)
 
 -- a configuration at another place of its code, with other words and another state
 abbrev pub spot : Config → ℕ → Words → State → Config
-spot c place words s = record c { place = place; words = words; state = s }
+spot c place words s = record c { counter = place; words = words; state = s }
 
 -- points for each place, before a part with these words and after one
 abbrev pub before : Config → Words → ℕ → State → Point

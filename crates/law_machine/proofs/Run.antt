@@ -51,7 +51,7 @@ comes_comes l m = record { by = λ k. let b = m.by k in let a = l.by b.0 in (a.0
 pub leads_comes : {f g : Point} → Leads f g → Comes f g
 leads_comes l = record { by = λ k. let a = l.by k in (a.0, omega (arith, a.1), a.2) }
 
-pub does : (c : Config) (op : Op) → slice_get c.code.ops c.place ≡ Some op → Leads (at c) (mid (act (Some op) c))
+pub does : (c : Config) (op : Op) → slice_get c.code.ops c.counter ≡ Some op → Leads (at c) (mid (act (Some op) c))
 does c op h = record { by = λ k. (suc k, omega arith, ap (λ o. and_then (act o c) (after (exec k))) h) }
 
 -- from before

@@ -7,22 +7,22 @@ use Rattle.std.proofs.lemmas.List.Elements.{All-nil, All-head, All-tail, All-pus
 use Rattle.std.proofs.Math.Seq.{set-append_seam}
 use Rattle.rc_model.specs.Syntax.Tree.{Node, Many, branch, Branch, none, more}
 use Rattle.rc_model.specs.Code.Layout.{Op, Nil, Case, Jump, Code, Part, Nothing, Do, Past, Either, ◌⨾◌, ops_of, kept_of, branches_code, cmd_code, args_code}
-use Rattle.rc_code.specs.Writing.{with_part, patched, redirected}
+use Rattle.rc_code.specs.Writing.{with_part, patched, jumps_patched}
 use Rattle.rc_code.specs.Emission.{branch_to, branches_to}
-use Rattle.rc_code.proofs.Redirecting.{redirected-none, length_patched}
+use Rattle.rc_code.proofs.PatchedJumps.{jumps_patched-none, length_patched}
 use Rattle.rc_code.proofs.Parts.{same_code, with_part-Nothing, with_part-then, length_part}
 
 -- jumps that are put in with a part after them
 
-length_redirected : (places : List ℕ) (c : Code) (e : ℕ) → length (redirected c places e).ops ≡ length c.ops
-unfolding redirected
-length_redirected [] c e = refl
-length_redirected (p ∷ places) c e = length_redirected places (patched c p (Jump e)) e ∙ length_patched c p (Jump e)
+length_jumps_patched : (places : List ℕ) (c : Code) (e : ℕ) → length (jumps_patched c places e).ops ≡ length c.ops
+unfolding jumps_patched
+length_jumps_patched [] c e = refl
+length_jumps_patched (p ∷ places) c e = length_jumps_patched places (patched c p (Jump e)) e ∙ length_patched c p (Jump e)
 
-redirected-push : (places : List ℕ) (c : Code) (last e : ℕ) → redirected c (places ++ last ∷ []) e ≡ patched (redirected c places e) last (Jump e)
-unfolding redirected
-redirected-push [] c last e = refl
-redirected-push (p ∷ places) c last e = redirected-push places (patched c p (Jump e)) last e
+jumps_patched-push : (places : List ℕ) (c : Code) (last e : ℕ) → jumps_patched c (places ++ last ∷ []) e ≡ patched (jumps_patched c places e) last (Jump e)
+unfolding jumps_patched
+jumps_patched-push [] c last e = refl
+jumps_patched-push (p ∷ places) c last e = jumps_patched-push places (patched c p (Jump e)) last e
 
 patched-with_part : (c : Code) (x : Part) (p : ℕ) (op : Op) → p < length c.ops → patched (with_part c x) p op ≡ with_part (patched c p op) x
 unfolding with_part patched
@@ -34,13 +34,13 @@ patched-with_part c x p op h =
 wider : (m n : ℕ) (places : List ℕ) → m ≤ n → All (λ p. p < m) places → All (λ p. p < n) places
 wider m n places h all = All-weaker (λ p. p < m) (λ p. p < n) (λ p below. omega (arith, below)) places all
 
-redirected-with_part : (places : List ℕ) (c : Code) (x : Part) (e : ℕ) → All (λ p. p < length c.ops) places
-    → redirected (with_part c x) places e ≡ with_part (redirected c places e) x
-unfolding redirected
-redirected-with_part [] c x e all = refl
-redirected-with_part (p ∷ places) c x e all =
-    ap (λ d. redirected d places e) (patched-with_part c x p (Jump e) (All-head (λ p. p < length c.ops) p places all))
-    ∙ redirected-with_part places (patched c p (Jump e)) x e (wider (length c.ops) _ places (omega (arith, length_patched c p (Jump e))) (All-tail (λ p. p < length c.ops) p places all))
+jumps_patched-with_part : (places : List ℕ) (c : Code) (x : Part) (e : ℕ) → All (λ p. p < length c.ops) places
+    → jumps_patched (with_part c x) places e ≡ with_part (jumps_patched c places e) x
+unfolding jumps_patched
+jumps_patched-with_part [] c x e all = refl
+jumps_patched-with_part (p ∷ places) c x e all =
+    ap (λ d. jumps_patched d places e) (patched-with_part c x p (Jump e) (All-head (λ p. p < length c.ops) p places all))
+    ∙ jumps_patched-with_part places (patched c p (Jump e)) x e (wider (length c.ops) _ places (omega (arith, length_patched c p (Jump e))) (All-tail (λ p. p < length c.ops) p places all))
 
 -- one branch and its last instruction
 
@@ -106,13 +106,13 @@ branches_joined (more (Branch patterns body) rest) g c e at =
 -- Some branches are written, and some are left. Whatever the end will be: with the jumps to it put in, all are written.
 pub record Leaves (start now : Code) (ends : List ℕ) (g : Bool) (all left : Many branch) : Type 0 where
   pub within : All (λ p. p < length now.ops) ends
-  pub joins : (e : ℕ) → with_part (redirected now ends e) (branches_to left g e) ≡ with_part start (branches_to all g e)
+  pub joins : (e : ℕ) → with_part (jumps_patched now ends e) (branches_to left g e) ≡ with_part start (branches_to all g e)
 
 pub leaves_start : (c : Code) (ends : List ℕ) (g : Bool) (bs : Many branch) → ends ≡ [] → Leaves c c ends g bs bs
 leaves_start c ends g bs none_yet =
     subst (λ ends. Leaves c c ends g bs bs) (sym none_yet) (record {
       within = All-nil (λ p. p < length c.ops);
-      joins = λ e. ap (λ d. with_part d (branches_to bs g e)) (redirected-none c e);
+      joins = λ e. ap (λ d. with_part d (branches_to bs g e)) (jumps_patched-none c e);
     })
 
 pub leaves_more : (start now next : Code) (ends after : List ℕ) (g : Bool) (all left : Many branch) (b : Node branch) (rest : Many branch) (last : ℕ)
@@ -121,27 +121,27 @@ pub leaves_more : (start now next : Code) (ends after : List ℕ) (g : Bool) (al
 leaves_more start now next ends after g all left b rest last was first written at more_ends =
     let room : length now.ops ≤ length next.ops =
     omega (arith, ap (λ d. length d.ops) written, length_part now (branch_to b g 0)) in
-    let redirects : (e : ℕ) → redirected next ends e ≡ with_part (redirected now ends e) (branch_to b g 0) =
-    λ e. ap (λ d. redirected d ends e) written ∙ redirected-with_part ends now (branch_to b g 0) e was.within in
-    let at_last : (e : ℕ) → last + 1 ≡ length (with_part (redirected now ends e) (branch_to b g 0)).ops =
-    λ e. at ∙ (sym (length_redirected ends next e) ∙ ap (λ d. length d.ops) (redirects e)) in
-    let known : (e : ℕ) → redirected next (ends ++ last ∷ []) e ≡ with_part (redirected now ends e) (branch_to b g e) =
-    λ e. redirected-push ends next last e
-    ∙ (ap (λ d. patched d last (Jump e)) (redirects e) ∙ branch_last b (redirected now ends e) g last e (at_last e)) in
-    let joins : (e : ℕ) → with_part (redirected now ends e) (branches_to (more b rest) g e) ≡ with_part start (branches_to all g e) =
-    λ e. subst (λ left. with_part (redirected now ends e) (branches_to left g e) ≡ with_part start (branches_to all g e)) first (was.joins e) in
+    let redirects : (e : ℕ) → jumps_patched next ends e ≡ with_part (jumps_patched now ends e) (branch_to b g 0) =
+    λ e. ap (λ d. jumps_patched d ends e) written ∙ jumps_patched-with_part ends now (branch_to b g 0) e was.within in
+    let at_last : (e : ℕ) → last + 1 ≡ length (with_part (jumps_patched now ends e) (branch_to b g 0)).ops =
+    λ e. at ∙ (sym (length_jumps_patched ends next e) ∙ ap (λ d. length d.ops) (redirects e)) in
+    let known : (e : ℕ) → jumps_patched next (ends ++ last ∷ []) e ≡ with_part (jumps_patched now ends e) (branch_to b g e) =
+    λ e. jumps_patched-push ends next last e
+    ∙ (ap (λ d. patched d last (Jump e)) (redirects e) ∙ branch_last b (jumps_patched now ends e) g last e (at_last e)) in
+    let joins : (e : ℕ) → with_part (jumps_patched now ends e) (branches_to (more b rest) g e) ≡ with_part start (branches_to all g e) =
+    λ e. subst (λ left. with_part (jumps_patched now ends e) (branches_to left g e) ≡ with_part start (branches_to all g e)) first (was.joins e) in
     subst (λ ends. Leaves start next ends g all rest) (sym more_ends) (record {
       within = All-push (λ p. p < length next.ops) ends last (wider (length now.ops) (length next.ops) ends room was.within) (omega (arith, at));
       joins = λ e. ap (λ d. with_part d (branches_to rest g e)) (known e)
-          ∙ (sym (with_part-then (redirected now ends e) (branch_to b g e) (branches_to rest g e)) ∙ joins e);
+          ∙ (sym (with_part-then (jumps_patched now ends e) (branch_to b g e) (branches_to rest g e)) ∙ joins e);
     })
 
 pub leaves_none : (start now done : Code) (ends : List ℕ) (g : Bool) (all left : Many branch) (e : ℕ)
-    → Leaves start now ends g all left → left ≡ none → e ≡ length now.ops → done ≡ redirected now ends e → done ≡ with_part start (branches_code all g)
+    → Leaves start now ends g all left → left ≡ none → e ≡ length now.ops → done ≡ jumps_patched now ends e → done ≡ with_part start (branches_code all g)
 leaves_none start now done ends g all left e was no_more at redirects =
-    let joins : with_part (redirected now ends e) Nothing ≡ with_part start (branches_to all g e) =
-    subst (λ left. with_part (redirected now ends e) (branches_to left g e) ≡ with_part start (branches_to all g e)) no_more (was.joins e) in
-    let whole : done ≡ with_part start (branches_to all g e) = redirects ∙ (sym (with_part-Nothing (redirected now ends e)) ∙ joins) in
+    let joins : with_part (jumps_patched now ends e) Nothing ≡ with_part start (branches_to all g e) =
+    subst (λ left. with_part (jumps_patched now ends e) (branches_to left g e) ≡ with_part start (branches_to all g e)) no_more (was.joins e) in
+    let whole : done ≡ with_part start (branches_to all g e) = redirects ∙ (sym (with_part-Nothing (jumps_patched now ends e)) ∙ joins) in
     let at_end : e ≡ length (with_part start (branches_to all g e)).ops =
-    at ∙ (sym (length_redirected ends now e) ∙ (ap (λ d. length d.ops) (sym redirects) ∙ ap (λ d. length d.ops) whole)) in
+    at ∙ (sym (length_jumps_patched ends now e) ∙ (ap (λ d. length d.ops) (sym redirects) ∙ ap (λ d. length d.ops) whole)) in
     whole ∙ branches_joined all g start e at_end

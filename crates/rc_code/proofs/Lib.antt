@@ -1,5 +1,5 @@
 pub mod Naming
-pub mod Redirecting
+pub mod PatchedJumps
 pub mod Parts
 pub mod Branches
 pub mod OtherForms

@@ -17,9 +17,9 @@ unfoldable pub patched : Code → (p : ℕ) → Op → Code
 patched c p op = record c { ops = slice_set c.ops p op }
 
 -- the code with jumps to the same place at several places
-unfoldable pub redirected : Code → List ℕ → (p : ℕ) → Code
-redirected c [] p = c
-redirected c (from ∷ places) p = redirected (patched c from (Jump p)) places p
+unfoldable pub jumps_patched : Code → List ℕ → (p : ℕ) → Code
+jumps_patched c [] p = c
+jumps_patched c (from ∷ places) p = jumps_patched (patched c from (Jump p)) places p
 
 -- a part was written
 abbrev pub Writes : (old new : program.Listing) → Part → Type 0

@@ -47,7 +47,7 @@ impl Leaving {
     }
 
     /// Counts a file that was opened, and returns whether it was the last.
-    pub fn count(&mut self) -> bool
+    pub(crate) fn count(&mut self) -> bool
         ensures last { result ≡ (self.old.files == 1) }
         ensures left { self.new ≡ record self.old { files = self.old.files - 1 } }
     {

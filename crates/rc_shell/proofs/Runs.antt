@@ -73,5 +73,5 @@ module _ (limit : ℕ) (t : Node cmd) (s : State) (a b : Option (List Event)) wh
 
 -- the machine of a script's code begins the script
 pub begins : (t : Node cmd) (s : State) (c : Code) (m : Config)
-    → m ≡ record { code = c; place = 0; frames = []; words = []; scopes = []; slots = plain; state = s } → c ≡ code t → m ≡ begin t s
-begins t s c m e h = e ∙ ap (λ k. let b : Config = record { code = k; place = 0; frames = []; words = []; scopes = []; slots = plain; state = s } in b) h
+    → m ≡ record { code = c; counter = 0; frames = []; words = []; scopes = []; slots = plain; state = s } → c ≡ code t → m ≡ begin t s
+begins t s c m e h = e ∙ ap (λ k. let b : Config = record { code = k; counter = 0; frames = []; words = []; scopes = []; slots = plain; state = s } in b) h

@@ -157,7 +157,7 @@ fn emit_pipeline(
         (cmd_code (tree.Pipeline (stages_tree stages.now.value.items) (cmd_tree last.now)) guarded)) }
 {
     let stages = code.keep(kept_stages(stages)?)?;
-    let start = code.put_later()?;
+    let start = code.reserve()?;
     emit_cmd(alloc, code, last, guarded)?;
     code.put(Op::EndPipe)?;
     let end = code.end()?;
@@ -179,7 +179,7 @@ fn emit_and_or(
 {
     emit_cmd(alloc, code, first, guards(links, guarded))?;
     for (index, link) in links.iter().enumerate() {
-        let place = code.put_later()?;
+        let place = code.reserve()?;
         emit_cmd(alloc, code, &link.1, guards(&links[index + 1..], guarded))?;
         let end = code.end()?;
         code.patch_skip(place, link.0, end);
@@ -200,7 +200,7 @@ fn emit_if(
         (cmd_code (tree.If (cmd_tree condition.now) (cmd_tree body.now)) guarded)) }
 {
     emit_cmd(alloc, code, condition, true)?;
-    let place = code.put_later()?;
+    let place = code.reserve()?;
     emit_cmd(alloc, code, body, guarded)?;
     code.put(Op::WasTrue)?;
     let end = code.end()?;
@@ -218,7 +218,7 @@ fn emit_if_not(
 ) -> Result<(), AllocError>
     ensures { OnOk result (Writes code.old code.new (Past IfNot (cmd_code (cmd_tree body.now) guarded))) }
 {
-    let place = code.put_later()?;
+    let place = code.reserve()?;
     emit_cmd(alloc, code, body, guarded)?;
     let end = code.end()?;
     code.patch(place, Op::IfNot(end));
@@ -251,7 +251,7 @@ fn emit_while(
 {
     let start = code.end()?;
     emit_condition(alloc, code, condition)?;
-    let place = code.put_later()?;
+    let place = code.reserve()?;
     emit_cmd(alloc, code, body, guarded)?;
     code.put(Op::Jump(start))?;
     let end = code.end()?;
@@ -271,7 +271,7 @@ fn emit_turns(
     ensures { OnOk result (Writes code.old code.new (turns_code (cmd_code (cmd_tree body.now) guarded))) }
 {
     code.put(Op::For)?;
-    let turn = code.put_later()?;
+    let turn = code.reserve()?;
     emit_cmd(alloc, code, body, guarded)?;
     code.put(Op::Jump(turn))?;
     let end = code.end()?;
@@ -311,7 +311,7 @@ fn emit_branches(
         ends.push(emit_branch(alloc, code, branch, guarded)?)?;
     }
     let end = code.end()?;
-    code.redirect(&ends, end);
+    code.patch_jumps(&ends, end);
     Ok(())
 }
 
@@ -328,9 +328,9 @@ fn emit_branch(
     ensures last { IfOk result (λ last. last + 1 ≡ length (listing_of code.new).ops) }
 {
     emit_list(alloc, code, &branch.patterns)?;
-    let place = code.put_later()?;
+    let place = code.reserve()?;
     emit_cmd(alloc, code, &branch.body, guarded)?;
-    let last = code.put_later()?;
+    let last = code.reserve()?;
     let end = code.end()?;
     code.patch(place, Op::Case(end));
     Ok(last)

@@ -72,7 +72,7 @@ impl Configuration {
             (unwind (config_of self.old).scopes (config_of self.old).state []) (config_of self.new) result }
     {
         let mut owed = Vec::new(alloc);
-        while let Some(scope) = self.scopes.close() {
+        while let Some(scope) = self.scopes.pop() {
             self.end_scope(world, scope, &mut owed)?;
         }
         wait_owed(world, &owed)?;

@@ -9,7 +9,7 @@ ghost use Rattle.rc_model.specs.Syntax.Words.{plain_words, word_texts};
 ghost use Rattle.rc_scope.specs.States.{state_of};
 ghost use Rattle.rc_text.specs.Texts.{text_bytes};
 
-use crate::stack::Stack;
+use crate::stack::list_stack::ListStack;
 use rc_scope::{State, is_name, is_readable};
 use rc_text::{Output, Text, Word};
 use std::alloc::{AllocError, Global};
@@ -30,7 +30,7 @@ pub(crate) fn texts(alloc: Global, words: &[Word]) -> Result<Vec<String>, AllocE
 const WORDS_AT_ONCE: usize = 65_536;
 
 /// Pops the last word of the top list, if it has one. Now and then gives back the room of the words popped before it.
-fn pop_word(words: &mut Stack<Word>, popped: usize) -> Option<Word>
+fn pop_word(words: &mut ListStack<Word>, popped: usize) -> Option<Word>
     ensures { TakesLast words.old words.new result }
 {
     if popped % WORDS_AT_ONCE == WORDS_AT_ONCE - 1 {
@@ -40,7 +40,10 @@ fn pop_word(words: &mut Stack<Word>, popped: usize) -> Option<Word>
 }
 
 /// Pops the top list and returns its texts, or none if there is no list.
-pub(crate) fn take_texts(alloc: Global, words: &mut Stack<Word>) -> Result<Vec<Text>, AllocError>
+pub(crate) fn take_texts(
+    alloc: Global,
+    words: &mut ListStack<Word>,
+) -> Result<Vec<Text>, AllocError>
     ensures texts { IfOk result (λ texts. map text_bytes texts.items ≡ word_texts (uppermost words.old)) }
     ensures below { OnOk result (words.new ≡ below_top words.old) }
 {
@@ -56,7 +59,7 @@ pub(crate) fn take_texts(alloc: Global, words: &mut Stack<Word>) -> Result<Vec<T
 
 /// Pushes texts as a list of words with no marks.
 #[tactic(auto, using(crate::proofs::Stacks::extends))]
-pub(crate) fn put_texts(words: &mut Stack<Word>, texts: Vec<Text>) -> Result<(), AllocError>
+pub(crate) fn put_texts(words: &mut ListStack<Word>, texts: Vec<Text>) -> Result<(), AllocError>
     ensures { OnOk result (words.new ≡ plain_words (map text_bytes texts.items) ∷ words.old) }
 {
     words.begin()?;
@@ -71,7 +74,7 @@ pub(crate) fn put_texts(words: &mut Stack<Word>, texts: Vec<Text>) -> Result<(),
 #[tactic(auto, using(crate::proofs::Stacks::extends))]
 pub(crate) fn put_members(
     alloc: Global,
-    words: &mut Stack<Word>,
+    words: &mut ListStack<Word>,
     output: &Output,
 ) -> Result<(), AllocError>
     ensures { OnOk result (words.new ≡ plain_words output.now ∷ words.old) }
@@ -86,7 +89,7 @@ pub(crate) fn put_members(
 
 /// Puts a copy of a value on the top list, as words with no marks.
 #[tactic(auto, using(crate::proofs::Stacks::extends))]
-pub(crate) fn extend_by_value(words: &mut Stack<Word>, value: &[Text]) -> Result<(), AllocError>
+pub(crate) fn extend_by_value(words: &mut ListStack<Word>, value: &[Text]) -> Result<(), AllocError>
     ensures { OnOk result (Extends words.old words.new (plain_words (map text_bytes value.now))) }
 {
     for text in value {
@@ -97,7 +100,7 @@ pub(crate) fn extend_by_value(words: &mut Stack<Word>, value: &[Text]) -> Result
 
 /// Pushes a copy of a value as a list of words with no marks.
 #[tactic(auto, using(crate::proofs::Stacks::extends))]
-pub(crate) fn put_value(words: &mut Stack<Word>, value: &[Text]) -> Result<(), AllocError>
+pub(crate) fn put_value(words: &mut ListStack<Word>, value: &[Text]) -> Result<(), AllocError>
     ensures { OnOk result (words.new ≡ plain_words (map text_bytes value.now) ∷ words.old) }
 {
     words.begin()?;
@@ -106,7 +109,7 @@ pub(crate) fn put_value(words: &mut Stack<Word>, value: &[Text]) -> Result<(), A
 
 /// Pushes a text as a list of one word with no marks.
 #[tactic(auto, using(crate::proofs::Stacks::extends))]
-pub(crate) fn put_text(words: &mut Stack<Word>, text: Text) -> Result<(), AllocError>
+pub(crate) fn put_text(words: &mut ListStack<Word>, text: Text) -> Result<(), AllocError>
     ensures { OnOk result (words.new ≡ plain_words (text_bytes text ∷ []) ∷ words.old) }
 {
     words.begin()?;

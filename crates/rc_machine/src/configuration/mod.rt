@@ -9,7 +9,7 @@ ghost use Rattle.rc_model.specs.Run.Calls.{plain};
 
 use crate::configuration::parts::{Frame, Scope};
 use crate::stack::Stack;
-use crate::stack::nest::Nest;
+use crate::stack::list_stack::ListStack;
 use rc_code::Code;
 use rc_redir::RedirStack;
 use rc_scope::State;
@@ -27,11 +27,11 @@ pub(crate) enum Move {
 /// The state of a machine between two instructions: the code, the program counter, and what the instructions work on.
 pub(crate) struct Configuration {
     pub code: Code,
-    /// The place of the next instruction.
-    pub place: usize,
-    pub frames: Nest<Frame>,
-    pub words: Stack<Word>,
-    pub scopes: Nest<Scope>,
+    /// The program counter: the place of the next instruction.
+    pub counter: usize,
+    pub frames: Stack<Frame>,
+    pub words: ListStack<Word>,
+    pub scopes: Stack<Scope>,
     pub redirs: RedirStack,
     pub state: State,
 }
@@ -40,7 +40,7 @@ impl Drop for Configuration {
     fn drop(self) {
         let Configuration {
             code: _,
-            place: _,
+            counter: _,
             frames: _,
             words: _,
             scopes: _,
@@ -59,7 +59,7 @@ impl Configuration {
     pub(crate) fn new(alloc: Global, code: Code, state: State) -> Configuration
         ensures { config_of result ≡ record {
           code = code_of code;
-          place = 0;
+          counter = 0;
           frames = [];
           words = [];
           scopes = [];
@@ -69,10 +69,10 @@ impl Configuration {
     {
         Configuration {
             code,
-            place: 0,
-            frames: Nest::new(alloc),
-            words: Stack::new(alloc),
-            scopes: Nest::new(alloc),
+            counter: 0,
+            frames: Stack::new(alloc),
+            words: ListStack::new(alloc),
+            scopes: Stack::new(alloc),
             redirs: RedirStack::new(alloc, PLAIN_SLOTS),
             state,
         }
@@ -84,7 +84,7 @@ impl Configuration {
     {
         let Configuration {
             code: _,
-            place: _,
+            counter: _,
             frames: _,
             words: _,
             scopes: _,

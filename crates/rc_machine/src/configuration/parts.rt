@@ -1,6 +1,6 @@
 //! Parts of a configuration: the frames of calls, and scopes.
 
-use crate::stack::nest::Nest;
+use crate::stack::Stack;
 use rc_code::Code;
 use rc_text::Text;
 use rc_world::ChildNo;
@@ -21,7 +21,7 @@ pub(crate) enum Scope {
     /// A loop, with the members that are left.
     Loop {
         name: String,
-        rest: Nest<Text>,
+        rest: Stack<Text>,
         bound: bool,
     },
     /// The newest redirection.

@@ -56,12 +56,12 @@ pub(crate) fn enter(machine: &mut Configuration, body: Code, binds: bool) -> Res
     ensures { OnOk result (config_of machine.new ≡ entered (config_of machine.old) binds (code_of body)) }
 {
     let caller = replace(&mut machine.code, body);
-    machine.frames.open(Frame {
+    machine.frames.push(Frame {
         caller,
-        place: machine.place,
+        place: machine.counter,
         binds,
     })?;
-    machine.place = 0;
+    machine.counter = 0;
     Ok(())
 }
 
@@ -75,7 +75,7 @@ pub(crate) fn call(
         ≡ called (config_of machine.old) (map text_bytes args.items) (code_of body)) }
 {
     machine.state.push_local("*", args).map_err(|_| AllocError)?;
-    machine.scopes.open(Scope::Local)?;
+    machine.scopes.push(Scope::Local)?;
     enter(machine, body, true)
 }
 
@@ -85,7 +85,7 @@ fn hand_on(machine: &mut Configuration, body: Code) -> Result<(), AllocError>
         ≡ called outside (value_of outside.state (codes "*")) (code_of body)) }
 {
     machine.state.pass_arguments()?;
-    machine.scopes.open(Scope::Local)?;
+    machine.scopes.push(Scope::Local)?;
     enter(machine, body, true)
 }
 
@@ -115,7 +115,7 @@ pub(crate) fn leave(machine: &mut Configuration) -> Move
             place,
             binds,
         },
-    ) = machine.frames.close()
+    ) = machine.frames.pop()
     else {
         return Move::Ended;
     };
@@ -123,7 +123,7 @@ pub(crate) fn leave(machine: &mut Configuration) -> Move
         return Move::Ended;
     }
     machine.code = caller;
-    machine.place = place;
+    machine.counter = place;
     Move::On
 }
 

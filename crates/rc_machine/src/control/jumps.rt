@@ -12,7 +12,7 @@ use std::alloc::AllocError;
 pub(crate) fn jump(machine: &mut Configuration, place: usize) -> Move
     ensures { Moves (op.Jump place) machine.old machine.new result }
 {
-    machine.place = place;
+    machine.counter = place;
     Move::On
 }
 
@@ -21,7 +21,7 @@ pub(crate) fn if_true(machine: &mut Configuration, place: usize) -> Move
     ensures { Moves (op.IfTrue place) machine.old machine.new result }
 {
     if is_true(machine.state.status()) {
-        machine.place = place;
+        machine.counter = place;
     }
     Move::On
 }
@@ -31,7 +31,7 @@ pub(crate) fn if_false(machine: &mut Configuration, place: usize) -> Move
     ensures { Moves (op.IfFalse place) machine.old machine.new result }
 {
     if !is_true(machine.state.status()) {
-        machine.place = place;
+        machine.counter = place;
     }
     Move::On
 }
@@ -42,7 +42,7 @@ pub(crate) fn run_if(machine: &mut Configuration, place: usize) -> Move
 {
     if !is_true(machine.state.status()) {
         machine.state.set_if_not(true);
-        machine.place = place;
+        machine.counter = place;
     }
     Move::On
 }
@@ -60,7 +60,7 @@ pub(crate) fn run_if_not(machine: &mut Configuration, place: usize) -> Move
     ensures { Moves (op.IfNot place) machine.old machine.new result }
 {
     if !machine.state.if_not() {
-        machine.place = place;
+        machine.counter = place;
     }
     Move::On
 }

@@ -10,7 +10,7 @@ ghost use Rattle.rc_machine.specs.Instructions.{Executes, Moves};
 use crate::configuration::lookups::{take_texts, variable_name};
 use crate::configuration::parts::Scope;
 use crate::configuration::{Configuration, Move};
-use crate::stack::nest::Nest;
+use crate::stack::Stack;
 use rc_text::Text;
 use rc_world::{Stop, World};
 use std::alloc::{AllocError, Global};
@@ -19,10 +19,10 @@ use std::alloc::{AllocError, Global};
 pub(crate) fn end_local(machine: &mut Configuration) -> bool
     ensures { LocalEnds (config_of machine.old).scopes (config_of machine.old) (config_of machine.new) result }
 {
-    let Some(Scope::Local) = machine.scopes.innermost() else {
+    let Some(Scope::Local) = machine.scopes.top() else {
         return false;
     };
-    let _ = machine.scopes.close();
+    let _ = machine.scopes.pop();
     machine.state.pop_local();
     true
 }
@@ -65,8 +65,8 @@ pub(crate) fn begin_loop<W: World>(
     };
     let name = String::from_str(alloc, name)?;
     machine.words.drop_top();
-    let rest = Nest::of(take_texts(alloc, &mut machine.words)?);
-    machine.scopes.open(Scope::Loop {
+    let rest = Stack::of(take_texts(alloc, &mut machine.words)?);
+    machine.scopes.push(Scope::Loop {
         name,
         rest,
         bound: false,
@@ -110,19 +110,19 @@ pub(crate) fn next_turn(
             mut rest,
             bound,
         },
-    ) = machine.scopes.close()
+    ) = machine.scopes.pop()
     else {
         return Ok(Move::Ended);
     };
-    let Some(member) = rest.close() else {
+    let Some(member) = rest.pop() else {
         if bound {
             machine.state.pop_local();
         }
-        machine.place = place;
+        machine.counter = place;
         return Ok(Move::On);
     };
     bind(machine, alloc, &name, member, bound)?;
-    machine.scopes.open(Scope::Loop {
+    machine.scopes.push(Scope::Loop {
         name,
         rest,
         bound: true,

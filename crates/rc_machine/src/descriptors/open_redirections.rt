@@ -90,7 +90,7 @@ pub(crate) fn open<W: World>(
     if let Err(error) = machine.redirs.push_open(world, mode, slot, &names) {
         return refuse(machine, alloc, world, error);
     }
-    machine.scopes.open(Scope::Redirection)?;
+    machine.scopes.push(Scope::Redirection)?;
     machine.words.drop_top();
     Ok(Move::On)
 }
@@ -101,7 +101,7 @@ pub(crate) fn copy(machine: &mut Configuration, to: u8, from: u8) -> Result<Move
     ensures { IfOk result (Moves (op.Copy to from) machine.old machine.new) }
 {
     machine.redirs.push_copy(to, from)?;
-    machine.scopes.open(Scope::Redirection)?;
+    machine.scopes.push(Scope::Redirection)?;
     Ok(Move::On)
 }
 
@@ -123,7 +123,7 @@ pub(crate) fn here<W: World>(
     if let Err(error) = machine.redirs.push_here(world, &text) {
         return refuse(machine, alloc, world, error);
     }
-    machine.scopes.open(Scope::Redirection)?;
+    machine.scopes.push(Scope::Redirection)?;
     Ok(Move::On)
 }
 
@@ -132,11 +132,11 @@ fn end_redirection<W: World>(machine: &mut Configuration, world: &mut W) -> Resu
     ensures { RedirectionEnds (W.events world.old) (W.events world.new)
         (config_of machine.old) (config_of machine.new) result }
 {
-    let Some(Scope::Redirection) = machine.scopes.innermost() else {
+    let Some(Scope::Redirection) = machine.scopes.top() else {
         return Ok(false);
     };
     machine.redirs.pop(world)?;
-    let _ = machine.scopes.close();
+    let _ = machine.scopes.pop();
     Ok(true)
 }
 

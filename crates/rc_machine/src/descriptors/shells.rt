@@ -86,7 +86,7 @@ fn begin_last(
         // There is no stage before it, and its input stays as it is.
         None => machine.redirs.push_copy(0, 0)?,
     }
-    machine.scopes.open(Scope::Pipeline { children })?;
+    machine.scopes.push(Scope::Pipeline { children })?;
     Ok(())
 }
 
@@ -114,7 +114,7 @@ pub(crate) fn start_pipeline<W: World>(
         }
         LaunchedStages::Refused { children, why } => {
             end_refused(alloc, world, &mut machine.state, &children, why)?;
-            machine.place = end;
+            machine.counter = end;
             Ok(Move::On)
         }
     }
@@ -130,7 +130,7 @@ pub(crate) fn end_pipeline<W: World>(
 ) -> Result<Move, Stop>
     ensures { Executes (W.events world.old) (W.events world.new) op.EndPipe machine.old machine.new result }
 {
-    let Some(Scope::Pipeline { children }) = machine.scopes.close() else {
+    let Some(Scope::Pipeline { children }) = machine.scopes.pop() else {
         return Ok(Move::Ended);
     };
     machine.redirs.pop(world)?;

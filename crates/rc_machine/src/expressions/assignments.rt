@@ -13,7 +13,7 @@ use crate::configuration::lookups::{
 };
 use crate::configuration::parts::Scope;
 use crate::configuration::{Configuration, Move};
-use crate::stack::Stack;
+use crate::stack::list_stack::ListStack;
 use rc_model::InputError;
 use rc_scope::NameFault;
 use rc_text::{Text, Word};
@@ -109,7 +109,7 @@ pub(crate) fn select<W: World>(
 }
 
 /// The name of a variable in the top list.
-fn name_on_top(words: &Stack<Word>) -> Option<&str>
+fn name_on_top(words: &ListStack<Word>) -> Option<&str>
     ensures { option_map (λ name. name.now) result ≡ the_name is_name (word_texts (uppermost words.now)) }
 {
     variable_name(words.top()?)
@@ -184,7 +184,7 @@ pub(crate) fn local<W: World>(
         .state
         .push_local(name, value)
         .map_err(|_| Stop::NoMemory)?;
-    machine.scopes.open(Scope::Local)?;
+    machine.scopes.push(Scope::Local)?;
     machine.words.drop_top();
     Ok(Move::On)
 }

@@ -7,13 +7,13 @@ ghost use Rattle.rc_model.specs.Run.Acts.{match_status};
 ghost use Rattle.rc_machine.specs.Subjects.{HasSubject, TakesSubject};
 
 use crate::configuration::{Configuration, Move};
-use crate::stack::Stack;
+use crate::stack::list_stack::ListStack;
 use rc_glob::matched;
 use rc_text::{Word, spaced_unmarked};
 use std::alloc::{AllocError, Global};
 
 /// Pops the top list as one word with no marks, its words joined by spaces. A single word shares its text.
-fn take_subject(alloc: Global, words: &mut Stack<Word>) -> Result<Option<Word>, AllocError>
+fn take_subject(alloc: Global, words: &mut ListStack<Word>) -> Result<Option<Word>, AllocError>
     ensures { IfOk result (λ subject. TakesSubject words.old words.new subject) }
 {
     let subject = match words.top() {
@@ -26,7 +26,7 @@ fn take_subject(alloc: Global, words: &mut Stack<Word>) -> Result<Option<Word>, 
 }
 
 /// Whether the top list is the subject as it stands: one word with no marks.
-fn has_subject(words: &Stack<Word>) -> bool
+fn has_subject(words: &ListStack<Word>) -> bool
     ensures { IsTrue result → HasSubject words.now }
 {
     let Some([word]) = words.top() else {
@@ -62,7 +62,7 @@ pub(crate) fn run_case(machine: &mut Configuration, place: usize) -> Move
     let is_match = matched(subject, patterns);
     machine.words.drop_top();
     if !is_match {
-        machine.place = place;
+        machine.counter = place;
     }
     Move::On
 }

@@ -40,7 +40,11 @@ impl<'a> Model for Members<'a> {
 
 impl<'a> Members<'a> {
     /// The members of a text, separated by the characters of another.
-    pub fn new(alloc: Global, text: &'a str, separators: &str) -> Result<Members<'a>, AllocError>
+    pub(crate) fn new(
+        alloc: Global,
+        text: &'a str,
+        separators: &str,
+    ) -> Result<Members<'a>, AllocError>
         ensures { IfOk result (λ members. members ≡ split text.now separators.now) }
     {
         let separators = Separators::new(alloc, separators)?;

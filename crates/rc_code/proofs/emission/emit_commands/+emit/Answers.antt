@@ -3,9 +3,9 @@ use Rattle.std.proofs.lemmas.Grind.{common_steps}
 use Rattle.rc_model.specs.Syntax.Tree.{more}
 use Rattle.rc_tree.specs.View.{branch_tree, branches_tree, tree_For}
 use Rattle.rc_code.specs.Listings.{listing_of}
-use Rattle.rc_code.specs.Writing.{redirected}
+use Rattle.rc_code.specs.Writing.{jumps_patched}
 use Rattle.rc_code.proofs.Parts.{starts, stays, put_last, for_parts}
-use Rattle.rc_code.proofs.Redirecting.{length_patched}
+use Rattle.rc_code.proofs.PatchedJumps.{length_patched}
 use Rattle.rc_code.proofs.Branches.{leaves_start, leaves_more, leaves_none}
 use Rattle.rc_code.proofs.emission.emit_commands.+emit.Goals as goal
 
@@ -57,7 +57,7 @@ pub emit_branches-returns : goal.emit_branches-returns
 emit_branches-returns t c =
     let over : length c.args.branches.now ≤ c.loop-branch.branch-index = omega arith in
     leaves_none _ _ _ _ _ _ _ _ c.loop-branch.invariant (ap branches_tree (drop_of_length-le _ over)) c.in_ok-end.ensures
-    (c.redirect.ensures ∙ ap (λ ends. redirected (listing_of c.loop-branch.code) ends c.in_ok-end.end) c.deref.ensures.value)
+    (c.patch_jumps.ensures ∙ ap (λ ends. jumps_patched (listing_of c.loop-branch.code) ends c.in_ok-end.end) c.deref.ensures.value)
 
 pub emit_cmd-returns-in_ok-emit_members-in-For : goal.emit_cmd-returns-in_ok-emit_members-in-For
 emit_cmd-returns-in_ok-emit_members-in-For t c =

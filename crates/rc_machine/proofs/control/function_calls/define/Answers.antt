@@ -14,7 +14,7 @@ use Rattle.rc_machine.proofs.control.function_calls.define.Goals as goal
 pub returns-then-not-branch : goal.returns-then-not-branch
 returns-then-not-branch g c place counted =
     let m = c.args.machine.now in
-    let start = record (config_of m) { place = place } in
+    let start = record (config_of m) { counter = place } in
     let v = c.in-Some.words.now in
     let body = cmd_tree c.in-Some-tree.body.now.value in
     let top : top_of m.words ≡ Some v = search rules in

@@ -29,7 +29,7 @@ returns-in_err-texts g c place counted = step_left _ _ _ _ c.from_residual.resul
 pub returns-in_err-run_words : goal.returns-in_err-run_words
 returns-in_err-run_words g c place counted =
     let m = c.args.machine.now in
-    let start = record (config_of m) { place = place } in
+    let start = record (config_of m) { counter = place } in
     let v = uppermost m.words in
     let rest = c.take_texts.new.words in
     let there : is_none c.top.result ≡ false = search rules in
@@ -44,7 +44,7 @@ returns-in_err-run_words g c place counted =
 pub returns-in-Finished : goal.returns-in-Finished
 returns-in-Finished g c place counted =
     let m = c.args.machine.now in
-    let start = record (config_of m) { place = place } in
+    let start = record (config_of m) { counter = place } in
     let v = uppermost m.words in
     let rest = c.take_texts.new.words in
     let there : is_none c.top.result ≡ false = search rules in
@@ -58,7 +58,7 @@ returns-in-Finished g c place counted =
 pub returns-in-Exit : goal.returns-in-Exit
 returns-in-Exit g c place counted =
     let m = c.args.machine.now in
-    let start = record (config_of m) { place = place } in
+    let start = record (config_of m) { counter = place } in
     let v = uppermost m.words in
     let rest = c.take_texts.new.words in
     let there : is_none c.top.result ≡ false = search rules in
@@ -78,7 +78,7 @@ returns-in-Exit g c place counted =
 pub returns-in_ok-enter-in-Body : goal.returns-in_ok-enter-in-Body
 returns-in_ok-enter-in-Body g c place counted =
     let m = c.args.machine.now in
-    let start = record (config_of m) { place = place } in
+    let start = record (config_of m) { counter = place } in
     let v = uppermost m.words in
     let rest = c.take_texts.new.words in
     let there : is_none c.top.result ≡ false = search rules in
@@ -87,10 +87,10 @@ returns-in_ok-enter-in-Body g c place counted =
     let own : c.slots.result ≡ m.redirs.slots = search rules in
     let f = rw (c.in-Body.is, texts, own) at c.in_ok-run_words.ensures.runs in
     let t = state_of c.run_words.new.state in
-    let d = record (config_of m) { place = place + 1; words = rest; state = t } in
-    let left : config_of c.enter.new.machine ≡ entered (record d { place = m.place }) false (code_of c.in-Body.body) = search rules in
+    let d = record (config_of m) { counter = place + 1; words = rest; state = t } in
+    let left : config_of c.enter.new.machine ≡ entered (record d { counter = m.counter }) false (code_of c.in-Body.body) = search rules in
     let now : config_of c.enter.new.machine ≡ entered d false (code_of c.in-Body.body) =
-    left ∙ ap (λ n. entered (record d { place = n }) false (code_of c.in-Body.body)) counted in
+    left ∙ ap (λ n. entered (record d { counter = n }) false (code_of c.in-Body.body)) counted in
     let to : done_with (On (entered d false (code f.0))) ≡ done_with (On (config_of c.enter.new.machine)) =
     ap (λ x. done_with (On (entered d false x))) (sym f.1) ∙ ap (λ x. done_with (On x)) (sym now) in
     subst (λ p. RanBetween (g.W.World.events c.args.world.now) (g.W.World.events c.run_words.new.world) (act (Some op.Run) start) p) to
@@ -101,7 +101,7 @@ returns-in_ok-enter-in-Body g c place counted =
 pub returns-in_err-enter-in-Body : goal.returns-in_err-enter-in-Body
 returns-in_err-enter-in-Body g c place counted =
     let m = c.args.machine.now in
-    let start = record (config_of m) { place = place } in
+    let start = record (config_of m) { counter = place } in
     let v = uppermost m.words in
     let rest = c.take_texts.new.words in
     let there : is_none c.top.result ≡ false = search rules in
@@ -117,7 +117,7 @@ returns-in_err-enter-in-Body g c place counted =
 pub returns-in_ok-call-in-Call : goal.returns-in_ok-call-in-Call
 returns-in_ok-call-in-Call g c place counted =
     let m = c.args.machine.now in
-    let start = record (config_of m) { place = place } in
+    let start = record (config_of m) { counter = place } in
     let v = uppermost m.words in
     let rest = c.take_texts.new.words in
     let there : is_none c.top.result ≡ false = search rules in
@@ -127,10 +127,10 @@ returns-in_ok-call-in-Call g c place counted =
     let f = rw (c.in-Call.is, texts, own) at c.in_ok-run_words.ensures.runs in
     let t = state_of c.run_words.new.state in
     let args = map text_bytes c.in-Call.args.items in
-    let d = record (config_of m) { place = place + 1; words = rest; state = t } in
-    let left : config_of c.call.new.machine ≡ called (record d { place = m.place }) args (code_of c.in-Call.body) = search rules in
+    let d = record (config_of m) { counter = place + 1; words = rest; state = t } in
+    let left : config_of c.call.new.machine ≡ called (record d { counter = m.counter }) args (code_of c.in-Call.body) = search rules in
     let now : config_of c.call.new.machine ≡ called d args (code_of c.in-Call.body) =
-    left ∙ ap (λ n. called (record d { place = n }) args (code_of c.in-Call.body)) counted in
+    left ∙ ap (λ n. called (record d { counter = n }) args (code_of c.in-Call.body)) counted in
     let to : done_with (On (called d args (code f.0))) ≡ done_with (On (config_of c.call.new.machine)) =
     ap (λ x. done_with (On (called d args x))) (sym f.1) ∙ ap (λ x. done_with (On x)) (sym now) in
     subst (λ p. RanBetween (g.W.World.events c.args.world.now) (g.W.World.events c.run_words.new.world) (act (Some op.Run) start) p) to
@@ -141,7 +141,7 @@ returns-in_ok-call-in-Call g c place counted =
 pub returns-in_err-call-in-Call : goal.returns-in_err-call-in-Call
 returns-in_err-call-in-Call g c place counted =
     let m = c.args.machine.now in
-    let start = record (config_of m) { place = place } in
+    let start = record (config_of m) { counter = place } in
     let v = uppermost m.words in
     let rest = c.take_texts.new.words in
     let there : is_none c.top.result ≡ false = search rules in

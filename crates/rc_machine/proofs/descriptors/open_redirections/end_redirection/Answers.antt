@@ -14,5 +14,5 @@ returns-in_err-pop g c =
 pub returns : goal.returns
 returns g c =
     let m = c.args.machine.now in
-    let is : m.scopes ≡ scope.Redirection ∷ c.close.new.self = search rules in
-    (rw c.in_ok-pop.ensures.ok (ran_end _ _ (config_of m) c.close.new.self m.redirs (ap (λ ss. scopes_of ss m.redirs) is) c.in_ok-pop.ensures.closed), refl)
+    let is : m.scopes ≡ scope.Redirection ∷ c.pop-2.new.self = search rules in
+    (rw c.in_ok-pop.ensures.ok (ran_end _ _ (config_of m) c.pop-2.new.self m.redirs (ap (λ ss. scopes_of ss m.redirs) is) c.in_ok-pop.ensures.closed), refl)

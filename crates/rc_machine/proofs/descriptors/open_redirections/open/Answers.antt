@@ -15,7 +15,7 @@ use Rattle.rc_machine.proofs.descriptors.open_redirections.open.Goals as goal
 pub returns-in-Err : goal.returns-in-Err
 returns-in-Err g c place counted =
     let m = c.args.machine.now in
-    let start = record (config_of m) { place = place } in
+    let start = record (config_of m) { counter = place } in
     let v = c.in-Some.words.now in
     let top : top_of m.words ≡ Some v = search rules in
     let names = map string_bytes c.deref.result.now in
@@ -25,16 +25,16 @@ returns-in-Err g c place counted =
     (λ h s. redirect start (drop 1 m.words) c.args.slot h s) (config_of c.refuse.new.machine) c.refuse.result c.in-Err.error
     c.in-Err.ensures.opened (rw c.in-Err.ensures.err at c.refuse.ensures))
 
-pub returns-in_err-open : goal.returns-in_err-open
-returns-in_err-open g c place counted =
+pub returns-in_err-push : goal.returns-in_err-push
+returns-in_err-push g c place counted =
     let m = c.args.machine.now in
-    let start = record (config_of m) { place = place } in
+    let start = record (config_of m) { counter = place } in
     let v = c.in-Some.words.now in
     let top : top_of m.words ≡ Some v = search rules in
     let names = map string_bytes c.deref.result.now in
     let texts : map string_bytes c.deref.result.now ≡ word_texts v = search rules in
     let words = drop 1 m.words in
-    step_left _ _ _ _ c.from_residual-in_err-open.result NoMemory c.from_residual-in_err-open.ensures.1
+    step_left _ _ _ _ c.from_residual-in_err-push.result NoMemory c.from_residual-in_err-push.ensures.1
     (left_as _ _ _ _ NoMemory (opens_top start c.args.mode c.args.slot v words names (topped m.words v top) texts)
     (opened_left _ _ m c.push_open.new.self c.args.slot (open_one m.redirs.slots c.args.mode names) (λ h s. redirect start words c.args.slot h s)
     c.in_default-push_open.ensures.opened))
@@ -42,12 +42,12 @@ returns-in_err-open g c place counted =
 pub returns : goal.returns
 returns g c place counted =
     let m = c.args.machine.now in
-    let start = record (config_of m) { place = place } in
+    let start = record (config_of m) { counter = place } in
     let v = c.in-Some.words.now in
     let rest = c.drop_top.new.self in
     let top : top_of m.words ≡ Some v = search rules in
     let names = map string_bytes c.deref.result.now in
     let texts : map string_bytes c.deref.result.now ≡ word_texts v = search rules in
-    rw (counted, c.in_ok-open.ensures) (ran_as _ _ _ _ _ (opens_top start c.args.mode c.args.slot v rest names (taken m.words rest v _ top c.drop_top.ensures) texts)
+    rw (counted, c.in_ok-push.ensures) (ran_as _ _ _ _ _ (opens_top start c.args.mode c.args.slot v rest names (taken m.words rest v _ top c.drop_top.ensures) texts)
     (opened _ _ m c.push_open.new.self c.args.slot (open_one m.redirs.slots c.args.mode names) place rest _
     c.in_default-push_open.ensures.opened refl))

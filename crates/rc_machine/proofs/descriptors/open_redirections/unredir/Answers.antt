@@ -6,7 +6,7 @@ use Rattle.rc_machine.proofs.descriptors.open_redirections.unredir.Goals as goal
 
 pub returns-in_err-end_redirections : goal.returns-in_err-end_redirections
 returns-in_err-end_redirections g c place counted =
-    let start = record (config_of c.args.machine.now) { place = place } in
+    let start = record (config_of c.args.machine.now) { counter = place } in
     step_left _ _ _ (config_of c.end_redirections.new.machine) c.from_residual.result c.in_err-end_redirections.field-0.0 c.from_residual.ensures.1
     (c.in_err-end_redirections.ensures (λ scopes slots. goes (record (next start start.words start.state) { scopes = scopes; slots = slots })))
 

@@ -16,7 +16,7 @@ use Rattle.rc_machine.proofs.descriptors.shells.back.Goals as goal
 pub returns-in_err-output : goal.returns-in_err-output
 returns-in_err-output g c place counted =
     let m = c.args.machine.now in
-    let start = record (config_of m) { place = place } in
+    let start = record (config_of m) { counter = place } in
     let body = cmd_tree c.in-Some.body.now.value in
     let tree : tree_at start.code c.args.number ≡ Some body = search rules in
     let same : cmd_tree c.deref.result.now ≡ body = search rules in
@@ -27,7 +27,7 @@ returns-in_err-output g c place counted =
 pub returns-in_err-put_members : goal.returns-in_err-put_members
 returns-in_err-put_members g c place counted =
     let m = c.args.machine.now in
-    let start = record (config_of m) { place = place } in
+    let start = record (config_of m) { counter = place } in
     let body = cmd_tree c.in-Some.body.now.value in
     let tree : tree_at start.code c.args.number ≡ Some body = search rules in
     let same : cmd_tree c.deref.result.now ≡ body = search rules in
@@ -38,7 +38,7 @@ returns-in_err-put_members g c place counted =
 pub returns : goal.returns
 returns g c place counted =
     let m = c.args.machine.now in
-    let start = record (config_of m) { place = place } in
+    let start = record (config_of m) { counter = place } in
     let t = state_of c.backquote.new.state in
     let body = cmd_tree c.in-Some.body.now.value in
     let members = c.in_ok-output.output in

@@ -18,7 +18,7 @@ use Rattle.rc_machine.proofs.descriptors.shells.start_pipeline.Goals as goal
 pub returns-in_err-launched : goal.returns-in_err-launched
 returns-in_err-launched g c place counted =
     let m = c.args.machine.now in
-    let start = record (config_of m) { place = place } in
+    let start = record (config_of m) { counter = place } in
     let stages = stages_tree c.in-Some.stages.now in
     let are : stages_at start.code c.args.number ≡ Some stages = search rules in
     let own : c.slots-slots.result ≡ m.redirs.slots = search rules in
@@ -28,7 +28,7 @@ returns-in_err-launched g c place counted =
 pub returns-in_err-begin_last-in-Running : goal.returns-in_err-begin_last-in-Running
 returns-in_err-begin_last-in-Running g c place counted =
     let m = c.args.machine.now in
-    let start = record (config_of m) { place = place } in
+    let start = record (config_of m) { counter = place } in
     let stages = stages_tree c.in-Some.stages.now in
     let launched = c.in_ok-launched.launched in
     let read_end = option_map (λ end. end.0) c.in-Running.read_end in
@@ -41,7 +41,7 @@ returns-in_err-begin_last-in-Running g c place counted =
 pub returns-in_ok-begin_last-in-Running : goal.returns-in_ok-begin_last-in-Running
 returns-in_ok-begin_last-in-Running g c place counted =
     let m = c.args.machine.now in
-    let start = record (config_of m) { place = place } in
+    let start = record (config_of m) { counter = place } in
     let stages = stages_tree c.in-Some.stages.now in
     let launched = c.in_ok-launched.launched in
     let read_end = option_map (λ end. end.0) c.in-Running.read_end in
@@ -50,14 +50,14 @@ returns-in_ok-begin_last-in-Running g c place counted =
     let own : c.slots-slots.result ≡ m.redirs.slots = search rules in
     subst (λ (z : Config). RanBetween (g.W.World.events c.args.world.now) (g.W.World.events c.start_stages.new.world) (act (Some (Stages c.args.number c.args.end)) start) (done_with (On z)))
     (sym (c.in_ok-begin_last-in-Running.ensures ∙ ap (λ t. last_begun (record (config_of m) { state = t }) read_end children) c.start_stages.ensures.same
-    ∙ ap (λ n. last_begun (record (config_of m) { place = n }) read_end children) counted))
+    ∙ ap (λ n. last_begun (record (config_of m) { counter = n }) read_end children) counted))
     (last_begins _ _ start c.args.number c.args.end stages are launched (rw own at c.in_ok-launched.ensures.launched)
     read_end children (ap launched_of c.in-Running.is))
 
 pub returns-in_err-end_refused-in-Refused : goal.returns-in_err-end_refused-in-Refused
 returns-in_err-end_refused-in-Refused g c place counted =
     let m = c.args.machine.now in
-    let start = record (config_of m) { place = place } in
+    let start = record (config_of m) { counter = place } in
     let stages = stages_tree c.in-Some.stages.now in
     let launched = c.in_ok-launched.launched in
     let are : stages_at start.code c.args.number ≡ Some stages = search rules in
@@ -72,7 +72,7 @@ returns-in_err-end_refused-in-Refused g c place counted =
 pub returns-in_ok-end_refused-in-Refused : goal.returns-in_ok-end_refused-in-Refused
 returns-in_ok-end_refused-in-Refused g c place counted =
     let m = c.args.machine.now in
-    let start = record (config_of m) { place = place } in
+    let start = record (config_of m) { counter = place } in
     let stages = stages_tree c.in-Some.stages.now in
     let launched = c.in_ok-launched.launched in
     let are : stages_at start.code c.args.number ≡ Some stages = search rules in

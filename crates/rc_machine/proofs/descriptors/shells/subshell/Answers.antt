@@ -10,7 +10,7 @@ use Rattle.rc_machine.proofs.descriptors.shells.subshell.Goals as goal
 pub returns-in_err-subshell : goal.returns-in_err-subshell
 returns-in_err-subshell g c place counted =
     let m = c.args.machine.now in
-    let start = record (config_of m) { place = place } in
+    let start = record (config_of m) { counter = place } in
     let body = cmd_tree c.in-Some.body.now.value in
     let tree : tree_at start.code c.args.number ≡ Some body = search rules in
     let same : cmd_tree c.deref.result.now ≡ body = search rules in
@@ -21,7 +21,7 @@ returns-in_err-subshell g c place counted =
 pub returns : goal.returns
 returns g c place counted =
     let m = c.args.machine.now in
-    let start = record (config_of m) { place = place } in
+    let start = record (config_of m) { counter = place } in
     let body = cmd_tree c.in-Some.body.now.value in
     let tree : tree_at start.code c.args.number ≡ Some body = search rules in
     let same : cmd_tree c.deref.result.now ≡ body = search rules in

@@ -18,13 +18,13 @@ pub returns-in_default : goal.returns-in_default
 returns-in_default g c place counted =
     let m = c.args.machine.now in
     let same : c.take_pair.new.self ≡ m.words = search rules in
-    steps_as _ _ _ _ _ _ (ap (λ ws. act (Some op.Assign) (record (config_of m) { place = place; words = ws })) (sym same))
+    steps_as _ _ _ _ _ _ (ap (λ ws. act (Some op.Assign) (record (config_of m) { counter = place; words = ws })) (sym same))
     (c.assign_list.ensures place counted)
 
 pub returns-in-Err-Fault-BadName : goal.returns-in-Err-Fault-BadName
 returns-in-Err-Fault-BadName g c place counted =
     let m = c.args.machine.now in
-    let start = record (config_of m) { place = place } in
+    let start = record (config_of m) { counter = place } in
     let a = c.in-Some.name in
     let b = c.in-Some.word in
     let rest = c.take_pair.new.self in

@@ -12,7 +12,7 @@ use Rattle.rc_machine.proofs.expressions.assignments.local.Goals as goal
 pub returns-in_default-variable_name : goal.returns-in_default-variable_name
 returns-in_default-variable_name g c place counted =
     let m = c.args.machine.now in
-    let start = record (config_of m) { place = place } in
+    let start = record (config_of m) { counter = place } in
     let a = c.in-Some.words.now in
     let b = c.in-Some.field-0-1.now in
     let two : two_of m.words ≡ Some (a, b) = search rules in

@@ -12,7 +12,7 @@ use Rattle.rc_machine.proofs.expressions.assignments.value.Goals as goal
 pub returns-in_default-read : goal.returns-in_default-read
 returns-in_default-read g c place counted =
     let m = c.args.machine.now in
-    let start = record (config_of m) { place = place } in
+    let start = record (config_of m) { counter = place } in
     let v = c.in-Some.words.now in
     let top : top_of m.words ≡ Some v = search rules in
     let none : read (state_of m.state) (word_texts v) ≡ None = search rules in

@@ -19,7 +19,7 @@ use Rattle.rc_machine.proofs.expressions.word_lists.expand_top.Goals as goal
 pub returns-in_err-names : goal.returns-in_err-names
 returns-in_err-names g c place counted =
     let m = c.args.machine.now in
-    let start = record (config_of m) { place = place } in
+    let start = record (config_of m) { counter = place } in
     let v = c.in-Some.words.now in
     let s = state_of m.state in
     let top : top_of m.words ≡ Some v = search rules in
@@ -30,7 +30,7 @@ returns-in_err-names g c place counted =
 pub returns-in_err-into_words : goal.returns-in_err-into_words
 returns-in_err-into_words g c place counted =
     let m = c.args.machine.now in
-    let start = record (config_of m) { place = place } in
+    let start = record (config_of m) { counter = place } in
     let v = c.in-Some.words.now in
     let s = state_of m.state in
     let rest = c.drop_top.new.self in
@@ -43,7 +43,7 @@ returns-in_err-into_words g c place counted =
 pub returns-in_err-put : goal.returns-in_err-put
 returns-in_err-put g c place counted =
     let m = c.args.machine.now in
-    let start = record (config_of m) { place = place } in
+    let start = record (config_of m) { counter = place } in
     let v = c.in-Some.words.now in
     let s = state_of m.state in
     let rest = c.drop_top.new.self in
@@ -56,7 +56,7 @@ returns-in_err-put g c place counted =
 pub returns : goal.returns
 returns g c place counted =
     let m = c.args.machine.now in
-    let start = record (config_of m) { place = place } in
+    let start = record (config_of m) { counter = place } in
     let v = c.in-Some.words.now in
     let s = state_of m.state in
     let rest = c.drop_top.new.self in

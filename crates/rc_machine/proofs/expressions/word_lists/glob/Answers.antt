@@ -11,7 +11,7 @@ use Rattle.rc_machine.proofs.expressions.word_lists.glob.Goals as goal
 pub returns-then-not-have_pattern : goal.returns-then-not-have_pattern
 returns-then-not-have_pattern g c place counted =
     let m = c.args.machine.now in
-    let start = record (config_of m) { place = place } in
+    let start = record (config_of m) { counter = place } in
     let v = c.in-Some.words.now in
     let top : top_of m.words ≡ Some v = search rules in
     let plain : list_any has_pattern v ≡ false = search rules in

@@ -1,7 +1,7 @@
 use Rattle.std.proofs.Common.{◌≡◌, ◌<◌, ◌-◌, ◌∙◌, ap, arith, get_or, length, reverse, sym, rules}
 use Rattle.std.proofs.lemmas.List.{length-reverse, get_or-reverse}
 use Rattle.rc_machine.proofs.Places.{none_taken}
-use Rattle.rc_machine.proofs.stack.Stack.take_last.Goals as goal
+use Rattle.rc_machine.proofs.stack.list_stack.ListStack.take_last.Goals as goal
 
 pub returns-then-len-start : goal.returns-then-len-start
 returns-then-len-start g c =

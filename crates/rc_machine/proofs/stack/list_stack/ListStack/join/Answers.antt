@@ -1,7 +1,7 @@
 use Rattle.std.proofs.Common.{arith, reverse}
 use Rattle.std.proofs.lemmas.List.{length-reverse}
 use Rattle.rc_machine.proofs.Places.{not_joined, popped, popped_starts}
-use Rattle.rc_machine.proofs.stack.Stack.join.Goals as goal
+use Rattle.rc_machine.proofs.stack.list_stack.ListStack.join.Goals as goal
 
 pub returns-then-len-lt2 : goal.returns-then-len-lt2
 returns-then-len-lt2 g c =

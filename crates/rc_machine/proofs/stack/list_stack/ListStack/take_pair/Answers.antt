@@ -3,7 +3,7 @@ use Rattle.std.specs.Option.{IsSome}
 use Rattle.std.proofs.lemmas.List.{length-reverse}
 use Rattle.rc_machine.specs.Lists.{two_of}
 use Rattle.rc_machine.proofs.Places.{AreTaken, EndInOnes, at_most_one, two_elements, ones_taken}
-use Rattle.rc_machine.proofs.stack.Stack.take_pair.Goals as goal
+use Rattle.rc_machine.proofs.stack.list_stack.ListStack.take_pair.Goals as goal
 
 -- after the first `pop` another element is left
 left : (g : _) (c : goal.After-drop-second g) → ⊥

@@ -1,6 +1,6 @@
 use Rattle.std.proofs.Common.{◌∷◌, [], arith, reverse, length-append}
 use Rattle.rc_machine.proofs.Places.{starts_within, extended}
-use Rattle.rc_machine.proofs.stack.Stack.push.Goals as goal
+use Rattle.rc_machine.proofs.stack.list_stack.ListStack.push.Goals as goal
 
 pub invariant_of-self-2 : goal.invariant_of-self-2
 invariant_of-self-2 g c =

@@ -1,7 +1,7 @@
 use Rattle.std.proofs.Common.{◌≡◌, ◌-◌, ◌∙◌, ap, arith, get_or, length, reverse, sym}
 use Rattle.std.proofs.lemmas.List.{length-reverse, get_or-reverse}
 use Rattle.rc_machine.proofs.Places.{no_two, two_by}
-use Rattle.rc_machine.proofs.stack.Stack.top_two.Goals as goal
+use Rattle.rc_machine.proofs.stack.list_stack.ListStack.top_two.Goals as goal
 
 pub returns-in_default : goal.returns-in_default
 returns-in_default g c =
