@@ -7,7 +7,7 @@ use Rattle.rc_model.specs.declared.call.Fault.TheVariants.{Halt}
 use Rattle.std.proofs.lemmas.List.{append-nil}
 use Rattle.rc_model.specs.Run.Plans.{play, calls_made}
 use Rattle.rc_model.specs.Run.Script.{whole, IsBegunAsMeant}
-use Rattle.rc_model.specs.Family.Accounts.{Settled, NothingLost, Due, free, made, used, passed, Account, put, next_due, with_call, add_file, add_pair, add_child, past, after, Fresh, FreshFrom, Allowed, AllAllowed, account, at_start, IsFresh, OneWriteEnd}
+use Rattle.rc_model.specs.Family.Accounts.{Settled, NothingLost, Due, free, made, used, passed, Account, put, next_due, with_call, add_file, add_pair, add_owed, past, after, Fresh, FreshFrom, Allowed, AllAllowed, account, at_start, IsFresh, OneWriteEnd}
 use Rattle.rc_model.specs.Family.Family.{Process, holding, IsPending, GoesAsMeant}
 use Rattle.law_traces.proofs.Keep.{put_self, put_other}
 use Rattle.law_traces.proofs.Cmds.{keeps_whole}
@@ -54,7 +54,7 @@ newest a make_pipe x q w e = by_pair (as_pair x) e
     by_pair None e = absurd (no_made a.due make_pipe q w e)
 newest a (start l) x q w e = by_child (as_child x) e
   where
-    by_child : (o : Option ℕ) → (add_child o (with_call (start l) a)).due ≡ made q w → q ≡ a.place
+    by_child : (o : Option ℕ) → (add_owed o (with_call (start l) a)).due ≡ made q w → q ≡ a.place
     by_child (Some h) e = absurd (no_made a.due (start l) q w e)
     by_child None e = absurd (no_made a.due (start l) q w e)
 newest a (close h) x q w e = absurd (no_made a.due (close h) q w e)
@@ -83,7 +83,7 @@ place_on a make_pipe x = by_pair (as_pair x)
     by_pair None = refl
 place_on a (start l) x = by_child (as_child x)
   where
-    by_child : (o : Option ℕ) → (past (add_child o (with_call (start l) a))).place ≡ suc a.place
+    by_child : (o : Option ℕ) → (past (add_owed o (with_call (start l) a))).place ≡ suc a.place
     by_child (Some k) = refl
     by_child None = refl
 place_on a (close h) x = refl

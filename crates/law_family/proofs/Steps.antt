@@ -8,7 +8,7 @@ use Rattle.rc_model.specs.Run.State.{State}
 use Rattle.rc_model.specs.Syntax.Tree.{Node, cmd}
 use Rattle.rc_model.specs.Family.Accounts.{put}
 use Rattle.rc_model.specs.Family.Family.{Process, Family, FamilyEvent, IsPending, GoesAsMeant, EachOf, shell_started, child_process, recorded, with_trace, with_child, stepped, family, first, ArePossible, IsPossible, AreFresh, Sane}
-use Rattle.rc_model.specs.Family.Steps.{HitsLimit, IsInTime, IsCutShort, StepFault, NoProcess, AtEnd, WrongKind, AtLimit, AppendsSuch, IsRefused, IsMade, CanMake, AreMade, IsMadeBy, IsAsMade}
+use Rattle.rc_model.specs.Family.Steps.{HitsLimit, IsInTime, IsCutShort, StepFault, NoProcess, AtEnd, WrongKind, AtLimit, AppendsSuch, IsStepRefused, IsMade, CanMake, AreMade, IsMadeBy, IsAsMade}
 use Rattle.law_family.specs.StepLaws.{OneBeginning}
 use Rattle.law_traces.proofs.Keep.{put_self, put_other}
 use Rattle.law_family.proofs.Family.{stays}
@@ -53,9 +53,9 @@ module _ (P : Process → Type 0) (reads : Launch → Node cmd × State) where
 module _ (reads : Launch → Node cmd × State) (limit : ℕ) where
   -- ** each answer is refused or makes a step
   abbrev pub Outcome : Family → ℕ → Answer → Type 0
-  Outcome f k x = ((a : StepFault) × IsRefused reads limit f k x a) ⊎ CanMake reads limit f k x
+  Outcome f k x = ((a : StepFault) × IsStepRefused reads limit f k x a) ⊎ CanMake reads limit f k x
 
-  pub made_or_refused : (f : Family) (k : ℕ) (x : Answer) → EachOf (IsInTime limit) f → ((a : StepFault) × IsRefused reads limit f k x a) ⊎ CanMake reads limit f k x
+  pub made_or_refused : (f : Family) (k : ℕ) (x : Answer) → EachOf (IsInTime limit) f → ((a : StepFault) × IsStepRefused reads limit f k x a) ⊎ CanMake reads limit f k x
   made_or_refused f k x t = elim (cases_lt k f.count) [
     | inl l ↦ in_family l (t k l)
     | inr l ↦ inl (NoProcess, l)
@@ -106,7 +106,7 @@ module _ (reads : Launch → Node cmd × State) (limit : ℕ) where
   in_time_not_at_limit f e m (inl h) = not_hit limit (recorded (f.at e.at) e.call e.answer) (own_of (IsInTime limit) reads f e m.in_family m.in_time) h
   in_time_not_at_limit f e m (inr h) = no_child e.at (f.at e.at) (shell_started e.call e.answer) (child_of (IsInTime limit) reads (with_trace f e) e.at (f.at e.at) (shell_started e.call e.answer) m.in_time) h
 
-  pub never_both : (f : Family) (k : ℕ) (x : Answer) (a : StepFault) → IsRefused reads limit f k x a → CanMake reads limit f k x → ⊥
+  pub never_both : (f : Family) (k : ℕ) (x : Answer) (a : StepFault) → IsStepRefused reads limit f k x a → CanMake reads limit f k x → ⊥
   never_both f k x NoProcess r m = let l = m.made.in_family in absurd (omega arith)
   never_both f k x AtEnd r m = not_both (f.at k) m.call m.made.pending r.1
   never_both f k x WrongKind r m = r.1.2 (subst (λ d. IsAnswered d x) (one_pending (f.at k) m.call r.1.0 m.made.pending r.1.1) m.made.answered)

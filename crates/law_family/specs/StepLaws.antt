@@ -6,7 +6,7 @@ use Rattle.rc_model.specs.Syntax.Tree.{Node, cmd}
 use Rattle.rc_model.specs.Family.Family.{Process, Family, FamilyEvent, EachOf, family, first}
 use Rattle.rc_model.specs.Family.Family.{AreFresh, Sane, ArePossible}
 use Rattle.rc_model.specs.Family.Family.{WasStarted, read_launch}
-use Rattle.rc_model.specs.Family.Steps.{HitsLimit, IsInTime, StepFault, IsRefused, IsMade, CanMake, IsMadeBy, IsAsMade}
+use Rattle.rc_model.specs.Family.Steps.{HitsLimit, IsInTime, StepFault, IsStepRefused, IsMade, CanMake, IsMadeBy, IsAsMade}
 use Rattle.rc_model.specs.Family.Steps.{IsPromised, answers_at}
 
 -- ** steps that are made or refused
@@ -14,17 +14,17 @@ use Rattle.rc_model.specs.Family.Steps.{IsPromised, answers_at}
 -- Each answer for each process of a family whose processes are in time is refused, or it makes a step.
 abbrev pub MadeOrRefused : Type 0
 MadeOrRefused = (reads : Launch → Node cmd × State) (limit : ℕ) (f : Family) (k : ℕ) (x : Answer) →
-    EachOf (IsInTime limit) f → ((a : StepFault) × IsRefused reads limit f k x a) ⊎ CanMake reads limit f k x
+    EachOf (IsInTime limit) f → ((a : StepFault) × IsStepRefused reads limit f k x a) ⊎ CanMake reads limit f k x
 
 -- It is never both.
 abbrev pub NeverBoth : Type 0
 NeverBoth = (reads : Launch → Node cmd × State) (limit : ℕ) (f : Family) (k : ℕ) (x : Answer) (a : StepFault) →
-    IsRefused reads limit f k x a → CanMake reads limit f k x → ⊥
+    IsStepRefused reads limit f k x a → CanMake reads limit f k x → ⊥
 
 -- It is refused for one reason.
 abbrev pub OneFault : Type 0
 OneFault = (reads : Launch → Node cmd × State) (limit : ℕ) (f : Family) (k : ℕ) (x : Answer) (a b : StepFault) →
-    IsRefused reads limit f k x a → IsRefused reads limit f k x b → a ≡ b
+    IsStepRefused reads limit f k x a → IsStepRefused reads limit f k x b → a ≡ b
 
 -- It makes one step.
 abbrev pub OneCall : Type 0

@@ -9,7 +9,7 @@ use Rattle.rc_model.specs.Run.Plans.{Plan}
 use Rattle.rc_model.specs.Run.State.{State, with_status}
 use Rattle.rc_model.specs.Run.Shell.{ShellResult, Next, Exit, Shell, under, leaves, pure, skip, call, say, get, change, exits, stops}
 use Rattle.rc_model.specs.Run.Acts.{set_status, report, runtime_error, fails}
-use Rattle.rc_model.specs.Family.Accounts.{a_file, Due, Account, counts, next_due, with_call, add_file, add_child, past, NewFile, NewChild, HoldsSlot, HoldsSlots}
+use Rattle.rc_model.specs.Family.Accounts.{a_file, Due, Account, counts, next_due, with_call, add_file, add_owed, past, NewFile, NewChild, HoldsSlot, HoldsSlots}
 use Rattle.law_traces.proofs.Keep.{Keeps, keeps_under, Held, held, unknown, alone, Kid, kid_of, held_counts, child_counts, AllKnown, Neat, Rest}
 use Rattle.law_traces.proofs.Steps.{rest_on, may_call, rest_file, rest_child}
 
@@ -117,7 +117,7 @@ abbrev pub Taken : List Held → List Kid → Option ℕ → Account → State �
 Taken F O (Some k) a s = Rest F (kid_of k alone ∷ O) a s
 Taken F O None a s = Rest F O a s
 
-pub taken : {F : List Held} {O : List Kid} {a : Account} {s : State} (l : Launch) (o : Option ℕ) → NewChild o a → Rest F O a s → Taken F O o (past (add_child o (with_call (start l) a))) s
+pub taken : {F : List Held} {O : List Kid} {a : Account} {s : State} (l : Launch) (o : Option ℕ) → NewChild o a → Rest F O a s → Taken F O o (past (add_owed o (with_call (start l) a))) s
 taken l (Some k) f n = rest_child l k f n
 taken l None f n = rest_on (start l) n
 

@@ -11,7 +11,7 @@ use Rattle.rc_model.specs.Run.Shell.{Shell, ◌>>◌, under, leaves, pure, chang
 use Rattle.rc_model.specs.Handed.Image.{is_fit, shell_launch}
 use Rattle.rc_model.specs.Run.Acts.{set_status, ending_status, close_end, wait_each, Started, Child, NoChild, as_started, ask_start, start_shell, LaunchedStages, Launched, NotLaunched, StartedStages, Running, Refused, stages_status, no_stages, next_stage, stage_with, stages_from, launch_stages, settled, start_stages, end_stages}
 use Rattle.rc_model.specs.Handed.Handed.{IsHanded, HandsOver}
-use Rattle.rc_model.specs.Family.Accounts.{read_end, write_end, Due, made, used, passed, Account, one, with_call, add_pair, add_child, past, NewPair, NewChild, InSlots, InTurn}
+use Rattle.rc_model.specs.Family.Accounts.{read_end, write_end, Due, made, used, passed, Account, one, with_call, add_pair, add_owed, past, NewPair, NewChild, InSlots, InTurn}
 use Rattle.law_traces.proofs.Keep.{Keeps, one_self, Held, held, of_line, Kid, kid_of, held_counts, child_counts, InLine, KnownOf, AllKnown, AllBelow, KidsBelow, AllOlder, below_place, kids_below_place, older_place, NotSlot, Neat, Rest, calm_turn}
 use Rattle.law_traces.proofs.Steps.{rest_on, may_call, may_close, rest_close, neat_pair, neat_used, neat_kid, may_close_due, rest_unused, neat_passed, rest_passed, rest_join, rest_wait, may_wait_line, rest_apart, older_from}
 use Rattle.law_traces.proofs.Does.{Ends, keeps_bind, CoversSlot, Covers, covers_more, covers_all, holds_slots, neat_state, rekid, child_counts-append, known_append, known_front, known_back}
@@ -81,7 +81,7 @@ keeps_start_made F O l false h c t i n = record { due = inl n.due; files = n.fil
 keeps_start_made F O {p = p} {w = w} {g = g} {fs = fs} {os = os} {a = a} {s = s} l true h c t i n =
     (record { names = holds_slots l.slots c n; in_turn = subst (λ d. InTurn d (start l)) (sym n.due) t; apart = tt; handed = h refl }, λ x f. next (as_child x) f)
   where
-    next : (o : Option ℕ) → NewChild o a → BegunFor p w g l.slots.input fs os (as_started o) (past (add_child o (with_call (start l) a))) s
+    next : (o : Option ℕ) → NewChild o a → BegunFor p w g l.slots.input fs os (as_started o) (past (add_owed o (with_call (start l) a))) s
     next (Some k) f = neat_kid p w g l k f i n
     next None f = let m = neat_used p w l n in record { due = inr m.due; files = m.files; owed = m.owed; all_held = m.all_held; all_known = m.all_known; background = m.background }
 

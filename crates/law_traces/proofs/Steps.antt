@@ -6,7 +6,7 @@ use Rattle.rc_model.specs.Run.Calls.{Call, to_file, Launch, make_pipe, close, st
 use Rattle.rc_model.specs.declared.call.Slot.{Slot}
 use Rattle.rc_model.specs.Run.State.{State}
 use Rattle.rc_model.specs.Handed.Handed.{HandsOver}
-use Rattle.rc_model.specs.Family.Accounts.{Thing, a_file, read_end, write_end, Due, made, used, passed, Account, one, put, counts, next_due, joins, pipeline_after, with_call, add_file, add_pair, fed, add_child, past, Names, InTurn, Elsewhere, NoneHeld, Apart, Allowed}
+use Rattle.rc_model.specs.Family.Accounts.{Thing, a_file, read_end, write_end, Due, made, used, passed, Account, one, put, counts, next_due, joins, pipeline_after, with_call, add_file, add_pair, fed, add_owed, past, Names, InTurn, Elsewhere, NoneHeld, Apart, Allowed}
 use Rattle.law_traces.proofs.Keep.{one_self, put_self, put_other, Held, held, alone, of_line, Kid, kid_of, held_counts, child_counts, InLine, ThingIn, AllHeld, AllKnown, AllBelow, KidsBelow, LineBelow, AllOlder, below_place, kids_below_place, later_held, later_known, NotSlot, Calm, Neat, Rest, calm_next, calm_fed, calm_turn, calm_line}
 
 held_on : (a b : Account) (fs : List Held) → ((k : ℕ) → 1 ≤ held_counts fs k → b.things k ≡ a.things k) → ((r : ℕ) → r < a.place → b.pipeline r ≡ a.pipeline r) → a.place ≤ b.place → AllHeld a fs → AllHeld b fs
@@ -102,9 +102,9 @@ back_fresh : {P : Due → Type 0} {fs : List Held} {os : List Kid} {a : Account}
 back_fresh {os = os} {a = a} c fresh n k h e = let f = subst (λ x. a.owed x ≡ 0) e fresh in absurd (omega (arith, n.owed k))
 
 abbrev with_kid : Account → Launch → ℕ → Account
-with_kid a l c = past (add_child (Some c) (with_call (start l) a))
+with_kid a l c = past (add_owed (Some c) (with_call (start l) a))
 
-pub rest_child : {fs : List Held} {os : List Kid} {a : Account} {s : State} (l : Launch) (c : ℕ) → a.owed c ≡ 0 → Rest fs os a s → Rest fs (kid_of c alone ∷ os) (past (add_child (Some c) (with_call (start l) a))) s
+pub rest_child : {fs : List Held} {os : List Kid} {a : Account} {s : State} (l : Launch) (c : ℕ) → a.owed c ≡ 0 → Rest fs os a s → Rest fs (kid_of c alone ∷ os) (past (add_owed (Some c) (with_call (start l) a))) s
 rest_child {fs = fs} {os = os} {a = a} l c fresh n = record {
   due = calm_next fs fs a.due (start l) n.due;
   files = n.files;
@@ -126,7 +126,7 @@ neat_used {fs = fs} {os = os} {a = a} p w l n = record {
 }
 
 pub neat_kid : {fs : List Held} {os : List Kid} {a : Account} {s : State} (p w g : ℕ) (l : Launch) (c : ℕ) → a.owed c ≡ 0 → InLine a p g → Neat (λ d. d ≡ made p w) fs os a s
-    → Neat (λ d. d ≡ used p w l.slots.input) fs (kid_of c (of_line p g) ∷ os) (past (add_child (Some c) (with_call (start l) a))) s
+    → Neat (λ d. d ≡ used p w l.slots.input) fs (kid_of c (of_line p g) ∷ os) (past (add_owed (Some c) (with_call (start l) a))) s
 neat_kid {fs = fs} {os = os} {a = a} p w g l c fresh i n = record {
   due = ap (λ d. next_due d (start l)) n.due;
   files = n.files;

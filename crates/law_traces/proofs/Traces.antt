@@ -9,7 +9,7 @@ use Rattle.rc_model.specs.Run.Plans.{Plan, done_with, ask, cut, Played, Ends, Wa
 use Rattle.rc_model.specs.Syntax.Tree.{Node, cmd}
 use Rattle.rc_model.specs.Run.State.{State}
 use Rattle.rc_model.specs.Run.Script.{whole, EndsAsMeant, IsBegunAsMeant}
-use Rattle.rc_model.specs.Family.Accounts.{Thing, a_file, read_end, write_end, Due, free, made, used, passed, Account, one, put, next_due, with_call, add_file, add_pair, add_child, past, after, NewFile, NewPair, NewChild, Fresh, FreshFrom, InTurn, Allowed, AllAllowed, at_start, account, IsFresh, Settled, IsDue, OneWriteEnd, AllOneWriteEnd, NothingLost, NothingLeft}
+use Rattle.rc_model.specs.Family.Accounts.{Thing, a_file, read_end, write_end, Due, free, made, used, passed, Account, one, put, next_due, with_call, add_file, add_pair, add_owed, past, after, NewFile, NewPair, NewChild, Fresh, FreshFrom, InTurn, Allowed, AllAllowed, at_start, account, IsFresh, Settled, IsDue, OneWriteEnd, AllOneWriteEnd, NothingLost, NothingLeft}
 use Rattle.law_traces.proofs.Keep.{Keeps, one_self, put_self, put_other}
 use Rattle.law_traces.proofs.Steps.{one_other}
 use Rattle.law_traces.proofs.Cmds.{keeps_whole}
@@ -43,7 +43,7 @@ pub after_fits : (a : Account) (c : Call) (x : Answer) → after a c (fitting c 
 after_fits a (open_file p m) x = ap (λ o. past (add_file o (with_call (open_file p m) a))) (file_fits x)
 after_fits a (here t) x = ap (λ o. past (add_file o (with_call (here t) a))) (file_fits x)
 after_fits a make_pipe x = ap (λ o. past (add_pair o (with_call make_pipe a))) (pair_fits x)
-after_fits a (start l) x = ap (λ o. past (add_child o (with_call (start l) a))) (child_fits x)
+after_fits a (start l) x = ap (λ o. past (add_owed o (with_call (start l) a))) (child_fits x)
 after_fits a _ x = refl
 
 pub fresh_fits : (a : Account) (c : Call) (x : Answer) → Fresh a c x → Fresh a c (fitting c x)
@@ -154,7 +154,7 @@ one_close a h t m d only o = record {
     gone (made q w) t k p i n = away k (t ∙ i.1) n
     gone (used q w j) t k p i n = away k (t ∙ i.1) n
 
-one_start : (a : Account) (l : Launch) (o : Option ℕ) → InTurn a.due (start l) → OneWriteEnd a → OneWriteEnd (past (add_child o (with_call (start l) a)))
+one_start : (a : Account) (l : Launch) (o : Option ℕ) → InTurn a.due (start l) → OneWriteEnd a → OneWriteEnd (past (add_owed o (with_call (start l) a)))
 one_start a l o t w = kid o
   where
     next : (d : Due) → InTurn d (start l) → (p h : ℕ) → IsDue p h d → IsDue p h (next_due d (start l))
@@ -163,7 +163,7 @@ one_start a l o t w = kid o
     next (made q v) t p h i = i
     next (used q v j) t p h i = absurd t
 
-    kid : (o : Option ℕ) → OneWriteEnd (past (add_child o (with_call (start l) a)))
+    kid : (o : Option ℕ) → OneWriteEnd (past (add_owed o (with_call (start l) a)))
     kid (Some c) = record { only = λ h p m e. next a.due t p h (w.only h p m e); once = w.once }
     kid None = record { only = λ h p m e. next a.due t p h (w.only h p m e); once = w.once }
 

@@ -5,7 +5,7 @@ use Rattle.std.specs.List.{list_all}
 use Rattle.std.proofs.lemmas.Bool.{eqb-true, or_right, and_parts}
 use Rattle.std.proofs.lemmas.List.{append-nil}
 use Rattle.rc_model.specs.Syntax.Words.{Word, has_pattern}
-use Rattle.rc_model.specs.Run.Patterns.{Pattern, This, AnyOne, AnyRun, OneOf, Nothing, Outside, Inside, is_marked, holds, class_of, parts_from, stands_for, any_run, parts_match, is_dots, matches}
+use Rattle.rc_model.specs.Run.Patterns.{Pattern, This, AnyOne, AnyRun, OneOf, Unclosed, Outside, Inside, is_marked, holds, closed_class, parts_from, stands_for, any_run, parts_match, is_dots, matches}
 use Rattle.rc_model.specs.Run.Matching.{Role, Star, Question, Open, Plain, role, is_close, Fits, end, star, Matches}
 use Rattle.rc_model.specs.Mirrors.Greedy.{class_holds, class_with, class_end, class_after, one_by, after_one}
 use Rattle.law_values.proofs.Steps.{FitsLater, FitsOne, Fits-cons, Fits-nil, after_one-Fits, after_one-shorter}
@@ -46,16 +46,16 @@ parts_cons m w = parts_by (is_marked 42 m) (is_marked 63 m) (is_marked 91 m) m.0
 
 -- the parts from inside a class on
 abbrev pub inside_parts : Word → Option (Word × Word) → List Pattern
-inside_parts ms None = Nothing ∷ []
-inside_parts ms (Some p) = class_of (ms ++ p.0) ∷ parts_from Outside p.1
+inside_parts ms None = Unclosed ∷ []
+inside_parts ms (Some p) = closed_class (ms ++ p.0) ∷ parts_from Outside p.1
 
 inside_with : (ms : Word) (m : ℕ × Bool) (o : Option (Word × Word)) → inside_parts (ms ++ m ∷ []) o ≡ inside_parts ms (class_with m o)
 inside_with ms m None = refl
-inside_with ms m (Some p) = ap (λ z. class_of z ∷ parts_from Outside p.1) (append_assoc ms (m ∷ []) p.0)
+inside_with ms m (Some p) = ap (λ z. closed_class z ∷ parts_from Outside p.1) (append_assoc ms (m ∷ []) p.0)
 
 inside_by : (ms : Word) (m : ℕ × Bool) (w : Word) (b : Bool) → parts_from (Inside (ms ++ m ∷ [])) w ≡ inside_parts (ms ++ m ∷ []) (class_end w) →
-    cond b (class_of ms ∷ []) [] ++ parts_from (cond b Outside (Inside (ms ++ m ∷ []))) w ≡ inside_parts ms (cond b (Some ([], w)) (class_with m (class_end w)))
-inside_by ms m w true h = ap (λ z. class_of z ∷ parts_from Outside w) (sym (append-nil ms))
+    cond b (closed_class ms ∷ []) [] ++ parts_from (cond b Outside (Inside (ms ++ m ∷ []))) w ≡ inside_parts ms (cond b (Some ([], w)) (class_with m (class_end w)))
+inside_by ms m w true h = ap (λ z. closed_class z ∷ parts_from Outside w) (sym (append-nil ms))
 inside_by ms m w false h = h ∙ inside_with ms m (class_end w)
 
 pub parts_inside : (w ms : Word) → parts_from (Inside ms) w ≡ inside_parts ms (class_end w)
@@ -84,7 +84,7 @@ class_by e m ms v c t true = guard_2 e t v (not (holds ms c)) (stands_for e c)
 class_by e m ms v c t false = guard_2 e t v (holds (m ∷ ms) c) (stands_for e c)
 
 class_parts : (e : Bool) (ms : Word) (v : Word) (c : ℕ) (t : List ℕ) →
-    parts_match e (class_of ms ∷ parts_from Outside v) (c ∷ t) ≡ then_match e t (cond (class_holds ms c) (cond (stands_for e c) (Some v) None) None)
+    parts_match e (closed_class ms ∷ parts_from Outside v) (c ∷ t) ≡ then_match e t (cond (class_holds ms c) (cond (stands_for e c) (Some v) None) None)
 class_parts e [] v c t = guard_2 e t v false (stands_for e c)
 class_parts e (m ∷ ms) v c t = class_by e m ms v c t (is_marked 126 m)
 
@@ -92,7 +92,7 @@ class_none : (e : Bool) (m : ℕ × Bool) (ms : Word) (ps : List Pattern) (b : B
 class_none e m ms ps true = refl
 class_none e m ms ps false = refl
 
-members_none : (e : Bool) (ms : Word) (ps : List Pattern) → parts_match e (class_of ms ∷ ps) [] ≡ false
+members_none : (e : Bool) (ms : Word) (ps : List Pattern) → parts_match e (closed_class ms ∷ ps) [] ≡ false
 members_none e [] ps = refl
 members_none e (m ∷ ms) ps = class_none e m ms ps (is_marked 126 m)
 

@@ -24,20 +24,20 @@ most_instructions = MOST_INSTRUCTIONS
 -- ** a run
 
 -- the result of the program, by that of the shell
-abbrev pub Answers : Result Ran ShellFault → Result ℕ RunError → Type 0
-Answers (Ok (ran.Ended end)) result =
+abbrev pub IsResultOf : Result Ran ShellFault → Result ℕ RunError → Type 0
+IsResultOf (Ok (ran.Ended end)) result =
     (status : ℕ) × (result ≡ Ok status) × IsProcessStatus (state_of end).status status
-Answers (Ok ran.Limit) result = result ≡ Err Limit
-Answers (Ok ran.Halted) result = result ≡ Err Halted
-Answers (Err (shell.Syntax fault)) result = result ≡ Err (Syntax fault)
-Answers (Err (shell.Image fault)) result = result ≡ Err BadImage
-Answers (Err shell.NoMemory) result = result ≡ Err NoMemory
+IsResultOf (Ok ran.Limit) result = result ≡ Err Limit
+IsResultOf (Ok ran.Halted) result = result ≡ Err Halted
+IsResultOf (Err (shell.Syntax fault)) result = result ≡ Err (Syntax fault)
+IsResultOf (Err (shell.Image fault)) result = result ≡ Err BadImage
+IsResultOf (Err shell.NoMemory) result = result ≡ Err NoMemory
 
--- a run of the program: the shell executed what is run, and the answer says how that ended, unless memory was refused
+-- a run of the program: the shell executed what is run, and the result says how that ended, unless memory was refused
 -- before
 abbrev pub RunsProgram : Option (List Event) → Option (List Event) → Program → Result ℕ RunError → Type 0
 RunsProgram before after p result =
-    ((ran : Result Ran ShellFault) × IsExecuted p most_instructions before after ran × Answers ran result)
+    ((ran : Result Ran ShellFault) × IsExecuted p most_instructions before after ran × IsResultOf ran result)
     ⊎ ((result ≡ Err NoMemory) × (after ≡ before))
 
 -- ** the source of the script

@@ -37,7 +37,7 @@ pub(crate) fn read_script<'a, R: Read + Drop>(
     }
 }
 
-/// Reads once, and appends what was read. No byte is left if there was none.
+/// Reads once, appends what was read, and returns its length: 0 only at the end of the input.
 fn read_part<R: Read>(input: &mut R, part: &mut [u8], bytes: &mut Vec<u8>) -> io::Result<usize>
     requires { 0 < length part.old }
     ensures length { length part.new ≡ length part.old }
@@ -52,8 +52,8 @@ fn read_part<R: Read>(input: &mut R, part: &mut [u8], bytes: &mut Vec<u8>) -> io
     Ok(count)
 }
 
-/// Reads all bytes that an input has left. The room for a part of them is filled with zeros only once, where
-/// `read_to_end` fills it for each read.
+/// Reads all bytes that an input has left. The room for a part of them is filled with zeros once; `read_to_end` would
+/// fill it for each read.
 fn read_whole<R: Read>(alloc: Global, input: &mut R) -> io::Result<Vec<u8>>
     ensures { IfOk result (λ bytes. IfSome (R.remaining input.old) (λ all. bytes.items ≡ all)) }
 {

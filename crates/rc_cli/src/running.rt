@@ -2,7 +2,7 @@
 ghost use Rattle.std.specs.Prelude.{◌≡◌, ◌≢◌, ◌↔◌, Err, None, Some, IfSome, map, option_map, string_bytes};
 ghost use Rattle.rc_cli.specs.Asked.{asked};
 ghost use Rattle.rc_cli.specs.Requests.{request_of, name_of};
-ghost use Rattle.rc_cli.specs.Runs.{Answers, RunsImage, RunsInput, RunsRead, RunsRequest, RunsScript};
+ghost use Rattle.rc_cli.specs.Runs.{IsResultOf, RunsImage, RunsInput, RunsRead, RunsRequest, RunsScript};
 
 use crate::program_request::{Request, Source, request_of};
 use crate::reading::read_script;
@@ -92,7 +92,7 @@ fn run_script<'a, W: World>(
         (asked request.entry) (map string_bytes entries.now) script.now result }
 {
     let state = first_state(alloc, request, entries)?;
-    answer(execute(alloc, world, script, state, MOST_INSTRUCTIONS))
+    result_of(execute(alloc, world, script, state, MOST_INSTRUCTIONS))
 }
 
 /// Runs what the words of an image and the entries denote.
@@ -106,7 +106,7 @@ fn run_image<'a, W: World>(
     ensures meant { RunsImage (W.events world.old) (W.events world.new)
         (asked request.entry) (map string_bytes entries.now) result }
 {
-    answer(execute_image(
+    result_of(execute_image(
         alloc,
         world,
         request.strict,
@@ -118,9 +118,9 @@ fn run_image<'a, W: World>(
 
 /// The result of the program, by that of the shell. The process then ends, so the memory of the state is left to the
 /// system, which takes it back at once.
-fn answer<'a>(ran: Result<Ran, ShellFault>) -> Result<u8, RunError<'a>>
+fn result_of<'a>(ran: Result<Ran, ShellFault>) -> Result<u8, RunError<'a>>
     ensures usage { result ≢ Err RunError.Usage }
-    ensures answers { Answers ran result }
+    ensures of_shell { IsResultOf ran result }
 {
     match ran {
         Ok(Ran::Ended { state }) => {

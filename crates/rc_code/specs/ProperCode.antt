@@ -1,4 +1,4 @@
--- That code keeps only trees that a shell holds is shown in one way at most.
+-- A proof that code keeps only trees that a shell holds is unique.
 use Rattle.std.specs.Prelude.{List, [], ◌∷◌}
 use Rattle.std.specs.Coded.{×_prop, Unit-prop}
 use mathlib.Core.Bool.{Bool-set}

@@ -90,7 +90,7 @@ pub enum Op {
     Here(u32),
     /// Ends this many redirections.
     Unredir(u32),
-    /// Starts the stages of the pipeline of this number, or jumps to its end where one is refused.
+    /// Starts the stages of the pipeline of this number. If one is refused, jumps past the pipeline.
     Stages(u32),
     /// Ends a pipeline: waits for its stages, and sets the status by theirs.
     EndPipe,

@@ -9,7 +9,7 @@ use Rattle.std.proofs.lemmas.Str.{encode_ascii, encodes-chars}
 use Rattle.rc_glob.proofs.Dots.{dots_by}
 use Rattle.rc_model.specs.Syntax.Words.{Word, has_pattern}
 use Rattle.rc_model.specs.Run.FileNames.{is_no_name}
-use Rattle.rc_model.specs.Run.Patterns.{any_run, AnyOne, AnyRun, holds, is_dots, matches, Nothing, one, OneOf, Outside, parts_from, parts_match, Pattern, stands_for, This}
+use Rattle.rc_model.specs.Run.Patterns.{any_run, AnyOne, AnyRun, holds, is_dots, matches, Unclosed, one, OneOf, Outside, parts_from, parts_match, Pattern, stands_for, This}
 
 abbrev has_slash : List ℕ → Bool
 has_slash cs = list_any (λ c. c == 47) cs
@@ -49,7 +49,7 @@ parts_alike (OneOf members true ∷ ps) cs h =
 parts_alike (OneOf members false ∷ ps) cs h =
     one_alike (λ c. stands_for true c && holds members c) (holds members) (parts_match true ps) (parts_match false ps) cs h
     (λ c i. ap (λ b. b && holds members c) (stands c i)) (parts_alike ps)
-parts_alike (Nothing ∷ ps) cs h = refl
+parts_alike (Unclosed ∷ ps) cs h = refl
 
 -- ** a text without the byte of a slash has no character that is one
 

@@ -4,7 +4,7 @@ use Rattle.std.proofs.lemmas.Bool.{and_parts, eqb-true}
 use Rattle.std.proofs.lemmas.List.{append-nil, drop_all, map-append, nil_from_length, take_all, take_more}
 use Rattle.std.proofs.lemmas.Option.{same_Some}
 use Rattle.rc_model.specs.Syntax.Words.{Word, is_pattern}
-use Rattle.rc_model.specs.Run.Patterns.{Pattern, This, AnyOne, AnyRun, OneOf, Nothing, Inside, Outside, class_of, is_marked, holds, one, parts_from, parts_match, stands_for}
+use Rattle.rc_model.specs.Run.Patterns.{Pattern, This, AnyOne, AnyRun, OneOf, Unclosed, Inside, Outside, closed_class, is_marked, holds, one, parts_from, parts_match, stands_for}
 use Rattle.rc_model.specs.Run.Matching.{Star, Question, Open, Plain}
 use Rattle.rc_model.specs.Mirrors.Greedy.{class_end}
 use Rattle.law_values.proofs.Computed.{by_kind, inside_parts, not_both, parts_cons, parts_inside}
@@ -43,7 +43,7 @@ class_by : (m : ℕ × Bool) (ms : Word) (ps : List Pattern) (b : Bool) → widt
 class_by m ms ps true = refl
 class_by m ms ps false = refl
 
-width_class : (ms : Word) (ps : List Pattern) → width (class_of ms ∷ ps) ≡ one_more (width ps)
+width_class : (ms : Word) (ps : List Pattern) → width (closed_class ms ∷ ps) ≡ one_more (width ps)
 width_class [] ps = refl
 width_class (m ∷ ms) ps = class_by m ms ps (is_marked 126 m)
 
@@ -96,7 +96,7 @@ width_long e (AnyOne ∷ ps) n x h k = one_long (stands_for e) (parts_match e ps
 width_long e (AnyRun ∷ ps) n x h k = cc
 width_long e (OneOf members true ∷ ps) n x h k = one_long (λ c. stands_for e c && not (holds members c)) (parts_match e ps) (width ps) (width_long e ps) n x h k
 width_long e (OneOf members false ∷ ps) n x h k = one_long (λ c. stands_for e c && holds members c) (parts_match e ps) (width ps) (width_long e ps) n x h k
-width_long e (Nothing ∷ ps) n x h k = cc
+width_long e (Unclosed ∷ ps) n x h k = cc
 
 pub before_end : (w : Word) (n : ℕ) → Some n ≡ width (parts_from Outside w) → (e : Bool) (x : List ℕ) → parts_match e (parts_from Outside w) x ≡ true → (length x == n) ≡ true
 before_end w n h e x k = eq-eqb (length x) n (width_long e (parts_from Outside w) n x (sym h) k)

@@ -79,14 +79,14 @@ fn sort_paths(paths: &mut Vec<Text>)
     paths.sort_unstable_by(|a, b| a.as_str().cmp(b.as_str()));
 }
 
-/// Removes the paths that come again after themselves.
+/// Removes each path that equals the one before it.
 fn dedup_paths(paths: &mut Vec<Text>)
     ensures { paths.new.items ≡ dedup (λ p q. bytes_eq (text_bytes p) (text_bytes q)) paths.old.items }
 {
     paths.dedup_by(|a, b| a.as_str() == b.as_str());
 }
 
-/// Puts the paths in byte order, each once. Those of one directory are found so.
+/// Puts the paths in byte order, each once. Those of one directory are found in this order.
 pub(crate) fn ordered_paths(mut paths: Vec<Text>) -> Vec<Text>
     ensures { map text_bytes result.items ≡ ordered (map text_bytes paths.items) }
 {

@@ -55,7 +55,7 @@ pub record ChangesChildrenAlone (old new : HostWorld) : Type 0 where
   pub shell : shell_of new ≡ shell_of old
   pub files : files_of new ≡ files_of old
 
--- all but the children is as before, and the path of the shell's own program if that was known
+-- all but the children are as before, except the path of the shell's own program if that was not known
 pub record ChangesChildrenAndShell (old new : HostWorld) : Type 0 where
   pub shell : IsSome (shell_of old) → shell_of new ≡ shell_of old
   pub files : files_of new ≡ files_of old

@@ -88,7 +88,7 @@ fn read_whole<R: Read>(alloc: Global, directory: &mut R) -> Result<Vec<u8>, Faul
     Err(Fault::Other)
 }
 
-/// The meaning of a read without names, with Linux's number of an error or 0: the end, or the error.
+/// What a read without names means, by Linux's error number or 0: the end, or an error.
 fn end_at(number: i32) -> io::Result<usize>
     ensures end { IsOk result ↔ IsLast number }
     ensures none { IfOk result (λ count. count ≡ 0) }

@@ -15,7 +15,7 @@ pub(crate) enum Sort {
     Entries,
 }
 
-/// Adds those of the texts in the bytes that are kept, and returns how many texts there are.
+/// Adds each text in the bytes that is to be kept, and returns how many texts there are, kept or not.
 pub(crate) fn push_ended(
     texts: &mut Vec<String>,
     bytes: &[u8],

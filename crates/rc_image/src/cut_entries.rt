@@ -73,7 +73,7 @@ fn cut_members(alloc: Global, text: &str) -> Result<Vec<Text>, AllocError>
     Ok(members)
 }
 
-/// The members of a value, which byte 1 separates. A text without marks is the only one.
+/// The members of a value, which byte 1 separates. A text without bytes 1 and 2 is the only member.
 pub(crate) fn members(alloc: Global, text: &str) -> Result<Vec<Text>, AllocError>
     ensures { IfOk result (λ members. map text_bytes members.items ≡ entry_members text.now) }
 {

@@ -26,7 +26,7 @@ pub(crate) fn push_copies(out: &mut Vec<Text>, texts: &[Text]) -> Result<(), All
     Ok(())
 }
 
-/// Adds these words, a long one without a copy.
+/// Adds these words. A long one keeps its string and is not copied.
 pub(crate) fn push_words(out: &mut Vec<Text>, words: Vec<String>) -> Result<(), AllocError>
     ensures { OnOk result
         (map text_bytes out.new.items ≡ map text_bytes out.old.items ++ map string_bytes words.items) }

@@ -44,7 +44,7 @@ fn read_on(
     Ok((state, place))
 }
 
-/// Reads the one byte that is left of the text. Where a text comes byte by byte, this is all that a byte costs.
+/// Reads the one byte that is left of the text. If a text comes byte by byte, each byte costs no more than this.
 fn read_last(
     reading: &mut Reading,
     text: &[u8],

@@ -20,7 +20,7 @@ use Rattle.rc_lexer.specs.Views.{tokens_of}
 use Rattle.rc_model.specs.declared.fault.DescentFault.{DescentFault}
 use Rattle.rc_model.specs.declared.fault.DescentFault.TheVariants as descent
 use Rattle.rc_parser.specs.declared.token_stream.token_faults.TokenFault.{TokenFault}
-use Rattle.rc_parser.specs.Answers.{HasFault, TokenError}
+use Rattle.rc_parser.specs.Results.{HasFault, TokenError}
 use Rattle.rc_tree.specs.declared.types.Cmd.{Cmd}
 use Rattle.rc_tree.specs.View.{cmd_tree}
 use Rattle.rc_parser.specs.Faults.{Refuses, line_left, placed}

@@ -17,7 +17,7 @@ use Rattle.law_syntax.proofs.Laws as laws
 use Rattle.rc_tree.proofs.Numbers.{le_max, le_suc}
 use Rattle.rc_parser.specs.Faults.{line_left, placed}
 use Rattle.rc_model.specs.declared.fault.InputError.TheVariants as error
-use Rattle.rc_parser.specs.Answers.{Fails, TokenError}
+use Rattle.rc_parser.specs.Results.{Fails, TokenError}
 use Rattle.rc_parser.specs.ItemReading.{AreAll, Finds, items_after}
 use Rattle.rc_parser.specs.declared.items.found_items.Found.{Found}
 use Rattle.rc_parser.specs.declared.token_stream.token_faults.TokenFault.{TokenFault}

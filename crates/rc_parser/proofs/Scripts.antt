@@ -12,7 +12,7 @@ use Rattle.rc_tree.specs.View.{cmd_tree}
 use Rattle.rc_tree.specs.declared.types.Cmd.{Cmd}
 use Rattle.rc_model.specs.declared.fault.DescentFault.{DescentFault}
 use Rattle.rc_model.specs.declared.fault.DescentFault.TheVariants as descent
-use Rattle.rc_parser.specs.Answers.{Gives, HasFault, TokenError}
+use Rattle.rc_parser.specs.Results.{Gives, HasFault, TokenError}
 
 -- the list is the whole script, and its tree has few levels or too many
 pub script_fits : (levels : ℕ) (ts : List model.Lexeme) (is : Many t.item) (rest : List model.Lexeme) → d.read levels (d.a_list false) ts ≡ Ok (is, rest) → length rest ≡ 0 →

@@ -10,7 +10,7 @@ use Rattle.rc_model.specs.Mirrors.Descent.{Reader, Readers, ◌>>=◌}
 use Rattle.rc_tree.specs.View.{nodes_push, tree_Simple}
 use Rattle.rc_tree.proofs.Assigned.{assignments}
 use Rattle.rc_model.specs.declared.fault.InputError.TheVariants as error
-use Rattle.rc_parser.specs.Answers.{Fails, TokenError}
+use Rattle.rc_parser.specs.Results.{Fails, TokenError}
 use Rattle.rc_parser.specs.Reading.{made, simple_after}
 use Rattle.rc_parser.proofs.Steps.{levels, read_part}
 use Rattle.law_syntax.proofs.Completeness.{links_stop}

@@ -11,7 +11,7 @@ use Rattle.rc_lexer.specs.Answers.{ScriptError}
 use Rattle.rc_lexer.specs.Views.{tokens_of}
 use Rattle.rc_tree.specs.View.{cmd_tree, item_tree}
 use Rattle.rc_tree.specs.declared.types.Item.{Item}
-use Rattle.rc_parser.specs.Answers.{Fails, TokenError}
+use Rattle.rc_parser.specs.Results.{Fails, TokenError}
 use Rattle.rc_parser.specs.Faults.{Refuses}
 use Rattle.rc_parser.specs.Tokens.{lexemes_of}
 use Rattle.rc_parser.specs.declared.items.found_items.Found.{Found}

@@ -1,4 +1,4 @@
-pub mod Answers
+pub mod Results
 pub mod Begun
 pub mod Faults
 pub mod Kept

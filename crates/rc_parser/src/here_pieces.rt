@@ -91,7 +91,7 @@ fn next(alloc: Global, pieces: &mut Vec<Piece>, begun: Begun, c: char) -> Result
     }
 }
 
-/// A text is a piece unless it is empty.
+/// Adds a text as a piece, unless it is empty.
 #[tactic(auto, using(crate::proofs::Pieces::texts))]
 fn push_text(pieces: &mut Vec<Piece>, text: String) -> Result<(), AllocError>
     ensures { OnOk result (pieces_tree pieces.new.items
@@ -103,7 +103,7 @@ fn push_text(pieces: &mut Vec<Piece>, text: String) -> Result<(), AllocError>
     Ok(())
 }
 
-/// The last piece is pushed.
+/// Adds the last piece.
 #[tactic(auto, using(rc_tree::specs::View::tree_lists))]
 fn finish(pieces: &mut Vec<Piece>, begun: Begun) -> Result<(), AllocError>
     ensures { OnOk result (pieces_tree pieces.new.items ≡ with_last (begun_of begun) (pieces_tree pieces.old.items)) }

@@ -6,7 +6,7 @@ ghost use Rattle.rc_model.specs.Syntax.HereDocs.{pieces_of};
 ghost use Rattle.rc_model.specs.Syntax.Tokens.{unquoted_text};
 ghost use Rattle.rc_model.specs.Syntax.Tree as t;
 ghost use Rattle.rc_tree.specs.View.{arg_tree, redir_tree};
-ghost use Rattle.rc_parser.specs.Answers.{Gives};
+ghost use Rattle.rc_parser.specs.Results.{Gives};
 ghost use Rattle.rc_parser.specs.Reading.{here_doc_by, literal};
 ghost use Rattle.rc_parser.specs.Keywords.{begins_keyword};
 ghost use Rattle.rc_parser.specs.Tokens.{lexemes_of};
@@ -105,7 +105,7 @@ fn literal_node(alloc: Global, bytes: &[u8], quoted: bool) -> Result<Arg, AllocE
     })
 }
 
-/// What stands between the quotes of a word, if it is the word's text: if no quote is doubled there.
+/// The bytes between the quotes of a word, if they are its text: if no quote is doubled there.
 #[tactic(auto, using(crate::proofs::Unquoted::text_within))]
 fn text_within(word: &[u8]) -> Option<&[u8]>
     ensures { IfSome result (λ text. text.now ≡ unquoted_text word.now) }

@@ -8,7 +8,7 @@ ghost use Rattle.rc_model.specs.Mirrors.Descent.{script_tree};
 ghost use Rattle.rc_model.specs.declared.limits.TheConstants.{MOST_STAGES};
 ghost use Rattle.rc_tree.specs.View.{cmd_tree};
 ghost use Rattle.rc_parser.specs.Tokens.{lexemes_of};
-ghost use Rattle.rc_parser.specs.Answers.{Gives, HasFault};
+ghost use Rattle.rc_parser.specs.Results.{Gives, HasFault};
 
 use crate::descent::command_lists::parse_list;
 use crate::token_stream::Tokens;

@@ -130,7 +130,7 @@ fn print_and_or(
     print_links(out, links)
 }
 
-/// Writes a text that ends with a parenthesis, a condition, the closing parenthesis, and what the condition governs.
+/// Writes `text`, which ends with an opening parenthesis, the condition, a closing parenthesis and the body.
 #[cycle(print)]
 fn print_conditional(
     out: &mut String,

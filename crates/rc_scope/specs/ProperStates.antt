@@ -1,4 +1,4 @@
--- The variables and functions of every state are those of a proper one, which is shown in one way at most.
+-- The variables and functions of every state are those of a proper one, and a proof of that is unique.
 use Rattle.std.specs.Prelude.{List, [], ◌∷◌, ℕ}
 use Rattle.std.specs.Coded.{×_prop, Unit-prop}
 use mathlib.Core.Bool.{Bool-set}

@@ -196,7 +196,7 @@ impl State {
         Ok(())
     }
 
-    /// Joins a text to the status by a space, as an assignment of both does. On `Err` nothing has changed.
+    /// Appends a space and a text to the status, as an assignment of both does. On `Err` nothing has changed.
     #[tactic(auto, unfolding(crate::specs::States::state_of))]
     fn append_to_status(&mut self, text: Text) -> Result<(), AllocError>
         ensures ok { OnOk result (state_of self.new ≡ with_status (state_of self.old)
@@ -393,8 +393,8 @@ impl State {
         self.recent_codes.keep(text, code)
     }
 
-    /// The names of the variables that have members, and of the functions, whose entry isn't kept. A variable that is
-    /// named by one call is named by the next one only if a value has changed since.
+    /// The names of the variables with members and of the functions whose entries aren't kept. A variable that one call
+    /// returns is returned by the next only if a value has changed since.
     #[tactic(auto, unfolding(crate::specs::States::state_of))]
     pub fn unkept(&mut self) -> Result<Unkept, AllocError>
         ensures { state_of self.new ≡ state_of self.old }

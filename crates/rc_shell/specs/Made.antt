@@ -7,7 +7,7 @@ use Rattle.rc_model.specs.Syntax.Tree.{Node, cmd}
 use Rattle.rc_model.specs.Family.Family.{Process, Family, FamilyEvent, IsPending, HasEnded}
 use Rattle.rc_model.specs.Family.Family.{OneAtATime, first, family, stepped}
 use Rattle.rc_model.specs.Family.Family.{read_launch, AllRead}
-use Rattle.rc_model.specs.Family.Steps.{HitsLimit, IsMade, IsMadeBy, IsRefused, NoProcess, AtEnd, WrongKind, AtLimit}
+use Rattle.rc_model.specs.Family.Steps.{HitsLimit, IsMade, IsMadeBy, IsStepRefused, NoProcess, AtEnd, WrongKind, AtLimit}
 use Rattle.rc_model.specs.Family.Steps.{IsPromised}
 use Rattle.rc_shell.specs.declared.family.family_fault.FamilyFault.{FamilyFault}
 use Rattle.rc_shell.specs.declared.family.family_fault.FamilyFault.TheVariants as fault
@@ -73,10 +73,10 @@ pub record IsAnswering (m : Made) (k : ℕ) (x : Answer) : Type 0 where
 
 -- why a step is refused; out of memory only comes in place of the limit or of an answer
 abbrev pub StepsNot : Made → ℕ → Answer → FamilyFault → Type 0
-StepsNot m k x fault.NoProcess = IsRefused read_launch m.limit (processes m) k x NoProcess
-StepsNot m k x fault.Ended = IsRefused read_launch m.limit (processes m) k x AtEnd
-StepsNot m k x fault.WrongKind = IsRefused read_launch m.limit (processes m) k x WrongKind
-StepsNot m k x fault.Limit = IsRefused read_launch m.limit (processes m) k x AtLimit
+StepsNot m k x fault.NoProcess = IsStepRefused read_launch m.limit (processes m) k x NoProcess
+StepsNot m k x fault.Ended = IsStepRefused read_launch m.limit (processes m) k x AtEnd
+StepsNot m k x fault.WrongKind = IsStepRefused read_launch m.limit (processes m) k x WrongKind
+StepsNot m k x fault.Limit = IsStepRefused read_launch m.limit (processes m) k x AtLimit
 StepsNot m k x fault.NoMemory = IsAnswering m k x
 
 -- the pending call of process k: none if it has ended, or if there is no such process

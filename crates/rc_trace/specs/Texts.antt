@@ -35,7 +35,7 @@ abbrev pub slots_text : Slots → Option (List ℕ)
 slots_text slots = slot_text slots.input ++? Some (codes " ") ++? slot_text slots.output ++? Some (codes " ")
     ++? slot_text slots.errors
 
--- a byte of a blank, of a control character, or of one that quotes use
+-- a blank, a control character, a quote or a backslash
 abbrev pub needs_quotes : ℕ → Bool
 needs_quotes b = nat_le b 32 || b == 34 || b == 92 || b == 127
 

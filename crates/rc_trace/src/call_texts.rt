@@ -232,7 +232,7 @@ impl fmt::Display for ProgramText<'_> {
     }
 }
 
-/// Whether a path with this byte is put in quotes: one of a blank or a control character, or one that quotes use.
+/// Whether a path with this byte is put in quotes: a blank, a control character, a quote or a backslash.
 fn needs_quotes(byte: u8) -> bool
     ensures { result ≡ needs_quotes byte }
 {

@@ -41,7 +41,7 @@ impl<W> RefusalWorld<W> {
 }
 
 impl<W: World> RefusalWorld<W> {
-    /// Why this call is not to be passed on, if it isn't: it is refused, or it can't be counted.
+    /// The fault for this call if it isn't passed on: it is refused, or it can't be counted.
     fn withheld(&mut self, call: ShownCall<'_>) -> Option<Fault>
         ensures refused { IfSome result
             (λ fault. Meets W.events self.old self.new (shown_call call.entry) (refused fault)) }

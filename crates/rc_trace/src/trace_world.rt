@@ -19,8 +19,8 @@ use rc_world::{ChildNo, Ending, Fault, Handle, Kind, Launch, Mode, Slot, World};
 use std::io::Write;
 use std::snapshot::Snapshot;
 
-/// A world that passes each call on, and shows it with its answer. If a line can't be written, the calls go on. It
-/// records the calls that it shows, after what says how their lines were begun and what was recorded before.
+/// A world that passes each call on, and shows it with its answer. If a line can't be written, the calls go on. Its
+/// record has an event for how the lines begin, what was recorded before, and then the calls that it shows.
 #[derive(Drop)]
 pub struct TraceWorld<W: World, O: Write> {
     world: W,

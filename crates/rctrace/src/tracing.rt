@@ -94,8 +94,8 @@ fn with_errors(mut shell: Shell) -> Shell {
     shell
 }
 
-/// The file that the calls are shown in, at whose end each process writes. The first one empties it, and has it open
-/// until it can write at its end, so that what reads from a FIFO meets no end before.
+/// The file that the calls are shown in, at whose end each process writes. The first one empties it, and holds it open
+/// until it is open for appending, so that a reader of a FIFO sees no end in between.
 fn opened(rt: &HostRuntime, path: &str, is_first: bool) -> io::Result<File> {
     let _emptied = if is_first {
         Some(fs::create(rt, path)?)

@@ -2,8 +2,8 @@
 use rc_text::Text;
 use rc_world::Slots;
 
-/// A program with its arguments, its whole environment and its descriptors, each of which is an
-/// open file or that of this process in its own place. Its texts are those of the launch.
+/// A program with its arguments, its whole environment and its descriptors, each an open file, or this process's
+/// descriptor of the same number. Its texts are borrowed from the launch.
 pub struct Plan<'a> {
     pub program: &'a str,
     pub args: Vec<&'a str>,

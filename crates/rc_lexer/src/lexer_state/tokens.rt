@@ -13,7 +13,7 @@ use rc_model::{Place, Previous};
 use rc_text::unquote;
 use std::alloc::AllocError;
 
-/// A place in the 32 bits that a token has for it. Where they don't suffice, the tokens need more memory than there is.
+/// A place in the 32 bits that a token has for it. If they don't suffice, the tokens need more memory than there is.
 fn in_32_bits(place: usize) -> Result<u32, AllocError>
     ensures { IfOk result (λ small. small ≡ place) }
 {

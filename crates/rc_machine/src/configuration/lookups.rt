@@ -25,7 +25,7 @@ pub(crate) fn texts(alloc: Global, words: &[Word]) -> Result<Vec<String>, AllocE
     Ok(texts)
 }
 
-/// After how many words that were popped their room is given back, so that a long list does not take the room of both
+/// The number of popped words after which their room is given back, so that a long list does not take the room of both
 /// its words and its texts.
 const WORDS_AT_ONCE: usize = 65_536;
 

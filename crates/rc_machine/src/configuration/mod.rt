@@ -78,7 +78,7 @@ impl Configuration {
         }
     }
 
-    /// The state, of which the rest is dropped.
+    /// Returns the state; the rest of the configuration is dropped.
     pub(crate) fn into_state(self) -> State
         ensures { state_of result ≡ (config_of self).state }
     {

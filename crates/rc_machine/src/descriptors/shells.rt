@@ -90,7 +90,7 @@ fn begin_last(
     Ok(())
 }
 
-/// Starts the stages of a pipeline but the last. If one is refused, the machine jumps to the place.
+/// Starts the stages of a pipeline but the last. If one is refused, the machine jumps to `end`.
 #[inline(never)]
 #[tactic(auto, using(crate::proofs::Left::step_refused))]
 pub(crate) fn start_pipeline<W: World>(

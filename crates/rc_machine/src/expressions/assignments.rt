@@ -115,7 +115,7 @@ fn name_on_top(words: &ListStack<Word>) -> Option<&str>
     variable_name(words.top()?)
 }
 
-/// Assigns whatever the two lists on top are.
+/// Assigns the top list to the variable that the list below it names, whatever the two are.
 #[tactic(auto, using(crate::proofs::Left::step_refused))]
 fn assign_list<W: World>(
     machine: &mut Configuration,

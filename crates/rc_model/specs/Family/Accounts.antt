@@ -100,16 +100,16 @@ fed (used p w i) = Some p
 fed _ = None
 
 -- a child that was started is owed once more, for the newest pipe if that was just made
-abbrev pub add_child : Option ℕ → Account → Account
-add_child (Some c) a = record a { owed = λ k. a.owed k + one c k; feeds = put a.feeds c (fed a.due) }
-add_child None a = a
+abbrev pub add_owed : Option ℕ → Account → Account
+add_owed (Some c) a = record a { owed = λ k. a.owed k + one c k; feeds = put a.feeds c (fed a.due) }
+add_owed None a = a
 
 -- what an answer adds to the account
 abbrev pub answered : Call → Answer → Account → Account
 answered (open_file p m) x a = add_file (as_file x) a
 answered (here t) x a = add_file (as_file x) a
 answered make_pipe x a = add_pair (as_pair x) a
-answered (start l) x a = add_child (as_child x) a
+answered (start l) x a = add_owed (as_child x) a
 answered _ x a = a
 
 -- the account after one more event

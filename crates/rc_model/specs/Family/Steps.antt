@@ -50,11 +50,11 @@ AppendsSuch reads P k p (Some (l, n)) = P (child_process reads k p l n)
 
 module _ (reads : Launch → Node cmd × State) (limit : ℕ) where
   -- when a step is refused, in this order: each case says that none before it holds
-  abbrev pub IsRefused : Family → ℕ → Answer → StepFault → Type 0
-  IsRefused f k x NoProcess = f.count ≤ k
-  IsRefused f k x AtEnd = (k < f.count) × HasEnded (f.at k)
-  IsRefused f k x WrongKind = (k < f.count) × ((c : Call) × IsPending (f.at k) c × (IsAnswered c x → ⊥))
-  IsRefused f k x AtLimit =
+  abbrev pub IsStepRefused : Family → ℕ → Answer → StepFault → Type 0
+  IsStepRefused f k x NoProcess = f.count ≤ k
+  IsStepRefused f k x AtEnd = (k < f.count) × HasEnded (f.at k)
+  IsStepRefused f k x WrongKind = (k < f.count) × ((c : Call) × IsPending (f.at k) c × (IsAnswered c x → ⊥))
+  IsStepRefused f k x AtLimit =
       (k < f.count) × ((c : Call) × IsPending (f.at k) c × IsAnswered c x ×
       (HitsLimit limit (recorded (f.at k) c x) ⊎ AppendsSuch reads (HitsLimit limit) k (f.at k) (shell_started c x)))
 

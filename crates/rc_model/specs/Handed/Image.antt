@@ -100,7 +100,7 @@ image c = codes "rc1;" ++ node_image c
 abbrev pub escape : ℕ → List ℕ
 escape b = if b == 1 then 2 ∷ 65 ∷ [] else (if b == 2 then 2 ∷ 66 ∷ [] else b ∷ [])
 
--- a member without byte 1
+-- a member with its bytes 1 and 2 escaped
 abbrev pub escaped : List ℕ → List ℕ
 escaped text = flat_map escape text
 

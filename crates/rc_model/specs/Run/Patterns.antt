@@ -14,7 +14,7 @@ pub data Pattern : Type 0 where
   -- one character that the class holds, or doesn't hold
   OneOf : (members : Word) → (complement : Bool) → Pattern
   -- a class that isn't closed
-  Nothing : Pattern
+  Unclosed : Pattern
 
 -- a marked character
 abbrev pub is_marked : ℕ → ℕ × Bool → Bool
@@ -33,9 +33,9 @@ holds (m ∷ d ∷ n ∷ ms) c =
     if is_marked 45 d then is_between m.0 n.0 c || holds ms c else (m.0 == c) || holds (d ∷ n ∷ ms) c
 
 -- the class with these characters between its brackets
-abbrev pub class_of : Word → Pattern
-class_of [] = OneOf [] false
-class_of (m ∷ ms) = if is_marked 126 m then OneOf ms true else OneOf (m ∷ ms) false
+abbrev pub closed_class : Word → Pattern
+closed_class [] = OneOf [] false
+closed_class (m ∷ ms) = if is_marked 126 m then OneOf ms true else OneOf (m ∷ ms) false
 
 -- the class read so far: none yet, or one with these characters
 pub data ClassSoFar : Type 0 where
@@ -54,18 +54,18 @@ class_begun_by m = if is_marked 91 m then Inside [] else Outside
 
 -- the class that ends with one more character inside of it, if it does
 abbrev pub inside : Word → ℕ × Bool → List Pattern
-inside members m = if is_marked 93 m then class_of members ∷ [] else []
+inside members m = if is_marked 93 m then closed_class members ∷ [] else []
 
 -- whether the class goes on after it
-abbrev pub goes_on : Word → ℕ × Bool → ClassSoFar
-goes_on members m = if is_marked 93 m then Outside else Inside (members ++ m ∷ [])
+abbrev pub class_after : Word → ℕ × Bool → ClassSoFar
+class_after members m = if is_marked 93 m then Outside else Inside (members ++ m ∷ [])
 
 -- the parts of a word
 abbrev pub parts_from : ClassSoFar → Word → List Pattern
 parts_from Outside [] = []
-parts_from (Inside members) [] = Nothing ∷ []
+parts_from (Inside members) [] = Unclosed ∷ []
 parts_from Outside (m ∷ ms) = outside m ++ parts_from (class_begun_by m) ms
-parts_from (Inside members) (m ∷ ms) = inside members m ++ parts_from (goes_on members m) ms
+parts_from (Inside members) (m ∷ ms) = inside members m ++ parts_from (class_after members m) ms
 
 -- in path mode no pattern character stands for `/`
 abbrev pub stands_for : (explicit : Bool) → ℕ → Bool
@@ -92,7 +92,7 @@ parts_match explicit (OneOf members true ∷ ps) cs =
     one (λ c. stands_for explicit c && not (holds members c)) (parts_match explicit ps) cs
 parts_match explicit (OneOf members false ∷ ps) cs =
     one (λ c. stands_for explicit c && holds members c) (parts_match explicit ps) cs
-parts_match explicit (Nothing ∷ ps) cs = false
+parts_match explicit (Unclosed ∷ ps) cs = false
 
 -- `.` and `..`
 abbrev pub is_dots : List ℕ → Bool

@@ -7,7 +7,7 @@ ghost use Rattle.rc_model.specs.Mirrors.Descent.{brace_by, dollar_by};
 ghost use Rattle.rc_model.specs.Syntax.Grammar.{past_blanks};
 ghost use Rattle.rc_tree.specs.View.{arg_tree, args_tree};
 ghost use Rattle.rc_parser.specs.Tokens.{lexemes_of};
-ghost use Rattle.rc_parser.specs.Answers.{Gives};
+ghost use Rattle.rc_parser.specs.Results.{Gives};
 ghost use Rattle.rc_parser.specs.Reading.{made};
 
 use crate::descent::command_lists::parse_brace;

@@ -3,7 +3,7 @@
 ghost use Rattle.rc_model.specs.Mirrors.Descent.{read, a_list, brace_by, paren_by, items_by};
 ghost use Rattle.rc_tree.specs.View.{cmd_tree, items_tree};
 ghost use Rattle.rc_parser.specs.Tokens.{lexemes_of};
-ghost use Rattle.rc_parser.specs.Answers.{Gives};
+ghost use Rattle.rc_parser.specs.Results.{Gives};
 
 use crate::descent::commands::parse_command;
 use crate::joined_nodes::allows_if_not;

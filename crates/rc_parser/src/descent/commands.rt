@@ -4,7 +4,7 @@ ghost use Rattle.rc_model.specs.Mirrors.Descent.{read, an_operand, a_piped, a_co
 ghost use Rattle.rc_model.specs.Mirrors.Descent.{links_by};
 ghost use Rattle.rc_tree.specs.View.{cmd_tree, links_tree};
 ghost use Rattle.rc_parser.specs.Tokens.{lexemes_of};
-ghost use Rattle.rc_parser.specs.Answers.{Gives};
+ghost use Rattle.rc_parser.specs.Results.{Gives};
 
 use crate::descent::controls::parse_control;
 use crate::descent::openings::{Opening, parse_opening};

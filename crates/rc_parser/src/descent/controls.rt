@@ -7,7 +7,7 @@ ghost use Rattle.rc_model.specs.Mirrors.Descent.{for_each_by, over_by, for_by, c
 ghost use Rattle.rc_model.specs.declared.syntax.Keyword.TheVariants as keyword;
 ghost use Rattle.rc_tree.specs.View.{cmd_tree, arg_tree};
 ghost use Rattle.rc_parser.specs.Tokens.{lexemes_of};
-ghost use Rattle.rc_parser.specs.Answers.{Gives};
+ghost use Rattle.rc_parser.specs.Results.{Gives};
 ghost use Rattle.rc_parser.specs.Reading.{made};
 
 use crate::descent::arguments::{parse_boxed_argument, parse_members};

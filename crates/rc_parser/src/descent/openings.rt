@@ -9,7 +9,7 @@ ghost use Rattle.rc_model.specs.Mirrors.Descent.{read, a_part, simple_by, match_
 ghost use Rattle.rc_model.specs.Mirrors.Descent.{defined_by, opening_by};
 ghost use Rattle.rc_tree.specs.View.{cmd_tree, arg_tree, args_tree, redirs_tree};
 ghost use Rattle.rc_parser.specs.Tokens.{lexemes_of};
-ghost use Rattle.rc_parser.specs.Answers.{Gives};
+ghost use Rattle.rc_parser.specs.Results.{Gives};
 ghost use Rattle.rc_parser.specs.Reading.{made, opening_of, simple_after};
 
 use crate::descent::arguments::{parse_argument, parse_words};

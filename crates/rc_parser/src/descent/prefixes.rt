@@ -6,7 +6,7 @@ ghost use Rattle.rc_model.specs.Mirrors.Descent.{read, optional_operand_by, redi
 ghost use Rattle.rc_model.specs.Mirrors.Descent.{leading_by, pipe_by};
 ghost use Rattle.rc_tree.specs.View.{cmd_tree, arg_tree, pairs_tree};
 ghost use Rattle.rc_parser.specs.Tokens.{lexemes_of};
-ghost use Rattle.rc_parser.specs.Answers.{Gives};
+ghost use Rattle.rc_parser.specs.Results.{Gives};
 ghost use Rattle.rc_parser.specs.Reading.{made};
 
 use crate::descent::arguments::parse_argument;

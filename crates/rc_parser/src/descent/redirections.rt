@@ -5,7 +5,7 @@ ghost use Rattle.rc_model.specs.Syntax.Tree as t;
 ghost use Rattle.rc_model.specs.Mirrors.Descent.{read, a_part, arg_by, redir_by, redirs_by};
 ghost use Rattle.rc_tree.specs.View.{redir_tree, redirs_tree};
 ghost use Rattle.rc_parser.specs.Tokens.{lexemes_of};
-ghost use Rattle.rc_parser.specs.Answers.{Gives};
+ghost use Rattle.rc_parser.specs.Results.{Gives};
 ghost use Rattle.rc_parser.specs.Reading.{made};
 
 use crate::descent::arguments::parse_argument;

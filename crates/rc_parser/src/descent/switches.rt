@@ -3,7 +3,7 @@
 ghost use Rattle.rc_model.specs.Mirrors.Descent.{read, branch_by, branches_by, switch_by};
 ghost use Rattle.rc_tree.specs.View.{cmd_tree, branches_tree, branch_tree};
 ghost use Rattle.rc_parser.specs.Tokens.{lexemes_of};
-ghost use Rattle.rc_parser.specs.Answers.{Gives};
+ghost use Rattle.rc_parser.specs.Results.{Gives};
 
 use crate::descent::arguments::{parse_boxed_argument, parse_words};
 use crate::descent::command_lists::parse_list;

@@ -4,7 +4,7 @@ ghost use Rattle.rc_model.specs.Syntax.Tree as t;
 ghost use Rattle.rc_model.specs.Mirrors.Descent.{read, a_name};
 ghost use Rattle.rc_tree.specs.View.{arg_tree};
 ghost use Rattle.rc_parser.specs.Tokens.{lexemes_of};
-ghost use Rattle.rc_parser.specs.Answers.{Gives};
+ghost use Rattle.rc_parser.specs.Results.{Gives};
 ghost use Rattle.rc_parser.specs.Reading.{made};
 
 use crate::parsed_words::{parse_plain, parse_quoted};

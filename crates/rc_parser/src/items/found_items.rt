@@ -4,7 +4,7 @@ ghost use Rattle.std.specs.Prelude.{◌≡◌, ◌<◌, IfOk, IfSome, IsSome, na
 ghost use Rattle.rc_model.specs.Mirrors.Descent.{a_command, read};
 ghost use Rattle.rc_model.specs.Syntax.WellFormed.{depth};
 ghost use Rattle.rc_tree.specs.View.{cmd_tree};
-ghost use Rattle.rc_parser.specs.Answers.{Gives};
+ghost use Rattle.rc_parser.specs.Results.{Gives};
 ghost use Rattle.rc_parser.specs.ItemReading.{Finds, items_after};
 ghost use Rattle.rc_parser.specs.Tokens.{lexemes_of};
 
@@ -26,8 +26,8 @@ pub(crate) struct Found<'a> {
     pub(crate) rest: Tokens<'a>,
 }
 
-/// Parses a command, and returns whether it has at most as many levels as are left. Its tree is looked at only if it
-/// took so many tokens, since it has at most one level more than tokens.
+/// Parses a command, and returns whether it has at most as many levels as are left. Its levels are counted only if it
+/// took at least `left` tokens, since it has at most one level more than tokens.
 #[tactic(auto, using(crate::proofs::Depths::commands))]
 fn parse_measured(
     alloc: Global,
@@ -46,7 +46,7 @@ fn parse_measured(
     Ok((cmd, fits, rest))
 }
 
-/// Finds the next item in at most so many turns, of which each separator takes one, and so does the item.
+/// Finds the next item in at most `turns` turns; each separator takes one, and so does the item.
 #[tactic(auto, using(crate::proofs::Turns::items))]
 pub(crate) fn find_item<'a>(
     alloc: Global,

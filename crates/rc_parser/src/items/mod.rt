@@ -9,7 +9,7 @@ ghost use Rattle.rc_model.specs.Syntax.Accepted.{HasTokens, lexemes, longest_scr
 ghost use Rattle.rc_model.specs.Syntax.Tree.{Many, none};
 ghost use Rattle.rc_model.specs.Syntax.Tree as t;
 ghost use Rattle.rc_model.specs.declared.limits.TheConstants.{MOST_LEVELS};
-ghost use Rattle.rc_parser.specs.Answers.{Fails};
+ghost use Rattle.rc_parser.specs.Results.{Fails};
 ghost use Rattle.rc_parser.specs.Faults.{Refuses};
 
 use crate::joined_nodes::allows_if_not;
@@ -28,7 +28,7 @@ pub struct Items<'a> {
     alloc: Global,
     source: &'a Source<'a>,
     rest: Tokens<'a>,
-    /// In how many turns at most the rest is read.
+    /// The greatest number of turns in which the rest is read.
     turns: usize,
     /// Whether `if not` may come next.
     after_if: bool,

@@ -7,7 +7,7 @@ ghost use Rattle.rc_model.specs.Syntax.Grammar.{begins_command, begins_bar, begi
 ghost use Rattle.rc_model.specs.Syntax.Grammar.{past_blanks, past_caret, after_caret};
 ghost use Rattle.rc_model.specs.Mirrors.Descent.{begins_leading, item_end};
 ghost use Rattle.rc_parser.specs.Tokens.{lexemes_of};
-ghost use Rattle.rc_parser.specs.Answers.{Gives};
+ghost use Rattle.rc_parser.specs.Results.{Gives};
 
 use crate::parsed_words::{is_case, keyword_of};
 use crate::token_stream::Tokens;
@@ -143,7 +143,7 @@ pub(crate) fn past_newlines(tokens: Tokens<'_>) -> Tokens<'_>
     rest
 }
 
-/// The tokens after any newlines here, where newlines are blanks; elsewhere those that stand here.
+/// The tokens after any newlines here, if newlines are blanks (`inside`); otherwise these tokens.
 pub(crate) fn past_blanks(inside: bool, tokens: Tokens<'_>) -> Tokens<'_>
     ensures { lexemes_of result ≡ past_blanks inside (lexemes_of tokens.entry) }
 {

@@ -46,7 +46,7 @@ impl MemberList {
         }
     }
 
-    /// Shares the texts with another value; none is copied. Whether it fails or not, the list has the same ones.
+    /// Shares the texts with another value; none is copied. Whether it fails or not, the list keeps the same texts.
     pub(crate) fn share(&mut self, alloc: Global) -> Result<Rc<Vec<Text>>, AllocError>
         ensures ok { IfOk result (λ shared. shared.value.items ≡ members_in self.old) }
         ensures same { members_in self.new ≡ members_in self.old }
@@ -65,7 +65,7 @@ impl MemberList {
         }
     }
 
-    /// Adds a text to a list of one value alone. A shared one stays as it is, as any does on `Err`.
+    /// Adds a text if no other value shares the list, else returns the text. On `Err` the list stays as it is.
     pub(crate) fn push(&mut self, text: Text) -> Result<Option<Text>, AllocError>
         ensures ok { IfOk result (λ left. MatchOption left
             (members_in self.new ≡ members_in self.old ++ text ∷ [])

@@ -38,7 +38,7 @@ pub(crate) struct Variables {
     values: Values,
     /// The open locals, the newest last.
     log: Vec<Local>,
-    /// Whether a value has changed since it was looked which entries aren't kept.
+    /// Whether a value has changed since the last search for entries that aren't kept.
     changed: bool,
 }
 

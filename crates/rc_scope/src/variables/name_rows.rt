@@ -24,7 +24,7 @@ pub(crate) struct Entry {
 }
 
 impl Entry {
-    /// An entry that stands where one was taken away.
+    /// An empty entry, which takes the place of one that was taken out.
     fn nothing(alloc: Global) -> Entry {
         Entry {
             name: String::new(alloc),

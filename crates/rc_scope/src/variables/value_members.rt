@@ -107,8 +107,8 @@ impl Members {
         self.kept = None;
     }
 
-    /// Writes the text over the only one that the list has, dropped or not; or returns it if there is another number of
-    /// them, or another value shares them.
+    /// Replaces the only text in the list, even a dropped one. Returns the new text if the list has none or several, or
+    /// another value shares it.
     pub(crate) fn replace_only(&mut self, text: Text) -> Result<(), Text>
         ensures ok { OnOk result (self.new ≡ text ∷ []) }
         ensures err { OnErr result (self.new ≡ self.old) }

@@ -17,4 +17,4 @@ pub returns-clause-meant : goal.returns-clause-meant
 returns-clause-meant g c =
     let executed = subst (λ (s : State). IsExecuted (text_from c.args.script.now s) most_instructions (g.W.World.events c.args.world.now) (g.W.World.events c.execute.new.world) c.execute.result)
     c.in_ok-state.ensures c.execute.ensures in
-    inl (c.execute.result, executed, c.answer.ensures.answers)
+    inl (c.execute.result, executed, c.result_of.ensures.of_shell)

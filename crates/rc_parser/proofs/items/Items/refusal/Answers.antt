@@ -2,7 +2,7 @@ use Rattle.std.proofs.Common.{subst}
 use Rattle.rc_lexer.specs.Views.{tokens_of}
 use Rattle.rc_model.specs.Mirrors.Descent.{script_tree}
 use Rattle.rc_model.specs.Syntax.Accepted.{lexemes}
-use Rattle.rc_parser.specs.Answers.{Fails}
+use Rattle.rc_parser.specs.Results.{Fails}
 use Rattle.rc_parser.proofs.ReadItems.{refused_by}
 use Rattle.rc_parser.proofs.items.Items.refusal.Goals as goal
 

@@ -1,4 +1,4 @@
--- What the reading functions answer.
+-- The results of the reading functions.
 use Rattle.std.specs.Prelude.{◌≡◌, ℕ, Result, Ok, Err}
 use Rattle.rc_model.specs.declared.fault.InputError.{InputError}
 use Rattle.rc_model.specs.declared.fault.InputError.TheVariants as error
@@ -14,7 +14,7 @@ abbrev pub Fails : {Y : Type 0} → TokenError → Result Y DescentFault → Typ
 Fails (error.Fault f) read = read ≡ Err f.fault
 Fails error.NoMemory read = Unit {0}
 
--- what a function returned, seen by view, is what the descent gives, unless memory ran out
+-- what a function returned, seen by view, is what the descent returns, unless memory ran out
 abbrev pub Gives : {X Y : Type 0} → (X → Y) → Result X TokenError → Result Y DescentFault → Type 0
 Gives view (Ok x) read = read ≡ Ok (view x)
 Gives view (Err e) read = Fails e read
