@@ -4,3 +4,4 @@ pub mod Fitting
 pub mod Levels
 pub mod Sizes
 pub mod Assigned
+pub mod Characters

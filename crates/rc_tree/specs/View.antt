@@ -67,7 +67,7 @@ unfoldable mutual
   cmd_tree (c.Brace' p x) = t.Brace (cmd_tree x)
 
   -- what stands under assignments: no command is the empty one
-  held_tree : Held-Cmd-Assign-1 → Node t.cmd
+  pub held_tree : Held-Cmd-Assign-1 → Node t.cmd
   held_tree None' = t.Empty
   held_tree (Some' p x) = cmd_tree x
 
@@ -89,37 +89,37 @@ unfoldable mutual
   redir_tree (r.Here ps) = t.Here (pieces_tree ps.items)
 
   -- arguments, in the order in which they are in memory
-  arg_row : {m : _} → Row_of-Arg m → Many t.arg
+  pub arg_row : {m : _} → Row_of-Arg m → Many t.arg
   arg_row end_of-Arg = none
   arg_row (more_of-Arg x k) = more (arg_tree x) (arg_row k)
 
   -- items of a sequence
-  item_row : {m : _} → Row_of-Item m → Many t.item
+  pub item_row : {m : _} → Row_of-Item m → Many t.item
   item_row end_of-Item = none
   item_row (more_of-Item x b k) = more (t.Item (cmd_tree x) b) (item_row k)
 
   -- assignments
-  pair_row : {m : _} → Row_of-Cmd-Assign-0-2 m → Many t.pair
+  pub pair_row : {m : _} → Row_of-Cmd-Assign-0-2 m → Many t.pair
   pair_row end_of-Cmd-Assign-0-2 = none
   pair_row (more_of-Cmd-Assign-0-2 x y k) = more (t.Pair (arg_tree x) (arg_tree y)) (pair_row k)
 
   -- redirections
-  redir_row : {m : _} → Row_of-Redir m → Many t.redir
+  pub redir_row : {m : _} → Row_of-Redir m → Many t.redir
   redir_row end_of-Redir = none
   redir_row (more_of-Redir x k) = more (redir_tree x) (redir_row k)
 
   -- stages of a pipeline
-  stage_row : {m : _} → Row_of-Stage m → Many t.stage
+  pub stage_row : {m : _} → Row_of-Stage m → Many t.stage
   stage_row end_of-Stage = none
   stage_row (more_of-Stage x n k) = more (t.Stage (cmd_tree x) n) (stage_row k)
 
   -- operands after the first
-  link_row : {m : _} → Row_of-Cmd-AndOr-1-2 m → Many t.link
+  pub link_row : {m : _} → Row_of-Cmd-AndOr-1-2 m → Many t.link
   link_row end_of-Cmd-AndOr-1-2 = none
   link_row (more_of-Cmd-AndOr-1-2 l x k) = more (t.Link l (cmd_tree x)) (link_row k)
 
   -- branches of a switch
-  branch_row : {m : _} → Row_of-Branch m → Many t.branch
+  pub branch_row : {m : _} → Row_of-Branch m → Many t.branch
   branch_row end_of-Branch = none
   branch_row (more_of-Branch s j p x k) = more (t.Branch (arg_row j) (cmd_tree x)) (branch_row k)
 

@@ -1,6 +1,7 @@
 //! Which trees are well formed.
 
-ghost use Rattle.std.specs.Prelude.{◌≡◌};
+ghost use Rattle.std.specs.Prelude.{◌≡◌, IsTrue};
+ghost use Rattle.rc_model.specs.Handed.Proper.{IsProperTree};
 ghost use Rattle.rc_model.specs.Syntax.Text.{without_zero};
 ghost use Rattle.rc_model.specs.Syntax.Tree as t;
 ghost use Rattle.rc_model.specs.Syntax.WellFormed.{well_formed, has_stages, is_output, opens, copies, is_sound};
@@ -17,7 +18,9 @@ use rc_model::{Logic, Mode};
 /// Whether the tree is well formed. It allocates nothing.
 #[tactic(auto, unfolding(crate::specs::Fits::fits))]
 pub fn well_formed(cmd: &Cmd) -> bool
-    ensures { result ≡ well_formed (cmd_tree cmd.now) }
+    ensures sound { result ≡ well_formed (cmd_tree cmd.now) }
+    // Such a tree may be compiled, defined as a function and handed to a shell.
+    ensures proper { IsTrue result → IsProperTree (cmd_tree cmd.now) }
 {
     fit_cmd(cmd, MOST_LEVELS)
 }
