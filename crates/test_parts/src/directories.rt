@@ -6,7 +6,7 @@ use rc_world::{Answer, Fault, Tape};
 use std::test::Fail;
 
 #[test]
-fn out_of_memory_is_reported(rt: HostRuntime) -> Result<(), Fail> {
+fn out_of_memory_in_cd_is_reported(rt: HostRuntime) -> Result<(), Fail> {
     let alloc = rt.alloc();
     let mut state = state_with(alloc, "cdpath", &["/x", "/y"])?;
     let refused = Answer::Refused(Fault::NotFound);

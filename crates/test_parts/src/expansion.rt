@@ -26,7 +26,7 @@ fn found(alloc: Global, word: &str, answers: Vec<Answer>) -> Result<Vec<String>,
 }
 
 #[test]
-fn out_of_memory_is_reported(rt: HostRuntime) -> Result<(), Fail> {
+fn out_of_memory_among_file_names_is_reported(rt: HostRuntime) -> Result<(), Fail> {
     let alloc = rt.alloc();
     let answers = vec![in alloc;
         names(alloc, &["d2", "d1", "e"])?,

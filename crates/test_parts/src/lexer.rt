@@ -5,7 +5,7 @@ use std::alloc::AllocError;
 use std::test::Fail;
 
 #[test]
-fn out_of_memory_is_reported(rt: HostRuntime) -> Result<(), Fail> {
+fn out_of_memory_among_tokens_is_reported(rt: HostRuntime) -> Result<(), Fail> {
     let tokens = lex(rt.alloc(), "$x <<'E'\nb\nE\n")?;
     assert_eq!(rt; tokens.len(), 4);
     Ok(())

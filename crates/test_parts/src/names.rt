@@ -6,7 +6,7 @@ use rc_world::{Answer, Call, Kind, PLAIN_SLOTS, Tape};
 use std::test::Fail;
 
 #[test]
-fn out_of_memory_is_reported(rt: HostRuntime) -> Result<(), Fail> {
+fn out_of_memory_in_whatis_is_reported(rt: HostRuntime) -> Result<(), Fail> {
     let alloc = rt.alloc();
     let mut state = state_with(alloc, "path", &["/bin"])?;
     state.define("f", empty())?;

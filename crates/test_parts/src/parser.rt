@@ -7,7 +7,7 @@ use std::alloc::{AllocError, Global};
 use std::test::Fail;
 
 #[test]
-fn out_of_memory_is_reported(rt: HostRuntime) -> Result<(), Fail> {
+fn out_of_memory_in_the_parser_is_reported(rt: HostRuntime) -> Result<(), Fail> {
     let script = b"x=$y^'z' a | {b >f `{c} <<E}\n$w\nE\n";
     match parse(rt.alloc(), script.as_slice()) {
         Ok(_) => Ok(()),

@@ -1,13 +1,20 @@
-//! A text in quotes, lists that are joined, and texts that are split, when memory runs out.
+//! A text in quotes, bytes as text, lists that are joined, and texts that are split, when memory runs out.
 
-use rc_text::{InputError, List, Word, concat, count, quote, split};
+use rc_text::{InputError, List, Word, concat, count, lossy, quote, split};
 use std::alloc::{AllocError, Global};
 use std::test::Fail;
 
 #[test]
-fn out_of_memory_is_reported(rt: HostRuntime) -> Result<(), Fail> {
+fn out_of_memory_in_quotes_is_reported(rt: HostRuntime) -> Result<(), Fail> {
     let quoted = quote(rt.alloc(), "it's a long text")?;
     assert_eq!(rt; quoted.as_str(), "'it''s a long text'");
+    Ok(())
+}
+
+#[test]
+fn bytes_that_are_no_text_are_replaced(rt: HostRuntime) -> Result<(), Fail> {
+    let text = lossy(rt.alloc(), &[0x61, 0xe2, 0x82, 0x62, 0])?;
+    assert_eq!(rt; text.as_str(), "a\u{fffd}b");
     Ok(())
 }
 

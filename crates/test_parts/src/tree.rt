@@ -57,7 +57,7 @@ fn bounds_of_well_formed_trees(rt: HostRuntime) -> Result<(), Fail> {
 }
 
 #[test]
-fn out_of_memory_is_reported(rt: HostRuntime) -> Result<(), Fail> {
+fn out_of_memory_in_a_copy_is_reported(rt: HostRuntime) -> Result<(), Fail> {
     let alloc = rt.alloc();
     let made = tree(alloc, "'it''s' x > f")?;
     let copy = Box::new(alloc, clone_tree(alloc, &made)?)?;

@@ -6,7 +6,7 @@ use rc_world::Tape;
 use std::test::Fail;
 
 #[test]
-fn out_of_memory_is_reported(rt: HostRuntime) -> Result<(), Fail> {
+fn out_of_memory_in_the_program_is_reported(rt: HostRuntime) -> Result<(), Fail> {
     let mut tape = Tape::new(Vec::new(rt.alloc()));
     let ended = run_rc(rt.alloc(), &mut tape, &[], &[], Some(b"c".as_slice()));
     if ended == Err(RunError::NoMemory) {

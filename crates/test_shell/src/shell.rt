@@ -69,7 +69,7 @@ fn run_over(
 
 /// Run with each allocation refused in turn. An `Err` means that one was.
 #[test]
-fn out_of_memory_is_reported(rt: HostRuntime) -> Result<(), Fail> {
+fn out_of_memory_in_a_script_is_reported(rt: HostRuntime) -> Result<(), Fail> {
     let alloc = rt.alloc();
     let mut tape = one_program(alloc)?;
     let mut state = State::new(alloc);

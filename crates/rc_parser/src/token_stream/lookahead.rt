@@ -154,7 +154,7 @@ pub(crate) fn past_blanks(inside: bool, tokens: Tokens<'_>) -> Tokens<'_>
     }
 }
 
-/// What follows a caret that was inserted here, else what stands here.
+/// The tokens after the free caret, if one comes next; otherwise these tokens.
 pub(crate) fn past_caret(tokens: Tokens<'_>) -> Tokens<'_>
     ensures { lexemes_of result ≡ past_caret (lexemes_of tokens.entry) }
 {
