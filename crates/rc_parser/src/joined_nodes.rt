@@ -15,7 +15,9 @@ use rc_tree::{Arg, Cmd, Redir, Stage};
 use std::alloc::{AllocError, Global};
 use std::rc::Rc;
 
-/// One part stands alone, and several are joined.
+/// One part stands alone, and several are joined. It is never inlined into the descent, so that its locals take no
+/// stack at each level of nesting.
+#[inline(never)]
 #[tactic(auto, using(crate::proofs::Joined::concats))]
 pub(crate) fn concat(first: Arg, mut others: Vec<Arg>) -> Result<Arg, AllocError>
     ensures { IfOk result (λ a. arg_tree a ≡ concat_of (arg_tree first) (args_tree others.items)) }

@@ -2,7 +2,8 @@
 //! folder, and runs families to their ends, in orders that must not matter. Then it runs scripts over a world that
 //! refuses one call, then two, and that stops at a call, and checks what each run held and owed. It prints what differs
 //! and whether all is as wanted, and on descriptor 2 how many of these runs there were.
-//! With the name of a script it runs that one on a machine, with no call refused, and prints its calls.
+//! With the name of a script it runs that one on a machine, and prints its calls; with a number after the name the call
+//! of that number is refused.
 //! `test_accounts SHELLS COMMANDS` measures the steps of a family of this size.
 #![tactic(auto)]
 
@@ -17,6 +18,7 @@ use families::rows::difference;
 use refusals::account_rows::differing;
 use refusals::machine::run_on_machine;
 use refusals::trials::{Counts, try_all};
+use refusals::world::Refusals;
 use scripts::{IN_MANY_ORDERS, REFUSED, Script};
 use std::process::ExitCode;
 use std::{env, fs};
@@ -108,7 +110,17 @@ fn script_named(name: &str) -> Option<Script> {
 /// Runs the script of this name on a machine.
 fn run_named(rt: HostRuntime, name: &str) -> Result<()> {
     let script = script_named(name).context("no such script")?;
-    run_on_machine(rt, script)
+    run_on_machine(rt, script, Refusals::None)
+}
+
+/// Runs the script of this name on a machine with the call of this number refused; measures a family of these sizes if
+/// there is no such script.
+fn run_or_measure(rt: HostRuntime, first: &str, second: &str) -> Result<()> {
+    let Some(script) = script_named(first) else {
+        return measure(rt, first, second);
+    };
+    let number = second.parse::<usize>().context("no number of a call")?;
+    run_on_machine(rt, script, Refusals::One(number))
 }
 
 /// What the process ends with.
@@ -123,7 +135,7 @@ fn status_of(are_well: bool) -> ExitCode {
 fn main(rt: HostRuntime) -> Result<ExitCode> {
     let mut args = env::args(&rt)?.skip(1);
     match (args.next(), args.next()) {
-        (Some(shells), Some(commands)) => measure(rt, &shells, &commands)?,
+        (Some(first), Some(second)) => run_or_measure(rt, &first, &second)?,
         (Some(name), None) => run_named(rt, &name)?,
         (None, _) => return Ok(status_of(check_all(rt)?)),
     }

@@ -82,6 +82,7 @@ pub(crate) fn begins_bar(tokens: Tokens<'_>) -> bool
 }
 
 /// Whether a command begins here with `!`, `@`, a control word or a redirection.
+#[inline(always)]
 pub(crate) fn begins_leading(tokens: Tokens<'_>) -> bool
     ensures { result ≡ begins_leading (lexemes_of tokens.entry) }
 {

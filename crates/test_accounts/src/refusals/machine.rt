@@ -1,4 +1,5 @@
-//! The run of a script on a machine over a world that refuses no call, for runs in which an allocation is refused.
+//! The run of a script on a machine over a world that refuses one call or none, for runs in which an allocation is
+//! refused.
 
 use crate::refusals::calls::print_call;
 use crate::refusals::runs::{LIMIT, state};
@@ -13,10 +14,10 @@ use std::alloc::Global;
 
 /// Runs a script, and prints its calls and, unless memory ran out, how it ended. If memory ran out, which is an error,
 /// it runs the machine once more, and prints whether that does anything but return that it has halted.
-pub fn run_on_machine(rt: HostRuntime, script: Script) -> Result<()> {
+pub fn run_on_machine(rt: HostRuntime, script: Script, refusals: Refusals) -> Result<()> {
     let alloc = rt.alloc();
     let mut machine = machine_of(alloc, script)?;
-    let mut world = RefusingWorld::new(alloc, Refusals::None);
+    let mut world = RefusingWorld::new(alloc, refusals);
     let progress = machine.run(alloc, &mut world, LIMIT);
     let calls = world.events().len();
     if progress.is_err() && !is_over(alloc, &mut machine, &mut world) {
