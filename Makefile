@@ -3,8 +3,8 @@
 #                 what `make prove` builds
 # make prove      proves and builds ./rc, ./rccheck and ./rctrace
 # make release    proves and builds the programs, and puts them and the hash of their sources into release/
-# make check      runs a table of one-line scripts, the examples and a command between two pipes on ./rc, installs it
-#                 elsewhere, and looks at what editors highlight, in seconds
+# make check      runs a table of one-line scripts, the examples, also where something goes wrong, and a command between
+#                 two pipes on ./rc, installs it elsewhere, and looks at what editors highlight, in seconds
 # make test       proves, builds and tests everything from nothing, and compares the programs with the release, if
 #                 there is one
 # make editors    makes the highlighting of editors anew, from the shell's keywords and built-in commands
@@ -22,6 +22,7 @@ BINDIR = $(PREFIX)/bin
 MANDIR = $(PREFIX)/share/man/man1
 DOCDIR = $(PREFIX)/share/doc/$(NAME)
 VIMDIR = $(PREFIX)/share/vim/vimfiles
+LIBDIR = $(PREFIX)/lib/$(NAME)
 DIST = dist
 RELEASE = release/rc-x86_64-linux
 BUILT = crates/rc_main/out/rc_main
@@ -30,7 +31,9 @@ BUILT_CHECKER = crates/rccheck/out/rccheck
 RELEASED_TRACER = release/rctrace-x86_64-linux
 BUILT_TRACER = crates/rctrace/out/rctrace
 EXAMPLES = $(wildcard examples/*)
-DOCUMENTS = README.md CHANGELOG.md $(wildcard docs/*.md) $(EXAMPLES) editors/rc.tmLanguage.json
+DOCUMENTS = README.md CHANGELOG.md $(wildcard docs/*.md) $(EXAMPLES) $(wildcard editors/*.json)
+# as a word of rc, which a blank would end
+COMMON = $(if $(word 2,$(LIBDIR)),'$(LIBDIR)/common.rc',$(LIBDIR)/common.rc)
 VIM = ftdetect/rcshell.vim ftplugin/rcshell.vim syntax/rcshell.vim
 
 hello: rc
@@ -59,6 +62,7 @@ toolchain:
 
 check: rc
 	printf '%s\n' 'check ./rc' 'idioms ./rc' 'surprises ./rc' 'editors ./rc' 'early ./rc' 'descriptors ./rc' \
+	    'mishaps ./rc' 'first_script ./rc ./rccheck ./rctrace' \
 	    'packaging ./rc ./rccheck ./rctrace' | xargs -P 4 -I TEST sh -c tests/TEST
 
 # The hash is taken before the build: sources that change meanwhile don't fit it.
@@ -84,8 +88,11 @@ test: toolchain
 	tests/descriptors $(BUILT)
 	tests/surprises $(BUILT)
 	tests/idioms $(BUILT)
+	tests/worlds $(BUILT)
 	tests/early $(BUILT)
 	tests/editors $(BUILT)
+	tests/mishaps $(BUILT) all
+	tests/first_script $(BUILT) $(BUILT_CHECKER) $(BUILT_TRACER)
 	tests/packaging $(BUILT) $(BUILT_CHECKER) $(BUILT_TRACER)
 	tests/trace $(BUILT) $(BUILT_TRACER)
 	tests/background $(BUILT)
@@ -100,7 +107,7 @@ test: toolchain
 editors:
 	editors/generate editors
 
-# The first line of each example names the shell as it is installed.
+# The first line of each example names the shell as it is installed, and a later one the functions that it reads.
 install: rc
 	install -D -m 755 rc "$(DESTDIR)$(BINDIR)/$(NAME)"
 	install -D -m 755 rccheck "$(DESTDIR)$(BINDIR)/$(CHECKER)"
@@ -110,7 +117,9 @@ install: rc
 	install -D -m 644 man/rctrace.1 "$(DESTDIR)$(MANDIR)/$(TRACER).1"
 	for file in $(DOCUMENTS); do if test -x $$file; then mode=755; else mode=644; fi; \
 	    install -D -m $$mode $$file "$(DESTDIR)$(DOCDIR)/$$file" || exit 1; done
-	cd "$(DESTDIR)$(DOCDIR)" && sed -i '1s|^#!/usr/local/bin/rc|#!$(BINDIR)/$(NAME)|' $(EXAMPLES)
+	install -D -m 644 examples/common.rc "$(DESTDIR)$(LIBDIR)/common.rc"
+	cd "$(DESTDIR)$(DOCDIR)" && sed -i "1s|^#!/usr/local/bin/rc|#!$(BINDIR)/$(NAME)|; \
+	    s|/usr/local/lib/rc/common\.rc|$(COMMON)|" $(EXAMPLES) "$(DESTDIR)$(LIBDIR)/common.rc"
 	for file in $(VIM); do install -D -m 644 editors/vim/$$file "$(DESTDIR)$(VIMDIR)/$$file" || exit 1; done
 
 # Other files stay, and the directories that hold some.
@@ -120,7 +129,8 @@ uninstall:
 	rm -f "$(DESTDIR)$(BINDIR)/$(TRACER)" "$(DESTDIR)$(MANDIR)/$(TRACER).1"
 	for file in $(DOCUMENTS); do rm -f "$(DESTDIR)$(DOCDIR)/$$file"; done
 	for file in $(VIM); do rm -f "$(DESTDIR)$(VIMDIR)/$$file"; done
-	for directory in $(DOCDIR)/docs $(DOCDIR)/examples $(DOCDIR)/editors $(DOCDIR); do \
+	rm -f "$(DESTDIR)$(LIBDIR)/common.rc"
+	for directory in "$(DOCDIR)/docs" "$(DOCDIR)/examples" "$(DOCDIR)/editors" "$(DOCDIR)" "$(LIBDIR)"; do \
 	    test ! -d "$(DESTDIR)$$directory" || rmdir --ignore-fail-on-non-empty "$(DESTDIR)$$directory"; done
 
 dist:
