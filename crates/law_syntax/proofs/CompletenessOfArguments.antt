@@ -16,10 +16,10 @@ use Rattle.rc_model.specs.declared.fault.DescentFault.TheVariants as descent
 -- what is read with `left` levels left, where the phrase has a tree of `tall` levels with at most `wide` stages in a pipeline
 abbrev pub Met : {A : Type 0} → (left tall wide : ℕ) → Read A → (A × List Lexeme) → Type 0
 Met left tall wide (Ok y) x = y ≡ x
-Met left tall wide (Err descent.Unexpected) x = ⊥
-Met left tall wide (Err descent.IfNot) x = ⊥
-Met left tall wide (Err descent.TooDeep) x = left < tall
-Met left tall wide (Err descent.TooManyStages) x = 64 < wide
+Met left tall wide (Err (descent.Unexpected, place)) x = ⊥
+Met left tall wide (Err (descent.IfNot, place)) x = ⊥
+Met left tall wide (Err (descent.TooDeep, place)) x = left < tall
+Met left tall wide (Err (descent.TooManyStages, place)) x = 64 < wide
 
 pub record Meets {A : Type 0} (left tall wide : ℕ) (o : Read A) (x : A × List Lexeme) : Type 0 where
   pub met : Met left tall wide o x
@@ -27,26 +27,26 @@ pub record Meets {A : Type 0} (left tall wide : ℕ) (o : Read A) (x : A × List
 -- a larger tree
 grow : {A : Type 0} {a u w T W : ℕ} (o : Read A) (x : A × List Lexeme) → Meets a u w o x → u ≤ T → w ≤ W → Meets a T W o x
 grow (Ok y) x m h k = record { met = m.met }
-grow (Err descent.Unexpected) x m h k = absurd m.met
-grow (Err descent.IfNot) x m h k = absurd m.met
-grow (Err descent.TooDeep) x m h k = let e = m.met in record { met = omega arith }
-grow (Err descent.TooManyStages) x m h k = let e = m.met in record { met = omega arith }
+grow (Err (descent.Unexpected, left)) x m h k = absurd m.met
+grow (Err (descent.IfNot, left)) x m h k = absurd m.met
+grow (Err (descent.TooDeep, left)) x m h k = let e = m.met in record { met = omega arith }
+grow (Err (descent.TooManyStages, left)) x m h k = let e = m.met in record { met = omega arith }
 
 -- one level deeper
 pub deepen : {A : Type 0} {a u w T W : ℕ} (o : Read A) (x : A × List Lexeme) → Meets a u w o x → suc u ≤ T → w ≤ W → Meets (suc a) T W o x
 deepen (Ok y) x m h k = record { met = m.met }
-deepen (Err descent.Unexpected) x m h k = absurd m.met
-deepen (Err descent.IfNot) x m h k = absurd m.met
-deepen (Err descent.TooDeep) x m h k = let e = m.met in record { met = omega arith }
-deepen (Err descent.TooManyStages) x m h k = let e = m.met in record { met = omega arith }
+deepen (Err (descent.Unexpected, left)) x m h k = absurd m.met
+deepen (Err (descent.IfNot, left)) x m h k = absurd m.met
+deepen (Err (descent.TooDeep, left)) x m h k = let e = m.met in record { met = omega arith }
+deepen (Err (descent.TooManyStages, left)) x m h k = let e = m.met in record { met = omega arith }
 
 -- one after the other
 pub bind : {A B : Type 0} {a T W : ℕ} (o : Read A) (f : A × List Lexeme → Read B) (x : A × List Lexeme) (y : B × List Lexeme) → Meets a T W o x → Meets a T W (f x) y → Meets a T W (o >>= f) y
 bind {a = a} {T = T} {W = W} (Ok z) f x y m n = subst (λ u. Meets a T W (f u) y) (sym m.met) n
-bind (Err descent.Unexpected) f x y m n = absurd m.met
-bind (Err descent.IfNot) f x y m n = absurd m.met
-bind (Err descent.TooDeep) f x y m n = record { met = m.met }
-bind (Err descent.TooManyStages) f x y m n = record { met = m.met }
+bind (Err (descent.Unexpected, left)) f x y m n = absurd m.met
+bind (Err (descent.IfNot, left)) f x y m n = absurd m.met
+bind (Err (descent.TooDeep, left)) f x y m n = record { met = m.met }
+bind (Err (descent.TooManyStages, left)) f x y m n = record { met = m.met }
 
 -- what is read one level deeper
 pub record Good (a : ℕ) (r : Readers) : Type 0 where
@@ -206,17 +206,17 @@ name_meets a T W r gr (g.named_name {ts = ts} {rest = rest} {n = n} q) dt dw =
 
 closed_by_brace_meets : (a T W : ℕ) (o : Read (Many t.item)) (is : Many t.item) (rest : List Lexeme) → Meets a T W o (is, RightBrace ∷ rest) → Meets a T W (d.closed_by_brace o) (t.Seq is, rest)
 closed_by_brace_meets a T W (Ok y) is rest m = subst (λ z. Meets a T W (d.closed_by_brace (Ok z)) (t.Seq is, rest)) (sym m.met) (record { met = refl })
-closed_by_brace_meets a T W (Err descent.Unexpected) is rest m = absurd m.met
-closed_by_brace_meets a T W (Err descent.IfNot) is rest m = absurd m.met
-closed_by_brace_meets a T W (Err descent.TooDeep) is rest m = record { met = m.met }
-closed_by_brace_meets a T W (Err descent.TooManyStages) is rest m = record { met = m.met }
+closed_by_brace_meets a T W (Err (descent.Unexpected, left)) is rest m = absurd m.met
+closed_by_brace_meets a T W (Err (descent.IfNot, left)) is rest m = absurd m.met
+closed_by_brace_meets a T W (Err (descent.TooDeep, left)) is rest m = record { met = m.met }
+closed_by_brace_meets a T W (Err (descent.TooManyStages, left)) is rest m = record { met = m.met }
 
 closed_by_paren_meets : (a T W : ℕ) (o : Read (Many t.item)) (is : Many t.item) (rest : List Lexeme) → Meets a T W o (is, RightParen ∷ rest) → Meets a T W (d.closed_by_paren o) (t.Seq is, rest)
 closed_by_paren_meets a T W (Ok y) is rest m = subst (λ z. Meets a T W (d.closed_by_paren (Ok z)) (t.Seq is, rest)) (sym m.met) (record { met = refl })
-closed_by_paren_meets a T W (Err descent.Unexpected) is rest m = absurd m.met
-closed_by_paren_meets a T W (Err descent.IfNot) is rest m = absurd m.met
-closed_by_paren_meets a T W (Err descent.TooDeep) is rest m = record { met = m.met }
-closed_by_paren_meets a T W (Err descent.TooManyStages) is rest m = record { met = m.met }
+closed_by_paren_meets a T W (Err (descent.Unexpected, left)) is rest m = absurd m.met
+closed_by_paren_meets a T W (Err (descent.IfNot, left)) is rest m = absurd m.met
+closed_by_paren_meets a T W (Err (descent.TooDeep, left)) is rest m = record { met = m.met }
+closed_by_paren_meets a T W (Err (descent.TooManyStages, left)) is rest m = record { met = m.met }
 
 pub brace_meets : (a T W : ℕ) (r : Readers) → Good a r → {ts : List Lexeme} {c : Node t.cmd} {rest : List Lexeme} → Phrase g.brace ts c rest → suc (depth c) ≤ T → most_stages c ≤ W →
     Meets (suc a) T W (d.brace_by r ts) (c, rest)

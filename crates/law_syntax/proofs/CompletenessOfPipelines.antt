@@ -46,10 +46,10 @@ pipe_stops r go_on front last (Bar slot ∷ ts) h = absurd cc
 pipe_stops r go_on front last ts h = refl
 
 -- a bar is passed where there are few stages so far, and is one too many where there are 64 with it
-unless_full : (a T W n : ℕ) (b : Bool) (o : Read (Node t.cmd)) (y : Node t.cmd × List Lexeme) → nat_lt n 64 ≡ b → (64 ≤ n → 64 < W) → Meets a T W o y →
-    Meets a T W (if b then o else Err descent.TooManyStages) y
-unless_full a T W n true o y h k m = m
-unless_full a T W n false o y h k m = record { met = k (ltb-false n 64 h) }
+unless_full : (left a T W n : ℕ) (b : Bool) (o : Read (Node t.cmd)) (y : Node t.cmd × List Lexeme) → nat_lt n 64 ≡ b → (64 ≤ n → 64 < W) → Meets a T W o y →
+    Meets a T W (if b then o else Err (descent.TooManyStages, left)) y
+unless_full left a T W n true o y h k m = m
+unless_full left a T W n false o y h k m = record { met = k (ltb-false n 64 h) }
 
 one_stage : (front : Many t.stage) (last : Node t.cmd) (slot : ℕ) → snoc front (t.Stage last slot) ≡ append front (more (t.Stage last slot) none)
 one_stage front last slot = sym (append_none (snoc front (t.Stage last slot))) ∙ append_snoc front (t.Stage last slot) none
@@ -71,20 +71,20 @@ pipe_from_meets a T W r gr (suc k) front last (g.bar_stage {slot = slot} {ts = t
     let two = Phrase-shorter q in
     let high = dt (omega arith) in
     let more' = count_snoc front (t.Stage last slot) in
-    unless_full (suc a) T W (suc (count front)) (nat_lt (suc (count front)) 64) _ _ refl (λ h. dc (omega arith))
+    unless_full _ (suc a) T W (suc (count front)) (nat_lt (suc (count front)) 64) _ _ refl (λ h. dc (omega arith))
     (bind (r d.a_piped (past_newlines ts)) _ ((c, true), mid) _ (deepen (r d.a_piped (past_newlines ts)) ((c, true), mid) (gr.stage q) (omega arith) (omega arith))
     (subst (λ z. Meets (suc a) T W (d.pipe_from r k (snoc front (t.Stage last slot)) c mid) (d.pipeline_of z (last_of c ss), rest)) (append_snoc front (t.Stage last slot) (stages_of c ss))
     (pipe_from_meets a T W r gr k (snoc front (t.Stage last slot)) c s (omega arith) (λ h. omega arith) (omega arith) (λ h. dc (omega arith)))))
 pipe_from_meets a T W r gr zero front last (g.bar_leading q) le dt dw dc = absurd (omega arith)
 pipe_from_meets a T W r gr (suc k) front last (g.bar_leading {slot = slot} {ts = ts} {rest = rest} {c = c} q) le dt dw dc =
     let high = dt (omega arith) in
-    unless_full (suc a) T W (suc (count front)) (nat_lt (suc (count front)) 64) _ _ refl (λ h. dc (omega arith))
+    unless_full _ (suc a) T W (suc (count front)) (nat_lt (suc (count front)) 64) _ _ refl (λ h. dc (omega arith))
     (bind (r d.a_piped (past_newlines ts)) _ ((c, false), rest) _ (deepen (r d.a_piped (past_newlines ts)) ((c, false), rest) (gr.leading q) (omega arith) (omega arith))
     (record { met = last_one front last c slot rest }))
 pipe_from_meets a T W r gr zero front last (g.bar_assigned q) le dt dw dc = absurd (omega arith)
 pipe_from_meets a T W r gr (suc k) front last (g.bar_assigned {slot = slot} {ts = ts} {rest = rest} {c = c} q) le dt dw dc =
     let high = dt (omega arith) in
-    unless_full (suc a) T W (suc (count front)) (nat_lt (suc (count front)) 64) _ _ refl (λ h. dc (omega arith))
+    unless_full _ (suc a) T W (suc (count front)) (nat_lt (suc (count front)) 64) _ _ refl (λ h. dc (omega arith))
     (bind (r d.a_piped (past_newlines ts)) _ ((c, false), rest) _ (deepen (r d.a_piped (past_newlines ts)) ((c, false), rest) (gr.assigned q) (omega arith) (omega arith))
     (record { met = last_one front last c slot rest }))
 

@@ -15,14 +15,13 @@ use Rattle.rc_model.specs.Syntax.Faults.{fault}
 use Rattle.rc_model.specs.Syntax.Accepted.{HasTokens, IsAccepted, IsRefused, lexemes, line_of, longest_script}
 use Rattle.rc_model.specs.Syntax.Accepted as script
 use Rattle.rc_model.specs.Syntax.Grammar.{HaveTree}
-use Rattle.rc_model.specs.Mirrors.Descent.{script_tree}
+use Rattle.rc_model.specs.Mirrors.Descent.{Stop, script_tree}
 use Rattle.rc_model.specs.Mirrors.ParsingLaws.{AcceptedAreWellFormed, IsDecided, IsNeverBoth}
 use Rattle.law_syntax.proofs.Laws.{finds_only_trees, has_no_tree, has_too_many_stages, is_too_deep}
 use Rattle.law_syntax.proofs.Sound.{has_sound_trees}
 use Rattle.law_syntax.proofs.Cutting.{law, one_reading, one_cut}
 use Rattle.law_syntax.proofs.Spelled.{spelled_tokens}
 use Rattle.rc_model.specs.declared.fault.FaultKind.TheVariants.{IfNot, NotText, TooDeep, TooLong, TooManyStages, Unexpected}
-use Rattle.rc_model.specs.declared.fault.DescentFault.{DescentFault}
 use Rattle.rc_model.specs.declared.fault.DescentFault.TheVariants as descent
 
 -- the tokens of a script are spelled as the language has it
@@ -76,17 +75,17 @@ Decided text = ((tree : Node cmd) × IsAccepted text tree) ⊎ ((f : SyntaxFault
 abbrev last_line : List ℕ → ℕ
 last_line text = line_of text (length text)
 
-refused_by : (text : List ℕ) (tokens : List Token) (e : DescentFault) → HasTokens text tokens → script_tree 200 (lexemes tokens) ≡ Err e → (f : SyntaxFault) × IsRefused text f
-refused_by text tokens descent.Unexpected h e =
-    (fault Unexpected (last_line text), script.unexpected tokens (last_line text) h (inr refl) (λ tree s. has_no_tree 200 (lexemes tokens) tree (inl e) s))
-refused_by text tokens descent.IfNot h e =
-    (fault IfNot (last_line text), script.if_not tokens (last_line text) h (inr refl) (λ tree s. has_no_tree 200 (lexemes tokens) tree (inr e) s))
-refused_by text tokens descent.TooDeep h e =
-    (fault TooDeep 0, script.too_deep tokens h (λ tree s. is_too_deep 200 (lexemes tokens) tree (omega arith) e s))
-refused_by text tokens descent.TooManyStages h e =
-    (fault TooManyStages (last_line text), script.too_many_stages tokens (last_line text) h (inr refl) (λ tree s. has_too_many_stages 200 (lexemes tokens) tree e s))
+refused_by : (text : List ℕ) (tokens : List Token) (e : Stop) → HasTokens text tokens → script_tree 200 (lexemes tokens) ≡ Err e → (f : SyntaxFault) × IsRefused text f
+refused_by text tokens (descent.Unexpected, left) h e =
+    (fault Unexpected (last_line text), script.unexpected tokens (last_line text) h (inr refl) (λ tree s. has_no_tree 200 left (lexemes tokens) tree (inl e) s))
+refused_by text tokens (descent.IfNot, left) h e =
+    (fault IfNot (last_line text), script.if_not tokens (last_line text) h (inr refl) (λ tree s. has_no_tree 200 left (lexemes tokens) tree (inr e) s))
+refused_by text tokens (descent.TooDeep, left) h e =
+    (fault TooDeep 0, script.too_deep tokens h (λ tree s. is_too_deep 200 left (lexemes tokens) tree (omega arith) e s))
+refused_by text tokens (descent.TooManyStages, left) h e =
+    (fault TooManyStages (last_line text), script.too_many_stages tokens (last_line text) h (inr refl) (λ tree s. has_too_many_stages 200 left (lexemes tokens) tree e s))
 
-by_tree : (text : List ℕ) (tokens : List Token) (r : Result (Node cmd) DescentFault) → HasTokens text tokens → script_tree 200 (lexemes tokens) ≡ r → Decided text
+by_tree : (text : List ℕ) (tokens : List Token) (r : Result (Node cmd) Stop) → HasTokens text tokens → script_tree 200 (lexemes tokens) ≡ r → Decided text
 by_tree text tokens (Ok tree) h e = inl (tree, record { tokens = tokens; has = h; tree_is = finds_only_trees 200 (lexemes tokens) tree e })
 by_tree text tokens (Err f) h e = inr (refused_by text tokens f h e)
 

@@ -17,8 +17,8 @@ branch_few : (r : Readers) → Small r → (ts : List Lexeme) → Few most_stage
 unfolding d.branch_by
 branch_few r s ts =
     bind (d.words_by (r (d.a_part false)) ts) _ (words_few (r (d.a_part false)) (s.part false) ts) (λ as' h.
-    bind (if ends_case as'.1 then r (d.a_list true) as'.1 else Err descent.Unexpected) _
-    (either (ends_case as'.1) (r (d.a_list true) as'.1) (Err descent.Unexpected) (λ e. s.list true as'.1) (record { few = tt })) (λ is k. record { few = omega arith }))
+    bind (if ends_case as'.1 then r (d.a_list true) as'.1 else d.stops descent.Unexpected as'.1) _
+    (either (ends_case as'.1) (r (d.a_list true) as'.1) (d.stops descent.Unexpected as'.1) (λ e. s.list true as'.1) (record { few = tt })) (λ is k. record { few = omega arith }))
 
 branches_turn_few : (r : Readers) → Small r → (go_on : Many t.branch → Reader (Many t.branch)) →
     ((front : Many t.branch) (ts : List Lexeme) → most_stages_in front ≤ 64 → Few most_stages_in (go_on front ts)) →
@@ -103,7 +103,7 @@ body_few : (r : Readers) → Small r → (ts : List Lexeme) → Few most_stages 
 unfolding d.body_by
 body_few r s ts =
     either (begins_command (past_newlines ts)) _ _ (λ e. s.command false (past_newlines ts))
-    (either (begins_link (past_newlines ts)) (Err descent.Unexpected) _ (λ e. record { few = tt }) (record { few = omega arith }))
+    (either (begins_link (past_newlines ts)) (d.stops descent.Unexpected (past_newlines ts)) _ (λ e. record { few = tt }) (record { few = omega arith }))
 
 optional_few : (r : Readers) → Small r → (ts : List Lexeme) → Few most_stages (d.optional_operand_by r ts)
 unfolding d.optional_operand_by
@@ -112,30 +112,30 @@ optional_few r s ts = either (begins_command ts) _ _ (λ e. s.operand ts) (recor
 condition_few : (r : Readers) → Small r → (ts : List Lexeme) → Few most_stages (d.condition_by r ts)
 condition_few r s ts = bind (d.paren_by r ts) _ (paren_few r s ts) (λ c h. bind (d.body_by r c.1) _ (body_few r s c.1) (λ b k. record { few = omega arith }))
 
-not_few : (r : Readers) → Small r → (f : Bool) (k : Keyword) (ts : List Lexeme) → Few most_stages (d.if_not_by r f k ts)
-not_few r s true NotWord ts = bind (d.body_by r (past_caret ts)) _ (body_few r s (past_caret ts)) (λ c h. record { few = h })
-not_few r s false NotWord ts = record { few = tt }
-not_few r s f k ts = record { few = tt }
+not_few : (r : Readers) → Small r → (f : Bool) (k : Keyword) (word : Lexeme) (ts : List Lexeme) → Few most_stages (d.if_not_by r f k word ts)
+not_few r s true NotWord word ts = bind (d.body_by r (past_caret ts)) _ (body_few r s (past_caret ts)) (λ c h. record { few = h })
+not_few r s false NotWord word ts = record { few = tt }
+not_few r s f k word ts = record { few = tt }
 
 if_few : (r : Readers) → Small r → (f : Bool) (ts : List Lexeme) → Few most_stages (d.if_by r f ts)
 unfolding d.if_by
-if_few r s f (Word text ∷ ts) = not_few r s f (keyword text) ts
+if_few r s f (Word text ∷ ts) = not_few r s f (keyword text) (Word text) ts
 if_few r s f ts = condition_few r s ts
 
 while_few : (r : Readers) → Small r → (ts : List Lexeme) → Few most_stages (d.while_by r ts)
 unfolding d.while_by
 while_few r s ts = bind (d.paren_by r ts) _ (paren_few r s ts) (λ c h. bind (d.body_by r c.1) _ (body_few r s c.1) (λ b k. record { few = omega arith }))
 
-in_few : (r : Readers) → Small r → (a : Node t.arg) (k : Keyword) (ts : List Lexeme) → most_stages a ≤ 64 → Few most_stages (d.for_each_by r a k ts)
-in_few r s a InWord ts h =
+in_few : (r : Readers) → Small r → (a : Node t.arg) (k : Keyword) (word : Lexeme) (ts : List Lexeme) → most_stages a ≤ 64 → Few most_stages (d.for_each_by r a k word ts)
+in_few r s a InWord word ts h =
     bind (d.members_by (r (d.a_part true)) (past_caret ts)) _ (members_few (r (d.a_part true)) (s.part true) (past_caret ts)) (λ as' j.
     bind (d.body_by r as'.1) _ (body_few r s as'.1) (λ b k. record { few = omega arith }))
-in_few r s a k ts h = record { few = tt }
+in_few r s a k word ts h = record { few = tt }
 
 over_few : (r : Readers) → Small r → (a : Node t.arg) (ts : List Lexeme) → most_stages a ≤ 64 → Few most_stages (d.over_by r a ts)
 unfolding d.over_by
 over_few r s a (RightParen ∷ ts) h = bind (d.body_by r ts) _ (body_few r s ts) (λ b k. record { few = omega arith })
-over_few r s a (Word text ∷ ts) h = in_few r s a (keyword text) ts h
+over_few r s a (Word text ∷ ts) h = in_few r s a (keyword text) (Word text) ts h
 over_few r s a ts h = record { few = tt }
 
 for_few : (r : Readers) → Small r → (ts : List Lexeme) → Few most_stages (d.for_by r ts)

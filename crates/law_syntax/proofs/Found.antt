@@ -6,15 +6,14 @@ use Rattle.rc_model.specs.Syntax.Tokens.{Token, Lexes}
 use Rattle.rc_model.specs.declared.fault.SyntaxFault.{SyntaxFault}
 use Rattle.rc_model.specs.Mirrors.Reading.{lexed}
 use Rattle.rc_model.specs.Syntax.Tree.{Node, cmd}
-use Rattle.rc_model.specs.Mirrors.Descent.{script_tree}
+use Rattle.rc_model.specs.Mirrors.Descent.{Stop, script_tree}
 use Rattle.rc_model.specs.Syntax.Accepted.{IsAccepted, lexemes, longest_script}
 use Rattle.rc_model.specs.Mirrors.TreeOfText.{found, tree_of_tokens, tree_of, FindsTheTree}
 use Rattle.law_syntax.proofs.Laws.{finds_only_trees, finds_each_tree}
 use Rattle.law_syntax.proofs.Cutting.{law}
-use Rattle.rc_model.specs.declared.fault.DescentFault.{DescentFault}
 
 -- the tree that an answer has
-tree_in : (r : Result (Node cmd) DescentFault) (tree : Node cmd) → found r ≡ Some tree → r ≡ Ok tree
+tree_in : (r : Result (Node cmd) Stop) (tree : Node cmd) → found r ≡ Some tree → r ≡ Ok tree
 tree_in (Ok c) tree h = cc
 tree_in (Err e) tree h = absurd cc
 

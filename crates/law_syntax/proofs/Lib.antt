@@ -43,3 +43,4 @@ pub mod High
 pub mod Ascii
 pub mod NotAscii
 pub mod OfChars
+pub mod FirstFault

@@ -2,7 +2,7 @@
 use Rattle.std.proofs.Common.{◌≡◌, suc, Bool, true, false, List, Result, Ok, Err, ◌⊎◌, inl, inr, if◌then◌else◌, refl, sym, ap, subst, ◌∙◌}
 use Rattle.rc_model.specs.Syntax.Tokens.{Lexeme}
 use Rattle.rc_model.specs.Syntax.Tree.{Sort, Node, Many, none, more, count, snoc}
-use Rattle.rc_model.specs.Mirrors.Descent.{◌>>=◌}
+use Rattle.rc_model.specs.Mirrors.Descent.{◌>>=◌, Stop}
 use Rattle.rc_model.specs.declared.fault.DescentFault.{DescentFault}
 
 -- one list of nodes after another
@@ -22,24 +22,32 @@ pub count_snoc : {s : Sort} (xs : Many s) (n : Node s) → count (snoc xs n) ≡
 count_snoc none n = refl
 count_snoc (more x xs) n = ap suc (count_snoc xs n)
 
-abbrev pub or_else : {A : Type 0} → Result A DescentFault → A → A
+abbrev pub or_else : {A : Type 0} → Result A Stop → A → A
 or_else (Ok x) d = x
 or_else (Err e) d = d
 
 -- what is read with no further step
-abbrev pub done : {A : Type 0} → A → Result A DescentFault
+abbrev pub done : {A : Type 0} → A → Result A Stop
 done x = Ok x
 
 pub ok_same : {A : Type 0} (x y : A) → done x ≡ Ok y → x ≡ y
 ok_same x y h = ap (λ r. or_else r x) h
 
+-- the fault of what was read
+abbrev pub fault_or : {A : Type 0} → Result A Stop → DescentFault → DescentFault
+fault_or (Ok x) d = d
+fault_or (Err e) d = e.0
+
+pub same_fault : {A : Type 0} (e f : Stop) → ◌≡◌ {A = Result A Stop} (Err e) (Err f) → e.0 ≡ f.0
+same_fault e f h = ap (λ r. fault_or r e.0) h
+
 -- a value that was read in two steps
-pub bind_ok : {A B : Type 0} (o : Result A DescentFault) (f : A → Result B DescentFault) (y : B) → (o >>= f) ≡ Ok y → (x : A) × (o ≡ Ok x) × (f x ≡ Ok y)
+pub bind_ok : {A B : Type 0} (o : Result A Stop) (f : A → Result B Stop) (y : B) → (o >>= f) ≡ Ok y → (x : A) × (o ≡ Ok x) × (f x ≡ Ok y)
 bind_ok (Ok x) f y h = (x, refl, h)
 bind_ok (Err e) f y h = absurd cc
 
 -- a value of one of two branches
-pub if_ok : {B : Type 0} (b : Bool) (r s : Result B DescentFault) (y : B) → (if b then r else s) ≡ Ok y → ((b ≡ true) × (r ≡ Ok y)) ⊎ ((b ≡ false) × (s ≡ Ok y))
+pub if_ok : {B : Type 0} (b : Bool) (r s : Result B Stop) (y : B) → (if b then r else s) ≡ Ok y → ((b ≡ true) × (r ≡ Ok y)) ⊎ ((b ≡ false) × (s ≡ Ok y))
 if_ok true r s y h = inl (refl, h)
 if_ok false r s y h = inr (refl, h)
 

@@ -67,7 +67,7 @@ item_end_sound s c (Ampersand ∷ ts) b is rest h p =
     subst (λ z. Phrase (g.after s (is_if c)) (Ampersand ∷ ts) (z.0, is) rest) e (g.after_background q)
 item_end_sound s c ts b is rest h p = closed_end (if_ok (closes ts) _ _ b h)
   where
-    closed_end : ((closes ts ≡ true) × (done (false, ts) ≡ Ok b)) ⊎ ((closes ts ≡ false) × (Err descent.Unexpected ≡ Ok b)) → Phrase (g.after s (is_if c)) ts (b.0, is) rest
+    closed_end : ((closes ts ≡ true) × (done (false, ts) ≡ Ok b)) ⊎ ((closes ts ≡ false) × (d.stops descent.Unexpected ts ≡ Ok b)) → Phrase (g.after s (is_if c)) ts (b.0, is) rest
     closed_end (inl k) =
         let e = ok_same (false, ts) b k.1 in
         let q : Phrase (g.items s (is_if c)) ts is rest = subst (λ z. Phrase (g.items s (not z.0 && is_if c)) z.1 is rest) (sym e) p in
@@ -81,7 +81,7 @@ unfolding d.item_end
 item_end_shorter (Semicolon ∷ ts) b h = let e = ap (λ z. length z.1) (ok_same (false, ts) b h) in omega arith
 item_end_shorter (Newline ∷ ts) b h = let e = ap (λ z. length z.1) (ok_same (false, ts) b h) in omega arith
 item_end_shorter (Ampersand ∷ ts) b h = let e = ap (λ z. length z.1) (ok_same (true, ts) b h) in omega arith
-item_end_shorter ts b h = elim (if_ok (closes ts) (done (false, ts)) (Err descent.Unexpected) b h) [ inl k ↦ (let e = ap (λ z. length z.1) (ok_same (false, ts) b k.1) in omega arith) | inr k ↦ absurd cc ]
+item_end_shorter ts b h = elim (if_ok (closes ts) (done (false, ts)) (d.stops descent.Unexpected ts) b h) [ inl k ↦ (let e = ap (λ z. length z.1) (ok_same (false, ts) b k.1) in omega arith) | inr k ↦ absurd cc ]
 
 item_turn_sound : (r : Readers) → Sound r → (s : Bool) (k : ℕ) (go_on : Bool → Many t.item → Reader (Many t.item))
     (goes : (f : Bool) (front : Many t.item) (ts : List Lexeme) (x : Many t.item × List Lexeme) → length ts ≤ k → go_on f front ts ≡ Ok x →

@@ -28,7 +28,7 @@ branch_sound : (r : Readers) → Sound r → (ts : List Lexeme) (x : Node t.bran
 unfolding d.branch_by
 branch_sound r s ts x h =
     let w = bind_ok (d.words_by (r (d.a_part false)) ts) _ x h in
-    let v = bind_ok (if ends_case w.0.1 then r (d.a_list true) w.0.1 else Err descent.Unexpected) _ x w.2 in
+    let v = bind_ok (if ends_case w.0.1 then r (d.a_list true) w.0.1 else d.stops descent.Unexpected w.0.1) _ x w.2 in
     let e = ok_same (t.Branch w.0.0 (t.Seq v.0.0), v.0.1) x v.2 in
     elim (if_ok (ends_case w.0.1) _ _ v.0 v.1) [
       | inl b ↦ record {
@@ -167,13 +167,13 @@ optional_sound r s ts x h = elim (if_ok (begins_command ts) _ _ x h) [
 ]
 
 -- the control forms
-not_sound : (r : Readers) → Sound r → (f : Bool) (text : List ℕ) (ts : List Lexeme) (next_text : List ℕ) (k : Keyword) (next : List Lexeme) (x : Node t.cmd × List Lexeme) →
-    keyword text ≡ IfWord → past_caret ts ≡ Word next_text ∷ next → keyword next_text ≡ k → d.if_not_by r f k next ≡ Ok x → Phrase (g.leading f) (Word text ∷ ts) x.0 x.1
-not_sound r s true text ts next_text NotWord next x e e2 e3 h =
+not_sound : (r : Readers) → Sound r → (f : Bool) (text : List ℕ) (ts : List Lexeme) (next_text : List ℕ) (k : Keyword) (word : Lexeme) (next : List Lexeme) (x : Node t.cmd × List Lexeme) →
+    keyword text ≡ IfWord → past_caret ts ≡ Word next_text ∷ next → keyword next_text ≡ k → d.if_not_by r f k word next ≡ Ok x → Phrase (g.leading f) (Word text ∷ ts) x.0 x.1
+not_sound r s true text ts next_text NotWord word next x e e2 e3 h =
     let w = bind_ok (d.body_by r (past_caret next)) _ x h in
     found (g.leading true) (Word text ∷ ts) (t.IfNot w.0.0, w.0.1) x (g.if_not_leading e e2 e3 (body_sound r s (past_caret next) w.0 w.1)) w.2
-not_sound r s false text ts next_text NotWord next x e e2 e3 h = absurd cc
-not_sound r s f text ts next_text k next x e e2 e3 h = absurd cc
+not_sound r s false text ts next_text NotWord word next x e e2 e3 h = absurd cc
+not_sound r s f text ts next_text k word next x e e2 e3 h = absurd cc
 
 condition_sound : (r : Readers) → Sound r → (f : Bool) (text : List ℕ) (ts next : List Lexeme) (x : Node t.cmd × List Lexeme) → keyword text ≡ IfWord → past_caret ts ≡ next →
     d.condition_by r next ≡ Ok x → Phrase (g.leading f) (Word text ∷ ts) x.0 x.1
@@ -186,7 +186,7 @@ condition_sound r s f text ts next x e e2 h =
 if_sound : (r : Readers) → Sound r → (f : Bool) (text : List ℕ) (ts next : List Lexeme) (x : Node t.cmd × List Lexeme) → keyword text ≡ IfWord → past_caret ts ≡ next →
     d.if_by r f next ≡ Ok x → Phrase (g.leading f) (Word text ∷ ts) x.0 x.1
 unfolding d.if_by
-if_sound r s f text ts (Word next_text ∷ next) x e e2 h = not_sound r s f text ts next_text (keyword next_text) next x e e2 refl h
+if_sound r s f text ts (Word next_text ∷ next) x e e2 h = not_sound r s f text ts next_text (keyword next_text) (Word next_text) next x e e2 refl h
 if_sound r s f text ts next x e e2 h = condition_sound r s f text ts next x e e2 h
 
 while_sound : (r : Readers) → Sound r → (f : Bool) (text : List ℕ) (ts : List Lexeme) (x : Node t.cmd × List Lexeme) → keyword text ≡ WhileWord → d.while_by r (past_caret ts) ≡ Ok x →
@@ -197,15 +197,15 @@ while_sound r s f text ts x e h =
     let v = bind_ok (d.body_by r w.0.1) _ x w.2 in
     found (g.leading f) (Word text ∷ ts) (t.While w.0.0 v.0.0, v.0.1) x (g.while_leading e (paren_sound r s (past_caret ts) w.0 w.1) (body_sound r s w.0.1 v.0 v.1)) v.2
 
-in_sound : (r : Readers) → Sound r → (f : Bool) (text : List ℕ) (ts head : List Lexeme) (a : Node t.arg) (mid : List Lexeme) (next_text : List ℕ) (k : Keyword) (list : List Lexeme)
+in_sound : (r : Readers) → Sound r → (f : Bool) (text : List ℕ) (ts head : List Lexeme) (a : Node t.arg) (mid : List Lexeme) (next_text : List ℕ) (k : Keyword) (word : Lexeme) (list : List Lexeme)
     (x : Node t.cmd × List Lexeme) → keyword text ≡ ForWord → past_caret ts ≡ LeftParen ∷ head → Phrase (g.arg true) (past_newlines head) a mid →
-    past_newlines mid ≡ Word next_text ∷ list → keyword next_text ≡ k → d.for_each_by r a k list ≡ Ok x → Phrase (g.leading f) (Word text ∷ ts) x.0 x.1
-in_sound r s f text ts head a mid next_text InWord list x e e2 p e3 e4 h =
+    past_newlines mid ≡ Word next_text ∷ list → keyword next_text ≡ k → d.for_each_by r a k word list ≡ Ok x → Phrase (g.leading f) (Word text ∷ ts) x.0 x.1
+in_sound r s f text ts head a mid next_text InWord word list x e e2 p e3 e4 h =
     let w = bind_ok (d.members_by (r (d.a_part true)) (past_caret list)) _ x h in
     let v = bind_ok (d.body_by r w.0.1) _ x w.2 in
     found (g.leading f) (Word text ∷ ts) (t.For a w.0.0 v.0.0, v.0.1) x
     (g.for_leading e e2 p e3 e4 (members_sound (r (d.a_part true)) (s.part true) (past_caret list) w.0 w.1) (body_sound r s w.0.1 v.0 v.1)) v.2
-in_sound r s f text ts head a mid next_text k list x e e2 p e3 e4 h = absurd cc
+in_sound r s f text ts head a mid next_text k word list x e e2 p e3 e4 h = absurd cc
 
 over_sound : (r : Readers) → Sound r → (f : Bool) (text : List ℕ) (ts head : List Lexeme) (a : Node t.arg) (mid next : List Lexeme) (x : Node t.cmd × List Lexeme) → keyword text ≡ ForWord →
     past_caret ts ≡ LeftParen ∷ head → Phrase (g.arg true) (past_newlines head) a mid → past_newlines mid ≡ next → d.over_by r a next ≡ Ok x → Phrase (g.leading f) (Word text ∷ ts) x.0 x.1
@@ -213,7 +213,7 @@ unfolding d.over_by
 over_sound r s f text ts head a mid (RightParen ∷ next) x e e2 p e3 h =
     let w = bind_ok (d.body_by r next) _ x h in
     found (g.leading f) (Word text ∷ ts) (t.ForAll a w.0.0, w.0.1) x (g.for_all_leading e e2 p e3 (body_sound r s next w.0 w.1)) w.2
-over_sound r s f text ts head a mid (Word next_text ∷ next) x e e2 p e3 h = in_sound r s f text ts head a mid next_text (keyword next_text) next x e e2 p e3 refl h
+over_sound r s f text ts head a mid (Word next_text ∷ next) x e e2 p e3 h = in_sound r s f text ts head a mid next_text (keyword next_text) (Word next_text) next x e e2 p e3 refl h
 over_sound r s f text ts head a mid next x e e2 p e3 h = absurd cc
 
 for_sound : (r : Readers) → Sound r → (f : Bool) (text : List ℕ) (ts next : List Lexeme) (x : Node t.cmd × List Lexeme) → keyword text ≡ ForWord → past_caret ts ≡ next →

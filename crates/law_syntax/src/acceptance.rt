@@ -2,6 +2,7 @@
 
 ghost use Rattle.rc_model.specs.Mirrors.ParsingLaws.{AcceptedAreWellFormed, IsDecided, IsNeverBoth};
 ghost use Rattle.rc_model.specs.Mirrors.TreeOfText.{FindsTheTree};
+ghost use Rattle.rc_model.specs.Mirrors.FirstFault.{FaultRefuses, FaultlessIsAccepted};
 
 /// The tree of a text, as a function, is found exactly if the text is an accepted script with that tree.
 pub fn tree_of_text()
@@ -21,4 +22,14 @@ pub fn is_never_both()
 /// The tree of an accepted script is well formed.
 pub fn accepted_are_well_formed()
     ensures { AcceptedAreWellFormed }
+{}
+
+/// The first fault of a script, as a function, is a reason why it is refused.
+pub fn fault_refuses()
+    ensures { FaultRefuses }
+{}
+
+/// A script has no first fault exactly if it is accepted.
+pub fn faultless_is_accepted()
+    ensures { FaultlessIsAccepted }
 {}

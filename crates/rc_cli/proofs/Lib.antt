@@ -1,2 +1,4 @@
 pub mod Decimals
+pub mod Launched
+pub mod Refused
 pub mod Unrecorded

@@ -1,5 +1,6 @@
 pub mod Asked
 pub mod Errors
+pub mod Launches
 pub mod Requests
 pub mod Runs
 pub mod Start

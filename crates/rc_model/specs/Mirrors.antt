@@ -5,3 +5,4 @@ pub mod Spelling
 pub mod TreeOfText
 pub mod ParsingLaws
 pub mod Greedy
+pub mod FirstFault

@@ -9,22 +9,7 @@ use Rattle.rc_model.specs.Syntax.Accepted.{IsLineOf}
 use Rattle.rc_model.specs.Syntax.Tokens as model
 use Rattle.rc_lexer.specs.declared.Token.{Token}
 use Rattle.rc_lexer.specs.Views.{token_of, tokens_of}
-use Rattle.rc_parser.specs.Faults.{first_line, line_left}
-
-same : (n : ℕ) → (n == n) ≡ true
-same n = grind (arith, nat_tests)
-
--- the line of a later token or of the end is one of all tokens or of the end
-later : (script : List ℕ) (t : model.Token) (ts : List model.Token) (line : ℕ) → IsLineOf script ts line → IsLineOf script (t ∷ ts) line
-later script t ts line (inl e) = inl (ap (λ b. (t.line == line) || b) e ∙ or-true (t.line == line))
-later script t ts line (inr e) = inr e
-
--- the line of the first token from a place on is that of a token or of the end
-pub is_line : (script : List ℕ) (tokens : List model.Token) (place : ℕ) → IsLineOf script tokens (first_line script (drop place tokens))
-is_line script [] zero = inr refl
-is_line script [] (suc place) = inr refl
-is_line script (t ∷ ts) zero = inl (ap (λ b. b || list_any (λ u. u.line == t.line) ts) (same t.line))
-is_line script (t ∷ ts) (suc place) = later script t ts _ (is_line script ts place)
+use Rattle.rc_model.specs.Mirrors.FirstFault.{first_line, line_left}
 
 -- where a token stands it is that of this token
 line_of_token : (script : List ℕ) (tokens : List Token) (place : ℕ) (x : Token) → place < length tokens → ((d : Token) → x ≡ slice_index_or tokens place d) →

@@ -1,27 +1,26 @@
 -- The items of a script, one after the other.
-use Rattle.std.proofs.Common.{◌≡◌, ℕ, ◌+◌, ◌-◌, ◌<◌, ◌∙◌, not, ◌&&◌, if◌then◌else◌, ◌⊎◌, inl, inr, Bool, true, false, List, length, Result, Ok, Err, refl, sym, ap, subst, arith, max, nat_le}
+use Rattle.std.proofs.Common.{◌≡◌, ℕ, ◌+◌, ◌-◌, ◌<◌, ◌∙◌, not, ◌&&◌, if◌then◌else◌, Bool, true, false, List, length, Some, Result, Ok, Err, refl, sym, ap, subst, arith, max, nat_le}
 use Rattle.std.specs.Result.{IsErrAnd}
 use Rattle.std.proofs.lemmas.Bool.Decides.{nat_tests}
 use Rattle.rc_model.specs.Syntax.Tokens as model
 use Rattle.rc_model.specs.Syntax.Tree.{Node, Many, none, more, snoc}
 use Rattle.rc_model.specs.Syntax.Tree as t
 use Rattle.rc_model.specs.Syntax.WellFormed.{depth, depths}
-use Rattle.rc_model.specs.Syntax.Accepted.{HasTokens, IsRefused, lexemes}
-use Rattle.rc_model.specs.Syntax.Grammar.{HaveAcceptedTree, HaveTree, ends, is_if}
+use Rattle.rc_model.specs.Syntax.Accepted.{HasTokens, lexemes}
+use Rattle.rc_model.specs.Syntax.Grammar.{HaveAcceptedTree, ends, is_if}
 use Rattle.rc_model.specs.Mirrors.Descent as d
 use Rattle.rc_model.specs.Mirrors.Descent.{Reader, Readers, ◌>>=◌}
-use Rattle.rc_model.specs.declared.fault.DescentFault.{DescentFault}
-use Rattle.rc_model.specs.declared.fault.DescentFault.TheVariants as descent
 use Rattle.rc_model.specs.declared.fault.SyntaxFault.{SyntaxFault}
 use Rattle.law_syntax.proofs.Laws as laws
 use Rattle.rc_tree.proofs.Numbers.{le_max, le_suc}
-use Rattle.rc_parser.specs.Faults.{line_left, placed}
+use Rattle.rc_model.specs.Mirrors.FirstFault.{first_fault, line_left, placed}
+use Rattle.law_syntax.proofs.FirstFault.{first_of_tree}
 use Rattle.rc_model.specs.declared.fault.InputError.TheVariants as error
 use Rattle.rc_parser.specs.Results.{Fails, TokenError}
 use Rattle.rc_parser.specs.ItemReading.{AreAll, Finds, items_after}
 use Rattle.rc_parser.specs.declared.items.found_items.Found.{Found}
 use Rattle.rc_parser.specs.declared.token_stream.token_faults.TokenFault.{TokenFault}
-use Rattle.rc_parser.proofs.Parsing.{Says, has_no_other, is_refused}
+use Rattle.rc_parser.proofs.Parsing.{has_no_other}
 use Rattle.rc_parser.proofs.Scripts.{script_fails, script_fits}
 use Rattle.rc_parser.proofs.Steps.{read_list}
 use Rattle.rc_parser.proofs.Turns.{items_more}
@@ -79,26 +78,14 @@ pub fits_more : (front : Many t.item) (i : Node t.item) → nat_le (depth (t.Seq
 fits_more front i =
     le_suc (depths (snoc front i)) 200 ∙ few_levels front i 199 ∙ ap (λ v. v && nat_le (depth i) 199) (sym (le_suc (depths front) 200))
 
--- what the laws say of a fault of the descent
-says_of : (ts : List model.Lexeme) (fault : DescentFault) → d.script_tree 200 ts ≡ Err fault → Says ts fault
-says_of ts fault e = record {
-  none = λ k. none_by k;
-  stages = λ k tree p. laws.has_too_many_stages 200 ts tree (e ∙ ap (λ x. Err x) k) p;
-  levels = λ k tree p. laws.is_too_deep 200 ts tree (omega arith) (e ∙ ap (λ x. Err x) k) p;
-}
-  where
-    none_by : (fault ≡ descent.Unexpected) ⊎ (fault ≡ descent.IfNot) → (tree : Node t.cmd) → HaveTree ts tree → ⊥
-    none_by (inl k) tree p = laws.has_no_tree 200 ts tree (inl (e ∙ ap (λ x. Err x) k)) p
-    none_by (inr k) tree p = laws.has_no_tree 200 ts tree (inr (e ∙ ap (λ x. Err x) k)) p
-
--- a fault of the descent, at its line, is the script's
+-- a fault of the descent, at its line, is the script's first one
 pub refused_by : (script : List ℕ) (tokens : List model.Token) (found : TokenFault) (f : SyntaxFault) → HasTokens script tokens →
-    d.script_tree 200 (lexemes tokens) ≡ Err found.fault → f ≡ placed (line_left script tokens found.left) found.fault → IsRefused script f
-refused_by script tokens found f h e at = is_refused script tokens (lexemes tokens) found.fault found.left f h refl (says_of (lexemes tokens) found.fault e) at
+    d.script_tree 200 (lexemes tokens) ≡ Err (found.fault, found.left) → f ≡ placed (line_left script tokens found.left) found.fault → first_fault script ≡ Some f
+refused_by script tokens found f h e at = first_of_tree script tokens (found.fault, found.left) h e ∙ ap (λ z. Some z) (sym at)
 
 -- a fault that was met on the way is that of the whole
 pub fails_whole : (e : TokenError) (ts : List model.Lexeme) (items : d.Read (Many t.item)) → d.read 200 (d.a_list false) ts ≡ items → Fails e items → Fails e (d.script_tree 200 ts)
-fails_whole (error.Fault f) ts items h fails = script_fails 200 ts f.fault (h ∙ fails)
+fails_whole (error.Fault f) ts items h fails = script_fails 200 ts (f.fault, f.left) (h ∙ fails)
 fails_whole error.NoMemory ts items h fails = tt
 
 -- items after which no token is left are all

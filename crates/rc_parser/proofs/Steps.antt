@@ -1,5 +1,5 @@
 -- One step of the descent.
-use Rattle.std.proofs.Common.{◌≡◌, ℕ, suc, ◌-◌, ◌<◌, Bool, false, List, Err, ap, arith}
+use Rattle.std.proofs.Common.{◌≡◌, ℕ, suc, ◌-◌, ◌<◌, Bool, false, List, length, Err, ap, arith}
 use Rattle.std.proofs.lemmas.Grind.{common_steps}
 use Rattle.rc_model.specs.Syntax.Tokens.{Lexeme}
 use Rattle.rc_model.specs.Mirrors.Descent as d
@@ -7,7 +7,7 @@ use Rattle.rc_model.specs.Mirrors.Descent.{Nested}
 use Rattle.rc_model.specs.declared.fault.DescentFault.TheVariants as descent
 use Rattle.rc_tree.specs.View.{tree_lists, tree_walks, tree_Var}
 
-pub read_none : (left : ℕ) (n : Nested) (ts : List Lexeme) → left ≡ 0 → d.read left n ts ≡ Err descent.TooDeep
+pub read_none : (left : ℕ) (n : Nested) (ts : List Lexeme) → left ≡ 0 → d.read left n ts ≡ Err (descent.TooDeep, length ts)
 unfolding d.read
 read_none left n ts h = ap (λ k. d.read k n ts) h
 

@@ -163,7 +163,7 @@ pub members_more : (p : Reader (Node t.arg)) (turns i : ℕ) (front : Many t.arg
 unfolding d.members_from
 members_more p turns i front ts h = ap (λ k. d.members_from p k front ts) (one_less turns i h)
 
-pub members_done : (p : Reader (Node t.arg)) (turns i : ℕ) (front : Many t.arg) (ts : List model.Lexeme) → turns ≤ i → d.members_from p (turns - i) front ts ≡ Err descent.Unexpected
+pub members_done : (p : Reader (Node t.arg)) (turns i : ℕ) (front : Many t.arg) (ts : List model.Lexeme) → turns ≤ i → d.members_from p (turns - i) front ts ≡ Err (descent.Unexpected, length ts)
 unfolding d.members_from
 members_done p turns i front ts h = ap (λ k. d.members_from p k front ts) (none_left turns i h)
 
@@ -202,7 +202,7 @@ pub branches_more : (r : Readers) (turns i : ℕ) (front : Many t.branch) (ts : 
 unfolding d.branches_from
 branches_more r turns i front ts h = ap (λ k. d.branches_from r k front ts) (one_less turns i h)
 
-pub branches_done : (r : Readers) (turns i : ℕ) (front : Many t.branch) (ts : List model.Lexeme) → turns ≤ i → d.branches_from r (turns - i) front ts ≡ Err descent.Unexpected
+pub branches_done : (r : Readers) (turns i : ℕ) (front : Many t.branch) (ts : List model.Lexeme) → turns ≤ i → d.branches_from r (turns - i) front ts ≡ Err (descent.Unexpected, length ts)
 unfolding d.branches_from
 branches_done r turns i front ts h = ap (λ k. d.branches_from r k front ts) (none_left turns i h)
 
@@ -214,7 +214,7 @@ pub branches_case :
 branches_case r turns i front front' b us ts cs vs text whole so_far e named after read h pushed =
     let go : Many t.branch → Reader (Many t.branch) = λ bs u. d.branches_from r (turns - (i + 1)) bs u in
     let line : d.branches_turn r go front (model.Word text ∷ ts) ≡ (d.branch_by r (past_caret ts) >>= λ x. go (snoc front x.0) x.1) =
-    ap (λ q. if q then (d.branch_by r (past_caret ts) >>= λ x. go (snoc front x.0) x.1) else Err descent.Unexpected) named in
+    ap (λ q. if q then (d.branch_by r (past_caret ts) >>= λ x. go (snoc front x.0) x.1) else Err (descent.Unexpected, length (model.Word text ∷ ts))) named in
     let taken : (d.branch_by r (past_caret ts) >>= λ x. go (snoc front x.0) x.1) ≡ go (snoc front b) vs =
     ap (λ q. q >>= λ x. go (snoc front x.0) x.1) (ap (λ q. d.branch_by r q) (sym after) ∙ read) in
     ap (λ f. go f vs) pushed ∙ sym (branches_more r turns i front us h ∙ ap (λ q. d.branches_turn r go front q) e ∙ line ∙ taken) ∙ so_far

@@ -5,7 +5,7 @@ use Rattle.rc_model.specs.Syntax.Tokens.{HereDoc}
 use Rattle.rc_model.specs.Syntax.Tree.{Node, Many, none}
 use Rattle.rc_model.specs.Syntax.Tree as t
 use Rattle.rc_model.specs.Mirrors.Descent as d
-use Rattle.rc_model.specs.Mirrors.Descent.{Read, Reader, simple_from, ◌>>=◌}
+use Rattle.rc_model.specs.Mirrors.Descent.{Read, Reader, simple_from, stops, ◌>>=◌}
 use Rattle.rc_model.specs.declared.fault.DescentFault.TheVariants.{Unexpected}
 use Rattle.rc_tree.specs.View.{cmd_tree, arg_tree}
 use Rattle.rc_parser.specs.declared.descent.openings.Opening.{Opening}
@@ -31,4 +31,4 @@ simple_after part words ts = simple_from part (length ts) words none ts
 -- a here document
 abbrev pub here_doc_by : Reader (Node t.redir)
 here_doc_by (HereDoc quoted body ∷ ts) = Ok (t.Here (pieces_of quoted body), ts)
-here_doc_by _ = Err Unexpected
+here_doc_by ts = stops Unexpected ts

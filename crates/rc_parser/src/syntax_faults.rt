@@ -3,7 +3,7 @@
 ghost use Rattle.std.specs.Prelude.{◌≡◌, ◌≤◌, length};
 ghost use Rattle.rc_model.specs.Syntax.Accepted.{longest_script};
 ghost use Rattle.rc_lexer.specs.Views.{tokens_of};
-ghost use Rattle.rc_parser.specs.Faults.{line_left, placed};
+ghost use Rattle.rc_model.specs.Mirrors.FirstFault.{line_left, placed};
 
 use crate::text::line_of;
 use crate::token_stream::token_faults::TokenFault;

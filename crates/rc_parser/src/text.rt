@@ -1,7 +1,8 @@
 //! The text of a script.
 
-ghost use Rattle.std.specs.Prelude.{◌≡◌, ◌≤◌, length, IfOk, IfErr, IsUtf8};
-ghost use Rattle.rc_model.specs.Syntax.Accepted.{line_of, longest_script, IsRefused};
+ghost use Rattle.std.specs.Prelude.{◌≡◌, ◌≤◌, length, IfOk, IfErr, IsUtf8, Some};
+ghost use Rattle.rc_model.specs.Syntax.Accepted.{line_of, longest_script};
+ghost use Rattle.rc_model.specs.Mirrors.FirstFault.{first_fault};
 
 use rc_model::{FaultKind, SyntaxFault};
 use std::str;
@@ -12,7 +13,7 @@ pub(crate) fn checked(script: &[u8]) -> Result<&str, SyntaxFault>
     requires { length script.now ≤ longest_script }
     ensures text { IfOk result (λ s. s.now ≡ script.now) }
     ensures utf8 { IfOk result (λ s. IsUtf8 s.now) }
-    ensures refused { IfErr result (λ f. IsRefused script.now f) }
+    ensures refused { IfErr result (λ f. first_fault script.now ≡ Some f) }
 {
     str::from_utf8(script).map_err(|error| SyntaxFault {
         kind: FaultKind::NotText,

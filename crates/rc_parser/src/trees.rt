@@ -20,6 +20,8 @@ use std::alloc::Global;
 
 /// The tree of these tokens.
 pub fn script(alloc: Global, tokens: Tokens<'_>) -> Result<Cmd, TokenError>
+    // It is what the descent finds, or the fault where that stops.
+    ensures descent { Gives (λ c. cmd_tree c) result (script_tree MOST_LEVELS (lexemes_of tokens.entry)) }
     // The result is the tree of an accepted script.
     ensures found { IfOk result (λ c. HaveAcceptedTree (lexemes_of tokens.entry) (cmd_tree c)) }
     // It has no other tree.
@@ -49,7 +51,7 @@ fn parse_script(alloc: Global, tokens: Tokens<'_>) -> Result<Cmd, TokenError>
     }
     let tree = Box::new(alloc, Cmd::Seq(items))?;
     if !is_within(&tree, MOST_LEVELS) {
-        return Err(fault_at(DescentFault::TooDeep, tokens));
+        return Err(fault_at(DescentFault::TooDeep, rest));
     }
     Ok(Box::into_inner(tree))
 }

@@ -31,20 +31,20 @@ HasOneTree = (ts : List Lexeme) (tree other : Node t.cmd) → HaveAcceptedTree t
 -- if a token is unexpected, or an `if not` is misplaced, there is no tree of any size
 abbrev pub HasNoTree : Type 0
 HasNoTree =
-    (levels : ℕ) (ts : List Lexeme) (tree : Node t.cmd) → (script_tree levels ts ≡ Err Unexpected) ⊎
-    (script_tree levels ts ≡ Err IfNot) → HaveTree ts tree → ⊥
+    (levels left : ℕ) (ts : List Lexeme) (tree : Node t.cmd) → (script_tree levels ts ≡ Err (Unexpected, left)) ⊎
+    (script_tree levels ts ≡ Err (IfNot, left)) → HaveTree ts tree → ⊥
 
 -- too many stages are found only if a pipeline has them
 abbrev pub HasTooManyStages : Type 0
 HasTooManyStages =
-    (levels : ℕ) (ts : List Lexeme) (tree : Node t.cmd) → script_tree levels ts ≡ Err TooManyStages → HaveTree ts tree →
-    MOST_STAGES < most_stages tree
+    (levels left : ℕ) (ts : List Lexeme) (tree : Node t.cmd) → script_tree levels ts ≡ Err (TooManyStages, left) →
+    HaveTree ts tree → MOST_STAGES < most_stages tree
 
 -- and too many levels only if the tree has them
 abbrev pub IsTooDeep : Type 0
 IsTooDeep =
-    (levels : ℕ) (ts : List Lexeme) (tree : Node t.cmd) → MOST_LEVELS ≤ levels → script_tree levels ts ≡ Err TooDeep →
-    HaveTree ts tree → MOST_LEVELS < depth tree
+    (levels left : ℕ) (ts : List Lexeme) (tree : Node t.cmd) → MOST_LEVELS ≤ levels →
+    script_tree levels ts ≡ Err (TooDeep, left) → HaveTree ts tree → MOST_LEVELS < depth tree
 
 -- a tree of spelled lexemes is sound, unless it has too many stages
 abbrev pub HasSoundTrees : Type 0

@@ -5,12 +5,12 @@ use Rattle.rc_model.specs.Syntax.Tokens.{Token}
 use Rattle.rc_model.specs.Syntax.Faults.{SyntaxFault}
 use Rattle.rc_model.specs.Mirrors.Reading.{lexed}
 use Rattle.rc_model.specs.Syntax.Tree.{Node, cmd}
-use Rattle.rc_model.specs.Mirrors.Descent.{DescentFault, script_tree}
+use Rattle.rc_model.specs.Mirrors.Descent.{Stop, script_tree}
 use Rattle.rc_model.specs.Syntax.Accepted.{IsAccepted, lexemes, longest_script}
 use Rattle.rc_model.specs.declared.limits.TheConstants.{MOST_LEVELS}
 
 -- the tree that was found
-abbrev pub found : Result (Node cmd) DescentFault → Option (Node cmd)
+abbrev pub found : Result (Node cmd) Stop → Option (Node cmd)
 found (Ok tree) = Some tree
 found (Err e) = None
 

@@ -102,7 +102,7 @@ selected_words slots words subscripts = do
 -- the words of a concatenation, or its runtime error
 abbrev pub joined_lists : Slots → Result (List Word) ListFault → Shell (List Word)
 joined_lists slots (Ok ws) = pure ws
-joined_lists slots (Err runtime_error) = fails slots (list_words runtime_error)
+joined_lists slots (Err fault) = fails slots (list_words fault)
 
 -- `a^b`
 abbrev pub concat_words : Slots → List Word → List Word → Shell (List Word)

@@ -2,8 +2,8 @@
 
 ghost use Rattle.std.specs.Prelude.{true};
 ghost use Rattle.rc_model.specs.Syntax.Tree as t;
-ghost use Rattle.rc_model.specs.Mirrors.Descent.{read, an_operand, body_by, if_not_by, condition_by, if_by, while_by};
-ghost use Rattle.rc_model.specs.Mirrors.Descent.{for_each_by, over_by, for_by, control_by};
+ghost use Rattle.rc_model.specs.Mirrors.Descent.{read, an_operand, body_by, otherwise_by, condition_by, if_by, while_by};
+ghost use Rattle.rc_model.specs.Mirrors.Descent.{listed_by, over_by, for_by, control_by};
 ghost use Rattle.rc_model.specs.declared.syntax.Keyword.TheVariants as keyword;
 ghost use Rattle.rc_tree.specs.View.{cmd_tree, arg_tree};
 ghost use Rattle.rc_parser.specs.Tokens.{lexemes_of};
@@ -76,7 +76,7 @@ fn parse_if_not(
     tokens: Tokens<'_>,
 ) -> Result<(Box<Cmd>, Tokens<'_>), TokenError>
     ensures { Gives (λ x. (cmd_tree x.0.value, lexemes_of x.1)) result
-        (if_not_by (read below) true keyword.Not (lexemes_of tokens.entry)) }
+        (otherwise_by (read below) (lexemes_of tokens.entry)) }
 {
     let (body, rest) = parse_body(alloc, below, past_caret(tokens))?;
     Ok((Box::new(alloc, Cmd::IfNot(body))?, rest))
@@ -169,7 +169,7 @@ fn parse_for_each(
     tokens: Tokens<'_>,
 ) -> Result<(Box<Cmd>, Tokens<'_>), TokenError>
     ensures { Gives (λ x. (cmd_tree x.0.value, lexemes_of x.1)) result
-        (for_each_by (read below) (arg_tree name.value) keyword.In (lexemes_of tokens.entry)) }
+        (listed_by (read below) (arg_tree name.value) (lexemes_of tokens.entry)) }
 {
     let (words, rest) = parse_members(alloc, below, past_caret(tokens))?;
     let (body, rest) = parse_body(alloc, below, rest)?;

@@ -12,4 +12,4 @@ returns-in-Ok c = is_found _ _ _ _ c.requires c.new.ensures c.in-Ok.ensures.foun
 pub returns-in-Err-Fault : goal.returns-in-Err-Fault
 returns-in-Err-Fault c =
     is_not_found _ _ _ _ _ _ c.requires c.new.ensures (c.in-Err-Fault.is ∙ ap (λ r. Err r) c.in-Err-Fault.field-0-is)
-    c.script.ensures.none c.script.ensures.stages c.script.ensures.levels c.syntax_fault.ensures
+    c.script.ensures.descent c.syntax_fault.ensures

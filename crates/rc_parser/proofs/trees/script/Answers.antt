@@ -3,6 +3,7 @@ use Rattle.rc_parser.proofs.trees.script.Goals as goal
 
 pub returns : goal.returns
 returns c = record {
+  descent = c.parse_script.ensures;
   found = found_by _ _ c.parse_script.ensures;
   only = only_by _ _ c.parse_script.ensures;
   none = none_by _ _ c.parse_script.ensures;

@@ -1,5 +1,5 @@
-use Rattle.std.proofs.Common.{rules, arith, ◌≡◌, ◌∙◌, length, sym, subst, vec_len, eq-eqb, IfErr, IfOk}
-use Rattle.rc_model.specs.Syntax.Accepted.{IsRefused}
+use Rattle.std.proofs.Common.{rules, arith, ◌≡◌, ◌∙◌, length, Some, sym, subst, vec_len, eq-eqb, IfErr, IfOk}
+use Rattle.rc_model.specs.Mirrors.FirstFault.{first_fault}
 use Rattle.rc_model.specs.Syntax.Faults.{fault}
 use Rattle.rc_model.specs.declared.fault.FaultKind.TheVariants.{TooLong}
 use Rattle.rc_parser.specs.Faults.{Refuses}
@@ -11,7 +11,7 @@ pub returns-then-not-is_empty-clause-refused : goal.returns-then-not-is_empty-cl
 returns-then-not-is_empty-clause-refused c =
     let r = c.self.inside in
     let some : length r.passed.items ≡ 0 → ⊥ = λ z. let t = eq-eqb (vec_len r.passed) 0 (omega (arith, z, r.passed.ok.0)) in (cc) in
-    subst (λ z. IsRefused z (fault TooLong 0)) c.self.view_is (too_long _ (is_longer _ r.pieces r.room r.passed.items c.self.invariant some))
+    subst (λ z. first_fault z ≡ Some (fault TooLong 0)) c.self.view_is (too_long _ (is_longer _ r.pieces r.room r.passed.items c.self.invariant some))
 
 pub returns-clause-text : goal.returns-clause-text
 returns-clause-text c =
