@@ -70,8 +70,7 @@ pub(crate) fn words_of(alloc: Global, spelling: &str) -> Result<Vec<String>, Ima
 fn write_words(alloc: Global, cmd: &Cmd) -> Result<Vec<String>, ImageError>
     ensures { Writes (λ words. map string_bytes words.items) result (image_words (cmd_tree cmd.now)) }
 {
-    let mut spelling = String::new(alloc);
-    push_spelling(&mut spelling, cmd)?;
+    let spelling = push_spelling(String::new(alloc), cmd)?;
     words_of(alloc, &spelling)
 }
 

@@ -41,8 +41,7 @@ use std::alloc::Global;
 pub fn write_tree(alloc: Global, cmd: &Cmd) -> Result<String, ImageError>
     ensures { Writes (λ text. string_bytes text) result (short_image (cmd_tree cmd.now)) }
 {
-    let mut text = String::from_str(alloc, MARK)?;
-    push_spelling(&mut text, cmd)?;
+    let text = push_spelling(String::from_str(alloc, MARK)?, cmd)?;
     if text.len() > LONGEST_ARGUMENT {
         return Err(InputError::Fault(ImageFault::TooLarge));
     }
