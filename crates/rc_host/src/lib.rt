@@ -9,6 +9,7 @@ mod host;
 mod input;
 mod launches;
 mod leaving;
+mod linux;
 mod process;
 mod table;
 
