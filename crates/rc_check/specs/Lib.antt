@@ -1,3 +1,4 @@
 pub mod Positions
 pub mod Findings
+pub mod Verdicts
 pub mod Warnings

@@ -5,6 +5,7 @@
 mod cuts;
 mod dump;
 mod examples;
+mod faults;
 mod findings;
 mod handed_layers;
 mod handed_rows;
