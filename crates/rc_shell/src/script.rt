@@ -11,6 +11,7 @@ use rc_world::World;
 use std::alloc::Global;
 
 /// Runs a script from a state, with at most `limit` instructions.
+#[tactic(auto, using(crate::proofs::Executed::script_refused))]
 pub fn execute<W: World>(
     alloc: Global,
     world: &mut W,

@@ -1,4 +1,4 @@
-//! Checks scripts without running them: `rccheck [-p | -w | -f | -l] FILE ..`.
+//! Checks scripts without running them: `rccheck [-w | -p | -f | -l] FILE ..`.
 #![tactic(auto)]
 
 mod layouts;
@@ -10,15 +10,15 @@ use std::io::Read;
 use std::process::ExitCode;
 use std::{env, fs, io};
 
-/// The version of the shell with its tools, and the kit that proves it.
+/// The version of the shell with its tools, and the line of kits that proves it.
 const VERSION: &str = "rccheck 0.3.0 (rattle-kit-13)";
 
-const USAGE: &str = "usage: rccheck [-p | -w | -f | -l] FILE ..";
+const USAGE: &str = "usage: rccheck [-w | -p | -f | -l] FILE ..";
 
 /// One byte more than a script may have: no more are read from a file.
 const MOST_BYTES: u64 = LONGEST_SCRIPT as u64 + 1;
 
-/// The exit status for wrong usage and where the output can't be written.
+/// The exit status for wrong usage, and where the output can't be written.
 const FAILURE: u8 = 1;
 
 /// The task for each file.
@@ -41,17 +41,34 @@ enum Request<'a> {
     WrongUsage,
 }
 
+/// The task that an option stands for.
+fn task_of(option: &str) -> Option<Task> {
+    match option {
+        "-w" => Some(Task::Gate),
+        "-p" => Some(Task::Print),
+        "-f" => Some(Task::LayOut),
+        "-l" => Some(Task::ListUnlaid),
+        _ => None,
+    }
+}
+
 /// What the arguments ask for.
 fn asked(arguments: &[String]) -> Request<'_> {
-    let (task, files) = match arguments {
-        [first, files @ ..] if first.as_str() == "-p" => (Task::Print, files),
-        [first, files @ ..] if first.as_str() == "-w" => (Task::Gate, files),
-        [first, files @ ..] if first.as_str() == "-f" => (Task::LayOut, files),
-        [first, files @ ..] if first.as_str() == "-l" => (Task::ListUnlaid, files),
-        [first] if first.as_str() == "--help" => return Request::Help,
-        [first] if first.as_str() == "--version" => return Request::Version,
-        _ => (Task::Check, arguments),
+    let [first, rest @ ..] = arguments else {
+        return Request::WrongUsage;
     };
+    if let Some(task) = task_of(first.as_str()) {
+        return look_at(task, rest);
+    }
+    match first.as_str() {
+        "--help" => Request::Help,
+        "--version" => Request::Version,
+        _ => look_at(Task::Check, arguments),
+    }
+}
+
+/// The request to do the task for these files.
+fn look_at(task: Task, files: &[String]) -> Request<'_> {
     match files {
         [] => Request::WrongUsage,
         [first, ..] if first.starts_with('-') && first.as_str() != "-" => Request::WrongUsage,
@@ -79,18 +96,18 @@ fn check(rt: &HostRuntime, name: &str, script: &[u8]) -> io::Result<Verdict> {
     Ok(verdict)
 }
 
-/// Writes the canonical form of a script, or on descriptor 2 why there is none.
-fn print(rt: &HostRuntime, name: &str, script: &[u8]) -> io::Result<Verdict> {
+/// Writes the canonical form of a script, or on descriptor 2 why there is none, and returns whether there is one.
+fn print(rt: &HostRuntime, name: &str, script: &[u8]) -> io::Result<bool> {
     match canonical_of(rt.alloc(), script)? {
         Canonical::Text(text) => {
             rt.print(text)?;
-            return Ok(Verdict::Well);
+            return Ok(true);
         }
         Canonical::Refused => eprint!(rt; "{}", report_of(rt.alloc(), name, script)?.text)?,
         Canonical::HereInside => eprintln!(rt; "{name}: a here document is inside")?,
         Canonical::TooLong => eprintln!(rt; "{name}: the canonical form is too long")?,
     }
-    Ok(Verdict::Failed)
+    Ok(false)
 }
 
 /// Does the task for a file.
@@ -99,12 +116,17 @@ fn look(rt: &HostRuntime, task: Task, name: &str) -> io::Result<Verdict> {
         eprintln!(rt; "rccheck: cannot read {name}")?;
         return Ok(Verdict::Failed);
     };
-    match task {
-        Task::Check | Task::Gate => check(rt, name, &script),
-        Task::Print => print(rt, name, &script),
-        Task::LayOut => print_layout(rt, name, &script),
-        Task::ListUnlaid => list_unlaid(rt, name, &script),
-    }
+    let is_well = match task {
+        Task::Check | Task::Gate => return check(rt, name, &script),
+        Task::Print => print(rt, name, &script)?,
+        Task::LayOut => print_layout(rt, name, &script)?,
+        Task::ListUnlaid => list_unlaid(rt, name, &script)?,
+    };
+    Ok(if is_well {
+        Verdict::Well
+    } else {
+        Verdict::Failed
+    })
 }
 
 /// Does the task for each file, and returns the exit status.

@@ -13,18 +13,8 @@ use std::process::ExitCode;
 use tracing::{TraceError, trace};
 use trials::try_all;
 
-/// The version of the shell with its tools, and the line of kits that proves it.
-const VERSION: &str = "rctrace 0.3.0 (rattle-kit-13)";
-
-fn is_version_asked(arguments: &[String]) -> bool {
-    matches!(arguments, [only] if only.as_str() == "--version")
-}
-
 /// Does what the arguments ask for.
 fn run(rt: HostRuntime, arguments: &[String]) -> ExitCode {
-    if is_version_asked(arguments) {
-        return show_version(&rt);
-    }
     let Some((asked, request)) = Asked::of(arguments) else {
         return end(&rt, Err(TraceError::Usage));
     };
@@ -37,13 +27,6 @@ fn run(rt: HostRuntime, arguments: &[String]) -> ExitCode {
             let _ = eprintln!(rt; "rctrace: {error:#}");
             ExitCode::FAILURE
         }
-    }
-}
-
-fn show_version(rt: &HostRuntime) -> ExitCode {
-    match println!(rt; "{VERSION}") {
-        Ok(()) => ExitCode::SUCCESS,
-        Err(_) => ExitCode::FAILURE,
     }
 }
 
