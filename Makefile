@@ -1,14 +1,12 @@
 # make            puts the shell at ./rc, beside it ./rccheck, which looks at scripts, and ./rctrace, which shows what they
 #                 call, and runs `echo hello` through the shell: the release if it is that of the sources, and otherwise
 #                 what `make prove` builds
-# make prove      proves, builds and links ./rc, ./rccheck and ./rctrace
-# make release    proves, builds and links the programs, and puts them, the hash of their sources and the checksums of
-#                 what they were linked from into release/
+# make prove      proves and builds ./rc, ./rccheck and ./rctrace
+# make release    proves and builds the programs, and puts them and the hash of their sources into release/
 # make check      runs a table of one-line scripts, the examples, also where something goes wrong, and a command between
-#                 two pipes on ./rc, installs it elsewhere, and looks at what editors highlight and how scripts are laid
-#                 out, in seconds
-# make test       proves and builds everything from nothing, compares what it built with the release, if there is one,
-#                 links the programs and tests them
+#                 two pipes on ./rc, installs it elsewhere, and looks at what editors highlight, in seconds
+# make test       proves, builds and tests everything from nothing, and compares the programs with the release, if
+#                 there is one
 # make editors    makes the highlighting of editors anew, from the shell's keywords and built-in commands
 # make install    copies the programs, their manual pages, documents, examples and highlighting below PREFIX, with
 #                 DESTDIR before it
@@ -27,11 +25,11 @@ VIMDIR = $(PREFIX)/share/vim/vimfiles
 LIBDIR = $(PREFIX)/lib/$(NAME)
 DIST = dist
 RELEASE = release/rc-x86_64-linux
-BUILT = crates/rc_main/out/rc_main.static
+BUILT = crates/rc_main/out/rc_main
 RELEASED_CHECKER = release/rccheck-x86_64-linux
-BUILT_CHECKER = crates/rccheck/out/rccheck.static
+BUILT_CHECKER = crates/rccheck/out/rccheck
 RELEASED_TRACER = release/rctrace-x86_64-linux
-BUILT_TRACER = crates/rctrace/out/rctrace.static
+BUILT_TRACER = crates/rctrace/out/rctrace
 EXAMPLES = $(wildcard examples/*)
 DOCUMENTS = README.md CHANGELOG.md $(wildcard docs/*.md) $(EXAMPLES) $(wildcard editors/*.json)
 # as a word of rc, which a blank would end
@@ -57,7 +55,6 @@ build: toolchain
 	cd crates/rc_main && $(RT) run < /dev/null
 	cd crates/rccheck && $(RT) run -- data/fine.rc
 	cd crates/rctrace && $(RT) run < /dev/null
-	RT='$(RT)' release/link
 
 toolchain:
 	@command -v $(RT) >/dev/null || { echo 'there is no command $(RT), with which the Rattle toolchain proves and builds' \
@@ -65,15 +62,14 @@ toolchain:
 
 check: rc
 	printf '%s\n' 'check ./rc' 'idioms ./rc' 'surprises ./rc' 'editors ./rc' 'early ./rc' 'descriptors ./rc' \
-	    'mishaps ./rc' 'layout ./rccheck' 'checker ./rccheck' 'first_script ./rc ./rccheck ./rctrace' \
+	    'mishaps ./rc' 'first_script ./rc ./rccheck ./rctrace' \
 	    'packaging ./rc ./rccheck ./rctrace' | xargs -P 4 -I TEST sh -c tests/TEST
 
 # The hash is taken before the build: sources that change meanwhile don't fit it.
 release: tracked toolchain
-	rm -f $(RELEASE) $(RELEASED_CHECKER) $(RELEASED_TRACER) release/objects
+	rm -f $(RELEASE) $(RELEASED_CHECKER) $(RELEASED_TRACER)
 	release/hash > release/sources
 	$(MAKE) build
-	parts=$$(RT='$(RT)' release/parts) && echo "$$parts" | cut -d ' ' -f 1,2 > release/objects
 	install -m 755 $(BUILT) $(RELEASE)
 	install -m 755 $(BUILT_CHECKER) $(RELEASED_CHECKER)
 	install -m 755 $(BUILT_TRACER) $(RELEASED_TRACER)
@@ -87,8 +83,6 @@ test: toolchain
 	@if [ -e $(RELEASE) ]; then release/fits; else echo there is no release; fi
 	@tests/places
 	tests/gate
-	release/link
-	if [ -e $(RELEASE) ]; then release/agrees; fi
 	tests/check $(BUILT)
 	tests/memory $(BUILT)
 	tests/descriptors $(BUILT)
@@ -98,8 +92,6 @@ test: toolchain
 	tests/early $(BUILT)
 	tests/editors $(BUILT)
 	tests/mishaps $(BUILT) all
-	tests/layout $(BUILT_CHECKER)
-	tests/checker $(BUILT_CHECKER)
 	tests/first_script $(BUILT) $(BUILT_CHECKER) $(BUILT_TRACER)
 	tests/packaging $(BUILT) $(BUILT_CHECKER) $(BUILT_TRACER)
 	tests/trace $(BUILT) $(BUILT_TRACER)
@@ -109,6 +101,8 @@ test: toolchain
 	tests/refused_images
 	tests/refused_runs
 	tests/growth $(BUILT)
+	if [ -e $(RELEASE) ]; then cmp $(BUILT) $(RELEASE) && cmp $(BUILT_CHECKER) $(RELEASED_CHECKER) && \
+	    cmp $(BUILT_TRACER) $(RELEASED_TRACER); fi
 
 editors:
 	editors/generate editors

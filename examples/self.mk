@@ -5,11 +5,11 @@
 
 RT = rt
 RELEASE = release/rc-x86_64-linux
-BUILT = crates/rc_main/out/rc_main.static
+BUILT = crates/rc_main/out/rc_main
 CHECKER = release/rccheck-x86_64-linux
-BUILT_CHECKER = crates/rccheck/out/rccheck.static
+BUILT_CHECKER = crates/rccheck/out/rccheck
 TRACER = release/rctrace-x86_64-linux
-BUILT_TRACER = crates/rctrace/out/rctrace.static
+BUILT_TRACER = crates/rctrace/out/rctrace
 
 # The shell does not read PATH, so make hands it on as the list $path, with byte 1 between its members.
 export path := $(subst :,$(shell printf '\001'),$(PATH))
@@ -34,7 +34,6 @@ prove: rc
 	cd ../rctrace
 	$(RT) run </dev/null
 	cd ../..
-	RT=$(RT) ./release/link
 	install -m 755 $(BUILT_CHECKER) rccheck
 	install -m 755 $(BUILT_TRACER) rctrace
 	install -m 755 $(BUILT) rc.new
@@ -46,7 +45,7 @@ release: rc
 	untracked=`{git ls-files --others --exclude-standard -- ':(glob)crates/*/src/**'}
 	~ $$status '' || exit 1
 	if(! ~ $$#untracked 0) { echo git add first: $$untracked; exit 1 }
-	rm -f $(RELEASE) $(CHECKER) $(TRACER) release/objects
+	rm -f $(RELEASE) $(CHECKER) $(TRACER)
 	./release/hash >release/sources
 	cd crates/rc_main
 	$(RT) run </dev/null
@@ -55,10 +54,8 @@ release: rc
 	cd ../rctrace
 	$(RT) run </dev/null
 	cd ../..
-	RT=$(RT) ./release/link
 	install -m 755 $(BUILT) $(RELEASE)
 	install -m 755 $(BUILT_CHECKER) $(CHECKER)
 	install -m 755 $(BUILT_TRACER) $(TRACER)
-	RT=$(RT) ./release/parts | cut -d ' ' -f 1,2 >release/objects || exit 1
 
 .PHONY: check prove release

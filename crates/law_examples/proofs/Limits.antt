@@ -1,4 +1,4 @@
--- The limits of a tree, of an image, of a launch and of a run.
+-- The limits of a tree, of an image and of a launch.
 use Rattle.std.proofs.Common.{List, refl, ◌∷◌, ◌++◌, ◌≡◌, []}
 use Rattle.std.specs.Prelude.{ℕ, zero, suc, codes, Some, None, true, false, is_some}
 use Rattle.rc_model.specs.Run.Calls.{plain, make_pipe, close, read, write, wait, probe, pair, done, bytes, child, ended, found}
@@ -9,7 +9,6 @@ use Rattle.law_examples.specs.Shown.{fresh, with_value, usual, writing_to, subsh
 use Rattle.rc_model.specs.Syntax.Tree.{Node, cmd, Simple, Lit, more, none}
 use Rattle.rc_model.specs.Handed.Image.{image_words, node_image, many_image}
 use Rattle.rc_model.specs.Handed.Pieces.{pieces, last_cut}
-use Rattle.rc_model.specs.declared.limits.TheConstants.{MOST_INSTRUCTIONS}
 use Rattle.std.specs.Fmt.{digits}
 
 -- a text after n bangs
@@ -110,7 +109,3 @@ too_long_a_read :
     (codes "cannot read")
 unfolding meant ran letters
 too_long_a_read = (refl, refl)
-
--- a run of the program may take 2 ^ 62 instructions
-most_instructions : MOST_INSTRUCTIONS ≡ 4611686018427387904
-most_instructions = refl

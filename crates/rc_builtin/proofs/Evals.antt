@@ -6,17 +6,15 @@ use Rattle.std.specs.declared.string.String.{String}
 use Rattle.rc_text.specs.declared.texts.Text.{Text}
 use Rattle.rc_text.specs.Texts.{text_bytes}
 use Rattle.law_syntax.proofs.Decided.{never_both}
-use Rattle.law_syntax.proofs.FirstFault.{fault_refuses, faultless_is_accepted}
 use Rattle.law_syntax.proofs.Found.{finds_the_tree}
 use Rattle.law_plans.proofs.Runs.{ran_none}
 use Rattle.rc_code.specs.Views.{code_of}
 use Rattle.rc_code.specs.declared.code.Code.{Code}
 use Rattle.rc_scope.specs.CompiledTexts.{IsCodeOfText}
 use Rattle.rc_builtin.specs.Outcomes.{RunsWords}
-use Rattle.rc_builtin.specs.Scripts.{Compiles, IsCodeOf, IsCompiled, SyntaxErrorsAreFirstFaults}
+use Rattle.rc_builtin.specs.Scripts.{Compiles, IsCodeOf, IsCompiled}
 use Rattle.rc_builtin.specs.declared.command_words.Outcome.TheVariants as words
 use Rattle.rc_model.specs.Code.Layout.{code}
-use Rattle.rc_model.specs.Mirrors.FirstFault.{first_fault}
 use Rattle.rc_model.specs.Mirrors.TreeOfText.{tree_of}
 use Rattle.rc_model.specs.Run.Builtins.{Body, BodyWith, Finished, as_body, as_body_with, dot, whole_file}
 use Rattle.rc_model.specs.Run.Calls.{Event}
@@ -43,21 +41,9 @@ no_tree : (text : List ℕ) (fault : SyntaxFault) → IsRefused text fault → (
 no_tree text fault refused None h = refl
 no_tree text fault refused (Some d) h = absurd (never_both text fault d refused ((finds_the_tree text d).0 h))
 
--- a text has no tree exactly if it has a first fault
-fault_in : (text : List ℕ) (found : Option SyntaxFault) → first_fault text ≡ found → tree_of text ≡ None → (fault : SyntaxFault) × (first_fault text ≡ Some fault)
-fault_in text (Some fault) first none = (fault, first)
-fault_in text None first none =
-    let d = (faultless_is_accepted text).0 first in
-    let e = (finds_the_tree text d.0).1 d.1 in
-    absurd (let n : ⊥ = cc in n)
-
-pub faults_without_trees : SyntaxErrorsAreFirstFaults
-faults_without_trees text =
-    (fault_in text (first_fault text) refl, λ h. no_tree text h.0 (fault_refuses text h.0 h.1) (tree_of text) refl)
-
 -- the fault of a text that is refused
 pub fault_of : (text : List ℕ) (made : Result Code (InputError SyntaxFault)) (f : SyntaxFault) → made ≡ Err (Fault f) → IsCompiled text made → IsRefused text f
-fault_of text made f is h = fault_refuses text f (subst (λ r. IfErr r (λ x. Refuses x text)) is h.refused)
+fault_of text made f is h = subst (λ r. IfErr r (λ x. Refuses x text)) is h.refused
 
 pub code_in : (text : List ℕ) (made : Result Code (InputError SyntaxFault)) (body : Code) → made ≡ Ok body → IsCompiled text made → IsCodeOf text body
 code_in text made body is h = subst (λ r. IfOk r (IsCodeOf text)) is h.made

@@ -1,11 +1,9 @@
 -- How a text becomes the code of a script.
-use Rattle.std.specs.Prelude.{◌≡◌, ◌↔◌, ℕ, IfErr, IfOk, List, Option, Result, Some, None, codes}
+use Rattle.std.specs.Prelude.{◌≡◌, ℕ, IfErr, IfOk, List, Option, Result, Some, None, codes}
 use Rattle.rc_model.specs.Code.Layout.{code}
-use Rattle.rc_model.specs.Mirrors.FirstFault.{first_fault}
 use Rattle.rc_model.specs.Mirrors.TreeOfText.{tree_of}
 use Rattle.rc_model.specs.Run.State.{State, with_status}
 use Rattle.rc_model.specs.Syntax.Accepted.{IsAccepted}
-use Rattle.rc_model.specs.declared.fault.SyntaxFault.{SyntaxFault}
 use Rattle.rc_model.specs.Syntax.Tree.{Node, cmd}
 use Rattle.rc_code.specs.Views.{code_of}
 use Rattle.rc_code.specs.declared.code.Code.{Code}
@@ -25,12 +23,7 @@ pub record IsCodeOf (script : List ℕ) (body : Code) : Type 0 where
   pub only : (other : Node cmd) → IsAccepted script other → other ≡ tree
   pub code_is : code_of body ≡ code tree
 
--- the script became code, or the fault is its first one, or memory ran out
+-- the script became code, or the fault is its own, or memory ran out
 pub record IsCompiled (script : List ℕ) (result : Result Code ScriptError) : Type 0 where
   pub made : IfOk result (IsCodeOf script)
   pub refused : IfErr result (λ e. Refuses e script)
-
--- a text has no tree, for which `eval` and `.` set the status `syntax error`, exactly if it has a first fault
-abbrev pub SyntaxErrorsAreFirstFaults : Type 0
-SyntaxErrorsAreFirstFaults =
-    (text : List ℕ) → (tree_of text ≡ None) ↔ ((fault : SyntaxFault) × (first_fault text ≡ Some fault))

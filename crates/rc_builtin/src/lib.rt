@@ -19,5 +19,5 @@ pub use directories::change_dir;
 pub use exits::exit_status;
 pub use known_names::whatis;
 pub use rc_model::Builtin;
-pub use scripts::{compile_script, syntax_errors_are_first_faults};
+pub use scripts::compile_script;
 pub use shifts::shift;

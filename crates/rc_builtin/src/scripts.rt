@@ -7,7 +7,7 @@ ghost use Rattle.rc_model.specs.Syntax.Accepted.{HasTokens};
 ghost use Rattle.rc_model.specs.Syntax.Tree as tree;
 ghost use Rattle.rc_model.specs.Syntax.Tree.{Many, snoc};
 ghost use Rattle.rc_tree.specs.View.{item_tree};
-ghost use Rattle.rc_builtin.specs.Scripts.{Compiles, IsCompiled, SyntaxErrorsAreFirstFaults};
+ghost use Rattle.rc_builtin.specs.Scripts.{Compiles, IsCompiled};
 ghost use Rattle.rc_scope.specs.States.{state_of};
 
 use rc_code::{Code, Compiler};
@@ -37,7 +37,7 @@ fn compile_items(alloc: Global, source: &Source<'_>) -> Result<Code, ScriptError
     Ok(compiler.finish()?)
 }
 
-/// Compiles the text that was read, or returns its first fault.
+/// Compiles the text that was read. The faults come in the order of those of `parse`.
 pub(crate) fn compile_read(alloc: Global, reader: Reader) -> Result<Code, ScriptError>
     ensures { IsCompiled reader result }
 {
@@ -54,11 +54,6 @@ pub fn compile_script(alloc: Global, script: &[u8]) -> Result<Code, ScriptError>
     reader.feed(script)?;
     compile_read(alloc, reader)
 }
-
-/// A text sets the status `syntax error` exactly if it has a first fault: the one that `compile_script` returns.
-pub fn syntax_errors_are_first_faults()
-    ensures { SyntaxErrorsAreFirstFaults }
-{}
 
 /// The code of a text, given the result of its compilation. A text that is refused has no code, and sets the status.
 pub(crate) fn compiled(

@@ -7,7 +7,6 @@ mod faults;
 mod lexed;
 mod positions;
 mod report;
-mod verdicts;
 mod warnings;
 
 pub use canonical_form::{Canonical, canonical_of};
@@ -16,6 +15,5 @@ pub use faults::findings::{Finding, first_fault};
 pub use positions::{Position, position_of};
 pub use rc_model::{FaultKind, SyntaxFault};
 pub use report::{Report, report_of};
-pub use verdicts::{Verdict, status_of};
 pub use warnings::walk::warnings_of;
 pub use warnings::warning::{Warning, WarningKind};

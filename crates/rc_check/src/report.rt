@@ -1,11 +1,10 @@
 //! The report on a script.
 
-ghost use Rattle.std.specs.Prelude.{IfOk};
-ghost use Rattle.rc_check.specs.Verdicts.{IsVerdictOn};
+ghost use Rattle.std.specs.Prelude.{IsTrue, ◌↔◌, IfOk};
+ghost use Rattle.rc_check.specs.Findings.{IsScript};
 
 use crate::faults::findings::{Finding, first_fault};
 use crate::positions::{Position, ReachedPlace, beginning, go_to, position_of};
-use crate::verdicts::Verdict;
 use crate::warnings::walk::warnings_of;
 use crate::warnings::warning::WarningKind;
 use std::alloc::{AllocError, Global};
@@ -19,29 +18,34 @@ pub struct Report {
     /// For a fault or a warning `NAME:LINE:COLUMN: WORDS`, the line, a mark below the place, and any advice. Empty if
     /// there is neither.
     pub text: String,
-    pub verdict: Verdict,
+    pub is_accepted: bool,
 }
 
 /// Reports on a script of this name.
 pub fn report_of(alloc: Global, name: &str, script: &[u8]) -> Result<Report, AllocError>
-    ensures { IfOk result (λ report. IsVerdictOn script.now report.verdict) }
+    ensures { IfOk result (λ report. IsTrue report.is_accepted ↔ IsScript script.now) }
 {
+    let found = first_fault(alloc, script)?;
+    let text = text_of(alloc, name, script, found)?;
+    Ok(Report {
+        text,
+        is_accepted: found.is_none(),
+    })
+}
+
+/// The text of a fault, or else of the warnings of a script.
+fn text_of(
+    alloc: Global,
+    name: &str,
+    script: &[u8],
+    found: Option<Finding>,
+) -> Result<String, AllocError> {
     let mut text = String::new(alloc);
-    let verdict = match first_fault(alloc, script)? {
-        Some(finding) => {
-            show_finding(alloc, &mut text, name, script, finding)?;
-            Verdict::Failed
-        }
-        None => {
-            show_warnings(alloc, &mut text, name, script)?;
-            if text.is_empty() {
-                Verdict::Well
-            } else {
-                Verdict::Warned
-            }
-        }
-    };
-    Ok(Report { text, verdict })
+    match found {
+        Some(finding) => show_finding(alloc, &mut text, name, script, finding)?,
+        None => show_warnings(alloc, &mut text, name, script)?,
+    }
+    Ok(text)
 }
 
 fn show_finding(

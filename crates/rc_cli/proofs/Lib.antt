@@ -1,4 +1,2 @@
 pub mod Decimals
-pub mod Launched
-pub mod Refused
 pub mod Unrecorded

@@ -1,6 +1,5 @@
 pub mod Asked
 pub mod Errors
-pub mod Launches
 pub mod Requests
 pub mod Runs
 pub mod Start

@@ -1,10 +1,8 @@
 -- The effect of a run of the program, by its arguments, its environment and the script that it reads.
 use Rattle.std.specs.Prelude.{◌≡◌, ◌⊎◌, ℕ, suc, List, Vec, take, Option, Some, None, IfSome, Result, Ok, Err}
 use Rattle.std.specs.declared.alloc.Global.{Global}
-use Rattle.rc_model.specs.Mirrors.FirstFault.{first_fault}
 use Rattle.rc_model.specs.Run.Calls.{Event}
 use Rattle.rc_model.specs.Syntax.Accepted.{longest_script}
-use Rattle.rc_model.specs.declared.fault.SyntaxFault.{SyntaxFault}
 use Rattle.rc_scope.specs.States.{state_of}
 use Rattle.rc_shell.specs.Executed.{IsExecuted, Program, image_from, text_from}
 use Rattle.rc_shell.specs.declared.run.Ran.{Ran}
@@ -91,11 +89,3 @@ RunsSource Image input before after r entries result = RunsImage before after r 
 abbrev pub RunsRequest : Option (Option (List ℕ)) → (entries : List (List ℕ)) → Option (List Event) →
     Option (List Event) → Result ℕ RunError → Request → Type 0
 RunsRequest input entries before after result r = RunsSource r.source input before after r entries result
-
--- a script that has a first fault makes no call, and the error is that fault, unless memory was refused
-abbrev pub FirstFaultsAreErrors : Type 0
-FirstFaultsAreErrors =
-    (before after : Option (List Event)) (r : Request) (entries : List (List ℕ)) (script : List ℕ)
-    (result : Result ℕ RunError) (fault : SyntaxFault) → first_fault script ≡ Some fault →
-    RunsScript before after r entries script result →
-    ((result ≡ Err (Syntax fault)) ⊎ (result ≡ Err NoMemory)) × (after ≡ before)

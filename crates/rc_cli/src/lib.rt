@@ -2,7 +2,6 @@
 #![tactic(auto)]
 
 mod exit_report;
-mod laws;
 mod program_request;
 mod reading;
 mod run_error;
@@ -11,7 +10,6 @@ mod start;
 mod status;
 
 pub use exit_report::report;
-pub use laws::{first_faults_are_errors, launches_are_run};
 pub use program_request::{Request, Source, request_of};
 pub use run_error::RunError;
 pub use running::run_rc;

@@ -1,12 +1,12 @@
 //! A compiler to which the items of a script come one after the other, so that no tree holds them all.
 
-ghost use Rattle.std.specs.Prelude.{◌≡◌, IfOk, IsErr, OnErr, OnOk};
+ghost use Rattle.std.specs.Prelude.{◌≡◌, IfOk, OnOk};
 ghost use Rattle.rc_model.specs.Code.Layout.{code};
 ghost use Rattle.rc_model.specs.Handed.Proper.{IsProperTree};
 ghost use Rattle.rc_model.specs.Syntax.Tree as tree;
 ghost use Rattle.rc_model.specs.Syntax.Tree.{Many, Seq, none, snoc};
 ghost use Rattle.rc_tree.specs.View.{item_tree};
-ghost use Rattle.rc_code.specs.Compiled.{HasCompiled, IsSpent};
+ghost use Rattle.rc_code.specs.Compiled.{HasCompiled};
 ghost use Rattle.rc_code.specs.Views.{code_of};
 
 use crate::code::{Code, Op};
@@ -20,8 +20,6 @@ use std::slice;
 pub struct Compiler {
     alloc: Global,
     listing: Listing,
-    /// Whether memory was refused for an item, which may be written in part.
-    is_spent: bool,
 }
 
 impl Drop for Compiler {
@@ -29,7 +27,6 @@ impl Drop for Compiler {
         let Compiler {
             alloc: _,
             listing: _,
-            is_spent: _,
         } = self;
     }
 }
@@ -43,25 +40,16 @@ impl Compiler {
         Compiler {
             alloc,
             listing: Listing::empty(alloc),
-            is_spent: false,
         }
     }
 
-    /// Compiles one more item. Once memory is refused, the compiler takes no more items.
+    /// Compiles one more item. If memory is refused, there is no code of it.
     #[tactic(auto, using(crate::proofs::Items::compiling))]
     pub fn add(&mut self, item: &Item) -> Result<(), AllocError>
-        ensures ok { (items : Many tree.item) → HasCompiled items self.old →
+        ensures { (items : Many tree.item) → HasCompiled items self.old →
             OnOk result (HasCompiled (snoc items (item_tree item.now)) self.new) }
-        ensures err { OnErr result (IsSpent self.new) }
-        ensures spent { IsSpent self.old → IsErr result }
     {
-        if self.is_spent {
-            return Err(AllocError);
-        }
-        self.is_spent = true;
-        emit_items(self.alloc, &mut self.listing, slice::from_ref(item), false)?;
-        self.is_spent = false;
-        Ok(())
+        emit_items(self.alloc, &mut self.listing, slice::from_ref(item), false)
     }
 
     /// The code of all items as a script, which ends with a `Return`.
@@ -70,11 +58,7 @@ impl Compiler {
         ensures { (items : Many tree.item) → HasCompiled items self →
             IfOk result (λ done. code_of done ≡ code (Seq items)) }
     {
-        let Compiler {
-            alloc,
-            mut listing,
-            is_spent: _,
-        } = self;
+        let Compiler { alloc, mut listing } = self;
         let written = listing.put(Op::Return);
         Code::of(alloc, listing, written)
     }

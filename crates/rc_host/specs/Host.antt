@@ -1,8 +1,7 @@
 -- What the host holds.
-use Rattle.std.specs.Prelude.{◌≡◌, ◌≢◌, ◌⊎◌, ◌<◌, ℕ, nat_lt, ℤ, pos, List, [], ◌∷◌, map, Option, None, Some, IsSome}
-use Rattle.std.specs.Prelude.{Bool, true, IsSomeAnd, if◌then◌else◌, option_map, string_bytes, unwrap_or, ⊤}
+use Rattle.std.specs.Prelude.{◌≡◌, ◌≢◌, ℕ, nat_lt, ℤ, pos, List, [], ◌∷◌, map, Option, None, Some, IsSome, IsSomeAnd}
+use Rattle.std.specs.Prelude.{if◌then◌else◌, option_map, string_bytes, unwrap_or, ⊤}
 use Rattle.std.specs.Fd.{file_raw_fd, pipe_reader_raw_fd, pipe_writer_raw_fd}
-use Rattle.std.specs.declared.io.Error.{Error}
 use Rattle.std.specs.declared.process.child.Child.{Child}
 use Rattle.std.specs.declared.process.pipes.ChildStdin.{ChildStdin}
 use Rattle.std.specs.declared.process.pipes.ChildStdout.{ChildStdout}
@@ -12,16 +11,13 @@ use Rattle.rc_model.specs.declared.call.Slot.{Slot}
 use Rattle.rc_model.specs.declared.call.Slot.TheVariants.{Own, To}
 use Rattle.rc_model.specs.declared.call.Slots.{Slots}
 use Rattle.rc_host.specs.Files.{IsFile, IsReadEnd, IsWriteEnd}
-use Rattle.rc_host.specs.Leaving.{counted}
 use Rattle.rc_host.specs.Plan.{plan_of}
-use Rattle.rc_host.specs.Process.{own_link, IsFileLost}
 use Rattle.rc_host.specs.Requests.{AsksFor}
 use Rattle.rc_host.specs.Table.{held_at, Adds}
 use Rattle.rc_host.specs.declared.files.OpenFile.{OpenFile}
 use Rattle.rc_host.specs.declared.files.OpenFile.TheVariants.{File, ReadEnd, WriteEnd}
 use Rattle.rc_host.specs.declared.host.HostWorld.{HostWorld}
 use Rattle.rc_host.specs.declared.launches.launch_request.Request.{Request}
-use Rattle.rc_host.specs.declared.leaving.Leaving.{Leaving}
 
 -- the path of the shell's own program, if the host knows it
 abbrev pub shell_of : HostWorld → Option (List ℕ)
@@ -30,18 +26,6 @@ shell_of world = option_map string_bytes world.shell
 -- the path that is known, or the empty text
 abbrev pub known_shell : HostWorld → List ℕ
 known_shell world = unwrap_or (shell_of world) []
-
--- a launch of the shell itself starts the program of this process
-abbrev pub starts_itself : HostWorld → Bool
-starts_itself world = world.is_itself
-
--- which descriptors of its own the process is to give up, and after how many files
-abbrev pub leaving_of : HostWorld → Leaving
-leaving_of world = world.leaving
-
--- the entries of the environment that is kept
-abbrev pub kept_of : HostWorld → List (List ℕ)
-kept_of world = world.environment
 
 -- as far as a launch needs it, this is the path of the shell's own program
 abbrev pub IsShellOf : HostWorld → Launch → List ℕ → Type 0
@@ -61,36 +45,26 @@ pub record HoldsAllAlike (old new : HostWorld) : Type 0 where
   pub files : files_of new ≡ files_of old
   pub children : children_of new ≡ children_of old
 
--- all but the open files, and what is to be given up, are as before; a file that was opened is counted
-pub record Opens (old new : HostWorld) (is_opened : Bool) : Type 0 where
-  pub shell : shell_of new ≡ shell_of old
-  pub children : children_of new ≡ children_of old
-  pub leaving : leaving_of new ≡ (if is_opened then counted (leaving_of old) else leaving_of old)
-
 -- all but the open files are as before
 pub record ChangesFilesAlone (old new : HostWorld) : Type 0 where
   pub shell : shell_of new ≡ shell_of old
   pub children : children_of new ≡ children_of old
-  pub leaving : leaving_of new ≡ leaving_of old
 
 -- all but the children are as before
 pub record ChangesChildrenAlone (old new : HostWorld) : Type 0 where
   pub shell : shell_of new ≡ shell_of old
   pub files : files_of new ≡ files_of old
-  pub leaving : leaving_of new ≡ leaving_of old
 
 -- all but the children are as before, except the path of the shell's own program if that was not known
 pub record ChangesChildrenAndShell (old new : HostWorld) : Type 0 where
   pub shell : IsSome (shell_of old) → shell_of new ≡ shell_of old
   pub files : files_of new ≡ files_of old
-  pub leaving : leaving_of new ≡ leaving_of old
 
 -- all is as before, but for the path of the shell's own program if that was not known
 pub record FindsShellAlone (old new : HostWorld) : Type 0 where
   pub shell : IsSome (shell_of old) → shell_of new ≡ shell_of old
   pub files : files_of new ≡ files_of old
   pub children : children_of new ≡ children_of old
-  pub leaving : leaving_of new ≡ leaving_of old
 
 -- one file more is open, at this number
 abbrev pub AddsFile : HostWorld → HostWorld → ℕ → Type 0
@@ -106,9 +80,9 @@ pub record AddsPipe (old new : HostWorld) (read_end write_end : ℕ) : Type 0 wh
   pub write : IsSomeAnd (held_at (files_of new) write_end) IsWriteEnd
   pub others : (k : ℕ) → k ≢ read_end → k ≢ write_end → held_at (files_of new) k ≡ held_at (files_of old) k
 
--- what a slot names is there: one of the shell's own three descriptors, or an open file that is held
+-- the slot of a child's descriptor is there: the shell's own always, an open file if it is held
 abbrev pub IsThere : List (Option OpenFile) → Slot → Type 0
-IsThere files (Own n) = n < 3
+IsThere files (Own n) = ⊤
 IsThere files (To file) = IsSome (held_at files file.0)
 
 -- the slots of all three are there
@@ -134,21 +108,11 @@ AreNamed files slots descriptors =
     map Some descriptors ≡ descriptor_at files slots.input ∷ descriptor_at files slots.output
     ∷ descriptor_at files slots.errors ∷ []
 
--- the shell itself is started by this path: that of its program or, if it is this process's, the link to that
-abbrev pub IsStartedBy : HostWorld → Launch → List ℕ → Type 0
-IsStartedBy world launch path =
-    launch.program ≡ None → (shell_of world ≡ Some path) ⊎ ((starts_itself world ≡ true) × (path ≡ own_link))
-
--- a refused start is tried again by that link: one of the program of this process, whose file is lost
-pub record IsTriedAgain (world : HostWorld) (launch : Launch) (error : Error) : Type 0 where
-  pub shell : launch.program ≡ None
-  pub itself : starts_itself world ≡ true
-  pub lost : IsFileLost error
-
--- Linux is asked for the plan of a launch, with the descriptors that the slots of the launch name
-pub record AsksForPlanOf (world : HostWorld) (launch : Launch) (path : List ℕ) (request : Request) : Type 0 where
-  pub plan : AsksFor request (plan_of path launch)
-  pub descriptors : AreNamed (files_of world) launch.slots request.descriptors
+-- Linux is asked for the plan of a launch, with the descriptors that the slots of the plan name
+abbrev pub AsksForPlanOf : HostWorld → Launch → Request → (descriptors : List ℤ) → Type 0
+AsksForPlanOf world launch request descriptors =
+    IsSomeAnd (plan_of (known_shell world) launch)
+    (λ plan. AsksFor request plan × AreNamed (files_of world) plan.slots descriptors)
 
 -- a descriptor of this process, by its number, is the shell's own in a slot
 abbrev pub IsOwn : Option ℤ → Slot → Type 0

@@ -1,7 +1,6 @@
 pub mod Answers
 pub mod Files
 pub mod Host
-pub mod Leaving
 pub mod Names
 pub mod Plan
 pub mod PlanViews

@@ -1,9 +1,7 @@
--- Why the arguments of a program could not be read, and the paths with which a program starts itself.
-use Rattle.std.specs.Prelude.{◌≡◌, ◌⊎◌, ℕ, ℤ, pos, ◌==◌, ◌++◌, Bool, List, if◌then◌else◌, codes, IsSomeAnd}
+-- Why the arguments of a program could not be read, and the path with which a program starts itself.
+use Rattle.std.specs.Prelude.{ℕ, ◌==◌, ◌++◌, Bool, List, if◌then◌else◌, codes}
 use Rattle.std.specs.Fmt.{decimal}
-use Rattle.std.specs.IoError.{raw_os_error}
 use Rattle.std.specs.List.{ends_with}
-use Rattle.std.specs.declared.io.Error.{Error}
 use Rattle.rc_host.specs.declared.process.ArgumentsFault.{ArgumentsFault}
 use Rattle.rc_host.specs.declared.process.ArgumentsFault.TheVariants.{NotText}
 use Rattle.rc_model.specs.declared.call.Fault as call
@@ -27,17 +25,3 @@ program_link process = codes "/proc/" ++ (decimal process ++ codes "/exe")
 -- the path with which a program starts itself: the one that Linux reports, as long as its file has that name
 abbrev pub own_path : List ℕ → (process : ℕ) → List ℕ
 own_path path process = if is_deleted path then program_link process else path
-
--- the link that Linux keeps to the program of the process that follows it
-abbrev pub own_link : List ℕ
-own_link = codes "/proc/self/exe"
-
--- Linux's numbers for refusing a start because of the program's file: it is not there, it is no program, it may not be
--- executed, its directory is another file, it is being written
-abbrev pub IsOfFile : ℤ → Type 0
-IsOfFile number =
-    (number ≡ pos 2) ⊎ ((number ≡ pos 8) ⊎ ((number ≡ pos 13) ⊎ ((number ≡ pos 20) ⊎ (number ≡ pos 26))))
-
--- a start is refused because the program's file is gone, or another that can't be started is in its place
-abbrev pub IsFileLost : Error → Type 0
-IsFileLost error = IsSomeAnd (raw_os_error error) IsOfFile

@@ -4,7 +4,7 @@ use Rattle.std.specs.Prelude.{flat_map}
 use Rattle.std.specs.List.{list_any}
 use Rattle.rc_model.specs.declared.call.Fault.{Fault}
 use Rattle.rc_model.specs.declared.call.Fault.TheVariants.{NoMemory, Other}
-use Rattle.rc_host.specs.Plan.{Plan}
+use Rattle.rc_host.specs.Plan.{Plan, has_equals}
 use Rattle.rc_host.specs.declared.launches.launch_request.Request.{Request}
 
 -- texts in a sequence, each terminated by a byte 0
@@ -14,10 +14,6 @@ terminated texts = flat_map (λ text. text ++ 0 ∷ []) texts
 -- a text that would be cut, since it has a byte 0 itself
 abbrev pub has_zero : List ℕ → Bool
 has_zero text = list_any (λ b. b == 0) text
-
--- a text that has an equals sign
-abbrev pub has_equals : List ℕ → Bool
-has_equals text = list_any (λ b. b == 61) text
 
 -- a text that is no entry of an environment, since it has no equals sign or would be cut
 abbrev pub is_no_entry : List ℕ → Bool

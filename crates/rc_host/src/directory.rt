@@ -1,6 +1,5 @@
 //! The names in a directory.
-ghost use Rattle.std.specs.Prelude.{◌≡◌, ◌≢◌, ◌↔◌, ◌≤◌, length, Some, Err, IfOk, IfErr, IfSome, IsOk, map, string_bytes};
-ghost use Rattle.std.specs.Fd.{file_raw_fd};
+ghost use Rattle.std.specs.Prelude.{◌≡◌, ◌≢◌, ◌↔◌, Some, Err, IfOk, IfErr, IfSome, IsOk, map, string_bytes};
 ghost use Rattle.std.specs.IoError.{os_error_kind};
 ghost use Rattle.rc_model.specs.declared.call.Fault.TheVariants.{Halt};
 ghost use Rattle.rc_world.specs.Faults.{fault_at, fault_of};
@@ -9,14 +8,13 @@ ghost use Rattle.rc_host.specs.Names.{directory_path, names_in, IsLast};
 use crate::answers::answer;
 use crate::ended::{Sort, push_ended};
 use crate::files::read_again;
-use crate::linux::open_directory;
 use rc_world::Fault;
 use std::alloc::{AllocError, Global};
 use std::fs::File;
-use std::io;
 use std::io::{ErrorKind, Read};
-use std::os::fd::{AsRawFd, RawFd};
+use std::os::fd::AsRawFd;
 use std::rt::HostRuntime;
+use std::{fs, io};
 
 /// How many bytes of names are read at once.
 const NAME_BYTES: usize = 32_768;
@@ -27,7 +25,7 @@ struct Directory(File);
 
 impl Read for Directory {
     fn read(&mut self, buffer: &mut [u8]) -> io::Result<usize> {
-        let count = read_names(self.0.as_raw_fd(), buffer, &self.0);
+        let count = os::read_dir(self.0.as_raw_fd(), buffer);
         if count > 0 {
             return Ok(count);
         }
@@ -35,20 +33,12 @@ impl Read for Directory {
     }
 }
 
-/// Reads names of the open directory with this descriptor.
-fn read_names(descriptor: RawFd, buffer: &mut [u8], _directory: &File) -> usize
-    requires { descriptor ≡ file_raw_fd _directory.now }
-    ensures { result ≤ length buffer.new }
-{
-    os::read_dir(descriptor, buffer)
-}
-
 /// The names in the directory with this path, in the order in which Linux has them.
 pub(crate) fn names_in(rt: &HostRuntime, path: &str) -> Result<Vec<String>, Fault>
     ensures { result ≢ Err Halt }
 {
-    let whole = directory_path(rt.alloc(), path).map_err(|_| Fault::NoMemory)?;
-    let directory = answer(open_directory(rt, whole.as_str(), path))?;
+    let path = directory_path(rt.alloc(), path).map_err(|_| Fault::NoMemory)?;
+    let directory = answer(fs::open(rt, path.as_str()))?;
     names_of(rt.alloc(), &mut Directory(directory))
 }
 

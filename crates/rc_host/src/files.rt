@@ -1,5 +1,5 @@
 //! Open files and ends of pipes.
-ghost use Rattle.std.specs.Prelude.{◌≡◌, ◌≢◌, ◌≤◌, ◌++◌, [], Ok, Err, IfOk, IfErr, OnOk, OnErr, MatchResult};
+ghost use Rattle.std.specs.Prelude.{◌≡◌, ◌≢◌, ◌≤◌, ◌++◌, [], Err, IfOk, IfErr, OnOk, OnErr};
 ghost use Rattle.std.specs.Prelude.{codes, string_bytes, vec_len};
 ghost use Rattle.std.specs.Fmt.{decimal};
 ghost use Rattle.std.specs.Io.{ReadsAtMost};
@@ -133,14 +133,7 @@ pub(crate) fn here_file(rt: &HostRuntime, text: &str) -> Result<File, Fault>
     ensures { result ≢ Err Halt }
 {
     let (mut writer, reader) = answer(nameless_file(rt))?;
-    written(write_text(&mut writer, text.as_bytes()), reader)
-}
-
-/// The file for reading, by what was said of the writing of its text.
-fn written(said: Result<(), Fault>, reader: File) -> Result<File, Fault>
-    ensures { MatchResult said (λ _. result ≡ Ok reader) (λ fault. result ≡ Err fault) }
-{
-    said?;
+    write_text(&mut writer, text.as_bytes())?;
     Ok(reader)
 }
 
@@ -148,18 +141,10 @@ fn written(said: Result<(), Fault>, reader: File) -> Result<File, Fault>
 fn nameless_file(rt: &HostRuntime) -> io::Result<(File, File)> {
     let mut random = [0u8; 16];
     rt.fill_bytes(&mut random)?;
-    let number = u128::from_le_bytes(random);
-    let path = here_path(rt.alloc(), number)?;
-    open_nameless(rt, path.as_str(), number)
-}
-
-/// Makes the file of a here document, and removes its name.
-fn open_nameless(rt: &HostRuntime, path: &str, _number: u128) -> io::Result<(File, File)>
-    requires { path.now ≡ codes "/tmp/rc." ++ decimal _number }
-{
-    let writer = fresh_options().mode(PRIVATE).open(rt, path)?;
-    let reader = fs::open(rt, path);
-    fs::remove_file(rt, path)?;
+    let path = here_path(rt.alloc(), u128::from_le_bytes(random))?;
+    let writer = fresh_options().mode(PRIVATE).open(rt, path.as_str())?;
+    let reader = fs::open(rt, path.as_str());
+    fs::remove_file(rt, path.as_str())?;
     Ok((writer, reader?))
 }
 

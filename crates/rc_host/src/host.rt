@@ -1,22 +1,18 @@
 //! Linux as a world.
 ghost use Rattle.std.specs.Prelude.{◌≡◌, ◌≢◌, ◌↔◌, ℕ, ◌<◌, ◌≤◌, List, [], length, string_bytes, vec_len};
-ghost use Rattle.std.specs.Prelude.{map, option_map, unwrap_or, ◌++◌, MatchResult};
+ghost use Rattle.std.specs.Prelude.{option_map, unwrap_or};
 ghost use Rattle.std.specs.Prelude.{None, Some, Ok, Err, IfOk, IfErr, OnOk, OnErr, IsOk, IsSome, IsTrue};
 ghost use Rattle.std.specs.Io.KnownBytes.{Appends};
-ghost use Rattle.std.specs.Result.{is_ok};
 ghost use Rattle.rc_model.specs.declared.call.Fault.TheVariants.{NoMemory, Other, Halt};
 ghost use Rattle.rc_model.specs.declared.limits.TheConstants.{LONGEST_READ};
 ghost use Rattle.rc_world.specs.Faults.{fault_at};
 ghost use Rattle.rc_world.specs.Views.{launch_of};
-ghost use Rattle.rc_host.specs.Leaving.{nothing, counted};
-ghost use Rattle.rc_host.specs.Process.{own_link, IsFileLost};
-ghost use Rattle.rc_host.specs.Requests.{handed_over};
+ghost use Rattle.rc_host.specs.Plan.{plan_of};
 ghost use Rattle.rc_host.specs.Table.{held_at, IsLeastFree, AreLeastFree, HoldsTheSame, ChangesOnly};
 ghost use Rattle.rc_host.specs.Host.{shell_of, files_of, children_of, ChangesFilesAlone, ChangesChildrenAlone};
 ghost use Rattle.rc_host.specs.Host.{ChangesChildrenAndShell, FindsShellAlone, IsShellOf, known_shell};
 ghost use Rattle.rc_host.specs.Host.{HoldsAllAlike, AddsFile, AddsPipe, AddsChild, IsThere, AreThere, IsOwn};
-ghost use Rattle.rc_host.specs.Host.{descriptor_at, AreNamed, AsksForPlanOf, IsStartedBy, IsTriedAgain};
-ghost use Rattle.rc_host.specs.Host.{starts_itself, leaving_of, kept_of, Opens};
+ghost use Rattle.rc_host.specs.Host.{descriptor_at, AreNamed, AsksForPlanOf};
 
 use crate::answers::{answer, end_of, kind_found};
 use crate::directory::names_in;
@@ -26,16 +22,15 @@ use crate::launches::launch_request::{Command, Request};
 use crate::launches::linux_child::{LinuxChild, start};
 use crate::launches::planning::plan;
 use crate::leaving::{Leaving, give_up};
-use crate::linux::{enter, metadata, open_file};
-use crate::process::{OWN_LINK, is_file_lost, own_program};
+use crate::process::own_program;
 use crate::table::Table;
 use rc_world::{ChildNo, Ending, Fault, Handle, Kind, Launch, Mode, Program, Slot, Slots, World};
 use std::fs::File;
-use std::io;
 use std::io::{PipeReader, PipeWriter, Write};
 use std::os::fd::{AsRawFd, RawFd};
 use std::process::Child;
 use std::rt::HostRuntime;
+use std::{env, fs, io};
 
 /// Linux as a world. It records no events.
 ///
@@ -45,8 +40,6 @@ pub struct HostWorld {
     rt: HostRuntime,
     /// The path of the shell's own program, if it is known.
     shell: Option<String>,
-    /// Whether that program is this process's own.
-    is_itself: bool,
     files: Table<OpenFile>,
     children: Table<Child<LinuxChild>>,
     /// The entries of the last launch that had some, as Linux takes them.
@@ -59,7 +52,6 @@ impl Drop for HostWorld {
         let HostWorld {
             rt: _,
             shell: _,
-            is_itself: _,
             files: _,
             children: _,
             environment: _,
@@ -70,20 +62,15 @@ impl Drop for HostWorld {
 
 impl HostWorld {
     /// `shell` is the path of the program that a launch of the shell itself starts. If it is not given, it is that of
-    /// this process's program, for which Linux is asked at the first such launch; if that can't be started since its
-    /// file is gone, or another is in its place, the link to it is tried once.
+    /// this process's program, for which Linux is asked at the first such launch.
     pub fn new(rt: HostRuntime, shell: Option<String>) -> HostWorld
         ensures shell { shell_of result ≡ option_map string_bytes shell }
         ensures files { (k : ℕ) → held_at (files_of result) k ≡ None }
         ensures children { (k : ℕ) → held_at (children_of result) k ≡ None }
-        ensures leaving { leaving_of result ≡ nothing }
-        ensures itself { IsTrue (starts_itself result) ↔ (shell ≡ None) }
     {
-        let is_itself = shell.is_none();
         HostWorld {
             rt,
             shell,
-            is_itself,
             files: Table::new(rt.alloc()),
             children: Table::new(rt.alloc()),
             environment: KeptEnvironment::new(rt.alloc()),
@@ -94,20 +81,18 @@ impl HostWorld {
     /// Sets how many files are opened before the process closes descriptors of its own. No call may name them after
     /// that.
     pub fn leave(&mut self, leaving: Leaving)
-        ensures set { leaving_of self.new ≡ leaving }
-        ensures same { HoldsAllAlike self.old self.new }
+        ensures { HoldsAllAlike self.old self.new }
     {
         self.leaving = leaving;
     }
 
     /// Counts a file that was opened. After the last one the process closes descriptors of its own.
     fn count_opened(&mut self)
-        ensures counted { leaving_of self.new ≡ counted (leaving_of self.old) }
-        ensures same { HoldsAllAlike self.old self.new }
+        ensures { HoldsAllAlike self.old self.new }
     {
-        let before = self.leaving;
-        let due = self.leaving.count();
-        give_up(&self.rt, due, before);
+        if self.leaving.count() {
+            give_up(&self.rt, self.leaving);
+        }
     }
 
     /// Whether each open file that a slot names is held.
@@ -121,7 +106,7 @@ impl HostWorld {
         ensures { IsTrue result ↔ IsThere (files_of self.now) slot }
     {
         match slot {
-            Slot::Own(own) => own < 3,
+            Slot::Own(_) => true,
             Slot::To(file) => self.files.get(file.0).is_some(),
         }
     }
@@ -156,7 +141,7 @@ impl HostWorld {
         requires place { _number < length (files_of self.now) }
         ensures answered { result ≢ Err Halt }
     {
-        answer(open_file(&self.rt, &options_of(mode), path, mode, path))
+        answer(options_of(mode).open(&self.rt, path))
     }
 
     /// Makes the here document to be held at this number, for which there is room already.
@@ -190,70 +175,21 @@ impl HostWorld {
         Ok(())
     }
 
-    /// Starts the program of a launch, whose child is to be held at this number, for which there is room already, with
-    /// the environment that is kept, or none. If the shell's own file is lost, the link to its program is tried.
-    fn started(
-        &self,
-        number: u32,
-        launch: &Launch,
-        is_kept: bool,
-    ) -> Result<io::Result<Child<LinuxChild>>, Fault>
-        requires place { number < length (children_of self.now) }
-        requires known { IsShellOf self.now (launch_of launch.now) (known_shell self.now) }
-        requires kept { handed_over is_kept (kept_of self.now) ≡ (launch_of launch.now).entries }
-        ensures answered { result ≢ Err Halt }
-    {
-        let said = self.started_by(path_or_empty(&self.shell), number, launch, is_kept)?;
-        match said {
-            Err(refused) if self.is_tried_again(launch, &refused) => {
-                let again = self.started_by(OWN_LINK, number, launch, is_kept)?;
-                Ok(again_or(again, refused))
-            }
-            said => Ok(said),
-        }
-    }
-
-    /// Starts the program of a launch; a launch of the shell itself starts what is at this path.
-    fn started_by(
-        &self,
-        path: &str,
-        number: u32,
-        launch: &Launch,
-        is_kept: bool,
-    ) -> Result<io::Result<Child<LinuxChild>>, Fault>
-        requires path { IsStartedBy self.now (launch_of launch.now) path.now }
-        requires place { number < length (children_of self.now) }
-        requires kept { handed_over is_kept (kept_of self.now) ≡ (launch_of launch.now).entries }
-        ensures answered { result ≢ Err Halt }
-    {
-        let plan = plan(launch, path);
-        let command = Command::of(self.rt.alloc(), &plan)?;
-        let descriptors = self.descriptors(plan.slots)?;
-        let request = command.request(self.environment.block(is_kept), descriptors);
-        Ok(self.spawn(number, launch, path, &request))
-    }
-
-    /// Asks Linux for the program of a launch. The child does not inherit the shell's own descriptors but gets copies,
-    /// since one that was opened because it was absent is closed there.
+    /// Starts the program of a launch, whose child is to be held at this number, for which there is room already. The
+    /// child does not inherit the shell's own descriptors but gets copies, since one that was opened because it was
+    /// absent is closed there.
     fn spawn(
         &self,
         _number: u32,
         _launch: &Launch,
-        _path: &str,
         request: &Request,
+        descriptors: [RawFd; 3],
     ) -> io::Result<Child<LinuxChild>>
         requires place { _number < length (children_of self.now) }
-        requires path { IsStartedBy self.now (launch_of _launch.now) _path.now }
-        requires planned { AsksForPlanOf self.now (launch_of _launch.now) _path.now request.now }
+        requires known { IsShellOf self.now (launch_of _launch.now) (known_shell self.now) }
+        requires planned { AsksForPlanOf self.now (launch_of _launch.now) request.now descriptors }
     {
-        start(request)
-    }
-
-    /// Whether the start of a launch that was refused is to be tried again, by the link to this process's program.
-    fn is_tried_again(&self, launch: &Launch, refused: &io::Error) -> bool
-        ensures { IsTrue result ↔ IsTriedAgain self.now (launch_of launch.now) refused.now }
-    {
-        self.is_itself && matches!(launch.program, Program::Shell) && is_file_lost(refused)
+        start(request, descriptors)
     }
 
     /// Holds the child at this number, if Linux started one.
@@ -286,19 +222,6 @@ fn path_or_empty(path: &Option<String>) -> &str
     }
 }
 
-/// What Linux said of the second start, or the first refusal if it refused that one too.
-fn again_or(
-    again: io::Result<Child<LinuxChild>>,
-    refused: io::Error,
-) -> io::Result<Child<LinuxChild>>
-    ensures { MatchResult again (λ child. result ≡ Ok child) (λ _. result ≡ Err refused) }
-{
-    match again {
-        Ok(child) => Ok(child),
-        Err(_) => Err(refused),
-    }
-}
-
 /// Writes the whole text to one of this process's own descriptors.
 fn write_own<W: Write + AsRawFd>(own: &mut W, _slot: Slot, text: &[u8]) -> Result<(), Fault>
     requires own { IsOwn (W.raw_fd own.old) _slot }
@@ -315,7 +238,7 @@ impl World for HostWorld {
         ensures least { IfOk result (λ file. IsLeastFree (files_of self.old) file.0) }
         ensures opened { IfOk result (λ file. AddsFile self.old self.new file.0) }
         ensures refused { OnErr result (HoldsTheSame (files_of self.old) (files_of self.new)) }
-        ensures rest { Opens self.old self.new (is_ok result) }
+        ensures rest { ChangesFilesAlone self.old self.new }
         ensures answered { result ≢ Err Halt }
     {
         let number = self.files.room()?;
@@ -329,7 +252,7 @@ impl World for HostWorld {
         ensures least { IfOk result (λ file. IsLeastFree (files_of self.old) file.0) }
         ensures opened { IfOk result (λ file. AddsFile self.old self.new file.0) }
         ensures refused { OnErr result (HoldsTheSame (files_of self.old) (files_of self.new)) }
-        ensures rest { Opens self.old self.new (is_ok result) }
+        ensures rest { ChangesFilesAlone self.old self.new }
         ensures answered { result ≢ Err Halt }
     {
         let number = self.files.room()?;
@@ -396,6 +319,8 @@ impl World for HostWorld {
 
     fn start(&mut self, launch: &Launch) -> Result<ChildNo, Fault>
         ensures unknown { ¬ AreThere (files_of self.old) launch.now.slots → result ≡ Err Other }
+        ensures unplanned { (path : List ℕ) → IsShellOf self.new (launch_of launch.now) path
+            → plan_of path (launch_of launch.now) ≡ None → result ≡ Err Other }
         ensures least { IfOk result (λ child. IsLeastFree (children_of self.old) child.0) }
         ensures started { IfOk result (λ child. AddsChild self.old self.new child.0) }
         ensures refused { OnErr result (HoldsTheSame (children_of self.old) (children_of self.new)) }
@@ -406,9 +331,16 @@ impl World for HostWorld {
             return Err(Fault::Other);
         }
         self.find_shell(launch)?;
+        let plan = plan(self.rt.alloc(), launch, path_or_empty(&self.shell))?;
         let number = self.children.room()?;
-        let is_kept = self.environment.keep(self.rt.alloc(), &launch.env)?;
-        let said = self.started(number, launch, is_kept)?;
+        let command = Command::of(self.rt.alloc(), &plan)?;
+        let is_kept = self.environment.keep(self.rt.alloc(), plan.env)?;
+        let slots = plan.slots;
+        drop(plan);
+        let world = &*self;
+        let descriptors = world.descriptors(slots)?;
+        let request = command.request(world.environment.block(is_kept));
+        let said = world.spawn(number, launch, &request, descriptors);
         self.hold(number, said)
     }
 
@@ -435,13 +367,13 @@ impl World for HostWorld {
         ensures same { self.new ≡ self.old }
         ensures answered { result ≢ Err Halt }
     {
-        kind_found(metadata(&self.rt, path, path))
+        kind_found(fs::metadata(&self.rt, path))
     }
 
     fn chdir(&mut self, path: &str) -> Result<(), Fault>
         ensures same { self.new ≡ self.old }
         ensures answered { result ≢ Err Halt }
     {
-        answer(enter(&self.rt, path, path))
+        answer(env::set_current_dir(&self.rt, path))
     }
 }

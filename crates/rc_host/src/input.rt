@@ -1,5 +1,5 @@
 //! The input that a script is read from.
-ghost use Rattle.std.specs.Prelude.{◌≡◌, ◌≢◌, IfErr, IfSome};
+ghost use Rattle.std.specs.Prelude.{◌≢◌, IfErr};
 ghost use Rattle.std.specs.Io.{ReadsAtMost};
 ghost use Rattle.std.specs.Io.KnownBytes.{ReadConsumes};
 ghost use Rattle.std.specs.IoError.{error_kind};
@@ -40,9 +40,7 @@ fn read_waiting<R: Read + AsRawFd>(reader: &mut R, buffer: &mut [u8]) -> io::Res
     for _ in 0..u64::MAX {
         match reader.read(buffer) {
             Ok(count) => return Ok(count),
-            Err(error) if error.kind() == ErrorKind::WouldBlock => {
-                wait_for(reader.as_raw_fd(), reader)?;
-            }
+            Err(error) if error.kind() == ErrorKind::WouldBlock => wait_for(reader.as_raw_fd())?,
             Err(error) => return Err(error),
         }
     }
@@ -50,8 +48,7 @@ fn read_waiting<R: Read + AsRawFd>(reader: &mut R, buffer: &mut [u8]) -> io::Res
 }
 
 /// Waits until there is something to read, or until a signal arrives.
-fn wait_for<R: AsRawFd>(descriptor: RawFd, _reader: &R) -> io::Result<()>
-    requires { IfSome (R.raw_fd _reader.now) (λ number. descriptor ≡ number) }
+fn wait_for(descriptor: RawFd) -> io::Result<()>
     ensures { IfErr result (λ error. error_kind error ≢ ErrorKind.WouldBlock) }
 {
     let mut asked = [pollfd {

@@ -1,6 +1,6 @@
 //! Descriptors of its own that a process closes.
-ghost use Rattle.std.specs.Prelude.{◌≡◌, pos, not, true, Some};
-ghost use Rattle.rc_host.specs.Leaving.{is_own, stands, gives_up, nothing, due_after, counted};
+ghost use Rattle.std.specs.Prelude.{◌≡◌, ◌-◌, ◌==◌, not};
+ghost use Rattle.rc_host.specs.Plan.{is_own, stands};
 
 use rc_world::{Slot, Slots};
 use std::fs::File;
@@ -21,7 +21,7 @@ pub struct Leaving {
 impl Leaving {
     /// Closes nothing.
     pub fn never() -> Leaving
-        ensures { result ≡ nothing }
+        ensures { result.files ≡ 0 }
     {
         Leaving {
             files: 0,
@@ -46,18 +46,14 @@ impl Leaving {
         }
     }
 
-    /// Counts a file that was opened, and returns what is to be closed for it.
-    pub(crate) fn count(&mut self) -> Leaving
-        ensures due { result ≡ due_after self.old }
-        ensures left { self.new ≡ counted self.old }
+    /// Counts a file that was opened, and returns whether it was the last.
+    pub(crate) fn count(&mut self) -> bool
+        ensures last { result ≡ (self.old.files == 1) }
+        ensures left { self.new ≡ record self.old { files = self.old.files - 1 } }
     {
-        let due = if self.files == 1 {
-            *self
-        } else {
-            Leaving::never()
-        };
+        let is_last = self.files == 1;
         self.files = self.files.saturating_sub(1);
-        due
+        is_last
     }
 }
 
@@ -82,30 +78,25 @@ pub(crate) fn open_null(rt: &HostRuntime) -> io::Result<File> {
     File::options().read(true).write(true).open(rt, "/dev/null")
 }
 
-/// Closes the descriptors of this process that are due after a file was opened, as far as `/dev/null` can be opened to
-/// take their places. No other file gets their numbers.
-pub(crate) fn give_up(rt: &HostRuntime, due: Leaving, _before: Leaving)
-    requires { due ≡ due_after _before }
-{
-    if due.files == 0 || open_null(rt).is_err() {
+/// Closes descriptors of this process, as far as `/dev/null` can be opened to take their places. No other file gets
+/// their numbers.
+pub(crate) fn give_up(rt: &HostRuntime, leaving: Leaving) {
+    if open_null(rt).is_err() {
         return;
     }
-    if due.input {
-        replace(rt, &rt.stdin(), 0, due);
+    if leaving.input {
+        replace(rt, &rt.stdin());
     }
-    if due.output {
-        replace(rt, &rt.stdout(), 1, due);
+    if leaving.output {
+        replace(rt, &rt.stdout());
     }
-    if due.errors {
-        replace(rt, &rt.stderr(), 2, due);
+    if leaving.errors {
+        replace(rt, &rt.stderr());
     }
 }
 
-/// Closes a descriptor of this process that is due. Linux gives `/dev/null` its number, the lowest free one.
-fn replace<F: AsRawFd>(rt: &HostRuntime, own: &F, _number: u8, _due: Leaving)
-    requires own { F.raw_fd own.now ≡ Some (pos _number) }
-    requires due { gives_up _due _number ≡ true }
-{
+/// Closes a descriptor of this process. Linux gives `/dev/null` its number, the lowest free one.
+fn replace<F: AsRawFd>(rt: &HostRuntime, own: &F) {
     libc::close(own.as_raw_fd());
     if let Ok(null) = open_null(rt) {
         null.into_raw_fd();

@@ -9,7 +9,6 @@ mod host;
 mod input;
 mod launches;
 mod leaving;
-mod linux;
 mod process;
 mod table;
 

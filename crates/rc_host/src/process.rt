@@ -1,9 +1,9 @@
 //! What a program gets from its process.
-ghost use Rattle.std.specs.Prelude.{◌≡◌, ◌==◌, ◌+◌, ◌<◌, ◌≤◌, pos, None, Some, IfOk, IfSome, OnErr, count_by, drop, map};
-ghost use Rattle.std.specs.Prelude.{string_bytes, vec_len, ◌↔◌, IsTrue, Err, IsOkAnd, MatchResult};
+ghost use Rattle.std.specs.Prelude.{◌≡◌, ◌==◌, ◌≤◌, None, IfOk, IfSome, OnErr, count_by, drop, map};
+ghost use Rattle.std.specs.Prelude.{string_bytes, vec_len};
 ghost use Rattle.std.specs.Path.{path_buf_bytes};
 ghost use Rattle.rc_host.specs.Names.{entries_in};
-ghost use Rattle.rc_host.specs.Process.{arguments_error, is_deleted, own_path, program_link, IsFileLost};
+ghost use Rattle.rc_host.specs.Process.{arguments_error, is_deleted, own_path, program_link};
 ghost use Rattle.rc_world.specs.Faults.{fault_at};
 
 use crate::ended::{Sort, push_ended};
@@ -14,7 +14,7 @@ use rc_world::{Fault, fault_of};
 use std::alloc::{AllocError, AllocGlobal, Global};
 use std::env::FillError;
 use std::io::Read;
-use std::os::fd::{AsFd, AsRawFd, IntoRawFd};
+use std::os::fd::{AsFd, IntoRawFd};
 use std::path::PathBuf;
 use std::rt::{Env, HostRuntime};
 use std::{env, fs, io, process};
@@ -45,21 +45,11 @@ pub enum ArgumentsFault {
 /// The arguments of the program, without its own name.
 pub fn arguments<R: Env + AllocGlobal>(rt: &R) -> Result<Vec<String>, InputError<ArgumentsFault>> {
     match env::args(rt) {
-        Ok(all) => arguments_of(all.collect(rt.alloc())),
+        Ok(all) => all
+            .collect(rt.alloc())
+            .map(after_name)
+            .map_err(|_| InputError::NoMemory),
         Err(error) => Err(arguments_error(&error)),
-    }
-}
-
-/// The arguments of a program, by the collection of all words that it was started with.
-fn arguments_of(
-    all: Result<Vec<String>, AllocError>,
-) -> Result<Vec<String>, InputError<ArgumentsFault>>
-    ensures { MatchResult all (λ all. IsOkAnd result (λ words. words.items ≡ drop 1 all.items))
-        (λ _. result ≡ Err InputError.NoMemory) }
-{
-    match all {
-        Ok(all) => Ok(after_name(all)),
-        Err(AllocError) => Err(InputError::NoMemory),
     }
 }
 
@@ -198,49 +188,27 @@ pub fn own_path(
     }
 }
 
-/// The link to the program of the process that follows it.
-pub(crate) const OWN_LINK: &str = "/proc/self/exe";
-
-/// Linux's number for a program whose file is being written.
-const BEING_WRITTEN: i32 = 26;
-
-/// Whether a start is refused since the program's file is gone, or another that can't be started is in its place.
-pub(crate) fn is_file_lost(refused: &io::Error) -> bool
-    ensures { IsTrue result ↔ IsFileLost refused.now }
-{
-    matches!(
-        refused.raw_os_error(),
-        Some(libc::ENOENT | libc::ENOEXEC | libc::EACCES | libc::ENOTDIR | BEING_WRITTEN)
-    )
-}
-
 /// The path with which this program starts itself.
 pub(crate) fn own_program(rt: &HostRuntime) -> Result<String, AllocError> {
     own_path(rt.alloc(), env::current_exe(rt), process::id(rt.process()))
 }
 
-/// Opens `/dev/null` as each of the descriptors 0, 1 and 2 that is absent, so that no other file gets its number, and
-/// returns how many of them are open then. Call it before any file is opened.
-pub fn open_standard(rt: &HostRuntime) -> io::Result<u8>
-    ensures { IfOk result (λ count. count ≡ 3) }
-{
-    let open = open_if_absent(rt, &rt.stdin(), 0)?;
-    let open = open_if_absent(rt, &rt.stdout(), open)?;
-    open_if_absent(rt, &rt.stderr(), open)
+/// Opens `/dev/null` as each of the descriptors 0, 1 and 2 that is absent, so that no other file gets its number. Call
+/// it before any file is opened.
+pub fn open_standard(rt: &HostRuntime) -> io::Result<()> {
+    open_if_absent(rt, &rt.stdin())?;
+    open_if_absent(rt, &rt.stdout())?;
+    open_if_absent(rt, &rt.stderr())
 }
 
-/// Opens `/dev/null` as a descriptor that is absent: Linux gives it the lowest free number, so all descriptors below it
-/// must be open. `below` is how many of these are, and the result how many are with it.
-fn open_if_absent<F: AsFd + AsRawFd>(rt: &HostRuntime, own: &F, below: u8) -> io::Result<u8>
-    requires lowest { F.raw_fd own.now ≡ Some (pos below) }
-    requires standard { below < 3 }
-    ensures { IfOk result (λ count. count ≡ below + 1) }
-{
+/// Opens `/dev/null` as a descriptor that is absent: Linux gives it the lowest free number, so the descriptors before
+/// this one must be open.
+fn open_if_absent<F: AsFd>(rt: &HostRuntime, own: &F) -> io::Result<()> {
     match own.as_fd().try_clone_to_owned() {
         Err(error) if error.raw_os_error() == Some(NOT_OPEN) => {
             open_null(rt)?.into_raw_fd();
+            Ok(())
         }
-        _ => {}
+        _ => Ok(()),
     }
-    Ok(below + 1)
 }

@@ -1,5 +1,5 @@
 -- The functions that entries denote, and the whole state.
-use Rattle.std.specs.Prelude.{Option, Some, None, IfSome, Result, Ok, Err, if◌then◌else◌, not, ◌||◌, is_some, codes, drop, map, string_bytes, option_map, length}
+use Rattle.std.specs.Prelude.{Option, Some, None, Result, Ok, Err, if◌then◌else◌, not, ◌||◌, is_some, codes, drop, map, string_bytes, option_map, length}
 use Rattle.std.proofs.Common.{◌≡◌, ℕ, List, [], ◌∷◌, ◌++◌, ◌&&◌, Bool, true, false, cond, refl, sym, ap, subst, ◌∙◌, ◌<◌, ◌≤◌, ◌+◌, get_or, drop-cons, add-one}
 use Rattle.std.specs.Str.{bytes_eq}
 use Rattle.std.specs.List.{list_any}
@@ -16,11 +16,9 @@ use Rattle.std.proofs.lemmas.Slice.Eq.{bytes_eq-Decides}
 use Rattle.rc_model.specs.Syntax.Text.{text_cmp, begins_with}
 use Rattle.rc_model.specs.Syntax.Tree.{Node, cmd}
 use Rattle.rc_model.specs.Run.State.{State, new_state, is_function_name, define, function_of}
-use Rattle.rc_model.specs.Handed.Image.{image}
 use Rattle.rc_model.specs.Handed.TreeReading.{◌>>=◌, read_tree}
 use Rattle.rc_model.specs.Handed.Environment.{Bindings, Functions, bindings, with_cut, cut_entry, is_function, functions_in, read_state}
 use Rattle.rc_model.specs.Handed.Environment as e
-use Rattle.law_image.proofs.Trees.{one_spelling, reads_spellings}
 use Rattle.rc_image.specs.Entries.{function_in, values_state, with_function, with_functions}
 use Rattle.rc_tree.specs.View.{cmd_tree}
 use Rattle.rc_tree.specs.declared.types.Cmd.{Cmd}
@@ -209,20 +207,6 @@ is_defined s t name image entry r c h k i w d =
     is_new s name image entry r h k i
     ∙ ap (λ z. z >>= λ c. Ok (define s name c)) w
     ∙ ap Ok (sym (d ∙ ap (λ z. if z then define s name c else s) (function_named name image (cut_entry entry) h)))
-
--- what was defined has the image that it was read from
-defined_body : (s : State) (name text : List ℕ) (c : Node cmd) → read_tree text ≡ Ok c → IfSome (function_of (define s name c) name) (λ b. text ≡ image b)
-defined_body s name text c h =
-    subst (λ o. IfSome o (λ b. text ≡ image b))
-    (sym (found s.functions name name c ∙ ap (λ t. cond t (Some c) (lookup (bytes_eq name) s.functions)) ((bytes_eq-Decides name name).1 refl)))
-    (one_spelling c text ((reads_spellings text c).0 h).0)
-
-pub is_image : (s t : State) (name text entry : List ℕ) (c : Node cmd) → Some (name, text) ≡ function_in (cut_entry entry) →
-    read_tree text ≡ Ok c → t ≡ (if is_function_name name then define s name c else s) → IfSome (function_of t name) (λ b. text ≡ image b)
-is_image s t name text entry c h w d =
-    subst (λ z. IfSome (function_of z name) (λ b. text ≡ image b))
-    (sym (d ∙ ap (λ z. if z then define s name c else s) (function_named name text (cut_entry entry) h)))
-    (defined_body s name text c w)
 
 -- the functions of the entries that are left
 next_by_cut : (s t : State) (cut : Option (List ℕ × List ℕ)) (bs : Bindings) → with_function s (function_in cut) ≡ Ok t → defined_in s (with_cut cut bs) ≡ defined_in t bs

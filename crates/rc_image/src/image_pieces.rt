@@ -70,7 +70,8 @@ pub(crate) fn words_of(alloc: Global, spelling: &str) -> Result<Vec<String>, Ima
 fn write_words(alloc: Global, cmd: &Cmd) -> Result<Vec<String>, ImageError>
     ensures { Writes (λ words. map string_bytes words.items) result (image_words (cmd_tree cmd.now)) }
 {
-    let spelling = push_spelling(String::new(alloc), cmd)?;
+    let mut spelling = String::new(alloc);
+    push_spelling(&mut spelling, cmd)?;
     words_of(alloc, &spelling)
 }
 

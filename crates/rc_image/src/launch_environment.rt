@@ -139,12 +139,12 @@ fn status_entry(alloc: Global, state: &State) -> Result<Text, AllocError>
     Text::from_string(alloc, text)
 }
 
-/// Appends the image of a function's body.
-fn push_image(mut text: String, body: &Cmd) -> Result<String, AllocError>
-    ensures { IfOk result (λ imaged. string_bytes imaged ≡ string_bytes text ++ image (cmd_tree body.now)) }
+/// Writes the image of a function's body.
+fn push_image(out: &mut String, body: &Cmd) -> Result<(), AllocError>
+    ensures { OnOk result (string_bytes out.new ≡ string_bytes out.old ++ image (cmd_tree body.now)) }
 {
-    text.push_str("rc1;")?;
-    push_spelling(text, body)
+    out.push_str("rc1;")?;
+    push_spelling(out, body)
 }
 
 /// fn#NAME=IMAGE.
@@ -153,22 +153,8 @@ pub(crate) fn body_entry(alloc: Global, name: &str, body: &Cmd) -> Result<Text, 
 {
     let mut text = String::from_str(alloc, "fn#")?;
     push_name(&mut text, name)?;
-    Text::from_string(alloc, push_image(text, body)?)
-}
-
-/// fn#NAME=IMAGE, of an image that is at hand.
-pub(crate) fn image_entry(alloc: Global, name: &str, text: &str) -> Result<Text, AllocError>
-    ensures { IfOk result (λ whole. text_bytes whole ≡ entry (codes "fn#" ++ name.now, text.now)) }
-{
-    let length = "fn#="
-        .len()
-        .saturating_add(name.len())
-        .saturating_add(text.len());
-    let mut whole = String::with_capacity(alloc, length)?;
-    whole.push_str("fn#")?;
-    push_name(&mut whole, name)?;
-    whole.push_str(text)?;
-    Text::from_string(alloc, whole)
+    push_image(&mut text, body)?;
+    Text::from_string(alloc, text)
 }
 
 /// The entry of a function, as it is kept or anew.

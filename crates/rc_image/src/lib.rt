@@ -41,7 +41,8 @@ use std::alloc::Global;
 pub fn write_tree(alloc: Global, cmd: &Cmd) -> Result<String, ImageError>
     ensures { Writes (λ text. string_bytes text) result (short_image (cmd_tree cmd.now)) }
 {
-    let text = push_spelling(String::from_str(alloc, MARK)?, cmd)?;
+    let mut text = String::from_str(alloc, MARK)?;
+    push_spelling(&mut text, cmd)?;
     if text.len() > LONGEST_ARGUMENT {
         return Err(InputError::Fault(ImageFault::TooLarge));
     }

@@ -1,10 +1,9 @@
 //! Reading the state that an environment denotes.
 
-ghost use Rattle.std.specs.Prelude.{◌≡◌, [], if◌then◌else◌, Ok, OnOk, IfOk, IfSome, map, string_bytes};
+ghost use Rattle.std.specs.Prelude.{◌≡◌, [], if◌then◌else◌, Ok, OnOk, IfOk, map, string_bytes};
 ghost use Rattle.rc_model.specs.Handed.Environment.{Bindings, bindings, with_cut, cut_entry, read_state};
 ghost use Rattle.rc_model.specs.Handed.Proper.{IsProperTree};
-ghost use Rattle.rc_model.specs.Handed.Image.{image};
-ghost use Rattle.rc_model.specs.Run.State.{define, function_of, is_function_name, is_name, set_value};
+ghost use Rattle.rc_model.specs.Run.State.{define, is_function_name, is_name, set_value};
 ghost use Rattle.rc_tree.specs.View.{cmd_tree};
 ghost use Rattle.rc_scope.specs.States.{state_of};
 ghost use Rattle.rc_model.specs.Syntax.Faults.{Gives};
@@ -12,10 +11,9 @@ ghost use Rattle.rc_image.specs.Entries.{function_in, is_ignored, values_state, 
 ghost use Rattle.rc_text.specs.Texts.{text_bytes};
 
 use crate::cut_entries::{cut_entry, function_entry, members};
-use crate::launch_environment::image_entry;
 use crate::{ImageError, read_tree};
 use rc_model::InputError;
-use rc_scope::{KeptEntry, NameFault, State};
+use rc_scope::{NameFault, State};
 use rc_text::Text;
 use rc_tree::Cmd;
 use std::alloc::{AllocError, Global};
@@ -85,17 +83,6 @@ fn define(state: &mut State, name: &str, body: &Rc<Cmd>) -> Result<(), AllocErro
     }
 }
 
-/// Keeps the entry of a function with the image that its body was read from, so that launches hand that on.
-fn keep_image(alloc: Global, state: &mut State, name: &str, text: &str) -> Result<(), AllocError>
-    requires { IfSome (function_of (state_of state.old) name.now) (λ body. text.now ≡ image body) }
-    ensures { state_of state.new ≡ state_of state.old }
-{
-    let entry = image_entry(alloc, name, text)?;
-    let start = "fn#".len() + name.len() + "=".len();
-    state.keep_function(name, KeptEntry { entry, start });
-    Ok(())
-}
-
 /// Defines the function of an entry, if it is that of a function and there is none of its name yet.
 fn define_entry(alloc: Global, state: &mut State, entry: &str) -> Result<(), ImageError>
     ensures { Gives (λ _. state_of state.new) result
@@ -109,8 +96,7 @@ fn define_entry(alloc: Global, state: &mut State, entry: &str) -> Result<(), Ima
     }
     let body = read_tree(alloc, image)?;
     let shared = Rc::new(alloc, body)?;
-    define(state, name, &shared)?;
-    Ok(keep_image(alloc, state, name, image)?)
+    Ok(define(state, name, &shared)?)
 }
 
 /// Defines the functions of these entries. The first entry of a name counts.

@@ -3,7 +3,7 @@ use Rattle.std.specs.Prelude.{◌≡◌, ℕ, Bool, false, not, ◌&&◌, nat_le
 use Rattle.rc_model.specs.Mirrors.Descent.{Read, read, a_list, items_from}
 use Rattle.rc_model.specs.Syntax.Accepted.{HasTokens, IsAccepted, lexemes}
 use Rattle.rc_model.specs.Syntax.Grammar.{is_if}
-use Rattle.rc_model.specs.Syntax.Tokens.{Lexeme, Token}
+use Rattle.rc_model.specs.Syntax.Tokens.{Lexeme}
 use Rattle.rc_model.specs.Syntax.Tree.{Node, Many, Seq, cmd, item, snoc}
 use Rattle.rc_model.specs.Syntax.WellFormed.{depth}
 use Rattle.rc_model.specs.declared.limits.TheConstants.{MOST_LEVELS}
@@ -14,8 +14,8 @@ use Rattle.rc_tree.specs.declared.types.Item.{Item}
 use Rattle.rc_parser.specs.Results.{Fails, TokenError}
 use Rattle.rc_parser.specs.Faults.{Refuses}
 use Rattle.rc_parser.specs.Tokens.{lexemes_of}
-use Rattle.rc_parser.specs.declared.items.Items.{Items}
 use Rattle.rc_parser.specs.declared.items.found_items.Found.{Found}
+use Rattle.rc_parser.specs.declared.items.Items.{Items}
 
 -- the items that are found after those so far, in at most so many turns, each within so many levels
 abbrev pub items_after : (left turns : ℕ) → (after_if : Bool) → List Lexeme → Many item → Read (Many item)
@@ -33,36 +33,17 @@ Finds left (Ok found) items =
     (front : Many item) → items front ≡ after_item left found.turns found.item (lexemes_of found.rest) front
 Finds left (Err e) items = (front : Many item) → Fails e (items front)
 
--- What the reader of a script's items stands for: the script with its tokens, the items that it finds after those that
--- were read, in how many turns at most, and whether none of those was too deep.
-pub record ItemReader : Type 0 where
-  pub script : List ℕ
-  pub tokens : List Token
-  pub items : Many item → Read (Many item)
-  pub turns : ℕ
-  pub fits : Bool
-
--- what the items of a script that are still to be parsed stand for
-abbrev pub reader_of : Items → ItemReader
-reader_of i =
-    record {
-      script = i.source.now.script.now;
-      tokens = tokens_of i.source.now.script.now i.source.now.tokens.now;
-      items = items_after 199 i.turns i.after_if (lexemes_of i.rest);
-      turns = i.turns;
-      fits = i.fits;
-    }
-
 -- These items of the script were read, and the others are found after them.
 pub record HasRead (script : List ℕ) (front : Many item) (items : Items) : Type 0 where
-  pub script_is : (reader_of items).script ≡ script
-  pub has : HasTokens (reader_of items).script (reader_of items).tokens
-  pub goes_on : read MOST_LEVELS (a_list false) (lexemes (reader_of items).tokens) ≡ (reader_of items).items front
-  pub fits_is : (reader_of items).fits ≡ nat_le (depth (Seq front)) MOST_LEVELS
+  pub script_is : items.source.now.script.now ≡ script
+  pub has : HasTokens script (tokens_of script items.source.now.tokens.now)
+  pub goes_on : read MOST_LEVELS (a_list false) (lexemes (tokens_of script items.source.now.tokens.now))
+      ≡ items_after 199 items.turns items.after_if (lexemes_of items.rest) front
+  pub fits_is : items.fits ≡ nat_le (depth (Seq front)) MOST_LEVELS
 
 -- how many turns are left at most
 abbrev pub turns_left : Items → ℕ
-turns_left items = (reader_of items).turns
+turns_left items = items.turns
 
 -- these items are the script's, which has no other tree
 abbrev pub AreAll : List ℕ → Many item → Type 0

@@ -1,16 +1,14 @@
 -- The theorem of the shell, from what was recorded of the run of a tree.
 use Rattle.std.specs.Prelude.{OnOk, IfErr}
-use Rattle.std.proofs.Common.{◌≡◌, ◌⊎◌, inl, inr, ℕ, List, Option, Some, Result, Ok, Err, refl, sym, subst, ap, ◌∙◌}
+use Rattle.std.proofs.Common.{◌≡◌, ℕ, List, Option, Result, Ok, Err, refl, sym, subst, ap, ◌∙◌}
 use Rattle.law_handed.proofs.Characters.{accepted_are_scripts}
 use Rattle.law_machine.proofs.Ends.{agrees}
 use Rattle.law_syntax.proofs.Decided.{never_both}
-use Rattle.law_syntax.proofs.FirstFault.{fault_refuses}
 use Rattle.rc_model.specs.Handed.Proper.{IsProper, IsProperTree}
 use Rattle.rc_model.specs.Run.Calls.{Event}
 use Rattle.rc_model.specs.Run.Script.{Recorded}
 use Rattle.rc_model.specs.Run.State as model
-use Rattle.rc_model.specs.Mirrors.FirstFault.{first_fault}
-use Rattle.rc_model.specs.Syntax.Accepted.{IsAccepted}
+use Rattle.rc_model.specs.Syntax.Accepted.{IsAccepted, IsRefused}
 use Rattle.rc_model.specs.Syntax.Tree.{Node, cmd}
 use Rattle.rc_model.specs.declared.fault.ImageFault.{ImageFault}
 use Rattle.rc_model.specs.declared.fault.SyntaxFault.{SyntaxFault}
@@ -101,7 +99,7 @@ pub text_proper : (script : List ℕ) (s : model.State) → IsProper s → RunsP
 text_proper script s h t z is = (accepted_are_scripts script t is.0, subst IsProper (sym is.1) h)
 
 text_sure : (script : List ℕ) (s : model.State) (t : Node cmd) → IsAccepted script t → (f : ShellFault) → IsNotRun (text_from script s) f → ⊥
-text_sure script s t a (Syntax fault) r = never_both script fault t (fault_refuses script fault r) a
+text_sure script s t a (Syntax fault) r = never_both script fault t r a
 text_sure script s t a (Image fault) r = r
 text_sure script s t a NoMemory r = r
 
@@ -114,28 +112,9 @@ script_ran script s limit before after result tree a only proper h =
     (text_sure script s tree a) (text_proper script s proper) h
 
 pub script_refused : (script : List ℕ) (s : model.State) (limit : ℕ) (at : Option (List Event)) (fault : SyntaxFault) →
-    first_fault script ≡ Some fault → IsExecuted (text_from script s) limit at at (Err (Syntax fault))
+    IsRefused script fault → IsExecuted (text_from script s) limit at at (Err (Syntax fault))
 script_refused script s limit at fault r =
-    refused (text_from script s) limit at (Syntax fault) r (λ t z is. never_both script fault t (fault_refuses script fault r) is.0)
-
--- a script that has a first fault is refused with it, unless memory was refused
-error_with : (script : List ℕ) (s : model.State) (fault : SyntaxFault) (e : ShellFault) → first_fault script ≡ Some fault →
-    IsReason (text_from script s) e → ◌⊎◌ (◌≡◌ {A = Result Ran ShellFault} (Err e) (Err (Syntax fault))) (◌≡◌ {A = Result Ran ShellFault} (Err e) (Err NoMemory))
-error_with script s fault NoMemory first r = inr refl
-error_with script s fault (Syntax other) first r = inl (let e : other ≡ fault = cc in ap (λ f. Err (Syntax f)) e)
-error_with script s fault (Image other) first r = absurd r
-
-result_with : (script : List ℕ) (s : model.State) (fault : SyntaxFault) (result : Result Ran ShellFault) → first_fault script ≡ Some fault →
-    OnOk result ((t : Node cmd) × (z : model.State) × IsRun (text_from script s) t z) → IfErr result (IsReason (text_from script s)) →
-    (result ≡ Err (Syntax fault)) ⊎ (result ≡ Err NoMemory)
-result_with script s fault (Ok x) first tree r = absurd (never_both script fault tree.0 (fault_refuses script fault first) tree.2.0)
-result_with script s fault (Err e) first tree r = error_with script s fault e first r
-
-pub refused_with : (script : List ℕ) (s : model.State) (limit : ℕ) (before after : Option (List Event)) (result : Result Ran ShellFault) (fault : SyntaxFault) →
-    first_fault script ≡ Some fault → IsExecuted (text_from script s) limit before after result →
-    ((result ≡ Err (Syntax fault)) ⊎ (result ≡ Err NoMemory)) × (after ≡ before)
-refused_with script s limit before after result fault first h =
-    (result_with script s fault result first h.refused.tree h.refused.reason, h.refused.silent (Syntax fault) first)
+    refused (text_from script s) limit at (Syntax fault) r (λ t z is. never_both script fault t r is.0)
 
 -- ** what was handed over
 

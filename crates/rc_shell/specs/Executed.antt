@@ -1,11 +1,10 @@
 -- The theorem of the shell: what holds of the run of a script, and of what a shell was handed.
-use Rattle.std.specs.Prelude.{◌≡◌, ◌≢◌, ℕ, ◌≤◌, List, Bool, Option, Some, Result, Ok, Err, OnOk, IfErr}
+use Rattle.std.specs.Prelude.{◌≡◌, ◌≢◌, ℕ, ◌≤◌, List, Bool, Option, Result, Ok, Err, OnOk, IfErr}
 use Rattle.law_machine.specs.Limits.{IsEnough, IsOnTape}
 use Rattle.rc_model.specs.Run.Calls.{Answer, Event}
 use Rattle.rc_model.specs.Run.Script.{Agrees, Recorded}
 use Rattle.rc_model.specs.Run.State as model
-use Rattle.rc_model.specs.Mirrors.FirstFault.{first_fault}
-use Rattle.rc_model.specs.Syntax.Accepted.{IsAccepted}
+use Rattle.rc_model.specs.Syntax.Accepted.{IsAccepted, IsRefused}
 use Rattle.rc_model.specs.Syntax.Tree.{Node, cmd}
 use Rattle.rc_model.specs.Handed.Arguments.{read_image}
 use Rattle.rc_model.specs.Handed.Proper.{IsProper}
@@ -35,9 +34,9 @@ abbrev pub IsRun : Program → Node cmd → model.State → Type 0
 IsRun (text_from script start) t s = IsAccepted script t × (s ≡ start)
 IsRun (handed read) t s = read ≡ Ok (t, s)
 
--- nothing is run, for this reason: the first fault of the text, or that of the words and entries
+-- nothing is run, for this reason
 abbrev pub IsNotRun : Program → ShellFault → Type 0
-IsNotRun (text_from script start) (Syntax fault) = first_fault script ≡ Some fault
+IsNotRun (text_from script start) (Syntax fault) = IsRefused script fault
 IsNotRun (handed read) (Image fault) = read ≡ Err fault
 IsNotRun p f = ⊥
 

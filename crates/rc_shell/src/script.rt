@@ -18,8 +18,8 @@ pub fn execute<W: World>(
     state: State,
     limit: u64,
 ) -> Result<Ran, ShellFault>
-    // A script that isn't accepted is refused with its first fault, before any call. One that is makes the calls of its
-    // meaning; nothing is lost over fresh answers, and what each subshell was handed reads back.
+    // A script that isn't accepted is refused before any call. One that is makes the calls of its meaning; nothing is
+    // lost over fresh answers, and what each subshell was handed reads back.
     ensures { IsExecuted (text_from script.now (state_of state)) limit
         (W.events world.old) (W.events world.new) result }
 {

@@ -10,7 +10,7 @@ mod nodes;
 mod shape;
 mod tree_reader;
 
-ghost use Rattle.std.specs.Prelude.{◌≡◌, ◌++◌, [], IfOk, OnOk, string_bytes};
+ghost use Rattle.std.specs.Prelude.{◌≡◌, ◌++◌, [], OnOk, string_bytes};
 ghost use Rattle.std.specs.Fmt.{decimal};
 ghost use Rattle.rc_model.specs.Syntax.Tree.{count};
 ghost use Rattle.rc_model.specs.Syntax.Tree as t;
@@ -121,18 +121,10 @@ fn push_pieces(out: &mut String, pieces: &[Piece]) -> Result<(), AllocError>
     Ok(())
 }
 
-/// Appends the spelling of a command to a text, which is gone if memory is refused, since it may have a part of it
-/// then.
-pub fn push_spelling(mut text: String, cmd: &Cmd) -> Result<String, AllocError>
-    ensures { IfOk result (λ spelled. string_bytes spelled ≡ string_bytes text ++ node_image (cmd_tree cmd.now)) }
-{
-    push_cmd(&mut text, cmd)?;
-    Ok(text)
-}
-
+/// Appends the spelling of a command. After an error the text has a part of a spelling, and can only be dropped.
 #[cycle(spell)]
 #[tactic(auto, using(crate::proofs::Spelling::spelling))]
-fn push_cmd(out: &mut String, cmd: &Cmd) -> Result<(), AllocError>
+pub fn push_spelling(out: &mut String, cmd: &Cmd) -> Result<(), AllocError>
     ensures { OnOk result (string_bytes out.new ≡ string_bytes out.old ++ node_image (cmd_tree cmd.now)) }
 {
     match cmd {
@@ -153,7 +145,7 @@ fn push_cmd(out: &mut String, cmd: &Cmd) -> Result<(), AllocError>
         Cmd::While(condition, body) => push_conditional(out, "w", condition, body),
         Cmd::ForAll(name, body) => {
             push_marked_arg(out, "f", name)?;
-            push_cmd(out, body)
+            push_spelling(out, body)
         }
         Cmd::For(name, words, body) => push_for(out, name, words, body),
         Cmd::Switch(subject, branches) => {
@@ -166,7 +158,7 @@ fn push_cmd(out: &mut String, cmd: &Cmd) -> Result<(), AllocError>
         }
         Cmd::Define(names, body) => {
             push_marked_args(out, "d", names)?;
-            push_cmd(out, body)
+            push_spelling(out, body)
         }
         Cmd::Undefine(names) => push_marked_args(out, "u", names),
         Cmd::Brace(body) => push_marked(out, "b", body),
@@ -187,7 +179,7 @@ fn push_assign(
     push_pairs(out, pairs)?;
     match body {
         None => out.push_str("e"),
-        Some(body) => push_cmd(out, body),
+        Some(body) => push_spelling(out, body),
     }
 }
 
@@ -199,7 +191,7 @@ fn push_redirect(out: &mut String, redirs: &[Redir], body: &Cmd) -> Result<(), A
 {
     out.push_str("r")?;
     push_redirs(out, redirs)?;
-    push_cmd(out, body)
+    push_spelling(out, body)
 }
 
 #[cycle(spell)]
@@ -210,7 +202,7 @@ fn push_pipeline(out: &mut String, stages: &[Stage], last: &Cmd) -> Result<(), A
 {
     out.push_str("p")?;
     push_stages(out, stages)?;
-    push_cmd(out, last)
+    push_spelling(out, last)
 }
 
 #[cycle(spell)]
@@ -235,7 +227,7 @@ fn push_conditional(
         ++ (tag.now ++ (node_image (cmd_tree condition.now) ++ node_image (cmd_tree body.now)))) }
 {
     push_marked(out, tag, condition)?;
-    push_cmd(out, body)
+    push_spelling(out, body)
 }
 
 #[cycle(spell)]
@@ -246,7 +238,7 @@ fn push_for(out: &mut String, name: &Arg, words: &[Arg], body: &Cmd) -> Result<(
 {
     push_marked_arg(out, "F", name)?;
     push_args(out, words)?;
-    push_cmd(out, body)
+    push_spelling(out, body)
 }
 
 /// Writes a tag and a command.
@@ -255,7 +247,7 @@ fn push_marked(out: &mut String, tag: &str, cmd: &Cmd) -> Result<(), AllocError>
     ensures { OnOk result (string_bytes out.new ≡ string_bytes out.old ++ (tag.now ++ node_image (cmd_tree cmd.now))) }
 {
     out.push_str(tag)?;
-    push_cmd(out, cmd)
+    push_spelling(out, cmd)
 }
 
 /// Writes a tag and an argument.
@@ -344,7 +336,7 @@ fn push_items(out: &mut String, items: &[Item]) -> Result<(), AllocError>
     push_count(out, items.len())?;
     for item in items {
         out.push_str(item_mark(item.background))?;
-        push_cmd(out, &item.cmd)?;
+        push_spelling(out, &item.cmd)?;
     }
     Ok(())
 }
@@ -385,7 +377,7 @@ fn push_stages(out: &mut String, stages: &[Stage]) -> Result<(), AllocError>
     push_count(out, stages.len())?;
     for stage in stages {
         push_number(out, stage.slot as usize)?;
-        push_cmd(out, &stage.cmd)?;
+        push_spelling(out, &stage.cmd)?;
     }
     Ok(())
 }
@@ -399,7 +391,7 @@ fn push_links(out: &mut String, links: &[(Logic, Cmd)]) -> Result<(), AllocError
     push_count(out, links.len())?;
     for link in links {
         out.push_str(logic_mark(link.0))?;
-        push_cmd(out, &link.1)?;
+        push_spelling(out, &link.1)?;
     }
     Ok(())
 }
@@ -413,7 +405,7 @@ fn push_branches(out: &mut String, branches: &[Branch]) -> Result<(), AllocError
     push_count(out, branches.len())?;
     for branch in branches {
         push_args(out, &branch.patterns)?;
-        push_cmd(out, &branch.body)?;
+        push_spelling(out, &branch.body)?;
     }
     Ok(())
 }

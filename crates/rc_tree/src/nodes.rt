@@ -1,7 +1,7 @@
 //! One more node in a list, and a command that has several owners. They are never inlined, so that a command by value
 //! takes no stack at each level of nesting in those who read one.
 
-ghost use Rattle.std.specs.Prelude.{◌≡◌, IfOk, OnErr, OnOk};
+ghost use Rattle.std.specs.Prelude.{◌≡◌, IfOk, OnOk};
 ghost use Rattle.rc_model.specs.Syntax.Tree.{snoc};
 ghost use Rattle.rc_model.specs.Syntax.Tree as t;
 ghost use Rattle.rc_tree.specs.View.{cmd_tree, items_tree, stages_tree, links_tree};
@@ -11,13 +11,12 @@ use rc_model::Logic;
 use std::alloc::{AllocError, Global};
 use std::rc::Rc;
 
-/// One more item. If memory is refused, the list stays as it was, and the command is gone.
+/// One more item.
 #[inline(never)]
 #[tactic(auto, using(crate::specs::View::tree_lists))]
 pub fn push_item(items: &mut Vec<Item>, cmd: Box<Cmd>, background: bool) -> Result<(), AllocError>
-    ensures ok { OnOk result (items_tree items.new.items
+    ensures { OnOk result (items_tree items.new.items
         ≡ snoc (items_tree items.old.items) (t.Item (cmd_tree cmd.value) background)) }
-    ensures err { OnErr result (items.new.items ≡ items.old.items) }
 {
     Ok(items.push(Item {
         cmd: Box::into_inner(cmd),
@@ -25,13 +24,12 @@ pub fn push_item(items: &mut Vec<Item>, cmd: Box<Cmd>, background: bool) -> Resu
     })?)
 }
 
-/// One more stage, or the list as it was.
+/// One more stage.
 #[inline(never)]
 #[tactic(auto, using(crate::specs::View::tree_lists))]
 pub fn push_stage(stages: &mut Vec<Stage>, cmd: Box<Cmd>, slot: u8) -> Result<(), AllocError>
-    ensures ok { OnOk result (stages_tree stages.new.items
+    ensures { OnOk result (stages_tree stages.new.items
         ≡ snoc (stages_tree stages.old.items) (t.Stage (cmd_tree cmd.value) slot)) }
-    ensures err { OnErr result (stages.new.items ≡ stages.old.items) }
 {
     Ok(stages.push(Stage {
         cmd: Box::into_inner(cmd),
@@ -39,7 +37,7 @@ pub fn push_stage(stages: &mut Vec<Stage>, cmd: Box<Cmd>, slot: u8) -> Result<()
     })?)
 }
 
-/// One more operand, or the list as it was.
+/// One more operand.
 #[inline(never)]
 #[tactic(auto, using(crate::specs::View::tree_lists))]
 pub fn push_link(
@@ -47,9 +45,8 @@ pub fn push_link(
     logic: Logic,
     cmd: Box<Cmd>,
 ) -> Result<(), AllocError>
-    ensures ok { OnOk result (links_tree links.new.items
+    ensures { OnOk result (links_tree links.new.items
         ≡ snoc (links_tree links.old.items) (t.Link logic (cmd_tree cmd.value))) }
-    ensures err { OnErr result (links.new.items ≡ links.old.items) }
 {
     Ok(links.push((logic, Box::into_inner(cmd)))?)
 }

@@ -1,142 +1,99 @@
-//! Checks scripts without running them: `rccheck [-p | -w | -f | -l] FILE ..`.
+//! Checks scripts without running them: `rccheck [-p] FILE ..`.
 #![tactic(auto)]
 
-mod layouts;
-
-use layouts::{list_unlaid, print_layout};
-use rc_check::{Canonical, Report, Verdict, canonical_of, report_of, status_of};
+use rc_check::{Canonical, Report, canonical_of, report_of};
 use rc_model::limits::LONGEST_SCRIPT;
 use std::io::Read;
 use std::process::ExitCode;
 use std::{env, fs, io};
 
-/// The version of the shell with its tools, and the kit that proves it.
-const VERSION: &str = "rccheck 0.3.0 (rattle-kit-13)";
-
-const USAGE: &str = "usage: rccheck [-p | -w | -f | -l] FILE ..";
-
 /// One byte more than a script may have: no more are read from a file.
 const MOST_BYTES: u64 = LONGEST_SCRIPT as u64 + 1;
-
-/// The exit status for wrong usage and where the output can't be written.
-const FAILURE: u8 = 1;
 
 /// The task for each file.
 #[derive(Clone, Copy)]
 enum Task {
     Check,
-    /// As `Check`, but warnings count.
-    Gate,
     Print,
-    LayOut,
-    ListUnlaid,
 }
 
-/// What the arguments ask for.
-#[derive(Clone, Copy)]
-enum Request<'a> {
-    Look(Task, &'a [String]),
-    Help,
-    Version,
-    WrongUsage,
-}
-
-/// What the arguments ask for.
-fn asked(arguments: &[String]) -> Request<'_> {
+/// The task and the files that the arguments ask for, or `None` for wrong usage.
+fn asked(arguments: &[String]) -> Option<(Task, &[String])> {
     let (task, files) = match arguments {
         [first, files @ ..] if first.as_str() == "-p" => (Task::Print, files),
-        [first, files @ ..] if first.as_str() == "-w" => (Task::Gate, files),
-        [first, files @ ..] if first.as_str() == "-f" => (Task::LayOut, files),
-        [first, files @ ..] if first.as_str() == "-l" => (Task::ListUnlaid, files),
-        [first] if first.as_str() == "--help" => return Request::Help,
-        [first] if first.as_str() == "--version" => return Request::Version,
         _ => (Task::Check, arguments),
     };
     match files {
-        [] => Request::WrongUsage,
-        [first, ..] if first.starts_with('-') && first.as_str() != "-" => Request::WrongUsage,
-        _ => Request::Look(task, files),
+        [] => None,
+        [first, ..] if first.starts_with('-') => None,
+        _ => Some((task, files)),
     }
 }
 
-/// The bytes of a file, or of standard input for `-`.
+/// The bytes of a file.
 fn read(rt: &HostRuntime, name: &str) -> io::Result<Vec<u8>> {
     let mut script = Vec::new(rt.alloc());
-    if name == "-" {
-        rt.reader().take(MOST_BYTES).read_to_end(&mut script)?;
-    } else {
-        fs::open(rt, name)?
-            .take(MOST_BYTES)
-            .read_to_end(&mut script)?;
-    }
+    fs::open(rt, name)?
+        .take(MOST_BYTES)
+        .read_to_end(&mut script)?;
     Ok(script)
 }
 
-/// Writes the findings for a script.
-fn check(rt: &HostRuntime, name: &str, script: &[u8]) -> io::Result<Verdict> {
-    let Report { text, verdict } = report_of(rt.alloc(), name, script)?;
+/// Writes the findings for a script, and returns whether it is accepted.
+fn check(rt: &HostRuntime, name: &str, script: &[u8]) -> io::Result<bool> {
+    let Report { text, is_accepted } = report_of(rt.alloc(), name, script)?;
     rt.print(text)?;
-    Ok(verdict)
+    Ok(is_accepted)
 }
 
-/// Writes the canonical form of a script, or on descriptor 2 why there is none.
-fn print(rt: &HostRuntime, name: &str, script: &[u8]) -> io::Result<Verdict> {
+/// Writes the canonical form of a script and a newline, or on descriptor 2 why there is none, and returns whether there
+/// is one.
+fn print(rt: &HostRuntime, name: &str, script: &[u8]) -> io::Result<bool> {
     match canonical_of(rt.alloc(), script)? {
         Canonical::Text(text) => {
-            rt.print(text)?;
-            return Ok(Verdict::Well);
+            rt.println(text)?;
+            return Ok(true);
         }
         Canonical::Refused => eprint!(rt; "{}", report_of(rt.alloc(), name, script)?.text)?,
         Canonical::HereInside => eprintln!(rt; "{name}: a here document is inside")?,
         Canonical::TooLong => eprintln!(rt; "{name}: the canonical form is too long")?,
     }
-    Ok(Verdict::Failed)
+    Ok(false)
 }
 
-/// Does the task for a file.
-fn look(rt: &HostRuntime, task: Task, name: &str) -> io::Result<Verdict> {
+/// Does the task for a file, and returns whether it succeeded.
+fn look(rt: &HostRuntime, task: Task, name: &str) -> io::Result<bool> {
     let Ok(script) = read(rt, name) else {
         eprintln!(rt; "rccheck: cannot read {name}")?;
-        return Ok(Verdict::Failed);
+        return Ok(false);
     };
     match task {
-        Task::Check | Task::Gate => check(rt, name, &script),
+        Task::Check => check(rt, name, &script),
         Task::Print => print(rt, name, &script),
-        Task::LayOut => print_layout(rt, name, &script),
-        Task::ListUnlaid => list_unlaid(rt, name, &script),
     }
 }
 
-/// Does the task for each file, and returns the exit status.
-fn look_at_all(rt: &HostRuntime, task: Task, files: &[String]) -> io::Result<u8> {
-    let mut verdicts = Vec::new(rt.alloc());
-    for name in files {
-        verdicts.push(look(rt, task, name)?)?;
-    }
-    Ok(status_of(&verdicts, matches!(task, Task::Gate)))
-}
-
-/// Does what the arguments ask for, and returns the exit status.
-fn run(rt: &HostRuntime) -> io::Result<u8> {
+/// Does what the arguments ask for, and returns whether all of it succeeded.
+fn run(rt: &HostRuntime) -> io::Result<bool> {
     let arguments: Vec<String> = env::args(rt)?.skip(1).collect(rt.alloc())?;
-    match asked(&arguments) {
-        Request::Look(task, files) => return look_at_all(rt, task, files),
-        Request::Help => println!(rt; "{USAGE}")?,
-        Request::Version => println!(rt; "{VERSION}")?,
-        Request::WrongUsage => {
-            eprintln!(rt; "{USAGE}")?;
-            return Ok(FAILURE);
-        }
+    let Some((task, files)) = asked(&arguments) else {
+        eprintln!(rt; "usage: rccheck [-p] FILE ..")?;
+        return Ok(false);
+    };
+    let mut is_well = true;
+    for name in files {
+        is_well = look(rt, task, name)? && is_well;
     }
-    Ok(0)
+    Ok(is_well)
 }
 
 fn main(rt: HostRuntime) -> ExitCode {
     match run(&rt) {
-        Ok(status) => ExitCode::from(status),
+        Ok(true) => ExitCode::SUCCESS,
+        Ok(false) => ExitCode::FAILURE,
         Err(error) => {
             let _ = eprintln!(rt; "rccheck: {error}");
-            ExitCode::from(FAILURE)
+            ExitCode::FAILURE
         }
     }
 }

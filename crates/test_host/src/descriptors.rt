@@ -30,7 +30,6 @@ fn speak(alloc: Global, host: &mut HostWorld) -> Result<(), Fail> {
         ("plain", own_1, own_2),
         ("both-1", own_1, own_1),
         ("both-2", own_2, own_2),
-        ("exchanged", own_2, own_1),
         ("errors-file", own_2, file),
         ("file-output", file, own_1),
         ("file-errors", file, own_2),
@@ -66,10 +65,9 @@ fn have_their_places(rt: HostRuntime) -> Result<(), Fail> {
     let this = this_program(rt)?;
     let again = again(alloc, &mut host, &this, &[], slots)?;
     assert!(rt; run(&mut host, &again)? == Ending::Code(0));
-    let first =
-        "own\nplain\nboth-1\nboth-1!\nexchanged!\nfile-output!\noutput-file\n\ntest result: ok\n";
+    let first = "own\nplain\nboth-1\nboth-1!\nfile-output!\noutput-file\n\ntest result: ok\n";
     assert!(rt; contents(alloc, &mut host, "first")?.as_str() == first);
-    let second = "own!\nplain!\nboth-2\nboth-2!\nexchanged\nerrors-file\nfile-errors!\n";
+    let second = "own!\nplain!\nboth-2\nboth-2!\nerrors-file\nfile-errors!\n";
     assert!(rt; contents(alloc, &mut host, "second")?.as_str() == second);
     let third = "errors-file!\nfile-output\nfile-errors\noutput-file!\nfile-file\nfile-file!\n";
     assert!(rt; contents(alloc, &mut host, "third")?.as_str() == third);

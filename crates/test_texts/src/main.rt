@@ -5,7 +5,6 @@
 mod cuts;
 mod dump;
 mod examples;
-mod faults;
 mod findings;
 mod handed_layers;
 mod handed_rows;

@@ -3,7 +3,6 @@
 
 use crate::cuts::cut_everywhere;
 use crate::dump::dump;
-use crate::faults::fault;
 use crate::findings::{findings, form};
 use crate::tokens::tokens_shown;
 use crate::trees::{fault_line, refused, tree_of};
@@ -48,6 +47,14 @@ fn tokens(alloc: Global, script: &[u8]) -> Result<String, AllocError> {
     };
     match lex(alloc, text) {
         Ok(tokens) => tokens_shown(alloc, &tokens),
+        Err(fault) => fault_line(alloc, fault),
+    }
+}
+
+/// The fault of a script with its line.
+fn fault(alloc: Global, script: &[u8]) -> Result<String, AllocError> {
+    match tree_of(alloc, script) {
+        Ok(_) => String::from_str(alloc, "accepted"),
         Err(fault) => fault_line(alloc, fault),
     }
 }

@@ -1,7 +1,7 @@
 //! The first fault of a script.
 
-ghost use Rattle.std.specs.Prelude.{◌≡◌, IfOk, Some};
-ghost use Rattle.rc_model.specs.Mirrors.FirstFault as definitions;
+ghost use Rattle.std.specs.Prelude.{◌≡◌, IfOk};
+ghost use Rattle.rc_model.specs.Syntax.Accepted.{IsRefused};
 ghost use Rattle.rc_check.specs.Findings.{IsChecked, IsFoundIn};
 
 use crate::faults::advice::Advice;
@@ -34,7 +34,7 @@ pub fn first_fault(alloc: Global, script: &[u8]) -> Result<Option<Finding>, Allo
 
 /// The finding of a fault.
 fn found_fault(alloc: Global, script: &[u8], fault: SyntaxFault) -> Result<Finding, AllocError>
-    requires { definitions.first_fault script.now ≡ Some fault }
+    requires { IsRefused script.now fault }
     ensures { IfOk result (λ f. IsFoundIn script.now f) }
 {
     let (place, advice) = located(alloc, script, fault)?;

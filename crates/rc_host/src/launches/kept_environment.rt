@@ -1,9 +1,10 @@
 //! The environment of the last launch, as Linux takes it: the next launch with the same entries makes no other.
 ghost use Rattle.std.specs.Prelude.{◌≡◌, ◌↔◌, ◌++◌, ◌∷◌, [], false, map, IfOk, IfErr, IsOk, IsTrue, OnOk, OnErr};
 ghost use Rattle.rc_text.specs.Texts.{text_bytes};
-ghost use Rattle.rc_host.specs.Requests.{Holds, IsNotHeld, handed_over, has_equals, is_no_entry};
+ghost use Rattle.rc_host.specs.Requests.{Holds, IsNotHeld, handed_over, is_no_entry};
 
 use crate::launches::launch_request::{push_text, room};
+use crate::launches::planning::has_equals;
 use rc_text::Text;
 use rc_world::Fault;
 use std::alloc::{AllocError, Global};
@@ -132,10 +133,4 @@ fn push_entry(texts: &mut Vec<u8>, entry: &str) -> Result<(), Fault>
         return Err(Fault::Other);
     }
     push_text(texts, entry)
-}
-
-fn has_equals(text: &str) -> bool
-    ensures { result ≡ has_equals text.now }
-{
-    text.as_bytes().contains(&b'=')
 }

@@ -1,13 +1,11 @@
 //! What Linux is asked for when a child is started.
-ghost use Rattle.std.specs.Prelude.{◌≡◌, ◌++◌, ◌∷◌, [], false, map, IfOk, IfErr, OnOk, string_bytes};
-ghost use Rattle.rc_text.specs.Texts.{text_bytes};
+ghost use Rattle.std.specs.Prelude.{◌≡◌, ◌++◌, ◌∷◌, [], false, IfOk, IfErr, OnOk, string_bytes};
+ghost use Rattle.rc_host.specs.PlanViews.{texts_lent};
 ghost use Rattle.rc_host.specs.Requests.{Holds, IsNotHeld, has_zero};
 
 use crate::launches::planned::Plan;
-use rc_text::Text;
 use rc_world::Fault;
 use std::alloc::Global;
-use std::os::fd::RawFd;
 
 /// For how many bytes of the arguments, and of the environment, there is room at first.
 const USUAL_BYTES: usize = 1_024;
@@ -33,51 +31,47 @@ impl Command {
     pub(crate) fn of(alloc: Global, plan: &Plan) -> Result<Command, Fault>
         ensures program { IfOk result (λ command. string_bytes command.program ≡ plan.now.program.now) }
         ensures args { IfOk result (λ command.
-            Holds has_zero command.args.items (plan.now.program.now ∷ map text_bytes plan.now.args.now)) }
+            Holds has_zero command.args.items (plan.now.program.now ∷ texts_lent plan.now.args.items)) }
         ensures err { IfErr result (IsNotHeld has_zero
-            (plan.now.program.now ∷ map text_bytes plan.now.args.now)) }
+            (plan.now.program.now ∷ texts_lent plan.now.args.items)) }
     {
         let Ok(program) = String::from_str(alloc, plan.program) else {
             return Err(Fault::NoMemory);
         };
-        let args = args_of(alloc, plan.program, plan.args)?;
+        let args = args_of(alloc, plan.program, &plan.args)?;
         Ok(Command { program, args })
     }
 
-    /// Asks for the program with this environment and these descriptors.
-    pub(crate) fn request<'a>(&'a self, env: &'a [u8], descriptors: [RawFd; 3]) -> Request<'a>
+    /// Asks for the program with this environment.
+    pub(crate) fn request<'a>(&'a self, env: &'a [u8]) -> Request<'a>
         ensures program { result.program.now ≡ string_bytes self.now.program }
         ensures args { result.args.now ≡ self.now.args.items }
         ensures env { result.env.now ≡ env.now }
-        ensures descriptors { result.descriptors ≡ descriptors }
     {
         Request {
             program: self.program.as_str(),
             args: self.args.as_slice(),
             env,
-            descriptors,
         }
     }
 }
 
-/// A program, its arguments and its environment, these two as Linux takes them, and the descriptors of this process of
-/// which the program gets copies as its own three.
+/// A program, its arguments and its environment, the last two as Linux takes them.
 #[derive(Clone, Copy)]
 pub(crate) struct Request<'a> {
     pub program: &'a str,
     pub args: &'a [u8],
     pub env: &'a [u8],
-    pub descriptors: [RawFd; 3],
 }
 
-fn args_of(alloc: Global, program: &str, args: &[Text]) -> Result<Vec<u8>, Fault>
-    ensures held { IfOk result (λ held. Holds has_zero held.items (program.now ∷ map text_bytes args.now)) }
-    ensures err { IfErr result (IsNotHeld has_zero (program.now ∷ map text_bytes args.now)) }
+fn args_of(alloc: Global, program: &str, args: &[&str]) -> Result<Vec<u8>, Fault>
+    ensures held { IfOk result (λ held. Holds has_zero held.items (program.now ∷ texts_lent args.now)) }
+    ensures err { IfErr result (IsNotHeld has_zero (program.now ∷ texts_lent args.now)) }
 {
     let mut texts = room(alloc)?;
     push_text(&mut texts, program)?;
     for arg in args {
-        push_text(&mut texts, arg.as_str())?;
+        push_text(&mut texts, arg)?;
     }
     Ok(texts)
 }

@@ -1,6 +1,6 @@
 //! Adding tokens to those read so far.
 
-ghost use Rattle.std.specs.Prelude.{◌≡◌, ◌<◌, ◌≤◌, ◌+◌, ◌^◌, ◌++◌, ◌∷◌, [], length, IfErr, IfOk, OnOk};
+ghost use Rattle.std.specs.Prelude.{◌≡◌, ◌<◌, ◌≤◌, ◌+◌, ◌^◌, ◌++◌, ◌∷◌, [], length, IfOk, OnOk};
 ghost use Rattle.law_syntax.specs.ByteReading as bytes;
 ghost use Rattle.rc_lexer.specs.Spans as spans;
 ghost use Rattle.rc_lexer.specs.Machine.{Adds, AddsWord, pending_in};
@@ -15,8 +15,7 @@ use std::alloc::AllocError;
 
 /// A place in the 32 bits that a token has for it. If they don't suffice, the tokens need more memory than there is.
 fn in_32_bits(place: usize) -> Result<u32, AllocError>
-    ensures ok { IfOk result (λ small. small ≡ place) }
-    ensures err { IfErr result (λ _. 2 ^ 32 ≤ place) }
+    ensures { IfOk result (λ small. small ≡ place) }
 {
     match u32::try_from(place) {
         Ok(small) => Ok(small),

@@ -4,7 +4,7 @@ ghost use Rattle.std.specs.Prelude.{true, false};
 ghost use Rattle.rc_model.specs.Syntax.Tree as t;
 ghost use Rattle.rc_model.specs.Mirrors.Descent.{read, a_part, parts_by, arg_by, members_by, words_by};
 ghost use Rattle.rc_model.specs.Mirrors.Descent.{brace_by, dollar_by};
-ghost use Rattle.rc_model.specs.Syntax.Grammar.{concat_of, past_blanks};
+ghost use Rattle.rc_model.specs.Syntax.Grammar.{past_blanks};
 ghost use Rattle.rc_tree.specs.View.{arg_tree, args_tree};
 ghost use Rattle.rc_parser.specs.Tokens.{lexemes_of};
 ghost use Rattle.rc_parser.specs.Results.{Gives};
@@ -134,29 +134,10 @@ fn parse_joined(
         (arg_by (read left (a_part inside)) inside (lexemes_of tokens.entry)) }
 {
     let (first, rest) = parse_part(alloc, left, inside, tokens)?;
-    match after_caret(past_blanks(inside, rest)) {
-        Some(_) => parse_others(alloc, left, inside, first, rest),
-        None => Ok((first, rest)),
-    }
-}
-
-/// Parses the parts that carets join to this one. It is never inlined, so that its locals take no stack at each level
-/// of nesting in an argument of one part.
-#[inline(never)]
-#[cycle(parse)]
-#[tactic(auto, using(std::proofs::lemmas::Grind::common_steps))]
-fn parse_others(
-    alloc: Global,
-    left: usize,
-    inside: bool,
-    first: Arg,
-    tokens: Tokens<'_>,
-) -> Result<(Arg, Tokens<'_>), TokenError>
-    ensures { Gives (λ x. (arg_tree x.0, lexemes_of x.1)) result
-        (made (concat_of (arg_tree first))
-        (parts_by (read left (a_part inside)) inside (lexemes_of tokens.entry))) }
-{
-    let (others, rest) = parse_parts(alloc, left, inside, tokens)?;
+    let Some(_) = after_caret(past_blanks(inside, rest)) else {
+        return Ok((first, rest));
+    };
+    let (others, rest) = parse_parts(alloc, left, inside, rest)?;
     Ok((concat(first, others)?, rest))
 }
 

@@ -2,7 +2,7 @@
 
 mod found_items;
 
-ghost use Rattle.std.specs.Prelude.{◌≡◌, ◌≤◌, ◌<◌, IfOk, IsNone, IsSome, List, Ok, OnErr, length, ℕ};
+ghost use Rattle.std.specs.Prelude.{◌≡◌, ◌≤◌, ◌<◌, IfOk, IsSome, List, Ok, length, ℕ};
 ghost use Rattle.rc_lexer.specs.Views.{tokens_of};
 ghost use Rattle.rc_model.specs.Mirrors.Descent.{script_tree};
 ghost use Rattle.rc_model.specs.Syntax.Accepted.{HasTokens, lexemes, longest_script};
@@ -51,7 +51,7 @@ impl Drop for Items<'_> {
 }
 
 impl<'a> Items<'a> {
-    ghost use Rattle.rc_parser.specs.ItemReading.{HasRead, ReadsItem, reader_of, turns_left};
+    ghost use Rattle.rc_parser.specs.ItemReading.{HasRead, ReadsItem, items_after, turns_left};
     ghost use Rattle.rc_parser.specs.Tokens.{lexemes_of};
 
     /// All items of a script with its tokens.
@@ -72,8 +72,9 @@ impl<'a> Items<'a> {
 
     /// The fault of the script for one of its tokens.
     fn refusal(&self, error: TokenError) -> ScriptError
-        ensures { let reader = reader_of self.now in HasTokens reader.script reader.tokens →
-            Fails error (script_tree MOST_LEVELS (lexemes reader.tokens)) → Refuses result reader.script }
+        ensures { let script = self.now.source.now.script.now in
+            let tokens = tokens_of script self.now.source.now.tokens.now in
+            HasTokens script tokens → Fails error (script_tree MOST_LEVELS (lexemes tokens)) → Refuses result script }
     {
         match error {
             InputError::Fault(found) => InputError::Fault(syntax_fault(
@@ -88,8 +89,8 @@ impl<'a> Items<'a> {
     /// Ends the script after its last item, or refuses it: tokens are left, or an item is too deep.
     fn end(&self, rest: Tokens<'_>) -> Result<Option<Item>, ScriptError>
         ensures read { (script : List ℕ) (front : Many t.item) → HasRead script front self.now →
-            (reader_of self.now).items front ≡ Ok (front, lexemes_of rest.entry) →
-            ReadsItem script front self.now result }
+            items_after 199 self.now.turns self.now.after_if (lexemes_of self.now.rest) front
+            ≡ Ok (front, lexemes_of rest.entry) → ReadsItem script front self.now result }
         ensures none { IfOk result (λ item. IsSome item → ⊥) }
     {
         if rest.len() != 0 {
@@ -102,12 +103,9 @@ impl<'a> Items<'a> {
     }
 
     /// Parses the next item, or returns `None` after the last one. Whether the script has a tree is known only then.
-    /// After `None` and after an error, these items are as they were.
     pub fn next(&mut self) -> Result<Option<Item>, ScriptError>
         ensures read { (script : List ℕ) (front : Many t.item) → HasRead script front self.old →
             ReadsItem script front self.new result }
-        ensures none { IfOk result (λ item. IsNone item → self.new ≡ self.old) }
-        ensures err { OnErr result (self.new ≡ self.old) }
         ensures fewer { IfOk result (λ item. IsSome item → turns_left self.new < turns_left self.old) }
     {
         let Found {

@@ -66,8 +66,8 @@ abbrev pub decreases-push_for : goal.decreases-push_for
 decreases-push_for l =
     3 * (max (max (goal.size-push_for l) (most argument.the_size l.words.now)) (command.the_size l.body.now)) + 2
 
-abbrev pub decreases-push_cmd : goal.decreases-push_cmd
-decreases-push_cmd l = 3 * goal.size-push_cmd l
+abbrev pub decreases-push_spelling : goal.decreases-push_spelling
+decreases-push_spelling l = 3 * goal.size-push_spelling l
 
 abbrev pub decreases-push_arg : goal.decreases-push_arg
 decreases-push_arg l = 3 * goal.size-push_arg l

@@ -14,14 +14,3 @@ finish-requires c =
     let read = c.in_ok-item.ensures.read script front c.loop-compiler.invariant.1 in
     let all = subst (λ o. ReadsItem script front c.next.new.self (Ok o)) c.in_default.is read in
     (front, c.loop-compiler.invariant.2, accepted_are_scripts script (Seq front) all.0)
-
-pub returns : goal.returns
-returns c =
-    let script = c.args.source.now.script.now in
-    let front = c.loop-compiler.invariant.0 in
-    let read = c.in_ok-item.ensures.read script front c.loop-compiler.invariant.1 in
-    let all = subst (λ o. ReadsItem script front c.next.new.self (Ok o)) c.in_default.is read in
-    record {
-      made = record { tree = Seq front; accepted = all.0; only = all.1; code_is = c.in_ok-finish.ensures front c.loop-compiler.invariant.2 };
-      refused = tt;
-    }

@@ -1,7 +1,7 @@
-use Rattle.std.proofs.Common.{rules, ◌∙◌}
+use Rattle.std.proofs.Common.{rules}
 use Rattle.law_image.proofs.ReadProper.{read_script}
 use Rattle.rc_scope.specs.States.{state_of}
-use Rattle.rc_image.proofs.Denoted.{nothing_new, is_there, passed_on, bad_image, is_defined, is_image}
+use Rattle.rc_image.proofs.Denoted.{nothing_new, is_there, passed_on, bad_image, is_defined}
 use Rattle.rc_image.proofs.read_environment.define_entry.Goals as goal
 
 pub define-requires : goal.define-requires
@@ -22,11 +22,5 @@ returns-in_err-body c =
 
 pub returns : goal.returns
 returns c =
-    is_defined (state_of c.args.state.now) (state_of c.keep_image.new.state) c.in-Some.name.now c.in-Some.image.now c.args.entry.now c.function.result _
-    c.in-Some.ensures c.function.ensures (search rules) c.in_ok-body.ensures
-    (c.keep_image.ensures ∙ (rw c.in_ok-shared.ensures.ok at c.in_ok-define.ensures))
-
-pub keep_image-requires : goal.keep_image-requires
-keep_image-requires c =
-    is_image (state_of c.args.state.now) (state_of c.define.new.state) c.in-Some.name.now c.in-Some.image.now c.args.entry.now _
-    c.in-Some.ensures c.in_ok-body.ensures (rw c.in_ok-shared.ensures.ok at c.in_ok-define.ensures)
+    is_defined (state_of c.args.state.now) (state_of c.define.new.state) c.in-Some.name.now c.in-Some.image.now c.args.entry.now c.function.result _
+    c.in-Some.ensures c.function.ensures (search rules) c.in_ok-body.ensures (rw c.in_ok-shared.ensures.ok at c.in_ok-define.ensures)

@@ -24,41 +24,38 @@ decreases-commands::parse_piped l = 16 * l.left + 0
 abbrev pub decreases-arguments::parse_parts : goal.decreases-arguments::parse_parts
 decreases-arguments::parse_parts l = 16 * l.left + 1
 
-abbrev pub decreases-arguments::parse_others : goal.decreases-arguments::parse_others
-decreases-arguments::parse_others l = 16 * l.left + 2
-
 abbrev pub decreases-arguments::parse_argument : goal.decreases-arguments::parse_argument
-decreases-arguments::parse_argument l = 16 * l.left + 4
+decreases-arguments::parse_argument l = 16 * l.left + 3
 
 abbrev pub decreases-arguments::parse_joined : goal.decreases-arguments::parse_joined
-decreases-arguments::parse_joined l = 16 * l.left + 3
+decreases-arguments::parse_joined l = 16 * l.left + 2
 
 abbrev pub decreases-arguments::parse_boxed_argument : goal.decreases-arguments::parse_boxed_argument
-decreases-arguments::parse_boxed_argument l = 16 * l.left + 5
+decreases-arguments::parse_boxed_argument l = 16 * l.left + 4
 
 abbrev pub decreases-arguments::parse_members : goal.decreases-arguments::parse_members
-decreases-arguments::parse_members l = 16 * l.left + 5
+decreases-arguments::parse_members l = 16 * l.left + 4
 
 abbrev pub decreases-arguments::parse_words : goal.decreases-arguments::parse_words
-decreases-arguments::parse_words l = 16 * l.left + 5
+decreases-arguments::parse_words l = 16 * l.left + 4
 
 abbrev pub decreases-redirections::parse_file_redirection : goal.decreases-redirections::parse_file_redirection
-decreases-redirections::parse_file_redirection l = 16 * l.left + 5
+decreases-redirections::parse_file_redirection l = 16 * l.left + 4
 
 abbrev pub decreases-arguments::parse_group : goal.decreases-arguments::parse_group
-decreases-arguments::parse_group l = 16 * l.below + 6
+decreases-arguments::parse_group l = 16 * l.below + 5
 
 abbrev pub decreases-redirections::parse_redirection : goal.decreases-redirections::parse_redirection
-decreases-redirections::parse_redirection l = 16 * l.left + 6
+decreases-redirections::parse_redirection l = 16 * l.left + 5
 
 abbrev pub decreases-arguments::parse_dollar : goal.decreases-arguments::parse_dollar
-decreases-arguments::parse_dollar l = 16 * l.below + 6
+decreases-arguments::parse_dollar l = 16 * l.below + 5
 
 abbrev pub decreases-redirections::parse_redirections : goal.decreases-redirections::parse_redirections
-decreases-redirections::parse_redirections l = 16 * l.left + 7
+decreases-redirections::parse_redirections l = 16 * l.left + 6
 
 abbrev pub decreases-openings::parse_simple : goal.decreases-openings::parse_simple
-decreases-openings::parse_simple l = 16 * l.left + 7
+decreases-openings::parse_simple l = 16 * l.left + 6
 
 abbrev pub decreases-command_lists::parse_brace : goal.decreases-command_lists::parse_brace
 decreases-command_lists::parse_brace l = 16 * l.below + 1
@@ -73,34 +70,34 @@ abbrev pub decreases-command_lists::parse_items : goal.decreases-command_lists::
 decreases-command_lists::parse_items l = 16 * l.below + 1
 
 abbrev pub decreases-switches::parse_case : goal.decreases-switches::parse_case
-decreases-switches::parse_case l = 16 * l.below + 6
+decreases-switches::parse_case l = 16 * l.below + 5
 
 abbrev pub decreases-switches::parse_cases : goal.decreases-switches::parse_cases
-decreases-switches::parse_cases l = 16 * l.below + 7
+decreases-switches::parse_cases l = 16 * l.below + 6
 
 abbrev pub decreases-switches::parse_switch : goal.decreases-switches::parse_switch
-decreases-switches::parse_switch l = 16 * l.below + 8
+decreases-switches::parse_switch l = 16 * l.below + 7
 
 abbrev pub decreases-openings::parse_match : goal.decreases-openings::parse_match
-decreases-openings::parse_match l = 16 * l.below + 6
+decreases-openings::parse_match l = 16 * l.below + 5
 
 abbrev pub decreases-openings::parse_defined : goal.decreases-openings::parse_defined
 decreases-openings::parse_defined l = 16 * l.below + 2
 
 abbrev pub decreases-openings::parse_define : goal.decreases-openings::parse_define
-decreases-openings::parse_define l = 16 * l.below + 6
+decreases-openings::parse_define l = 16 * l.below + 5
 
 abbrev pub decreases-openings::parse_block : goal.decreases-openings::parse_block
-decreases-openings::parse_block l = 16 * l.below + 8
+decreases-openings::parse_block l = 16 * l.below + 7
 
 abbrev pub decreases-openings::parse_simple_command : goal.decreases-openings::parse_simple_command
-decreases-openings::parse_simple_command l = 16 * l.below + 8
+decreases-openings::parse_simple_command l = 16 * l.below + 7
 
 abbrev pub decreases-openings::parse_first : goal.decreases-openings::parse_first
-decreases-openings::parse_first l = 16 * l.below + 9
+decreases-openings::parse_first l = 16 * l.below + 8
 
 abbrev pub decreases-openings::parse_opening : goal.decreases-openings::parse_opening
-decreases-openings::parse_opening l = 16 * l.below + 10
+decreases-openings::parse_opening l = 16 * l.below + 9
 
 abbrev pub decreases-controls::parse_body : goal.decreases-controls::parse_body
 decreases-controls::parse_body l = 16 * l.below + 1
@@ -121,7 +118,7 @@ abbrev pub decreases-prefixes::parse_optional_operand : goal.decreases-prefixes:
 decreases-prefixes::parse_optional_operand l = 16 * l.below + 1
 
 abbrev pub decreases-controls::parse_if : goal.decreases-controls::parse_if
-decreases-controls::parse_if l = 16 * l.below + 5
+decreases-controls::parse_if l = 16 * l.below + 4
 
 abbrev pub decreases-controls::parse_while : goal.decreases-controls::parse_while
 decreases-controls::parse_while l = 16 * l.below + 2
@@ -130,25 +127,25 @@ abbrev pub decreases-controls::parse_for_all : goal.decreases-controls::parse_fo
 decreases-controls::parse_for_all l = 16 * l.below + 2
 
 abbrev pub decreases-controls::parse_for_each : goal.decreases-controls::parse_for_each
-decreases-controls::parse_for_each l = 16 * l.below + 6
+decreases-controls::parse_for_each l = 16 * l.below + 5
 
 abbrev pub decreases-controls::parse_over : goal.decreases-controls::parse_over
-decreases-controls::parse_over l = 16 * l.below + 7
+decreases-controls::parse_over l = 16 * l.below + 6
 
 abbrev pub decreases-controls::parse_for : goal.decreases-controls::parse_for
-decreases-controls::parse_for l = 16 * l.below + 8
+decreases-controls::parse_for l = 16 * l.below + 7
 
 abbrev pub decreases-controls::parse_control : goal.decreases-controls::parse_control
-decreases-controls::parse_control l = 16 * l.below + 9
+decreases-controls::parse_control l = 16 * l.below + 8
 
 abbrev pub decreases-prefixes::parse_redirected : goal.decreases-prefixes::parse_redirected
-decreases-prefixes::parse_redirected l = 16 * l.below + 8
+decreases-prefixes::parse_redirected l = 16 * l.below + 7
 
 abbrev pub decreases-commands::parse_leading : goal.decreases-commands::parse_leading
-decreases-commands::parse_leading l = 16 * l.below + 10
+decreases-commands::parse_leading l = 16 * l.below + 9
 
 abbrev pub decreases-prefixes::parse_assigned_leading : goal.decreases-prefixes::parse_assigned_leading
-decreases-prefixes::parse_assigned_leading l = 16 * l.below + 11
+decreases-prefixes::parse_assigned_leading l = 16 * l.below + 10
 
 abbrev pub decreases-commands::parse_pipeline : goal.decreases-commands::parse_pipeline
 decreases-commands::parse_pipeline l = 16 * l.below + 1
@@ -157,16 +154,16 @@ abbrev pub decreases-prefixes::parse_assigned_pipeline : goal.decreases-prefixes
 decreases-prefixes::parse_assigned_pipeline l = 16 * l.below + 2
 
 abbrev pub decreases-prefixes::parse_values : goal.decreases-prefixes::parse_values
-decreases-prefixes::parse_values l = 16 * l.below + 12
+decreases-prefixes::parse_values l = 16 * l.below + 11
 
 abbrev pub decreases-prefixes::parse_assigned : goal.decreases-prefixes::parse_assigned
-decreases-prefixes::parse_assigned l = 16 * l.below + 13
+decreases-prefixes::parse_assigned l = 16 * l.below + 12
 
 abbrev pub decreases-commands::parse_operand : goal.decreases-commands::parse_operand
-decreases-commands::parse_operand l = 16 * l.below + 14
+decreases-commands::parse_operand l = 16 * l.below + 13
 
 abbrev pub decreases-commands::parse_links : goal.decreases-commands::parse_links
-decreases-commands::parse_links l = 16 * l.below + 15
+decreases-commands::parse_links l = 16 * l.below + 14
 
 abbrev pub invariant-arguments::parse_parts-loop : goal.invariant-arguments::parse_parts-loop
 invariant-arguments::parse_parts-loop l =

@@ -3,7 +3,7 @@ use Rattle.rc_check.proofs.faults.findings.found_fault.Goals as goal
 
 pub returns : goal.returns
 returns c = record {
-  first = c.requires;
+  refused = c.requires;
   never = never_accepted _ _ c.requires;
   placed = c.on_line-place.ensures;
 }

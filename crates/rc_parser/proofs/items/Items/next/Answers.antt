@@ -5,7 +5,6 @@ use Rattle.rc_model.specs.Syntax.Tree.{snoc}
 use Rattle.rc_model.specs.Syntax.WellFormed.{depth}
 use Rattle.rc_tree.specs.View.{cmd_tree, item_tree}
 use Rattle.rc_tree.specs.declared.types.Item.{Item}
-use Rattle.rc_parser.specs.Faults.{Refuses}
 use Rattle.rc_parser.specs.ItemReading.{after_item, items_after}
 use Rattle.rc_parser.specs.Tokens.{lexemes_of}
 use Rattle.rc_parser.proofs.ReadItems.{fails_whole, fits_more}
@@ -14,7 +13,7 @@ use Rattle.rc_parser.proofs.items.Items.next.Goals as goal
 
 pub returns-in-Err-clause-read : goal.returns-in-Err-clause-read
 returns-in-Err-clause-read c = λ script front h.
-    subst (λ z. Refuses c.refusal.result z) h.script_is (c.refusal.ensures h.has (fails_whole _ _ _ h.goes_on (c.in-Err.ensures.found front)))
+    (rw h.script_is at c.refusal.ensures) h.has (fails_whole _ _ _ h.goes_on (c.in-Err.ensures.found front))
 
 pub returns-in_default-clause-read : goal.returns-in_default-clause-read
 returns-in_default-clause-read c = λ script front h.
