@@ -9,10 +9,7 @@ mod uniqueness;
 ghost use Rattle.rc_model.specs.Mirrors.ParsingLaws.{FindsOnlyTrees, FindsEachTree, HasOneTree, HasNoTree};
 ghost use Rattle.rc_model.specs.Mirrors.ParsingLaws.{HasTooManyStages, IsTooDeep, HasSoundTrees};
 
-pub use acceptance::{
-    accepted_are_well_formed, fault_refuses, faultless_is_accepted, is_decided, is_never_both,
-    tree_of_text,
-};
+pub use acceptance::{accepted_are_well_formed, fault_refuses, faultless_is_accepted, is_decided, is_never_both, tree_of_text};
 pub use bytes::{characters_by_bytes, in_pieces};
 pub use tokens::{here_pieces, reading, spelling};
 pub use uniqueness::one_tree;

@@ -70,8 +70,8 @@ impl Drop for HostWorld {
 
 impl HostWorld {
     /// `shell` is the path of the program that a launch of the shell itself starts. If it is not given, it is that of
-    /// this process's program, for which Linux is asked at the first such launch; if that can't be started since its
-    /// file is gone, or another is in its place, the link to it is tried once.
+    /// this process's program, for which Linux is asked at the first such launch; if that can't be started since its file
+    /// is gone, or another is in its place, the link to it is tried once.
     pub fn new(rt: HostRuntime, shell: Option<String>) -> HostWorld
         ensures shell { shell_of result ≡ option_map string_bytes shell }
         ensures files { (k : ℕ) → held_at (files_of result) k ≡ None }

@@ -1,5 +1,5 @@
-//! Calls of Linux that name a file. A parameter whose name begins with an underscore is what the caller itself was
-//! asked for: a call that asks Linux for anything else has no proof.
+//! Calls of Linux that name a file. A parameter whose name begins with an underscore is what the caller itself was asked
+//! for: a call that asks Linux for anything else has no proof.
 ghost use Rattle.std.specs.Prelude.{◌≡◌};
 ghost use Rattle.rc_host.specs.Files.{options_of};
 ghost use Rattle.rc_host.specs.Names.{directory_path};

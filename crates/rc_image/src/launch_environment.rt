@@ -160,10 +160,7 @@ pub(crate) fn body_entry(alloc: Global, name: &str, body: &Cmd) -> Result<Text, 
 pub(crate) fn image_entry(alloc: Global, name: &str, text: &str) -> Result<Text, AllocError>
     ensures { IfOk result (λ whole. text_bytes whole ≡ entry (codes "fn#" ++ name.now, text.now)) }
 {
-    let length = "fn#="
-        .len()
-        .saturating_add(name.len())
-        .saturating_add(text.len());
+    let length = "fn#=".len().saturating_add(name.len()).saturating_add(text.len());
     let mut whole = String::with_capacity(alloc, length)?;
     whole.push_str("fn#")?;
     push_name(&mut whole, name)?;

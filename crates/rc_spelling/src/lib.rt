@@ -121,8 +121,7 @@ fn push_pieces(out: &mut String, pieces: &[Piece]) -> Result<(), AllocError>
     Ok(())
 }
 
-/// Appends the spelling of a command to a text, which is gone if memory is refused, since it may have a part of it
-/// then.
+/// Appends the spelling of a command to a text, which is gone if memory is refused, since it may have a part of it then.
 pub fn push_spelling(mut text: String, cmd: &Cmd) -> Result<String, AllocError>
     ensures { IfOk result (λ spelled. string_bytes spelled ≡ string_bytes text ++ node_image (cmd_tree cmd.now)) }
 {

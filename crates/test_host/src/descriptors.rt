@@ -66,8 +66,7 @@ fn have_their_places(rt: HostRuntime) -> Result<(), Fail> {
     let this = this_program(rt)?;
     let again = again(alloc, &mut host, &this, &[], slots)?;
     assert!(rt; run(&mut host, &again)? == Ending::Code(0));
-    let first =
-        "own\nplain\nboth-1\nboth-1!\nexchanged!\nfile-output!\noutput-file\n\ntest result: ok\n";
+    let first = "own\nplain\nboth-1\nboth-1!\nexchanged!\nfile-output!\noutput-file\n\ntest result: ok\n";
     assert!(rt; contents(alloc, &mut host, "first")?.as_str() == first);
     let second = "own!\nplain!\nboth-2\nboth-2!\nexchanged\nerrors-file\nfile-errors!\n";
     assert!(rt; contents(alloc, &mut host, "second")?.as_str() == second);

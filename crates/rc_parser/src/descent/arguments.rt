@@ -140,8 +140,8 @@ fn parse_joined(
     }
 }
 
-/// Parses the parts that carets join to this one. It is never inlined, so that its locals take no stack at each level
-/// of nesting in an argument of one part.
+/// Parses the parts that carets join to this one. It is never inlined, so that its locals take no stack at each level of
+/// nesting in an argument of one part.
 #[inline(never)]
 #[cycle(parse)]
 #[tactic(auto, using(std::proofs::lemmas::Grind::common_steps))]

@@ -17,8 +17,8 @@ pub struct Source<'a> {
     pub tokens: &'a [Token],
 }
 
-/// The tokens of a source from a place on. The texts of its words are UTF-8. It has 16 bytes, since each function of
-/// the descent keeps one or two of them on the stack.
+/// The tokens of a source from a place on. The texts of its words are UTF-8. It has 16 bytes, since each function of the
+/// descent keeps one or two of them on the stack.
 #[derive(Clone, Copy)]
 pub struct Tokens<'a> {
     source: &'a Source<'a>,
