@@ -1,19 +1,23 @@
-/* The least that some works of tests/bench_shells cost a shell that starts programs as this one does: it makes the same
-   calls of Linux, by the C library and in the way of the toolchain's own, and does nothing else. Its script is a line of
-   words, or empty:
+/* The least that some works of tests/bench_shells cost a shell that starts programs as this one does: it makes the
+   same calls of Linux, by the C library and in the way of the toolchain's own, and does nothing else. Its script is a
+   line of words, or empty:
 
        COUNT commands PROGRAM              so many times the program
+       COUNT documents PROGRAM             the same, with a fresh file of one line, which has no name, as its input
        COUNT subshells [PROGRAM]           so many times this program, which runs the other one, if it is named
-       COUNT backquotes [PROGRAM]          the same, and reads what is written
-       COUNT pipelines STAGES PROGRAM      so many times so many copies of the program; each but the last is run by this one
+       COUNT backquotes [PROGRAM]          as many, and reads what they write
+       COUNT pipelines STAGES PROGRAM      so many times so many copies of the program; each but the last is run by
+                                           this one
 
    With the single argument `nothing` it ends at once. */
 #define _GNU_SOURCE
 #include <fcntl.h>
 #include <signal.h>
 #include <spawn.h>
+#include <stdio.h>
 #include <stdlib.h>
 #include <string.h>
+#include <sys/random.h>
 #include <sys/wait.h>
 #include <unistd.h>
 
@@ -83,6 +87,21 @@ static size_t read_all(int descriptor, char *bytes, size_t room)
     return length;
 }
 
+static void document(char **command)
+{
+    unsigned long long number[2];
+    char path[64];
+    must(getrandom(number, sizeof number, 0) == sizeof number);
+    sprintf(path, "/tmp/rc.%llu%llu", number[0], number[1]);
+    int writer = open(path, O_WRONLY | O_CREAT | O_EXCL | O_NOCTTY | O_CLOEXEC, 0600);
+    int reader = open(path, O_RDONLY | O_NOCTTY | O_CLOEXEC);
+    must(writer >= 0 && reader >= 0 && unlink(path) == 0 && write(writer, "line 1\n", 7) == 7);
+    close(writer);
+    pid_t child = spawn(command, (int[3]){reader, 1, 2});
+    await(child);
+    close(reader);
+}
+
 static void backquote(char **stage)
 {
     char bytes[4096];
@@ -122,6 +141,8 @@ static void run(char **words, int count)
     for (int k = atoi(words[0]); k > 0; k--) {
         if (strcmp(work, "commands") == 0)
             await(spawn(command, own));
+        else if (strcmp(work, "documents") == 0)
+            document(command);
         else if (strcmp(work, "subshells") == 0)
             await(spawn(stage, own));
         else if (strcmp(work, "backquotes") == 0)
