@@ -52,9 +52,7 @@ prove: build
 	install -m 755 $(BUILT_TRACER) rctrace
 
 build: toolchain
-	cd crates/rc_main && $(RT) run < /dev/null
-	cd crates/rccheck && $(RT) run -- data/fine.rc
-	cd crates/rctrace && $(RT) run < /dev/null
+	RT='$(RT)' release/build
 	RT='$(RT)' release/link
 
 toolchain:

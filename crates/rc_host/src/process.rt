@@ -214,7 +214,9 @@ pub(crate) fn is_file_lost(refused: &io::Error) -> bool
     )
 }
 
-/// The path with which this program starts itself.
+/// The path with which this program starts itself. What finds it has three pages of buffers on the stack, which a launch
+/// of any other program is not to have.
+#[inline(never)]
 pub(crate) fn own_program(rt: &HostRuntime) -> Result<String, AllocError> {
     own_path(rt.alloc(), env::current_exe(rt), process::id(rt.process()))
 }
