@@ -4,7 +4,7 @@ ghost use Rattle.std.specs.Prelude.{IfOk};
 ghost use Rattle.rc_check.specs.Verdicts.{IsVerdictOn};
 
 use crate::faults::findings::{Finding, first_fault};
-use crate::positions::{Position, ReachedPlace, beginning, go_to, position_of};
+use crate::positions::{Position, beginning, go_to, position_of};
 use crate::verdicts::Verdict;
 use rc_warnings::{Warning, WarningKind, push_escaped, warnings_of};
 use std::alloc::{AllocError, Global};

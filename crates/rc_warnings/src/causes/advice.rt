@@ -358,10 +358,13 @@ impl Advice {
 
     /// The advice for a here document that begins this text and has no line that is its mark.
     pub fn of_mark(text: Option<&[u8]>) -> Advice {
-        match text {
-            Some([b'<', b'<', b'-', ..]) => Advice::HERE_DASH,
-            Some([b'<', b'<', b'"' | b'\\', ..]) => Advice::HERE_QUOTED,
-            _ => Advice::HERE_MARK,
+        let text = text.unwrap_or(b"");
+        if text.starts_with(b"<<-") {
+            Advice::HERE_DASH
+        } else if text.starts_with(b"<<\"") || text.starts_with(b"<<\\") {
+            Advice::HERE_QUOTED
+        } else {
+            Advice::HERE_MARK
         }
     }
 }

@@ -13,6 +13,15 @@ const DECLARATIONS: [&str; 7] = [
     "export", "local", "readonly", "declare", "typeset", "set", "setenv",
 ];
 
+/// The parameters of other shells, by what follows the `$`.
+const PARAMETERS: [(&str, Advice); 5] = [
+    ("?", Advice::LAST_STATUS),
+    ("@", Advice::PARAMETER),
+    ("!", Advice::LAST_JOB),
+    ("$", Advice::PROCESS_NUMBER),
+    ("^", Advice::FLAT),
+];
+
 /// The advice for the token at this index of a script with these tokens, which no script can have there; past the last
 /// token, for the end of the script.
 pub fn advice_at(
@@ -63,10 +72,8 @@ fn unclosed(tokens: Tokens<'_>, at: usize) -> Option<Advice> {
 
 /// The advice for a token with a carriage return at one of its ends.
 fn carriage_return(tokens: Tokens<'_>, at: usize) -> Option<Advice> {
-    match tokens.text(at) {
-        [b'\r', ..] | [.., b'\r'] => Some(Advice::CARRIAGE_RETURN),
-        _ => None,
-    }
+    let text = tokens.text(at);
+    (text.starts_with(b"\r") || text.ends_with(b"\r")).then_some(Advice::CARRIAGE_RETURN)
 }
 
 /// The advice that the token before this one suggests.
@@ -150,13 +157,19 @@ fn for_equals(tokens: Tokens<'_>, at: usize) -> Advice {
 fn around_equals(tokens: Tokens<'_>, at: usize, start: usize) -> Advice {
     let before = at.wrapping_sub(1);
     let next = at.wrapping_add(1);
-    match (tokens.text(before), tokens.text(next)) {
-        ([.., b'!'], _) => Advice::NOT_EQUAL,
-        ([b'='], _) | (_, [b'=']) => Advice::EQUAL,
-        ([.., b':'], _) => Advice::COLON_EQUALS,
-        (_, [b'~', ..]) => Advice::MATCH_OPERATOR,
-        _ if tokens.is_one_of(start, &["test", "["]) => Advice::TEST_EQUALS,
-        _ => Advice::EQUALS,
+    let text = tokens.text(before);
+    if text.ends_with(b"!") {
+        Advice::NOT_EQUAL
+    } else if tokens.is(before, TokenKind::Equals) || tokens.is(next, TokenKind::Equals) {
+        Advice::EQUAL
+    } else if text.ends_with(b":") {
+        Advice::COLON_EQUALS
+    } else if tokens.text(next).starts_with(b"~") {
+        Advice::MATCH_OPERATOR
+    } else if tokens.is_one_of(start, &["test", "["]) {
+        Advice::TEST_EQUALS
+    } else {
+        Advice::EQUALS
     }
 }
 
@@ -208,14 +221,13 @@ fn for_parameter(tokens: Tokens<'_>, at: usize) -> Option<Advice> {
     if !tokens.touches_next(at) {
         return Some(Advice::LONE_DOLLAR);
     }
-    match tokens.text(next) {
-        [b'?', ..] => Some(Advice::LAST_STATUS),
-        [b'@', ..] => Some(Advice::PARAMETER),
-        [b'!', ..] => Some(Advice::LAST_JOB),
-        [b'$', ..] => Some(Advice::PROCESS_NUMBER),
-        [b'^', ..] => Some(Advice::FLAT),
-        _ => Some(Advice::LONE_DOLLAR),
+    let text = tokens.text(next);
+    for (mark, advice) in &PARAMETERS {
+        if text.starts_with(mark.as_bytes()) {
+            return Some(*advice);
+        }
     }
+    Some(Advice::LONE_DOLLAR)
 }
 
 fn for_left_brace(tokens: Tokens<'_>, at: usize) -> Option<Advice> {

@@ -1,6 +1,6 @@
 //! The rules for assignments.
 
-use crate::bytes::{find, is_number, is_plain};
+use crate::bytes::{find, has_any, is_number, is_plain};
 use crate::lexed::script_tokens::Tokens;
 use crate::rules::View;
 use crate::rules::conditions::assigned_condition;
@@ -18,7 +18,6 @@ pub(crate) fn assignment_warning(view: View<'_, '_>, at: usize) -> Option<Warnin
     }
     upper_warning(view, at)
         .or(assigned_condition(tokens, at))
-        .or(colon_warning(tokens, at))
         .or(sum_warning(tokens, at))
         .or(blank_warning(tokens, at))
 }
@@ -35,19 +34,16 @@ fn bad_name(tokens: Tokens<'_>, at: usize) -> Option<Warning> {
     let name = span(start, (found.stop as usize).saturating_sub(1));
     let text = tokens.text(at);
     let value = tokens.span(at.wrapping_add(2));
-    let repair = match text {
-        [.., b'+'] => Repair::new(
-            ["write ", "=($", " ..), or $", "^.. for one text"],
-            [name; 3],
-        ),
-        [.., b':'] => Repair::pair(["write ", "=", ""], name, value),
-        _ => match find(text, b"[") {
-            Some(open) => {
-                let list = span(start, start.saturating_add(open));
-                Repair::pair(["write ", "=(..) with all members of $", ""], list, list)
-            }
-            None => Repair::of("names have letters, digits and _; for a program, env 'a.b=c'"),
-        },
+    let repair = if text.ends_with(b"+") {
+        let words = ["write ", "=($", " ..), or $", "^.. for one text"];
+        Repair::new(words, [name; 3])
+    } else if text.ends_with(b":") {
+        Repair::pair(["write ", "=", ""], name, value)
+    } else if let Some(open) = find(text, b"[") {
+        let list = span(start, start.saturating_add(open));
+        Repair::pair(["write ", "=(..) with all members of $", ""], list, list)
+    } else {
+        Repair::of("names have letters, digits and _; for a program, env 'a.b=c'")
     };
     tokens.warning(at, WarningKind::NAME, repair)
 }
@@ -57,13 +53,14 @@ fn upper_warning(view: View<'_, '_>, at: usize) -> Option<Warning> {
     let tokens = view.tokens;
     let value = at.saturating_add(2);
     let is_prefix = has_blank(tokens, value, tokens.command_end(at));
-    let repair = match tokens.text(at) {
-        b"IFS" => Repair::of("write ifs"),
-        b"CDPATH" => Repair::of("write cdpath, with a list"),
-        b"PATH" if !is_prefix && !view.overview.has_variable(b"path") => {
-            Repair::of("write path=(/opt/bin $path) too; PATH is for programs alone")
-        }
-        _ => return None,
+    let repair = if tokens.is_word(at, "IFS") {
+        Repair::of("write ifs")
+    } else if tokens.is_word(at, "CDPATH") {
+        Repair::of("write cdpath, with a list")
+    } else if tokens.is_word(at, "PATH") && !is_prefix && !view.overview.has_variable(b"path") {
+        Repair::of("write path=(/opt/bin $path) too; PATH is for programs alone")
+    } else {
+        return None;
     };
     tokens.warning(at, WarningKind::UPPER, repair)
 }
@@ -78,23 +75,24 @@ fn has_blank(tokens: Tokens<'_>, first: usize, last: usize) -> bool {
     false
 }
 
-/// The warning for a colon in a value of `path` or `cdpath`.
-fn colon_warning(tokens: Tokens<'_>, at: usize) -> Option<Warning> {
-    if !tokens.is_one_of(at, &["path", "cdpath"]) {
+/// The warning for a word with a colon in a value of `path` or `cdpath`.
+pub(crate) fn colon_warning(tokens: Tokens<'_>, at: usize, text: &[u8]) -> Option<Warning> {
+    let name = tokens.command_start(at);
+    if !text.contains(&b':') || !tokens.is_one_of(name, &["path", "cdpath"]) {
         return None;
     }
-    let end = tokens.command_end(at);
-    for index in at.saturating_add(2)..end.saturating_add(1) {
-        if tokens.is(index, TokenKind::Word) && tokens.text(index).contains(&b':') {
-            let repair = Repair::around(
-                "write ",
-                tokens.span(at),
-                "=(..) with blanks between them",
-            );
-            return tokens.warning(index, WarningKind::COLON, repair);
-        }
+    let value = name.wrapping_add(2);
+    let is_value = tokens.is(name.wrapping_add(1), TokenKind::Equals)
+        && (tokens.open_bracket(at) == Some(value) || !has_blank(tokens, value, at));
+    if !is_value {
+        return None;
     }
-    None
+    let repair = Repair::around(
+        "write ",
+        tokens.span(name),
+        "=(..) with blanks between them",
+    );
+    tokens.warning(at, WarningKind::COLON, repair)
 }
 
 /// The warning for `x=$x+1` and `x=1+2`, at the value.
@@ -109,11 +107,9 @@ fn sum_warning(tokens: Tokens<'_>, at: usize) -> Option<Warning> {
         && tokens.is(name, TokenKind::Name)
         && tokens.is(rest.wrapping_sub(1), TokenKind::FreeCaret)
         && tokens.is(rest, TokenKind::Word);
-    let [operator, number @ ..] = tokens.text(rest) else {
-        return None;
-    };
+    let (operator, number) = tokens.text(rest).split_at_checked(1)?;
     let is_same = tokens.text(name) == tokens.text(at);
-    let is_sum = *operator == b'+' || is_same && matches!(operator, b'-' | b'*' | b'/' | b'%');
+    let is_sum = operator == b"+".as_slice() || is_same && has_any(b"-*/%", operator);
     if !is_value || !is_sum || !is_number(number) {
         return None;
     }

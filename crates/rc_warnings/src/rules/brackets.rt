@@ -2,7 +2,6 @@
 
 use crate::lexed::script_tokens::Tokens;
 use crate::rules::View;
-use crate::rules::functions::last_warning;
 use crate::rules::patterns::{constant_warning, list_warning};
 use crate::rules::variables::place_warning;
 use crate::warnings::kind::WarningKind;
@@ -18,7 +17,7 @@ pub(crate) fn bracket_warning(view: View<'_, '_>, at: usize, kind: TokenKind) ->
             .or(list_warning(tokens, at))
             .or(called_warning(tokens, at)),
         TokenKind::RightParen => touching_list(tokens, at),
-        TokenKind::RightBrace => touching_output(tokens, at).or(last_warning(view, at)),
+        TokenKind::RightBrace => touching_output(tokens, at),
         TokenKind::Subscript => place_warning(view, at),
         _ => None,
     }
@@ -92,7 +91,8 @@ fn touching_output(tokens: Tokens<'_>, close: usize) -> Option<Warning> {
 /// The warning for the name of a variable that is all that a loop is for, at its `in`.
 pub(crate) fn loop_warning(view: View<'_, '_>, at: usize) -> Option<Warning> {
     let tokens = view.tokens;
-    let is_head = tokens.is(at.wrapping_sub(2), TokenKind::LeftParen)
+    let is_head = tokens.is_word(at, "in")
+        && tokens.is(at.wrapping_sub(2), TokenKind::LeftParen)
         && tokens.is_word(at.wrapping_sub(3), "for")
         && tokens.is(at.wrapping_add(2), TokenKind::RightParen);
     if !is_head {

@@ -19,23 +19,39 @@ pub(crate) fn command_warning(view: View<'_, '_>, at: usize) -> Option<Warning> 
     if tokens.is(at.wrapping_add(1), TokenKind::Equals) {
         return assignment_warning(view, at);
     }
-    match tokens.text(at) {
-        b"!" | b"@" => None,
-        [b'!', ..] => bang_warning(tokens, at),
-        b"cd" => dash_warning(tokens, at).or(unasked_warning(view, at)),
-        b"." | b"eval" => unasked_warning(view, at),
-        b"if" => if_warning(tokens, at),
-        b"fn" => parameters_warning(tokens, at).or(definition_warning(tokens, at)),
-        b"~" => match_warning(view, at),
-        b"switch" => switch_warning(view, at),
-        b"exec" => exec_warning(tokens, at),
-        b"find" => glob_warning(tokens, at),
-        text => tested_warning(tokens, at, text).or(foreign_warning(view, at)),
+    if tokens.is_one_of(at, &["cd", ".", "eval"]) {
+        return dash_warning(tokens, at).or(unasked_warning(view, at));
     }
+    if tokens.is_one_of(at, &["if", "fn", "~", "switch"]) {
+        return form_warning(view, at);
+    }
+    bang_warning(tokens, at)
+        .or(exec_warning(tokens, at))
+        .or(tested_warning(tokens, at))
+        .or(foreign_warning(view, at))
+}
+
+/// The warning for a form that is not a simple command.
+fn form_warning(view: View<'_, '_>, at: usize) -> Option<Warning> {
+    let tokens = view.tokens;
+    if tokens.is_word(at, "if") {
+        return if_warning(tokens, at);
+    }
+    if tokens.is_word(at, "fn") {
+        return parameters_warning(tokens, at).or(definition_warning(tokens, at));
+    }
+    if tokens.is_word(at, "~") {
+        return match_warning(view, at);
+    }
+    switch_warning(view, at)
 }
 
 /// The warning for a command such as `!~` or `!grep`.
 fn bang_warning(tokens: Tokens<'_>, at: usize) -> Option<Warning> {
+    let text = tokens.text(at);
+    if text.len() < 2 || !text.starts_with(b"!") {
+        return None;
+    }
     let mut rest = tokens.span(at);
     rest.start = rest.start.saturating_add(1);
     tokens.warning(at, WarningKind::BANG, Repair::around("write ! ", rest, ""))
@@ -44,7 +60,8 @@ fn bang_warning(tokens: Tokens<'_>, at: usize) -> Option<Warning> {
 /// The warning for `cd -`.
 fn dash_warning(tokens: Tokens<'_>, at: usize) -> Option<Warning> {
     let next = at.wrapping_add(1);
-    if !tokens.is_word(next, "-") || !tokens.ends_command(next.wrapping_add(1)) {
+    let is_back = tokens.is_word(at, "cd") && tokens.is_word(next, "-");
+    if !is_back || !tokens.ends_command(next.wrapping_add(1)) {
         return None;
     }
     let repair = Repair::of("keep the directory in a variable before: old=`{pwd}");
@@ -64,14 +81,17 @@ fn unasked_warning(view: View<'_, '_>, at: usize) -> Option<Warning> {
 
 /// The warning for an `exec` that has nothing but redirections.
 fn exec_warning(tokens: Tokens<'_>, at: usize) -> Option<Warning> {
+    if !tokens.is_word(at, "exec") {
+        return None;
+    }
     let end = tokens.command_end(at);
-    let is_only = match tokens.kind(at.wrapping_add(1)) {
+    let first = tokens.kind(at.wrapping_add(1));
+    // the first token after a redirection with its file
+    let after = tokens.kind(at.wrapping_add(3));
+    let is_only = match first {
         Some(TokenKind::CopyTo { .. }) => end == at.saturating_add(1),
         Some(TokenKind::Redirection(_, _)) => {
-            !matches!(
-                tokens.kind(at.wrapping_add(3)),
-                Some(TokenKind::Word | TokenKind::Dollar)
-            )
+            !matches!(after, Some(TokenKind::Word | TokenKind::Dollar))
         }
         _ => false,
     };
@@ -84,18 +104,16 @@ fn exec_warning(tokens: Tokens<'_>, at: usize) -> Option<Warning> {
 }
 
 /// The warning for a pattern of `find` that isn't quoted.
-fn glob_warning(tokens: Tokens<'_>, at: usize) -> Option<Warning> {
-    for index in at..tokens.command_end(at) {
-        let next = index.saturating_add(1);
-        let is_pattern = tokens.is_one_of(index, &["-name", "-iname", "-path"])
-            && tokens.is(next, TokenKind::Word)
-            && has_any(tokens.text(next), b"*?[");
-        if is_pattern {
-            let repair = Repair::around("write '", tokens.span(next), "'");
-            return tokens.warning(next, WarningKind::GLOB, repair);
-        }
+pub(crate) fn glob_warning(tokens: Tokens<'_>, at: usize, text: &[u8]) -> Option<Warning> {
+    let option = at.wrapping_sub(1);
+    let is_pattern = has_any(text, b"*?[")
+        && tokens.is_one_of(option, &["-name", "-iname", "-path"])
+        && tokens.is_in_command(at, "find");
+    if !is_pattern {
+        return None;
     }
-    None
+    let repair = Repair::around("write '", tokens.span(at), "'");
+    tokens.warning(at, WarningKind::GLOB, repair)
 }
 
 /// The warning for a `;` that ends a command.

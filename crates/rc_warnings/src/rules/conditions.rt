@@ -1,6 +1,6 @@
 //! The rules for conditions.
 
-use crate::bytes::is_number;
+use crate::bytes::{is_number, is_plain};
 use crate::lexed::script_tokens::Tokens;
 use crate::rules::View;
 use crate::rules::functions::last_before;
@@ -49,31 +49,31 @@ fn is_changed(tokens: Tokens<'_>, at: usize) -> bool {
     }
 }
 
-/// The warning for a word that is called as a command, and belongs to `test`.
-pub(crate) fn tested_warning(tokens: Tokens<'_>, at: usize, text: &[u8]) -> Option<Warning> {
-    let is_option = matches!(text, [b'-', b'a'..=b'z' | b'A'..=b'Z']);
-    let is_bracket = text.starts_with(b"[") && text.len() > 1 && text != b"[[".as_slice();
+/// The warning for a word that is called as a command, and belongs to `test` or to arithmetic.
+pub(crate) fn tested_warning(tokens: Tokens<'_>, at: usize) -> Option<Warning> {
+    let text = tokens.text(at);
     if text.ends_with(b"++") || text.ends_with(b"--") && text.len() > 2 {
         return step_warning(tokens, at);
     }
-    let is_truth = is_number(text) && tokens.is_in_condition(at);
-    if is_truth {
+    if is_number(text) && tokens.is_in_condition(at) {
         let repair = Repair::of("write true or false, and while() for a loop without an end");
         return tokens.warning(at, WarningKind::TEST, repair);
     }
-    if !is_option && !is_bracket {
+    called_test(tokens, at, text)
+}
+
+/// The warning for an option or a bracket of `test` that is called as a command.
+fn called_test(tokens: Tokens<'_>, at: usize, text: &[u8]) -> Option<Warning> {
+    let mut rest = tokens.span_to(at, tokens.command_end(at));
+    if text.len() == 2 && text.starts_with(b"-") && is_plain(text, b"-") {
+        let repair = Repair::around("write test ", rest, "");
+        return tokens.warning(at, WarningKind::TEST, repair);
+    }
+    if !text.starts_with(b"[") || tokens.is_one_of(at, &["[", "[["]) {
         return None;
     }
-    let mut rest = tokens.span_to(at, tokens.command_end(at));
-    if is_bracket {
-        rest.start = rest.start.saturating_add(1);
-        return tokens.warning(at, WarningKind::TEST, Repair::around("write [ ", rest, ""));
-    }
-    tokens.warning(
-        at,
-        WarningKind::TEST,
-        Repair::around("write test ", rest, ""),
-    )
+    rest.start = rest.start.saturating_add(1);
+    tokens.warning(at, WarningKind::TEST, Repair::around("write [ ", rest, ""))
 }
 
 /// The warning for `x++` or `x--`.

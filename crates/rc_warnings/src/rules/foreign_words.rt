@@ -19,7 +19,9 @@ pub(crate) fn foreign_warning(view: View<'_, '_>, at: usize) -> Option<Warning> 
 /// The warning for an `else` or an `if not` among the arguments of a command that an `if` runs.
 pub(crate) fn inline_warning(tokens: Tokens<'_>, at: usize) -> Option<Warning> {
     let next = at.wrapping_add(1);
-    if tokens.is_word(at, "if") && !tokens.is_word(next, "not") {
+    let is_other = tokens.is_one_of(at, &["else", "elif"])
+        || tokens.is_word(at, "if") && tokens.is_word(next, "not");
+    if !is_other {
         return None;
     }
     let head = tokens.command_start(at).wrapping_sub(1);

@@ -7,6 +7,9 @@ use crate::warnings::repair::Repair;
 use crate::warnings::warning::Warning;
 use rc_lexer::TokenKind;
 
+/// The greatest number of loops and braces around a condition that are looked into.
+const MOST_LEVELS: usize = 8;
+
 /// Functions that Plan 9's rc calls when a signal arrives.
 const SIGNALS: [&str; 11] = [
     "sighup", "sigint", "sigquit", "sigalrm", "sigterm", "sigpipe", "sigchld", "sigusr1",
@@ -60,34 +63,70 @@ pub(crate) fn definition_warning(tokens: Tokens<'_>, at: usize) -> Option<Warnin
     tokens.warning(at, WarningKind::REMOVED, repair)
 }
 
-/// The warning for a function, or a script, that ends with a condition whose status ends the script under `-e`. It is
-/// at the brace that closes here, or at the end of the script.
+/// The warning for a function or a script that ends with a condition whose status it leaves. It is at the brace that
+/// closes here, or at the end of the script.
 pub(crate) fn last_warning(view: View<'_, '_>, close: usize) -> Option<Warning> {
     let tokens = view.tokens;
-    if !view.overview.exits_on_failure || !ends_body(tokens, close) {
+    if !leaves_status(view, close) {
         return None;
     }
-    let last = last_before(tokens, close)?;
-    let item = tokens.item_start(last);
-    let is_condition = tokens.is_one_of(item, &["if", "while"])
-        && !tokens.is_word(item.wrapping_add(1), "not");
-    if !is_condition {
-        return None;
+    let mut end = close;
+    for _ in 0..MOST_LEVELS {
+        let last = last_before(tokens, end)?;
+        let item = tokens.item_start(last.wrapping_add(1));
+        let body = after_heads(tokens, item);
+        if tokens.is_one_of(body, &["if", "while"]) {
+            return left_status(tokens, item, body, last);
+        }
+        if tokens.open_bracket(last) != Some(body) {
+            return None;
+        }
+        end = last;
     }
-    let head = tokens.span_to(item, last);
-    let repair = if tokens.is_word(item, "if") {
-        Repair::around("write ", head, "; if not status=''")
-    } else {
-        Repair::around("write ", head, "; status=''")
-    };
-    tokens.warning(item, WarningKind::LAST, repair)
+    None
 }
 
-/// Whether the body of a function, or the script, ends at this index.
-fn ends_body(tokens: Tokens<'_>, close: usize) -> bool {
+/// The index after the heads of the loops that begin at this index.
+fn after_heads(tokens: Tokens<'_>, item: usize) -> usize {
+    let mut body = item;
+    for _ in 0..MOST_LEVELS {
+        let is_loop = tokens.is_word(body, "for");
+        match tokens.closing(body.wrapping_add(1)) {
+            Some(close) if is_loop => body = close.wrapping_add(1),
+            _ => return body,
+        }
+    }
+    body
+}
+
+/// The warning for an item, up to its last token, whose status is that of the condition at the second index.
+fn left_status(tokens: Tokens<'_>, item: usize, at: usize, last: usize) -> Option<Warning> {
+    if tokens.is_word(at.wrapping_add(1), "not") {
+        return None;
+    }
+    let repair = Repair::around(
+        "write ",
+        tokens.span_to(item, last),
+        if item == at && tokens.is_word(at, "if") {
+            "; if not status=''"
+        } else {
+            "; status=''"
+        },
+    );
+    tokens.warning(at, WarningKind::LAST, repair)
+}
+
+/// Whether what ends at this index has a status that counts: a function under `-e`, or a script with a first line for
+/// an interpreter.
+fn leaves_status(view: View<'_, '_>, close: usize) -> bool {
+    let tokens = view.tokens;
     match tokens.open_bracket(close) {
-        Some(open) => tokens.is_in_command(open.wrapping_sub(1), "fn"),
-        None => close == tokens.all.len(),
+        Some(open) => {
+            view.overview.exits_on_failure
+                && tokens.is(close, TokenKind::RightBrace)
+                && tokens.is_in_command(open, "fn")
+        }
+        None => close == tokens.all.len() && tokens.script.starts_with(b"#!"),
     }
 }
 

@@ -33,7 +33,9 @@ pub(crate) fn warning_at(view: View<'_, '_>, at: usize) -> Option<Warning> {
     let tokens = view.tokens;
     match tokens.kind(at)? {
         TokenKind::Word => words::word_warning(view, at),
-        TokenKind::Quoted => patterns::quoted_warning(tokens, at),
+        TokenKind::Quoted => {
+            variables::quoted_name(tokens, at).or(patterns::quoted_warning(tokens, at))
+        }
         TokenKind::Dollar | TokenKind::DollarCount => conditions::value_warning(view, at),
         TokenKind::Name => variables::name_warning(view, at),
         TokenKind::Ampersand => jobs::job_warning(view, at),
@@ -41,9 +43,13 @@ pub(crate) fn warning_at(view: View<'_, '_>, at: usize) -> Option<Warning> {
         TokenKind::Caret => words::caret_warning(tokens, at),
         TokenKind::Bar(_) => patterns::bar_warning(tokens, at),
         TokenKind::Redirection(_, _) => redirections::redirection_warning(tokens, at),
-        TokenKind::HereDoc { .. } => documents::document_warning(tokens, at),
         kind => brackets::bracket_warning(view, at, kind),
     }
+}
+
+/// The warning for what ends at this index, or at the end of the script: its place is before, or in a here document.
+pub(crate) fn warning_before(view: View<'_, '_>, at: usize) -> Option<Warning> {
+    documents::document_warning(view.tokens, at).or(functions::last_warning(view, at))
 }
 
 impl Tokens<'_> {

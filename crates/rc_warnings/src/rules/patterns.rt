@@ -1,7 +1,7 @@
 //! The rules for patterns, and for what they are compared with.
 
 use crate::bytes::{find, has, is_plain};
-use crate::lexed::script_tokens::Tokens;
+use crate::lexed::script_tokens::{Tokens, part};
 use crate::rules::View;
 use crate::rules::conditions::COMPARISONS;
 use crate::rules::words::span;
@@ -172,16 +172,20 @@ fn is_stars(text: &[u8]) -> bool {
 
 /// The warning for a pattern in quotes, or a comment directly after a quoted word.
 pub(crate) fn quoted_warning(tokens: Tokens<'_>, at: usize) -> Option<Warning> {
-    let [b'\'', inner @ .., b'\''] = tokens.text(at) else {
-        return None;
-    };
-    let has_both = has(inner, b"*") && !is_stars(inner);
-    if !has_both || !is_plain(inner, b"._/-*") || !is_pattern(tokens, at) {
+    if !is_pattern(tokens, at) {
         return None;
     }
     let found = tokens.span(at);
     let start = (found.start as usize).saturating_add(1);
     let stop = without_last(found).stop as usize;
+    let inner = part(tokens.script, span(start, stop));
+    if inner.len() > 1 && inner.starts_with(b"^") {
+        let repair = Repair::of("write a pattern such as a*, without quotes, or use grep");
+        return tokens.warning(at, WarningKind::PATTERN, repair);
+    }
+    if is_stars(inner) || !inner.contains(&b'*') || !is_plain(inner, b"._/-*") {
+        return None;
+    }
     let repair = Repair::around("write ", span(start, stop), "");
     tokens.warning(at, WarningKind::LITERAL, repair)
 }

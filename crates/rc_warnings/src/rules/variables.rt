@@ -1,7 +1,7 @@
 //! The rules for the names of variables.
 
 use crate::bytes::{find, has_any, is_number};
-use crate::lexed::script_tokens::Tokens;
+use crate::lexed::script_tokens::{Tokens, part};
 use crate::rules::View;
 use crate::rules::conditions::test_warning;
 use crate::rules::patterns::value_pattern;
@@ -14,30 +14,40 @@ use rc_lexer::TokenKind;
 /// The warning for the name of a variable that is used.
 pub(crate) fn name_warning(view: View<'_, '_>, at: usize) -> Option<Warning> {
     let tokens = view.tokens;
-    match tokens.text(at) {
-        b"0" => {
-            let repair = Repair::of("give the script its name in a variable, as in me=deploy");
-            tokens.warning(at, WarningKind::ZERO, repair)
-        }
-        b"apid" => apid_warning(tokens, at),
-        b"status" => test_warning(tokens, at),
-        b"*" => subscript_warning(tokens, at),
-        [b'\'', inner @ ..] if inner.contains(&b'\\') => {
-            let repair = Repair::of("write a newline or a tab itself, in quotes");
-            tokens.warning(at, WarningKind::BACKSLASH, repair)
-        }
-        text if text.contains(&b'*') && !view.overview.has_variable(text) => {
-            star_warning(tokens, at, text)
-        }
-        text => variable_warning(view, at, text)
-            .or(subscript_warning(tokens, at))
-            .or(value_pattern(view, at))
-            .or(test_warning(tokens, at)),
+    let text = tokens.text(at);
+    if text.contains(&b'*') {
+        return star_warning(view, at, text).or(subscript_warning(tokens, at));
     }
+    zero_warning(tokens, at, text)
+        .or(apid_warning(tokens, at, text))
+        .or(variable_warning(view, at, text))
+        .or(subscript_warning(tokens, at))
+        .or(value_pattern(view, at))
+        .or(test_warning(tokens, at))
 }
 
-fn apid_warning(tokens: Tokens<'_>, at: usize) -> Option<Warning> {
-    if !tokens.is_in_command(at, "kill") {
+/// The warning for a quoted name with a backslash, as in `$'a\n'`.
+pub(crate) fn quoted_name(tokens: Tokens<'_>, at: usize) -> Option<Warning> {
+    let is_name = tokens.is(at.wrapping_sub(1), TokenKind::Dollar);
+    if !is_name || !tokens.text(at).contains(&b'\\') {
+        return None;
+    }
+    let repair = Repair::of("write a newline or a tab itself, in quotes");
+    tokens.warning(at, WarningKind::BACKSLASH, repair)
+}
+
+/// The warning for `$0`.
+fn zero_warning(tokens: Tokens<'_>, at: usize, text: &[u8]) -> Option<Warning> {
+    if text != b"0".as_slice() {
+        return None;
+    }
+    let repair = Repair::of("give the script its name in a variable, as in me=deploy");
+    tokens.warning(at, WarningKind::ZERO, repair)
+}
+
+/// The warning for `kill $apid`.
+fn apid_warning(tokens: Tokens<'_>, at: usize, text: &[u8]) -> Option<Warning> {
+    if text != b"apid".as_slice() || !tokens.is_in_command(at, "kill") {
         return None;
     }
     let repair = Repair::of("let the process write its own number into a file, as rc(1) says");
@@ -45,9 +55,11 @@ fn apid_warning(tokens: Tokens<'_>, at: usize) -> Option<Warning> {
 }
 
 /// The warning for a name that has a star in it.
-fn star_warning(tokens: Tokens<'_>, at: usize, text: &[u8]) -> Option<Warning> {
+fn star_warning(view: View<'_, '_>, at: usize, text: &[u8]) -> Option<Warning> {
+    let tokens = view.tokens;
     let star = find(text, b"*")?;
-    if star == 0 || text.starts_with(b"'") || !tokens.is(at.wrapping_sub(1), TokenKind::Dollar) {
+    let is_known = star == 0 || view.overview.has_variable(text);
+    if is_known || !tokens.is(at.wrapping_sub(1), TokenKind::Dollar) {
         return None;
     }
     let found = tokens.span(at);
@@ -76,24 +88,24 @@ fn subscript_warning(tokens: Tokens<'_>, at: usize) -> Option<Warning> {
     }
     let found = tokens.span(open);
     let name = tokens.span(at);
-    let repair = match tokens.text(open) {
-        [b'[', b'*' | b'@', b']', ..] => Repair::around("write $", name, ""),
-        [b'[', inner @ .., b']'] if is_number(inner) => {
-            let place = span(
-                (found.start as usize).saturating_add(1),
-                (found.stop as usize).saturating_sub(1),
-            );
-            Repair::pair(
-                ["write $", "(", "), where places begin with 1"],
-                name,
-                place,
-            )
-        }
-        [b'['] => {
-            let value = tokens.span_to(open.wrapping_add(2), open.wrapping_add(3));
-            Repair::pair(["write $", "(", ")"], name, value)
-        }
-        _ => return None,
+    let text = tokens.text(open);
+    let inner = span(
+        (found.start as usize).saturating_add(1),
+        (found.stop as usize).saturating_sub(1),
+    );
+    let repair = if text == b"[".as_slice() {
+        let value = tokens.span_to(open.wrapping_add(2), open.wrapping_add(3));
+        Repair::pair(["write $", "(", ")"], name, value)
+    } else if text.starts_with(b"[*]") || text.starts_with(b"[@]") {
+        Repair::around("write $", name, "")
+    } else if text.starts_with(b"[")
+        && text.ends_with(b"]")
+        && is_number(part(tokens.script, inner))
+    {
+        let words = ["write $", "(", "), where places begin with 1"];
+        Repair::pair(words, name, inner)
+    } else {
+        return None;
     };
     tokens.warning(open, WarningKind::SUBSCRIPT, repair)
 }
@@ -107,20 +119,17 @@ pub(crate) fn place_warning(view: View<'_, '_>, open: usize) -> Option<Warning> 
         return None;
     }
     let text = tokens.text(place);
-    let repair = match text {
-        b"0" => Repair::of("places are counted from 1"),
-        b"-1" => Repair::around(
-            "write $#",
-            tokens.span(open.wrapping_sub(1)),
-            " for the last place",
-        ),
-        _ if view.overview.has_variable(text) => {
-            Repair::around("write $", tokens.span(place), "")
-        }
-        _ if has_any(text, b",:") => {
-            Repair::of("write (1 2) for two places, and (1-3) for a range")
-        }
-        _ => return None,
+    let repair = if tokens.is_word(place, "0") {
+        Repair::of("places are counted from 1")
+    } else if tokens.is_word(place, "-1") {
+        let name = tokens.span(open.wrapping_sub(1));
+        Repair::around("write $#", name, " for the last place")
+    } else if view.overview.has_variable(text) {
+        Repair::around("write $", tokens.span(place), "")
+    } else if has_any(text, b",:") {
+        Repair::of("write (1 2) for two places, and (1-3) for a range")
+    } else {
+        return None;
     };
     tokens.warning(place, WarningKind::PLACE, repair)
 }

@@ -1,10 +1,11 @@
 //! The rules for words as they are spelled.
 
-use crate::bytes::{after, before, find, find_any, has, has_any, is_number};
+use crate::bytes::{after, before, find, find_any, has, has_any, is_number, is_plain};
 use crate::lexed::script_tokens::{ORDER_MARK, Tokens};
 use crate::rules::View;
+use crate::rules::assignments::colon_warning;
 use crate::rules::brackets::loop_warning;
-use crate::rules::commands::command_warning;
+use crate::rules::commands::{command_warning, glob_warning};
 use crate::rules::foreign_words::inline_warning;
 use crate::rules::functions::signal_warning;
 use crate::rules::patterns::{comma_warning, pattern_warning};
@@ -16,6 +17,9 @@ use rc_lexer::{Span, TokenKind};
 
 /// The beginnings of paths that Linux doesn't have.
 const PATHS: [&[u8]; 4] = [b"/env/", b"/fd/", b"/dev/tcp/", b"/dev/udp/"];
+
+/// The characters that a backslash quotes in other shells.
+const QUOTED: &[u8] = b" \t$;&|()<>#'\"*?[~!=^\\{}`";
 
 /// The warning for the word at this index.
 pub(crate) fn word_warning(view: View<'_, '_>, at: usize) -> Option<Warning> {
@@ -37,20 +41,24 @@ pub(crate) fn word_warning(view: View<'_, '_>, at: usize) -> Option<Warning> {
 fn argument_warning(view: View<'_, '_>, at: usize) -> Option<Warning> {
     let tokens = view.tokens;
     let text = tokens.text(at);
-    match text {
-        [b'0'..=b'9'] => digit_warning(tokens, at),
-        [b's', b'i', b'g', ..] => signal_warning(tokens, at),
-        b"else" | b"elif" | b"if" => inline_warning(tokens, at),
-        b"in" => loop_warning(view, at),
-        [b'%', ..] => job_number(tokens, at),
-        [.., b','] => comma_warning(tokens, at),
-        _ => pattern_warning(tokens, at, text),
+    if is_number(text) {
+        return digit_warning(tokens, at).or(pattern_warning(tokens, at, text));
     }
+    if text.ends_with(b",") {
+        return comma_warning(tokens, at);
+    }
+    inline_warning(tokens, at)
+        .or(loop_warning(view, at))
+        .or(signal_warning(tokens, at))
+        .or(job_number(tokens, at, text))
+        .or(glob_warning(tokens, at, text))
+        .or(colon_warning(tokens, at, text))
+        .or(pattern_warning(tokens, at, text))
 }
 
 /// The warning for `kill %1` or `wait %1`.
-fn job_number(tokens: Tokens<'_>, at: usize) -> Option<Warning> {
-    if !tokens.is_one_of(tokens.command_start(at), &["kill", "wait"]) {
+fn job_number(tokens: Tokens<'_>, at: usize, text: &[u8]) -> Option<Warning> {
+    if !text.starts_with(b"%") || !tokens.is_one_of(tokens.command_start(at), &["kill", "wait"]) {
         return None;
     }
     let repair = Repair::of("keep each $apid, and wait for it: job=$apid, and wait $job");
@@ -69,7 +77,9 @@ fn spelling_warning(tokens: Tokens<'_>, at: usize) -> Option<Warning> {
 
 /// The warning for quotation marks as of print, or a blank that doesn't break a line.
 fn print_warning(tokens: Tokens<'_>, at: usize, text: &[u8]) -> Option<Warning> {
-    let is_printed = matches!(text, [0xe2, 0x80, 0x98 | 0x9c, ..]) || has(text, b"\xc2\xa0");
+    let is_printed = text.starts_with(b"\xe2\x80\x98")
+        || text.starts_with(b"\xe2\x80\x9c")
+        || has(text, b"\xc2\xa0");
     if !is_printed {
         return None;
     }
@@ -138,33 +148,7 @@ fn with_value(text: Span, close: usize) -> Repair {
 fn backslash_warning(tokens: Tokens<'_>, at: usize, offset: usize) -> Option<Warning> {
     let place = offset_in(tokens.span(at), offset);
     let next = tokens.script.get(place.saturating_add(1))?;
-    let is_special = matches!(
-        next,
-        b' ' | b'\t'
-            | b'$'
-            | b';'
-            | b'&'
-            | b'|'
-            | b'('
-            | b')'
-            | b'<'
-            | b'>'
-            | b'#'
-            | b'\''
-            | b'"'
-            | b'*'
-            | b'?'
-            | b'['
-            | b'~'
-            | b'!'
-            | b'='
-            | b'^'
-            | b'\\'
-            | b'{'
-            | b'}'
-            | b'`'
-    );
-    if !is_special {
+    if !QUOTED.contains(next) {
         return None;
     }
     let start = tokens.span(at).start as usize;
@@ -191,49 +175,55 @@ fn end_of_escaped(tokens: Tokens<'_>, at: usize, place: usize) -> usize {
 
 /// The warning for a word of a shape that means more in other shells.
 fn shape_warning(tokens: Tokens<'_>, at: usize) -> Option<Warning> {
-    match tokens.text(at) {
-        [b'~', ..] => tilde_warning(tokens, at),
-        [b'/', ..] => path_warning(tokens, at),
-        [.., b'['] => class_warning(tokens, at),
-        text => star_or_class(tokens, at, text),
-    }
-    .or(hash_warning(tokens, at))
-}
-
-fn tilde_warning(tokens: Tokens<'_>, at: usize) -> Option<Warning> {
-    let start = (tokens.span(at).start as usize).saturating_add(1);
-    let rest = span(start, tokens.span(at).stop as usize);
-    match tokens.text(at) {
-        [_] if tokens.begins_command(at) || !tokens.is(at.wrapping_sub(1), TokenKind::Word) => None,
-        [_]
-            if matches!(
-                tokens.kind(at.wrapping_sub(2)),
-                Some(TokenKind::Redirection(_, _))
-            ) => None,
-        [_] | [_, b'/', ..] => {
-            tokens.warning(
-                at,
-                WarningKind::TILDE,
-                Repair::around("write $home", rest, ""),
-            )
-        }
-        [_, b'a'..=b'z', ..] => {
-            let repair = Repair::around("write the path of the home directory of ", rest, "");
-            tokens.warning(at, WarningKind::TILDE, repair)
-        }
-        _ => None,
-    }
-}
-
-fn path_warning(tokens: Tokens<'_>, at: usize) -> Option<Warning> {
     let text = tokens.text(at);
+    if text.starts_with(b"~") {
+        return tilde_warning(tokens, at, text).or(hash_warning(tokens, at));
+    }
+    if text.ends_with(b"[") {
+        return class_warning(tokens, at);
+    }
+    path_warning(tokens, at, text)
+        .or(star_or_class(tokens, at, text))
+        .or(hash_warning(tokens, at))
+}
+
+/// The warning for a word that begins with a tilde.
+fn tilde_warning(tokens: Tokens<'_>, at: usize, text: &[u8]) -> Option<Warning> {
+    let start = offset_in(tokens.span(at), 1);
+    let rest = span(start, tokens.span(at).stop as usize);
+    let is_alone = text.len() == 1;
+    if is_alone && is_match(tokens, at) {
+        return None;
+    }
+    let repair = if is_alone || text.starts_with(b"~/") {
+        Repair::around("write $home", rest, "")
+    } else if is_plain(text, b"~_-/.") {
+        Repair::around("write the path of the home directory of ", rest, "")
+    } else {
+        return None;
+    };
+    tokens.warning(at, WarningKind::TILDE, repair)
+}
+
+/// Whether a tilde at this index compares, or is a pattern or a mark and not the argument of a command.
+fn is_match(tokens: Tokens<'_>, at: usize) -> bool {
+    tokens.begins_command(at)
+        || !tokens.is(at.wrapping_sub(1), TokenKind::Word)
+        || matches!(
+            tokens.kind(at.wrapping_sub(2)),
+            Some(TokenKind::Redirection(_, _))
+        )
+}
+
+/// The warning for a path that Linux doesn't have.
+fn path_warning(tokens: Tokens<'_>, at: usize, text: &[u8]) -> Option<Warning> {
     for path in &PATHS {
         if text.starts_with(*path) {
             let repair = Repair::of("use the variable, the descriptor or a program in its place");
             return tokens.warning(at, WarningKind::PLAN9, repair);
         }
     }
-    star_or_class(tokens, at, text)
+    None
 }
 
 /// The warning for `[^a]`, at its bracket.
@@ -314,13 +304,20 @@ pub(crate) fn hash_warning(tokens: Tokens<'_>, at: usize) -> Option<Warning> {
     tokens.warning(at, WarningKind::HASH, repair)
 }
 
-/// The warning for a caret at the beginning of a word.
+/// The warning for a caret that begins a word, or ends one.
 pub(crate) fn caret_warning(tokens: Tokens<'_>, at: usize) -> Option<Warning> {
-    let is_first = !tokens.touches_next(at.wrapping_sub(1)) && tokens.touches_next(at);
+    let last = at.wrapping_sub(1);
     let next = at.wrapping_add(1);
-    if !is_first || !matches!(tokens.kind(next), Some(TokenKind::Word | TokenKind::Dollar)) {
+    let is_first = tokens.touches_next(at);
+    if tokens.touches_next(last) == is_first
+        || !matches!(tokens.kind(next), Some(TokenKind::Word | TokenKind::Dollar))
+    {
         return None;
     }
-    let repair = Repair::around("write '", tokens.span_to(at, next), "'");
-    tokens.warning(at, WarningKind::CARET, repair)
+    let word = if is_first {
+        tokens.span_to(at, next)
+    } else {
+        tokens.span_to(last, at)
+    };
+    tokens.warning(at, WarningKind::CARET, Repair::around("write '", word, "'"))
 }

@@ -62,7 +62,7 @@ impl WarningKind {
     /// A caret at the beginning of a word.
     pub const CARET: WarningKind = WarningKind {
         name: "caret",
-        words: "a caret joins this word to the one before",
+        words: "a caret joins the words before and after it",
     };
     /// `case a:`.
     pub const CASE: WarningKind = WarningKind {
@@ -167,7 +167,7 @@ impl WarningKind {
     /// A condition that was false leaves its status.
     pub const LAST: WarningKind = WarningKind {
         name: "last",
-        words: "if the condition is false, its status is left, and -e ends the script",
+        words: "if the condition is false, its status is left, which is a failure",
     };
     /// A quoted pattern.
     pub const LITERAL: WarningKind = WarningKind {

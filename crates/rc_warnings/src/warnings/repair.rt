@@ -12,11 +12,11 @@ const MOST_SHOWN: usize = 100;
 /// No part of a script.
 pub(crate) const NOWHERE: Span = Span { start: 0, stop: 0 };
 
-/// What to write: words, and up to three parts of the script between them.
+/// What to write: up to three parts of the script, each after some words, and the words at the end.
 #[derive(Clone, Copy)]
 pub struct Repair {
-    words: [&'static str; 4],
-    parts: [Span; 3],
+    parts: [(&'static str, Span); 3],
+    end: &'static str,
     /// How many lines it is about, if there is more than one.
     lines: usize,
 }
@@ -24,34 +24,36 @@ pub struct Repair {
 impl Repair {
     /// These words alone.
     pub(crate) fn of(words: &'static str) -> Repair {
-        Repair::new([words, "", "", ""], [NOWHERE; 3])
+        Repair::of_lines(0, words)
     }
 
     /// These words alone, about this number of lines.
     pub(crate) fn of_lines(lines: usize, words: &'static str) -> Repair {
         Repair {
-            words: [words, "", "", ""],
-            parts: [NOWHERE; 3],
+            parts: [("", NOWHERE); 3],
+            end: words,
             lines,
         }
     }
 
     /// A part of the script between words.
     pub(crate) fn around(before: &'static str, part: Span, after: &'static str) -> Repair {
-        Repair::new([before, after, "", ""], [part, NOWHERE, NOWHERE])
+        Repair::new([before, "", "", after], [part, NOWHERE, NOWHERE])
     }
 
     /// Two parts of the script, with words before, between and after them.
     pub(crate) fn pair(words: [&'static str; 3], first: Span, second: Span) -> Repair {
         let [before, between, after] = words;
-        Repair::new([before, between, after, ""], [first, second, NOWHERE])
+        Repair::new([before, between, "", after], [first, second, NOWHERE])
     }
 
     /// Parts of the script, each after its words, and the words at the end.
     pub(crate) fn new(words: [&'static str; 4], parts: [Span; 3]) -> Repair {
+        let [before, between, then, end] = words;
+        let [first, second, third] = parts;
         Repair {
-            words,
-            parts,
+            parts: [(before, first), (between, second), (then, third)],
+            end,
             lines: 0,
         }
     }
@@ -63,15 +65,11 @@ impl Repair {
             let lines = self.lines;
             write!(out, "lines: {lines}; ")?;
         }
-        let [before, between, then, after] = self.words;
-        let [first, second, third] = self.parts;
-        out.push_str(before)?;
-        push_part(&mut out, part(script, first))?;
-        out.push_str(between)?;
-        push_part(&mut out, part(script, second))?;
-        out.push_str(then)?;
-        push_part(&mut out, part(script, third))?;
-        out.push_str(after)?;
+        for (words, found) in &self.parts {
+            out.push_str(words)?;
+            push_part(&mut out, part(script, *found))?;
+        }
+        out.push_str(self.end)?;
         Ok(out)
     }
 }

@@ -5,9 +5,8 @@ ghost use Rattle.rc_warnings.specs.Warnings.{AreIn};
 
 use crate::lexed::contexts::contexts_of;
 use crate::lexed::script_tokens::{Tokens, tokens_of};
-use crate::rules::functions::last_warning;
 use crate::rules::lines::{carriage_returns, interpreter};
-use crate::rules::{View, warning_at};
+use crate::rules::{View, warning_at, warning_before};
 use crate::warnings::comments::Comments;
 use crate::warnings::kind::WarningKind;
 use crate::warnings::overview::Overview;
@@ -15,8 +14,8 @@ use crate::warnings::repair::Repair;
 use crate::warnings::warning::Warning;
 use std::alloc::{AllocError, Global};
 
-/// The warnings of a script: those of its comments and its lines, and then those of its tokens in their order; none if
-/// it has no tokens.
+/// The warnings of a script: those of its comments and its lines, those of its tokens in their order, and those of what
+/// ends; none if it has no tokens.
 pub fn warnings_of(alloc: Global, script: &[u8]) -> Result<Vec<Warning>, AllocError>
     ensures { IfOk result (λ warnings. AreIn script.now warnings.items) }
 {
@@ -52,12 +51,24 @@ fn add_all(
     for index in 0..tokens.all.len() {
         push(warnings, script, comments, warning_at(view, index))?;
     }
-    push(
-        warnings,
-        script,
-        comments,
-        last_warning(view, tokens.all.len()),
-    )
+    add_ends(warnings, script, view, comments)
+}
+
+/// Adds the warnings of what ends at tokens of a script. They are added after the others, so that both are in the order
+/// of their places, and lines are counted in linear time.
+fn add_ends(
+    warnings: &mut Vec<Warning>,
+    script: &[u8],
+    view: View<'_, '_>,
+    comments: &Comments<'_>,
+) -> Result<(), AllocError>
+    requires { AreIn script.now warnings.old.items }
+    ensures { OnOk result (AreIn script.now warnings.new.items) }
+{
+    for index in 0..view.tokens.all.len().saturating_add(1) {
+        push(warnings, script, comments, warning_before(view, index))?;
+    }
+    Ok(())
 }
 
 /// The warnings of the comments and the lines of a script.
