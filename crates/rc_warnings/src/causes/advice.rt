@@ -325,6 +325,36 @@ impl Advice {
         words: "there is no command after the operator",
         line: None,
     };
+    /// An operator without a command before it.
+    pub const NO_COMMAND: Advice = Advice {
+        name: "NoCommand",
+        words: "there is no command before the operator",
+        line: None,
+    };
+    /// A redirection without a file.
+    pub const NO_FILE: Advice = Advice {
+        name: "NoFile",
+        words: "a file follows < and >; quote the operator if it is a text: '>'",
+        line: None,
+    };
+    /// `~` without a word.
+    pub const NO_SUBJECT: Advice = Advice {
+        name: "NoSubject",
+        words: "write ~ $x pattern .., with what is compared first",
+        line: None,
+    };
+    /// A caret that joins nothing.
+    pub const LONE_CARET: Advice = Advice {
+        name: "LoneCaret",
+        words: "a caret joins the words before and after it; quote it if it is a text: '^'",
+        line: None,
+    };
+    /// A `switch` without its parentheses or braces.
+    pub const SWITCH: Advice = Advice {
+        name: "Switch",
+        words: "write switch($x) { and on the next line case pattern ..",
+        line: None,
+    };
     /// A bracket closes nothing.
     pub const UNOPENED: Advice = Advice {
         name: "Unopened",

@@ -13,15 +13,6 @@ const DECLARATIONS: [&str; 7] = [
     "export", "local", "readonly", "declare", "typeset", "set", "setenv",
 ];
 
-/// The parameters of other shells, by what follows the `$`.
-const PARAMETERS: [(&str, Advice); 5] = [
-    ("?", Advice::LAST_STATUS),
-    ("@", Advice::PARAMETER),
-    ("!", Advice::LAST_JOB),
-    ("$", Advice::PROCESS_NUMBER),
-    ("^", Advice::FLAT),
-];
-
 /// The advice for the token at this index of a script with these tokens, which no script can have there; past the last
 /// token, for the end of the script.
 pub fn advice_at(
@@ -43,11 +34,13 @@ fn for_token(tokens: Tokens<'_>, at: usize) -> Option<Advice> {
     match tokens.kind(at) {
         None => unclosed(tokens, at)
             .or(without_operand(tokens, at))
-            .or(after_last(tokens, at)),
+            .or(after_last(tokens, at))
+            .or(incomplete(tokens, at)),
         Some(kind) => carriage_return(tokens, at)
             .or(by_last(tokens, at))
             .or(order_mark(tokens, at))
-            .or(for_kind(tokens, at, kind)),
+            .or(for_kind(tokens, at, kind))
+            .or(incomplete(tokens, at)),
     }
 }
 
@@ -222,12 +215,19 @@ fn for_parameter(tokens: Tokens<'_>, at: usize) -> Option<Advice> {
         return Some(Advice::LONE_DOLLAR);
     }
     let text = tokens.text(next);
-    for (mark, advice) in &PARAMETERS {
-        if text.starts_with(mark.as_bytes()) {
-            return Some(*advice);
-        }
-    }
-    Some(Advice::LONE_DOLLAR)
+    Some(if text.starts_with(b"?") {
+        Advice::LAST_STATUS
+    } else if text.starts_with(b"@") {
+        Advice::PARAMETER
+    } else if text.starts_with(b"!") {
+        Advice::LAST_JOB
+    } else if text.starts_with(b"$") {
+        Advice::PROCESS_NUMBER
+    } else if text.starts_with(b"^") {
+        Advice::FLAT
+    } else {
+        Advice::LONE_DOLLAR
+    })
 }
 
 fn for_left_brace(tokens: Tokens<'_>, at: usize) -> Option<Advice> {
@@ -313,11 +313,31 @@ fn for_operator(tokens: Tokens<'_>, at: usize) -> Option<Advice> {
 
 /// The advice for what follows an operator in place of a command.
 fn without_operand(tokens: Tokens<'_>, at: usize) -> Option<Advice> {
+    let is_new_line = tokens.is(at.wrapping_sub(1), TokenKind::Newline);
+    let operator = at.wrapping_sub(1).wrapping_sub(usize::from(is_new_line));
     let is_missing = matches!(
-        tokens.kind_before(at),
+        tokens.kind(operator),
         Some(TokenKind::AndAnd | TokenKind::OrOr | TokenKind::Bar(_))
     );
     is_missing.then_some(Advice::NO_OPERAND)
+}
+
+/// The advice for a token at which something that was begun lacks a part.
+fn incomplete(tokens: Tokens<'_>, at: usize) -> Option<Advice> {
+    let before = at.wrapping_sub(1);
+    if tokens.is(at, TokenKind::Caret) || tokens.is(before, TokenKind::Caret) {
+        return Some(Advice::LONE_CARET);
+    }
+    if matches!(tokens.kind(before), Some(TokenKind::Redirection(_, _))) {
+        return Some(Advice::NO_FILE);
+    }
+    if tokens.is_word(before, "~") {
+        return Some(Advice::NO_SUBJECT);
+    }
+    if tokens.is_in_command(at, "switch") || tokens.is_in_command(before, "switch") {
+        return Some(Advice::SWITCH);
+    }
+    tokens.begins_command(at).then_some(Advice::NO_COMMAND)
 }
 
 /// The advice for the end of a command in a list of words that is in place of a command.

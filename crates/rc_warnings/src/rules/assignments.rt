@@ -107,10 +107,8 @@ fn sum_warning(tokens: Tokens<'_>, at: usize) -> Option<Warning> {
         && tokens.is(name, TokenKind::Name)
         && tokens.is(rest.wrapping_sub(1), TokenKind::FreeCaret)
         && tokens.is(rest, TokenKind::Word);
-    let (operator, number) = tokens.text(rest).split_at_checked(1)?;
     let is_same = tokens.text(name) == tokens.text(at);
-    let is_sum = operator == b"+".as_slice() || is_same && has_any(b"-*/%", operator);
-    if !is_value || !is_sum || !is_number(number) {
+    if !is_value || !computes(tokens.text(rest), is_same) {
         return None;
     }
     let found = tokens.span(rest);
@@ -125,6 +123,15 @@ fn sum_warning(tokens: Tokens<'_>, at: usize) -> Option<Warning> {
         WarningKind::ARITHMETIC,
         Repair::new(["write `{expr ", " ", " ", "}"], parts),
     )
+}
+
+/// Whether a text is a `+` and a number, or, after the variable that is assigned, any operator and a number.
+fn computes(text: &[u8], is_same: bool) -> bool {
+    let Some((operator, number)) = text.split_at_checked(1) else {
+        return false;
+    };
+    let is_operator = operator == b"+".as_slice() || is_same && has_any(b"-*/%", operator);
+    is_operator && is_number(number)
 }
 
 /// The warning for a value such as `1+2`.
