@@ -4,9 +4,7 @@
 # make prove      proves, builds and links ./rc, ./rccheck and ./rctrace
 # make release    proves, builds and links the programs, and puts them, the hash of their sources and the checksums of
 #                 what they were linked from into release/
-# make check      runs a table of one-line scripts, the examples, also where something goes wrong, and a command between
-#                 two pipes on ./rc, installs it elsewhere, and looks at what editors highlight and how scripts are laid
-#                 out, in seconds
+# make check      runs tests of the programs in seconds: those that tests/README.md lists for it
 # make test       proves and builds everything from nothing, compares what it built with the release, if there is one,
 #                 links the programs and tests them
 # make editors    makes the highlighting of editors anew, from the shell's keywords and built-in commands
@@ -64,9 +62,7 @@ toolchain:
 	    'the program: docs/packaging.md says more' >&2; exit 1; }
 
 check: rc
-	printf '%s\n' 'check ./rc' 'idioms ./rc' 'surprises ./rc' 'editors ./rc' 'early ./rc' 'descriptors ./rc' \
-	    'mishaps ./rc' 'layout ./rccheck' 'checker ./rccheck' 'first_script ./rc ./rccheck ./rctrace' \
-	    'packaging ./rc ./rccheck ./rctrace' | xargs -P 4 -I TEST sh -c tests/TEST
+	tests/run check ./rc ./rccheck ./rctrace
 
 # The hash is taken before the build: sources that change meanwhile don't fit it.
 release: tracked toolchain
@@ -85,30 +81,10 @@ tracked:
 
 test: toolchain
 	@if [ -e $(RELEASE) ]; then release/fits; else echo there is no release; fi
-	@tests/places
-	tests/gate
+	tests/run before
 	release/link
 	if [ -e $(RELEASE) ]; then release/agrees; fi
-	tests/check $(BUILT)
-	tests/memory $(BUILT)
-	tests/descriptors $(BUILT)
-	tests/surprises $(BUILT)
-	tests/idioms $(BUILT)
-	tests/worlds $(BUILT)
-	tests/early $(BUILT)
-	tests/editors $(BUILT)
-	tests/mishaps $(BUILT) all
-	tests/layout $(BUILT_CHECKER)
-	tests/checker $(BUILT_CHECKER)
-	tests/first_script $(BUILT) $(BUILT_CHECKER) $(BUILT_TRACER)
-	tests/packaging $(BUILT) $(BUILT_CHECKER) $(BUILT_TRACER)
-	tests/trace $(BUILT) $(BUILT_TRACER)
-	tests/background $(BUILT)
-	tests/input $(BUILT)
-	tests/refusals
-	tests/refused_images
-	tests/refused_runs
-	tests/growth $(BUILT)
+	tests/run test $(BUILT) $(BUILT_CHECKER) $(BUILT_TRACER)
 
 editors:
 	editors/generate editors

@@ -18,7 +18,7 @@ SHELL = $(CURDIR)/rc
 .ONESHELL:
 
 check: rc
-	for(test in check descriptors idioms) ./tests/$$test ./rc
+	for(test in check surprises idioms) ./tests/$$test ./rc
 
 rc: SHELL = /bin/sh
 rc: .SHELLFLAGS = -c

@@ -1,14 +1,11 @@
 -- The run of a script that has a fault ends in an error that names its first one.
-use Rattle.std.proofs.Common.{◌≡◌, ◌⊎◌, inl, inr, ℕ, List, Option, Some, Result, Ok, Err, subst}
-use Rattle.rc_model.specs.Mirrors.FirstFault.{first_fault}
-use Rattle.rc_model.specs.Run.Calls.{Event}
-use Rattle.rc_model.specs.Run.State.{State}
+use Rattle.std.proofs.Common.{◌≡◌, ◌⊎◌, inl, inr, ℕ, Result, Err, subst}
 use Rattle.rc_model.specs.declared.fault.SyntaxFault.{SyntaxFault}
 use Rattle.rc_shell.specs.declared.run.Ran.{Ran}
 use Rattle.rc_shell.specs.declared.run.ShellFault.{ShellFault}
 use Rattle.rc_shell.specs.declared.run.ShellFault.TheVariants as shell
 use Rattle.rc_shell.proofs.Executed.{refused_with}
-use Rattle.rc_cli.specs.Runs.{FirstFaultsAreErrors, IsResultOf, RunsProgram}
+use Rattle.rc_cli.specs.Runs.{FirstFaultsAreErrors, IsResultOf}
 use Rattle.rc_cli.specs.declared.run_error.RunError.{RunError}
 use Rattle.rc_cli.specs.declared.run_error.RunError.TheVariants.{Syntax, NoMemory}
 

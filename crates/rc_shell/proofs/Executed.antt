@@ -13,9 +13,12 @@ use Rattle.rc_model.specs.Mirrors.FirstFault.{first_fault}
 use Rattle.rc_model.specs.Syntax.Accepted.{IsAccepted}
 use Rattle.rc_model.specs.Syntax.Tree.{Node, cmd}
 use Rattle.rc_model.specs.declared.fault.ImageFault.{ImageFault}
+use Rattle.rc_model.specs.declared.fault.InputError.{InputError}
+use Rattle.rc_model.specs.declared.fault.InputError.TheVariants as error
 use Rattle.rc_model.specs.declared.fault.SyntaxFault.{SyntaxFault}
 use Rattle.rc_shell.specs.Executed.{IsExecuted, IsNotRun, IsReason, IsRefusedByRule, IsRun, LosesNothing, MakesItsCalls, Program, handed, text_from}
-use Rattle.rc_shell.specs.Outcome.{RunsAsMeant}
+use Rattle.rc_builtin.specs.Scripts.{IsCompiled}
+use Rattle.rc_shell.specs.Outcome.{RunsAsMeant, shell_fault}
 use Rattle.rc_shell.specs.declared.run.Ran.{Ran}
 use Rattle.rc_shell.specs.declared.run.ShellFault.{ShellFault}
 use Rattle.rc_shell.specs.declared.run.ShellFault.TheVariants.{Syntax, Image, NoMemory}
@@ -117,6 +120,12 @@ pub script_refused : (script : List ℕ) (s : model.State) (limit : ℕ) (at : O
     first_fault script ≡ Some fault → IsExecuted (text_from script s) limit at at (Err (Syntax fault))
 script_refused script s limit at fault r =
     refused (text_from script s) limit at (Syntax fault) r (λ t z is. never_both script fault t (fault_refuses script fault r) is.0)
+
+-- a script that has no code is not run
+pub script_without_code : (script : List ℕ) (s : model.State) (limit : ℕ) (at : Option (List Event)) (e : InputError SyntaxFault) →
+    IsCompiled script (Err e) → IsProper s → IsExecuted (text_from script s) limit at at (Err (shell_fault e))
+script_without_code script s limit at (error.Fault fault) h proper = script_refused script s limit at fault h.refused
+script_without_code script s limit at error.NoMemory h proper = out_of_memory (text_from script s) limit at (text_proper script s proper)
 
 -- a script that has a first fault is refused with it, unless memory was refused
 error_with : (script : List ℕ) (s : model.State) (fault : SyntaxFault) (e : ShellFault) → first_fault script ≡ Some fault →

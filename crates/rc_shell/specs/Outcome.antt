@@ -6,6 +6,9 @@ use Rattle.rc_model.specs.Run.Plans.{Ends, Waits, calls_made}
 use Rattle.rc_model.specs.Run.Script.{run, IsPrefix, EndsAsMeant, HaltsAsMeant, IsBegunAsMeant, StopsAtLimit}
 use Rattle.rc_model.specs.Run.State as model
 use Rattle.rc_model.specs.Syntax.Tree.{Node, cmd}
+use Rattle.rc_model.specs.declared.fault.InputError.{InputError}
+use Rattle.rc_model.specs.declared.fault.InputError.TheVariants as error
+use Rattle.rc_model.specs.declared.fault.SyntaxFault.{SyntaxFault}
 use Rattle.rc_machine.specs.declared.machine.Progress.{Progress}
 use Rattle.rc_machine.specs.declared.machine.Progress.TheVariants as progress
 use Rattle.rc_scope.specs.States.{state_of}
@@ -38,6 +41,11 @@ RunsAsMeant limit t s trace (Ok Halted) = HaltsWithin limit t s trace
 RunsAsMeant limit t s trace (Err NoMemory) = IsBegunWithin limit t s trace
 RunsAsMeant limit t s trace (Err (Syntax fault)) = ⊥
 RunsAsMeant limit t s trace (Err (Image fault)) = ⊥
+
+-- the fault of the shell for a script that has no code
+abbrev pub shell_fault : InputError SyntaxFault → ShellFault
+shell_fault (error.Fault fault) = Syntax fault
+shell_fault error.NoMemory = NoMemory
 
 -- the outcome of a script whose machine made this progress, with this state
 abbrev pub IsOutcome : Result Progress AllocError → model.State → Result Ran ShellFault → Type 0

@@ -1,7 +1,9 @@
 //! Running a script from its text.
 
+ghost use Rattle.std.specs.Prelude.{◌≡◌};
 ghost use Rattle.rc_scope.specs.States.{state_of};
 ghost use Rattle.rc_shell.specs.Executed.{IsExecuted, text_from};
+ghost use Rattle.rc_shell.specs.Outcome.{shell_fault};
 
 use crate::run::{Ran, ShellFault, run_code};
 use rc_builtin::compile_script;
@@ -25,7 +27,16 @@ pub fn execute<W: World>(
 {
     match compile_script(alloc, script) {
         Ok(code) => run_code(alloc, world, code, state, limit),
-        Err(InputError::Fault(fault)) => Err(ShellFault::Syntax(fault)),
-        Err(InputError::NoMemory) => Err(ShellFault::NoMemory),
+        Err(error) => Err(shell_fault(error)),
+    }
+}
+
+/// The fault of the shell for a script that has no code.
+fn shell_fault(error: InputError<SyntaxFault>) -> ShellFault
+    ensures { result ≡ shell_fault error }
+{
+    match error {
+        InputError::Fault(fault) => ShellFault::Syntax(fault),
+        InputError::NoMemory => ShellFault::NoMemory,
     }
 }

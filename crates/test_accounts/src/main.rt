@@ -1,9 +1,10 @@
 //! Runs shells with an account of what they hold and owe. It makes the steps of each row of `families.rows` in this
 //! folder, and runs families to their ends, in orders that must not matter. Then it runs scripts over a world that
 //! refuses one call, then two, and that stops at a call, and checks what each run held and owed. It prints what differs
-//! and whether all is as wanted, and on descriptor 2 how many of these runs there were.
-//! With the name of a script it runs that one on a machine, and prints its calls; with a number after the name the call
-//! of that number is refused.
+//! and whether all is as wanted, and how many of these runs and refused calls there were.
+//! With the name of a script it runs that one on a machine, and prints its calls. With a number after the name the call
+//! of that number is refused, with two numbers two calls are, and after the word `over` and a number the world stops at
+//! the call of that number.
 //! `test_accounts SHELLS COMMANDS` measures the steps of a family of this size.
 #![tactic(auto)]
 
@@ -78,7 +79,7 @@ fn try_every(rt: HostRuntime) -> Result<bool> {
     for script in REFUSED {
         all.add(try_all(rt, script)?);
     }
-    eprintln!(rt; "{} runs, {} calls refused", all.runs, all.refused)?;
+    println!(rt; "{} runs, {} calls refused", all.runs, all.refused)?;
     Ok(all.wrong == 0)
 }
 
@@ -113,14 +114,26 @@ fn run_named(rt: HostRuntime, name: &str) -> Result<()> {
     run_on_machine(rt, script, Refusals::None)
 }
 
-/// Runs the script of this name on a machine with the call of this number refused; measures a family of these sizes if
-/// there is no such script.
-fn run_or_measure(rt: HostRuntime, first: &str, second: &str) -> Result<()> {
-    let Some(script) = script_named(first) else {
-        return measure(rt, first, second);
-    };
-    let number = second.parse::<usize>().context("no number of a call")?;
-    run_on_machine(rt, script, Refusals::One(number))
+/// The calls that these words have refused.
+fn refusals_of(first: &str, second: Option<&str>) -> Result<Refusals> {
+    match second {
+        None => Ok(Refusals::One(number_of(first)?)),
+        Some(last) if first == "over" => Ok(Refusals::Halt(number_of(last)?)),
+        Some(second) => Ok(Refusals::Two(number_of(first)?, number_of(second)?)),
+    }
+}
+
+fn number_of(word: &str) -> Result<usize> {
+    word.parse::<usize>().context("no number of a call")
+}
+
+/// Runs the script of this name on a machine with the calls refused that the words name; measures a family of these
+/// sizes if there is no such script.
+fn run_or_measure(rt: HostRuntime, name: &str, first: &str, second: Option<&str>) -> Result<()> {
+    match script_named(name) {
+        Some(script) => run_on_machine(rt, script, refusals_of(first, second)?),
+        None => measure(rt, name, first),
+    }
 }
 
 /// What the process ends with.
@@ -134,10 +147,10 @@ fn status_of(are_well: bool) -> ExitCode {
 
 fn main(rt: HostRuntime) -> Result<ExitCode> {
     let mut args = env::args(&rt)?.skip(1);
-    match (args.next(), args.next()) {
-        (Some(first), Some(second)) => run_or_measure(rt, &first, &second)?,
-        (Some(name), None) => run_named(rt, &name)?,
-        (None, _) => return Ok(status_of(check_all(rt)?)),
+    match (args.next(), args.next(), args.next()) {
+        (Some(name), Some(first), second) => run_or_measure(rt, &name, &first, second.as_deref())?,
+        (Some(name), None, _) => run_named(rt, &name)?,
+        (None, _, _) => return Ok(status_of(check_all(rt)?)),
     }
     Ok(ExitCode::SUCCESS)
 }

@@ -1,5 +1,4 @@
-//! The run of a script on a machine over a world that refuses one call or none, for runs in which an allocation is
-//! refused.
+//! The run of a script on a machine over a world that refuses calls, for runs in which an allocation is refused.
 
 use crate::refusals::calls::print_call;
 use crate::refusals::runs::{LIMIT, state};
@@ -13,7 +12,7 @@ use rc_model::InputError;
 use std::alloc::Global;
 
 /// Runs a script, and prints its calls and, unless memory ran out, how it ended. If memory ran out, which is an error,
-/// it runs the machine once more, and prints whether that does anything but return that it has halted.
+/// it runs the machine once more, and prints before the calls what that does but return that it has halted.
 pub fn run_on_machine(rt: HostRuntime, script: Script, refusals: Refusals) -> Result<()> {
     let alloc = rt.alloc();
     let mut machine = machine_of(alloc, script)?;
@@ -23,11 +22,11 @@ pub fn run_on_machine(rt: HostRuntime, script: Script, refusals: Refusals) -> Re
     if progress.is_err() && !is_over(alloc, &mut machine, &mut world) {
         println!(rt; "a further run goes on")?;
     }
+    if calls < world.events().len() {
+        println!(rt; "a further run makes calls")?;
+    }
     for event in world.events() {
         print_call(rt, &event.call)?;
-    }
-    if calls < world.events().len() {
-        bail!("a further run makes calls");
     }
     println!(rt; "{}", words(progress?))?;
     Ok(())

@@ -1,7 +1,6 @@
 use Rattle.rc_scope.proofs.ProperStates.{is_proper}
 use Rattle.rc_scope.specs.States.{state_of}
-use Rattle.rc_shell.specs.Executed.{text_from}
-use Rattle.rc_shell.proofs.Executed.{out_of_memory, script_ran, script_refused, text_proper}
+use Rattle.rc_shell.proofs.Executed.{script_ran, script_without_code}
 use Rattle.rc_shell.proofs.script.execute.Goals as goal
 
 pub returns-in-Ok : goal.returns-in-Ok
@@ -10,13 +9,8 @@ returns-in-Ok g c =
     script_ran c.args.script.now (state_of c.args.state) c.args.limit (g.W.World.events c.args.world.now) (g.W.World.events c.run_code.new.world)
     c.run_code.result made.tree made.accepted made.only (is_proper c.args.state) (c.run_code.ensures made.tree made.code_is)
 
-pub returns-in-Err-Fault : goal.returns-in-Err-Fault
-returns-in-Err-Fault g c =
-    let refused = script_refused c.args.script.now (state_of c.args.state) c.args.limit (g.W.World.events c.args.world.now) c.in-Err-Fault.fault
-    (rw c.in-Err-Fault.field-0-is at c.in-Err-Fault.ensures.refused) in
-    rw c.in-Err-Fault.fault-is refused
-
-pub returns : goal.returns
-returns g c =
-    let s = state_of c.args.state in
-    out_of_memory (text_from c.args.script.now s) c.args.limit (g.W.World.events c.args.world.now) (text_proper c.args.script.now s (is_proper c.args.state))
+pub returns-in-Err : goal.returns-in-Err
+returns-in-Err g c =
+    let without = script_without_code c.args.script.now (state_of c.args.state) c.args.limit (g.W.World.events c.args.world.now) c.in-Err.error
+    c.in-Err.ensures (is_proper c.args.state) in
+    rw c.shell_fault.ensures without

@@ -41,6 +41,7 @@ class Grammar:
     def __init__(self, path):
         self.source = json.loads(pathlib.Path(path).read_text())
         self.compiled = {}
+        self.expanded = {}
 
     def find(self, pattern, line, start, anchor):
         """The first place from `start` on at which a pattern matches; \\G is the place where the rule began."""
@@ -51,22 +52,28 @@ class Grammar:
         return self.compiled[pattern].search(line, start)
 
     def rules(self, patterns):
-        """The rules of a list, with those that it includes in their place."""
+        """The rules of a list, which belongs to the grammar, with those that it includes in their place."""
+        if id(patterns) not in self.expanded:
+            self.expanded[id(patterns)] = list(self.expand(patterns))
+        return self.expanded[id(patterns)]
+
+    def expand(self, patterns):
         for each in patterns:
             name = each.get("include")
             if name == "$self":
-                yield from self.rules(self.source["patterns"])
+                yield from self.expand(self.source["patterns"])
             elif name:
-                yield from self.rules([self.source["repository"][name[1:]]])
+                yield from self.expand([self.source["repository"][name[1:]]])
             elif "match" in each or "begin" in each:
                 yield each
             else:
-                yield from self.rules(each["patterns"])
+                yield from self.expand(each["patterns"])
 
     def next(self, rule, line, place):
         """The match of the rule's end or of one of its rules that begins first, and that rule, if it is not the end."""
         best = self.find(rule.end, line, place, rule.anchor), None
-        for each in self.rules(rule.source.get("patterns", [])):
+        patterns = rule.source.get("patterns")
+        for each in self.rules(patterns) if patterns else ():
             found = self.find(each.get("match") or each["begin"], line, place, rule.anchor)
             if found and (not best[0] or found.start() < best[0].start()):
                 best = found, each
