@@ -4,7 +4,7 @@
 const LONGEST_WORD: usize = 12;
 
 /// Commands and keywords of other shells.
-pub(crate) const FOREIGN: [(&str, &str); 63] = [
+pub(crate) const FOREIGN: [(&str, &str); 62] = [
     ("else", "if not, on a line of its own or after a ;"),
     ("elif", "if not if(..), on a line of its own or after a ;"),
     ("elseif", "if not if(..), on a line of its own or after a ;"),
@@ -82,7 +82,6 @@ pub(crate) const FOREIGN: [(&str, &str); 63] = [
     ("bind", "mount --bind"),
     ("unmount", "umount"),
     ("rfork", "@{..} for a subshell"),
-    ("not", "! before the command"),
 ];
 
 /// Variables that other shells set.

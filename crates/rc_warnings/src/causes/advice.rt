@@ -337,6 +337,12 @@ impl Advice {
         words: "a file follows < and >; quote the operator if it is a text: '>'",
         line: None,
     };
+    /// `not` without its `if`.
+    pub const NOT: Advice = Advice {
+        name: "Not",
+        words: "write ! command for not command; `if not` follows an `if` and its command",
+        line: None,
+    };
     /// `~` without a word.
     pub const NO_SUBJECT: Advice = Advice {
         name: "NoSubject",

@@ -334,6 +334,12 @@ fn incomplete(tokens: Tokens<'_>, at: usize) -> Option<Advice> {
     if tokens.is_word(before, "~") {
         return Some(Advice::NO_SUBJECT);
     }
+    if tokens.is_word(at, "not") {
+        return Some(Advice::NOT);
+    }
+    if tokens.is_one_of(before, &["!", "@"]) {
+        return Some(Advice::NO_OPERAND);
+    }
     if tokens.is_in_command(at, "switch") || tokens.is_in_command(before, "switch") {
         return Some(Advice::SWITCH);
     }
