@@ -1,4 +1,3 @@
 pub mod Positions
 pub mod Findings
 pub mod Verdicts
-pub mod Warnings

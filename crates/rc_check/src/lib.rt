@@ -1,21 +1,16 @@
-//! The faults of a script, their places, and what was probably meant; warnings for what is accepted and seldom meant;
-//! and the canonical form of a script.
+//! The faults of a script and their places, the report on them or on its warnings, and its canonical form.
 #![tactic(auto)]
 
 mod canonical_form;
 mod faults;
-mod lexed;
 mod positions;
 mod report;
 mod verdicts;
-mod warnings;
 
 pub use canonical_form::{Canonical, canonical_of};
-pub use faults::advice::Advice;
 pub use faults::findings::{Finding, first_fault};
 pub use positions::{Position, position_of};
 pub use rc_model::{FaultKind, SyntaxFault};
+pub use rc_warnings::{Advice, Repair, Warning, WarningKind, warnings_of};
 pub use report::{Report, report_of};
 pub use verdicts::{Verdict, status_of};
-pub use warnings::walk::warnings_of;
-pub use warnings::warning::{Warning, WarningKind};

@@ -4,10 +4,9 @@ ghost use Rattle.std.specs.Prelude.{IfOk};
 ghost use Rattle.rc_check.specs.Verdicts.{IsVerdictOn};
 
 use crate::faults::findings::{Finding, first_fault};
-use crate::positions::{Position, ReachedPlace, beginning, go_to, position_of};
+use crate::positions::{Position, beginning, go_to, position_of};
 use crate::verdicts::Verdict;
-use crate::warnings::walk::warnings_of;
-use crate::warnings::warning::WarningKind;
+use rc_warnings::{Warning, WarningKind, push_escaped, warnings_of};
 use std::alloc::{AllocError, Global};
 
 /// The greatest number of bytes of a line that are shown on each side of a place.
@@ -77,23 +76,24 @@ fn show_warnings(
     let mut reached = beginning(script);
     for warning in &warnings_of(alloc, script)? {
         reached = go_to(script, reached, warning.place.min(script.len()));
-        show_warning(alloc, out, name, script, warning.kind, reached)?;
+        show_place(out, name, reached.position)?;
+        show_warning(alloc, out, script, *warning)?;
     }
     Ok(())
 }
 
+/// Writes a warning after its place, with its line and what to write.
 fn show_warning(
     alloc: Global,
     out: &mut String,
-    name: &str,
     script: &[u8],
-    kind: WarningKind,
-    reached: ReachedPlace,
+    warning: Warning,
 ) -> Result<(), AllocError> {
-    let short = kind.name();
-    show_place(out, name, reached.position)?;
-    write!(out, "{kind} [{short}]\n")?;
-    show_line(alloc, out, script, reached.place)
+    let WarningKind { name, words } = warning.kind;
+    let repair = warning.repair.text(alloc, script)?;
+    write!(out, "{words} [{name}]\n")?;
+    show_line(alloc, out, script, warning.place)?;
+    write!(out, "    {repair}\n")
 }
 
 /// Writes the name of a file and a position in it.
@@ -110,10 +110,12 @@ fn show_line(
     place: usize,
 ) -> Result<(), AllocError> {
     let (before, after) = script.split_at(place.min(script.len()));
-    let before = String::from_utf8_lossy(alloc, end_of_line(before))?;
-    let after = String::from_utf8_lossy(alloc, begin_of_line(after))?;
-    write!(out, "    {before}{after}\n    ")?;
-    for character in before.as_str().chars() {
+    let mut shown = String::new(alloc);
+    push_escaped(&mut shown, end_of_line(before))?;
+    write!(out, "    {shown}")?;
+    push_escaped(out, begin_of_line(after))?;
+    out.push_str("\n    ")?;
+    for character in shown.as_str().chars() {
         out.push(if character == '\t' { '\t' } else { ' ' })?;
     }
     out.push_str("^\n")

@@ -21,7 +21,11 @@ fn fault(alloc: Global, script: &[u8], finding: Finding) -> Result<String, Alloc
     let kind = finding.fault.kind;
     write!(out, " {kind}")?;
     if let Some(advice) = finding.advice {
-        write!(out, " {advice:?}")?;
+        let name = advice.name;
+        write!(out, " {name}")?;
+        if let Some(line) = advice.line {
+            write!(out, "({line})")?;
+        }
     }
     Ok(out)
 }
@@ -37,7 +41,7 @@ fn warnings(alloc: Global, script: &[u8]) -> Result<String, AllocError> {
             out.push_str(", ")?;
         }
         show_place(&mut out, script, warning.place)?;
-        let name = warning.kind.name();
+        let name = warning.kind.name;
         write!(out, " {name}")?;
     }
     Ok(out)
@@ -46,6 +50,20 @@ fn warnings(alloc: Global, script: &[u8]) -> Result<String, AllocError> {
 fn show_place(out: &mut String, script: &[u8], place: usize) -> Result<(), AllocError> {
     let Position { line, column } = position_of(script, place.min(script.len()));
     write!(out, "{line}:{column}")
+}
+
+/// What to write in place of each thing that a script is warned of, as `NAME: WORDS`.
+pub fn repairs(alloc: Global, script: &[u8]) -> Result<String, AllocError> {
+    let mut out = String::new(alloc);
+    for warning in &warnings_of(alloc, script)? {
+        if !out.is_empty() {
+            out.push_str("; ")?;
+        }
+        let name = warning.kind.name;
+        let repair = warning.repair.text(alloc, script)?;
+        write!(out, "{name}: {repair}")?;
+    }
+    Ok(out)
 }
 
 /// The canonical form of a script.

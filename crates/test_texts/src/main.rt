@@ -38,6 +38,7 @@ fn compare_scripts(rt: &HostRuntime, out: &mut String) -> Result<()> {
         ("cuts", Layer::Cuts),
         ("mistakes", Layer::Findings),
         ("warnings", Layer::Findings),
+        ("repairs", Layer::Repairs),
         ("forms", Layer::Forms),
     ] {
         let rows = fs::read_to_string(rt, name)?;

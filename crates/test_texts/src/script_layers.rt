@@ -4,7 +4,7 @@
 use crate::cuts::cut_everywhere;
 use crate::dump::dump;
 use crate::faults::fault;
-use crate::findings::{findings, form};
+use crate::findings::{findings, form, repairs};
 use crate::tokens::tokens_shown;
 use crate::trees::{fault_line, refused, tree_of};
 use rc_lexer::lex;
@@ -23,6 +23,7 @@ pub enum Layer {
     Faults,
     Cuts,
     Findings,
+    Repairs,
     Forms,
 }
 
@@ -36,6 +37,7 @@ impl Layer {
             Layer::Faults => fault(alloc, script),
             Layer::Cuts => cut_everywhere(alloc, script),
             Layer::Findings => findings(alloc, script),
+            Layer::Repairs => repairs(alloc, script),
             Layer::Forms => form(alloc, script),
         }
     }

@@ -4,11 +4,11 @@ ghost use Rattle.std.specs.Prelude.{◌≡◌, IfOk, Some};
 ghost use Rattle.rc_model.specs.Mirrors.FirstFault as definitions;
 ghost use Rattle.rc_check.specs.Findings.{IsChecked, IsFoundIn};
 
-use crate::faults::advice::Advice;
 use crate::faults::places::located;
 use crate::positions::on_line;
 use rc_model::SyntaxFault;
 use rc_parser::{InputError, parse};
+use rc_warnings::Advice;
 use std::alloc::{AllocError, Global};
 
 /// A finding: the fault of a script.

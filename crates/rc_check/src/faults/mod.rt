@@ -1,7 +1,5 @@
 //! The fault of a script: its place, and what was probably meant.
 
-pub(crate) mod advice;
-pub(crate) mod advising;
 pub(crate) mod findings;
 pub(crate) mod line_faults;
 pub(crate) mod places;

@@ -1,0 +1,4 @@
+//! The probable causes of faults.
+
+pub(crate) mod advice;
+pub(crate) mod advising;

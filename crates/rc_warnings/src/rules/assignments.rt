@@ -1,0 +1,172 @@
+//! The rules for assignments.
+
+use crate::bytes::{find, has_any, is_number, is_plain};
+use crate::lexed::script_tokens::Tokens;
+use crate::rules::View;
+use crate::rules::conditions::assigned_condition;
+use crate::rules::words::span;
+use crate::warnings::kind::WarningKind;
+use crate::warnings::repair::Repair;
+use crate::warnings::warning::Warning;
+use rc_lexer::TokenKind;
+
+/// The warning for the word before an `=`.
+pub(crate) fn assignment_warning(view: View<'_, '_>, at: usize) -> Option<Warning> {
+    let tokens = view.tokens;
+    if !is_name(tokens.text(at)) {
+        return bad_name(tokens, at);
+    }
+    upper_warning(view, at)
+        .or(assigned_condition(tokens, at))
+        .or(sum_warning(tokens, at))
+        .or(blank_warning(tokens, at))
+}
+
+/// Whether a text can be the name of a variable.
+fn is_name(text: &[u8]) -> bool {
+    is_plain(text, b"_*") && !is_number(text)
+}
+
+/// The warning for an assignment to what is no name.
+fn bad_name(tokens: Tokens<'_>, at: usize) -> Option<Warning> {
+    let found = tokens.span(at);
+    let start = found.start as usize;
+    let name = span(start, (found.stop as usize).saturating_sub(1));
+    let text = tokens.text(at);
+    let value = tokens.span(at.wrapping_add(2));
+    let repair = if text.ends_with(b"+") {
+        let words = ["write ", "=($", " ..), or $", "^.. for one text"];
+        Repair::new(words, [name; 3])
+    } else if text.ends_with(b":") {
+        Repair::pair(["write ", "=", ""], name, value)
+    } else if let Some(open) = find(text, b"[") {
+        let list = span(start, start.saturating_add(open));
+        Repair::pair(["write ", "=(..) with all members of $", ""], list, list)
+    } else {
+        Repair::of("names have letters, digits and _; for a program, env 'a.b=c'")
+    };
+    tokens.warning(at, WarningKind::NAME, repair)
+}
+
+/// The warning for a variable that other shells read.
+fn upper_warning(view: View<'_, '_>, at: usize) -> Option<Warning> {
+    let tokens = view.tokens;
+    let value = at.saturating_add(2);
+    let is_prefix = has_blank(tokens, value, tokens.command_end(at));
+    let repair = if tokens.is_word(at, "IFS") {
+        Repair::of("write ifs")
+    } else if tokens.is_word(at, "CDPATH") {
+        Repair::of("write cdpath, with a list")
+    } else if tokens.is_word(at, "PATH") && !is_prefix && !view.overview.has_variable(b"path") {
+        Repair::of("write path=(/opt/bin $path) too; PATH is for programs alone")
+    } else {
+        return None;
+    };
+    tokens.warning(at, WarningKind::UPPER, repair)
+}
+
+/// Whether two tokens between these don't touch.
+fn has_blank(tokens: Tokens<'_>, first: usize, last: usize) -> bool {
+    for index in first..last {
+        if !tokens.touches_next(index) {
+            return true;
+        }
+    }
+    false
+}
+
+/// The warning for a word with a colon in a value of `path` or `cdpath`.
+pub(crate) fn colon_warning(tokens: Tokens<'_>, at: usize, text: &[u8]) -> Option<Warning> {
+    let name = tokens.command_start(at);
+    if !text.contains(&b':') || !tokens.is_one_of(name, &["path", "cdpath"]) {
+        return None;
+    }
+    let value = name.wrapping_add(2);
+    let is_value = tokens.is(name.wrapping_add(1), TokenKind::Equals)
+        && (tokens.open_bracket(at) == Some(value) || !has_blank(tokens, value, at));
+    if !is_value {
+        return None;
+    }
+    let repair = Repair::around(
+        "write ",
+        tokens.span(name),
+        "=(..) with blanks between them",
+    );
+    tokens.warning(at, WarningKind::COLON, repair)
+}
+
+/// The warning for `x=$x+1` and `x=1+2`, at the value.
+fn sum_warning(tokens: Tokens<'_>, at: usize) -> Option<Warning> {
+    let value = at.wrapping_add(2);
+    if tokens.is(value, TokenKind::Word) {
+        return constant_sum(tokens, value);
+    }
+    let name = value.wrapping_add(1);
+    let rest = name.wrapping_add(2);
+    let is_value = tokens.is(value, TokenKind::Dollar)
+        && tokens.is(name, TokenKind::Name)
+        && tokens.is(rest.wrapping_sub(1), TokenKind::FreeCaret)
+        && tokens.is(rest, TokenKind::Word);
+    let is_same = tokens.text(name) == tokens.text(at);
+    if !is_value || !computes(tokens.text(rest), is_same) {
+        return None;
+    }
+    let found = tokens.span(rest);
+    let middle = (found.start as usize).saturating_add(1);
+    let parts = [
+        tokens.span_to(value, name),
+        span(found.start as usize, middle),
+        span(middle, found.stop as usize),
+    ];
+    tokens.warning(
+        value,
+        WarningKind::ARITHMETIC,
+        Repair::new(["write `{expr ", " ", " ", "}"], parts),
+    )
+}
+
+/// Whether a text is a `+` and a number, or, after the variable that is assigned, any operator and a number.
+fn computes(text: &[u8], is_same: bool) -> bool {
+    let Some((operator, number)) = text.split_at_checked(1) else {
+        return false;
+    };
+    let is_operator = operator == b"+".as_slice() || is_same && has_any(b"-*/%", operator);
+    is_operator && is_number(number)
+}
+
+/// The warning for a value such as `1+2`.
+fn constant_sum(tokens: Tokens<'_>, value: usize) -> Option<Warning> {
+    let text = tokens.text(value);
+    let plus = find(text, b"+")?;
+    let (low, rest) = text.split_at(plus.min(text.len()));
+    let high = rest.get(1..)?;
+    if !is_number(low) || !is_number(high) {
+        return None;
+    }
+    let found = tokens.span(value);
+    let middle = (found.start as usize).saturating_add(plus);
+    let words = ["write `{expr ", " + ", "}"];
+    let repair = Repair::pair(
+        words,
+        span(found.start as usize, middle),
+        span(middle.saturating_add(1), found.stop as usize),
+    );
+    tokens.warning(value, WarningKind::ARITHMETIC, repair)
+}
+
+/// The warning for `X= command word`, whose value is the command.
+fn blank_warning(tokens: Tokens<'_>, at: usize) -> Option<Warning> {
+    let equals = at.wrapping_add(1);
+    let value = equals.wrapping_add(1);
+    let is_apart = tokens.touches_next(at) && !tokens.touches_next(equals);
+    let has_command = matches!(
+        tokens.kind(value.wrapping_add(1)),
+        Some(TokenKind::Word | TokenKind::Quoted | TokenKind::Dollar)
+    );
+    if !is_apart || !has_command || !tokens.is(value, TokenKind::Word) {
+        return None;
+    }
+    let command = tokens.span_to(value, tokens.command_end(value));
+    let repair = Repair::pair(["write ", "='' ", ""], tokens.span(at), command);
+    tokens.warning(at, WarningKind::BLANK, repair)
+}

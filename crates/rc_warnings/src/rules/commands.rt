@@ -1,0 +1,160 @@
+//! The rules for the first words of commands, and for their ends.
+
+use crate::bytes::{has_any, is_number};
+use crate::lexed::script_tokens::Tokens;
+use crate::rules::View;
+use crate::rules::assignments::assignment_warning;
+use crate::rules::conditions::{if_warning, tested_warning};
+use crate::rules::foreign_words::foreign_warning;
+use crate::rules::functions::{definition_warning, parameters_warning};
+use crate::rules::patterns::{match_warning, switch_warning};
+use crate::warnings::kind::WarningKind;
+use crate::warnings::repair::Repair;
+use crate::warnings::warning::Warning;
+use rc_lexer::TokenKind;
+
+/// The warning for the first word of a command.
+pub(crate) fn command_warning(view: View<'_, '_>, at: usize) -> Option<Warning> {
+    let tokens = view.tokens;
+    if tokens.is(at.wrapping_add(1), TokenKind::Equals) {
+        return assignment_warning(view, at);
+    }
+    if tokens.is_one_of(at, &["cd", ".", "eval"]) {
+        return dash_warning(tokens, at).or(unasked_warning(view, at));
+    }
+    if tokens.is_one_of(at, &["if", "fn", "~", "switch"]) {
+        return form_warning(view, at);
+    }
+    bang_warning(tokens, at)
+        .or(exec_warning(tokens, at))
+        .or(tested_warning(tokens, at))
+        .or(foreign_warning(view, at))
+}
+
+/// The warning for a form that is not a simple command.
+fn form_warning(view: View<'_, '_>, at: usize) -> Option<Warning> {
+    let tokens = view.tokens;
+    if tokens.is_word(at, "if") {
+        return if_warning(tokens, at);
+    }
+    if tokens.is_word(at, "fn") {
+        return parameters_warning(tokens, at).or(definition_warning(tokens, at));
+    }
+    if tokens.is_word(at, "~") {
+        return match_warning(view, at);
+    }
+    switch_warning(view, at)
+}
+
+/// The warning for a command such as `!~` or `!grep`.
+fn bang_warning(tokens: Tokens<'_>, at: usize) -> Option<Warning> {
+    let text = tokens.text(at);
+    if text.len() < 2 || !text.starts_with(b"!") {
+        return None;
+    }
+    let mut rest = tokens.span(at);
+    rest.start = rest.start.saturating_add(1);
+    tokens.warning(at, WarningKind::BANG, Repair::around("write ! ", rest, ""))
+}
+
+/// The warning for `cd -`.
+fn dash_warning(tokens: Tokens<'_>, at: usize) -> Option<Warning> {
+    let next = at.wrapping_add(1);
+    let is_back = tokens.is_word(at, "cd") && tokens.is_word(next, "-");
+    if !is_back || !tokens.ends_command(next.wrapping_add(1)) {
+        return None;
+    }
+    let repair = Repair::of("keep the directory in a variable before: old=`{pwd}");
+    tokens.warning(next, WarningKind::DASH, repair)
+}
+
+/// The warning for a command whose status nothing checks before an `rm`.
+fn unasked_warning(view: View<'_, '_>, at: usize) -> Option<Warning> {
+    if !view.overview.is_before_rm(at) {
+        return None;
+    }
+    let tokens = view.tokens;
+    let command = tokens.span_to(at, tokens.command_end(at));
+    let repair = Repair::around("write ", command, " || exit 1");
+    tokens.warning(at, WarningKind::UNASKED, repair)
+}
+
+/// The warning for an `exec` that has nothing but redirections.
+fn exec_warning(tokens: Tokens<'_>, at: usize) -> Option<Warning> {
+    if !tokens.is_word(at, "exec") {
+        return None;
+    }
+    let end = tokens.command_end(at);
+    let first = tokens.kind(at.wrapping_add(1));
+    // the first token after a redirection with its file
+    let after = tokens.kind(at.wrapping_add(3));
+    let is_only = match first {
+        Some(TokenKind::CopyTo { .. }) => end == at.saturating_add(1),
+        Some(TokenKind::Redirection(_, _)) => {
+            !matches!(after, Some(TokenKind::Word | TokenKind::Dollar))
+        }
+        _ => false,
+    };
+    if !is_only {
+        return None;
+    }
+    let redirections = tokens.span_to(at.saturating_add(1), end);
+    let repair = Repair::around("write {..} ", redirections, " around all that it is for");
+    tokens.warning(at, WarningKind::EXEC, repair)
+}
+
+/// The warning for a pattern of `find` that isn't quoted.
+pub(crate) fn glob_warning(tokens: Tokens<'_>, at: usize, text: &[u8]) -> Option<Warning> {
+    let option = at.wrapping_sub(1);
+    let is_pattern = has_any(text, b"*?[")
+        && tokens.is_one_of(option, &["-name", "-iname", "-path"])
+        && tokens.is_in_command(at, "find");
+    if !is_pattern {
+        return None;
+    }
+    let repair = Repair::around("write '", tokens.span(at), "'");
+    tokens.warning(at, WarningKind::GLOB, repair)
+}
+
+/// The warning for a `;` that ends a command.
+pub(crate) fn end_warning(tokens: Tokens<'_>, at: usize) -> Option<Warning> {
+    let before = at.wrapping_sub(1);
+    if tokens.is(before, TokenKind::RightParen) {
+        return empty_warning(tokens, at);
+    }
+    let start = tokens.command_start(at);
+    if !tokens.is_word(start, "find")
+        || tokens.text(before) == b"';'".as_slice()
+        || tokens.is_word(before, "+")
+    {
+        return None;
+    }
+    for index in start..at {
+        if tokens.is_one_of(index, &["-exec", "-ok", "-execdir"]) {
+            let command = tokens.span_to(start, before);
+            let repair = Repair::around("write ", command, " ';'");
+            return tokens.warning(at, WarningKind::SEMICOLON, repair);
+        }
+    }
+    None
+}
+
+/// The warning for a `;` directly after the head of an `if` or a `for`, unless an `if not` follows.
+fn empty_warning(tokens: Tokens<'_>, at: usize) -> Option<Warning> {
+    let close = at.wrapping_sub(1);
+    let open = tokens.open_bracket(close)?;
+    let is_head = tokens.is_one_of(open.wrapping_sub(1), &["if", "for"]);
+    let has_other = tokens.is_word(at.wrapping_add(1), "if")
+        && tokens.is_word(at.wrapping_add(2), "not");
+    if !is_head || has_other {
+        return None;
+    }
+    let head = tokens.span_to(open.wrapping_sub(1), close);
+    let repair = Repair::around("write ", head, " and the command directly after it");
+    tokens.warning(at, WarningKind::EMPTY, repair)
+}
+
+/// Whether the token at this index is a number as a word.
+pub(crate) fn is_number_at(tokens: Tokens<'_>, at: usize) -> bool {
+    tokens.is(at, TokenKind::Word) && is_number(tokens.text(at))
+}

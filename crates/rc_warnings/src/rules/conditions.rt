@@ -1,0 +1,206 @@
+//! The rules for conditions.
+
+use crate::bytes::{is_number, is_plain};
+use crate::lexed::script_tokens::Tokens;
+use crate::rules::View;
+use crate::rules::functions::last_before;
+use crate::rules::words::hash_warning;
+use crate::warnings::kind::WarningKind;
+use crate::warnings::repair::Repair;
+use crate::warnings::warning::Warning;
+use rc_lexer::TokenKind;
+
+/// The operators of `test` that compare numbers.
+pub(crate) const COMPARISONS: [&str; 8] = ["-eq", "-ne", "-lt", "-le", "-gt", "-ge", "-nt", "-ot"];
+
+/// The warning for an `if` that begins a command.
+pub(crate) fn if_warning(tokens: Tokens<'_>, at: usize) -> Option<Warning> {
+    let not = at.wrapping_add(1);
+    if !tokens.is_word(not, "not") {
+        return None;
+    }
+    let open = not.wrapping_add(1);
+    if tokens.is(open, TokenKind::LeftParen) {
+        let inner = match tokens.closing(open) {
+            Some(close) => tokens.span_to(open, close),
+            None => tokens.span(open),
+        };
+        let repair = Repair::around("write if(! ..), where .. is ", inner, "");
+        return tokens.warning(at, WarningKind::NOT, repair);
+    }
+    if !is_changed(tokens, at) {
+        return None;
+    }
+    let repair = Repair::of("put the inner if into @{..}, or keep its result in a variable");
+    tokens.warning(at, WarningKind::CHANGED, repair)
+}
+
+/// Whether an `if not` begins here whose flag is set by an `if` inside the braces of the `if not` before.
+fn is_changed(tokens: Tokens<'_>, at: usize) -> bool {
+    let Some(close) = last_before(tokens, at) else {
+        return false;
+    };
+    match (tokens.kind(close), tokens.open_bracket(close)) {
+        (Some(TokenKind::RightBrace), Some(open)) => {
+            tokens.is_word(open.wrapping_sub(1), "not")
+                && matches!(tokens.before(close).condition, Some(condition) if condition > open)
+        }
+        _ => false,
+    }
+}
+
+/// The warning for a word that is called as a command, and belongs to `test` or to arithmetic.
+pub(crate) fn tested_warning(tokens: Tokens<'_>, at: usize) -> Option<Warning> {
+    let text = tokens.text(at);
+    if text.ends_with(b"++") || text.ends_with(b"--") && text.len() > 2 {
+        return step_warning(tokens, at);
+    }
+    if is_number(text) && tokens.is_in_condition(at) {
+        let repair = Repair::of("write true or false, and while() for a loop without an end");
+        return tokens.warning(at, WarningKind::TEST, repair);
+    }
+    called_test(tokens, at, text)
+}
+
+/// The warning for an option or a bracket of `test` that is called as a command.
+fn called_test(tokens: Tokens<'_>, at: usize, text: &[u8]) -> Option<Warning> {
+    let mut rest = tokens.span_to(at, tokens.command_end(at));
+    if text.len() == 2 && text.starts_with(b"-") && is_plain(text, b"-") {
+        let repair = Repair::around("write test ", rest, "");
+        return tokens.warning(at, WarningKind::TEST, repair);
+    }
+    if !text.starts_with(b"[") || tokens.is_one_of(at, &["[", "[["]) {
+        return None;
+    }
+    rest.start = rest.start.saturating_add(1);
+    tokens.warning(at, WarningKind::TEST, Repair::around("write [ ", rest, ""))
+}
+
+/// The warning for `x++` or `x--`.
+fn step_warning(tokens: Tokens<'_>, at: usize) -> Option<Warning> {
+    let mut name = tokens.span(at);
+    name.stop = name.stop.saturating_sub(2);
+    let last = if tokens.text(at).ends_with(b"+") {
+        " + 1}"
+    } else {
+        " - 1}"
+    };
+    let repair = Repair::pair(["write ", "=`{expr $", last], name, name);
+    tokens.warning(at, WarningKind::ARITHMETIC, repair)
+}
+
+/// The warning for a command that begins with a value, at its `$`.
+pub(crate) fn value_warning(view: View<'_, '_>, at: usize) -> Option<Warning> {
+    let tokens = view.tokens;
+    if !tokens.begins_command(at) {
+        return None;
+    }
+    let next = at.wrapping_add(2);
+    if tokens.is(next, TokenKind::Equals) {
+        return assigned_value(view, at);
+    }
+    let is_count = tokens.is(at, TokenKind::DollarCount);
+    if !is_count && !tokens.is_one_of(next, &COMPARISONS) {
+        return None;
+    }
+    let command = tokens.span_to(at, tokens.command_end(at));
+    let repair = Repair::around(
+        "write test ",
+        command,
+        ", with -gt or the like between numbers",
+    );
+    tokens.warning(at, WarningKind::TEST, repair)
+}
+
+/// The warning for `$x = a` in a condition, or with a variable that has no value.
+fn assigned_value(view: View<'_, '_>, at: usize) -> Option<Warning> {
+    let tokens = view.tokens;
+    if !tokens.is_in_condition(at) {
+        return unset_value(view, at);
+    }
+    let subject = tokens.span_to(at, at.wrapping_add(1));
+    let first = at.wrapping_add(if tokens.is_word(at.wrapping_add(3), "~") {
+        4
+    } else {
+        3
+    });
+    let value = tokens.span_to(first, tokens.command_end(at));
+    let repair = Repair::pair(["write ~ ", " ", ""], subject, value);
+    tokens.warning(at, WarningKind::ASSIGNS, repair)
+}
+
+/// The warning for `$x = a` with a variable to which the script gives no value.
+fn unset_value(view: View<'_, '_>, at: usize) -> Option<Warning> {
+    let tokens = view.tokens;
+    let name = at.wrapping_add(1);
+    let text = tokens.text(name);
+    if is_number(text) || text == b"*".as_slice() || view.overview.has_variable(text) {
+        return None;
+    }
+    let value = tokens.span(name.wrapping_add(2));
+    let repair = Repair::pair(["write ", "=", ""], tokens.span(name), value);
+    tokens.warning(at, WarningKind::NAME, repair)
+}
+
+/// The warning for `x = a` as a condition, at its `x`.
+pub(crate) fn assigned_condition(tokens: Tokens<'_>, at: usize) -> Option<Warning> {
+    let value = at.wrapping_add(2);
+    let end = tokens.command_end(at);
+    let last = value.wrapping_add(usize::from(tokens.is(value, TokenKind::Dollar)));
+    let is_only = tokens.is(end.wrapping_add(1), TokenKind::RightParen)
+        && end == last
+        && tokens.is_in_condition(at)
+        && tokens.is(at.wrapping_sub(1), TokenKind::LeftParen);
+    let is_text = matches!(
+        tokens.kind(value),
+        Some(TokenKind::Word | TokenKind::Quoted | TokenKind::Dollar)
+    );
+    if !is_only || !is_text {
+        return None;
+    }
+    let repair = Repair::pair(
+        ["write ~ $", " ", ""],
+        tokens.span(at),
+        tokens.span_to(value, end),
+    );
+    tokens.warning(at, WarningKind::ASSIGNS, repair)
+}
+
+/// The warning for `test` with the status, or with a value that can be no word, at the name of the variable.
+pub(crate) fn test_warning(tokens: Tokens<'_>, at: usize) -> Option<Warning> {
+    let start = tokens.command_start(at);
+    let next = at.wrapping_add(1);
+    let is_status = tokens.text(at) == b"status".as_slice();
+    if tokens.is_word(start, "~") && is_status && tokens.is_word(next, "0") {
+        return tokens.warning(next, WarningKind::STATUS, Repair::of("write ~ $status ''"));
+    }
+    if !tokens.is_one_of(start, &["test", "["]) {
+        return hash_warning(tokens, at);
+    }
+    if is_status && tokens.is_one_of(next, &COMPARISONS) {
+        let repair = Repair::of(if tokens.is_word(next, "-eq") {
+            "write ~ $status ''"
+        } else {
+            "write ! ~ $status ''"
+        });
+        return tokens.warning(at, WarningKind::STATUS, repair);
+    }
+    unquoted_warning(tokens, at)
+}
+
+/// The warning for `test -n $x`, at the name.
+fn unquoted_warning(tokens: Tokens<'_>, at: usize) -> Option<Warning> {
+    let option = at.wrapping_sub(2);
+    let name = tokens.span(at);
+    if !tokens.is(at.wrapping_sub(1), TokenKind::Dollar) {
+        return None;
+    }
+    let repair = if tokens.is_word(option, "-z") {
+        Repair::around("write ~ $\"", name, " ''")
+    } else if tokens.is_word(option, "-n") {
+        Repair::around("write ! ~ $\"", name, " ''")
+    } else {
+        return None;
+    };
+    tokens.warning(at, WarningKind::UNQUOTED, repair)
+}

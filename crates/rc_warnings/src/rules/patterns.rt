@@ -1,0 +1,231 @@
+//! The rules for patterns, and for what they are compared with.
+
+use crate::bytes::{find, has, is_plain};
+use crate::lexed::script_tokens::{Tokens, part};
+use crate::rules::View;
+use crate::rules::conditions::COMPARISONS;
+use crate::rules::words::span;
+use crate::warnings::kind::WarningKind;
+use crate::warnings::repair::Repair;
+use crate::warnings::warning::Warning;
+use rc_lexer::{Span, TokenKind};
+
+/// The warning for `~`: a subject that is the name of a variable.
+pub(crate) fn match_warning(view: View<'_, '_>, at: usize) -> Option<Warning> {
+    let subject = at.wrapping_add(1);
+    let is_joined = matches!(
+        view.tokens.kind(subject.wrapping_add(1)),
+        Some(TokenKind::Caret | TokenKind::FreeCaret)
+    );
+    if is_joined {
+        return None;
+    }
+    constant_warning(view, subject)
+}
+
+/// The warning for `switch(x)`.
+pub(crate) fn switch_warning(view: View<'_, '_>, at: usize) -> Option<Warning> {
+    let tokens = view.tokens;
+    let next = at.wrapping_add(1);
+    if !tokens.is(next, TokenKind::LeftParen) {
+        return constant_warning(view, next);
+    }
+    let subject = next.wrapping_add(1);
+    if !tokens.is(subject.wrapping_add(1), TokenKind::RightParen) {
+        return None;
+    }
+    constant_warning(view, subject)
+}
+
+/// The warning for a word at this index that is the name of a variable, where its value is meant.
+pub(crate) fn constant_warning(view: View<'_, '_>, at: usize) -> Option<Warning> {
+    let tokens = view.tokens;
+    if !tokens.is(at, TokenKind::Word) || !view.overview.has_variable(tokens.text(at)) {
+        return None;
+    }
+    let repair = Repair::around("write $", tokens.span(at), "");
+    tokens.warning(at, WarningKind::CONSTANT, repair)
+}
+
+/// The warning for a bar after `~`.
+pub(crate) fn bar_warning(tokens: Tokens<'_>, at: usize) -> Option<Warning> {
+    let start = tokens.command_start(at);
+    if !tokens.is_word(start, "~") || tokens.is(at.wrapping_sub(1), TokenKind::RightBrace) {
+        return None;
+    }
+    let test = tokens.span_to(start, at.wrapping_sub(1));
+    let next = tokens.span(at.wrapping_add(1));
+    let repair = Repair::pair(["write ", " ", ""], test, next);
+    tokens.warning(at, WarningKind::ALTERNATIVE, repair)
+}
+
+/// Whether a token joins words.
+fn is_caret(kind: Option<TokenKind>) -> bool {
+    matches!(kind, Some(TokenKind::Caret | TokenKind::FreeCaret))
+}
+
+/// Whether the token at this index is a pattern by itself, not joined to others.
+fn is_pattern(tokens: Tokens<'_>, at: usize) -> bool {
+    let is_joined = is_caret(tokens.kind_before(at)) || is_caret(tokens.kind(at.wrapping_add(1)));
+    let start = tokens.command_start(at);
+    !is_joined
+        && (tokens.is_word(start, "case")
+            || tokens.is_word(start, "~") && at > start.saturating_add(1))
+}
+
+/// The warning for the name of a variable whose value is meant as a pattern, after its `$`.
+pub(crate) fn value_pattern(view: View<'_, '_>, at: usize) -> Option<Warning> {
+    let tokens = view.tokens;
+    let dollar = at.wrapping_sub(1);
+    let is_alone = tokens.is(dollar, TokenKind::Dollar)
+        && !matches!(
+            tokens.kind_before(dollar),
+            Some(TokenKind::Caret | TokenKind::FreeCaret)
+        )
+        && dollar > tokens.command_start(at).saturating_add(1);
+    let is_pattern = tokens.is_in_command(at, "case") || tokens.is_in_command(at, "~") && is_alone;
+    if !is_pattern || !view.overview.has_pattern(tokens.text(at)) {
+        return None;
+    }
+    let value = tokens.span_to(dollar, at);
+    let repair = Repair::around("write the pattern itself, or eval '~ $x '^", value, "");
+    tokens.warning(at, WarningKind::LITERAL, repair)
+}
+
+/// The warning for a word that is a pattern.
+pub(crate) fn pattern_warning(tokens: Tokens<'_>, at: usize, text: &[u8]) -> Option<Warning> {
+    if !is_pattern(tokens, at) {
+        return None;
+    }
+    if tokens.is_one_of(at, &COMPARISONS) && tokens.is_in_command(at, "~") {
+        let start = tokens.command_start(at).saturating_add(1);
+        let rest = tokens.span_to(start, tokens.command_end(at));
+        return tokens.warning(
+            at,
+            WarningKind::TEST,
+            Repair::around("write test ", rest, ""),
+        );
+    }
+    if has_empty_class(text) {
+        let repair = Repair::of("write a class as [a-z], and a [ that is meant as '['");
+        return tokens.warning(at, WarningKind::NEVER, repair);
+    }
+    if has(text, b"]+") {
+        let repair = Repair::of("write one class for each character, or use grep");
+        return tokens.warning(at, WarningKind::PATTERN, repair);
+    }
+    case_warning(tokens, at, text)
+}
+
+/// The warning for a `:` at the end of a case line.
+fn case_warning(tokens: Tokens<'_>, at: usize, text: &[u8]) -> Option<Warning> {
+    let is_last = matches!(
+        tokens.kind(at.wrapping_add(1)),
+        Some(TokenKind::Newline | TokenKind::Semicolon)
+    );
+    if !is_last || !tokens.is_in_command(at, "case") || !text.ends_with(b":") {
+        return None;
+    }
+    let repair = Repair::around("write case ", without_last(tokens.span(at)), "");
+    tokens.warning(at, WarningKind::CASE, repair)
+}
+
+/// A span without its last byte.
+fn without_last(found: Span) -> Span {
+    Span {
+        stop: found.stop.saturating_sub(1),
+        ..found
+    }
+}
+
+/// The warning for a word that ends in a comma, before another one of a list or of a case line.
+pub(crate) fn comma_warning(tokens: Tokens<'_>, at: usize) -> Option<Warning> {
+    let is_in_list = match tokens.open_bracket(at) {
+        Some(open) => {
+            tokens.is(open, TokenKind::LeftParen) && !tokens.is_in_condition(at)
+                || tokens.is(open, TokenKind::Subscript)
+        }
+        None => false,
+    };
+    let has_next = matches!(
+        tokens.kind(at.wrapping_add(1)),
+        Some(TokenKind::Word | TokenKind::Quoted | TokenKind::Dollar)
+    );
+    if !has_next || !is_in_list && !tokens.is_in_command(at, "case") {
+        return None;
+    }
+    let words = ["write ", " ", ""];
+    let next = tokens.span(at.wrapping_add(1));
+    let repair = Repair::pair(words, without_last(tokens.span(at)), next);
+    tokens.warning(at, WarningKind::COMMA, repair)
+}
+
+/// Whether a text is of stars alone.
+fn is_stars(text: &[u8]) -> bool {
+    for byte in text {
+        if *byte != b'*' {
+            return false;
+        }
+    }
+    true
+}
+
+/// The warning for a pattern in quotes, or a comment directly after a quoted word.
+pub(crate) fn quoted_warning(tokens: Tokens<'_>, at: usize) -> Option<Warning> {
+    if !is_pattern(tokens, at) {
+        return None;
+    }
+    let found = tokens.span(at);
+    let start = (found.start as usize).saturating_add(1);
+    let stop = without_last(found).stop as usize;
+    let inner = part(tokens.script, span(start, stop));
+    if inner.len() > 1 && inner.starts_with(b"^") {
+        let repair = Repair::of("write a pattern such as a*, without quotes, or use grep");
+        return tokens.warning(at, WarningKind::PATTERN, repair);
+    }
+    if is_stars(inner) || !inner.contains(&b'*') || !is_plain(inner, b"._/-*") {
+        return None;
+    }
+    let repair = Repair::around("write ", span(start, stop), "");
+    tokens.warning(at, WarningKind::LITERAL, repair)
+}
+
+/// The warning for an empty list among the patterns of `~` or `case`.
+pub(crate) fn list_warning(tokens: Tokens<'_>, at: usize) -> Option<Warning> {
+    if !tokens.is(at.wrapping_add(1), TokenKind::RightParen) {
+        return None;
+    }
+    let start = tokens.command_start(at);
+    let is_list = tokens.is_word(start, "case")
+        || tokens.is_word(start, "~") && at > start.saturating_add(1);
+    if !is_list {
+        return None;
+    }
+    let repair = Repair::of("write '' for the empty list, whose text is empty");
+    tokens.warning(at, WarningKind::NEVER, repair)
+}
+
+/// Whether a pattern has a class without characters: one that is not closed, an empty one, or one with nothing but a
+/// falling range.
+fn has_empty_class(text: &[u8]) -> bool {
+    // the bytes before this offset belong to a class
+    let mut end = 0usize;
+    for (place, byte) in text.iter().enumerate() {
+        if *byte == b'[' && place >= end {
+            let Some(length) = class_length(&text[place..]) else {
+                return true;
+            };
+            end = place.saturating_add(length);
+        }
+    }
+    false
+}
+
+/// The length of the class that begins a text, if it has a character.
+fn class_length(text: &[u8]) -> Option<usize> {
+    match text {
+        [_, b']', ..] => None,
+        [_, low, b'-', high, b']', ..] if low > high => None,
+        _ => find(text, b"]"),
+    }
+}

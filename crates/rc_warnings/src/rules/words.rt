@@ -1,0 +1,323 @@
+//! The rules for words as they are spelled.
+
+use crate::bytes::{after, before, find, find_any, has, has_any, is_number, is_plain};
+use crate::lexed::script_tokens::{ORDER_MARK, Tokens};
+use crate::rules::View;
+use crate::rules::assignments::colon_warning;
+use crate::rules::brackets::loop_warning;
+use crate::rules::commands::{command_warning, glob_warning};
+use crate::rules::foreign_words::inline_warning;
+use crate::rules::functions::signal_warning;
+use crate::rules::patterns::{comma_warning, pattern_warning};
+use crate::rules::redirections::digit_warning;
+use crate::warnings::kind::WarningKind;
+use crate::warnings::repair::Repair;
+use crate::warnings::warning::Warning;
+use rc_lexer::{Span, TokenKind};
+
+/// The beginnings of paths that Linux doesn't have.
+const PATHS: [&[u8]; 4] = [b"/env/", b"/fd/", b"/dev/tcp/", b"/dev/udp/"];
+
+/// The characters that a backslash quotes in other shells.
+const QUOTED: &[u8] = b" \t$;&|()<>#'\"*?[~!=^\\{}`";
+
+/// The warning for the word at this index.
+pub(crate) fn word_warning(view: View<'_, '_>, at: usize) -> Option<Warning> {
+    let tokens = view.tokens;
+    if at == 0 && tokens.script.starts_with(ORDER_MARK) {
+        let repair = Repair::of("remove it, as with tail -c +4");
+        return tokens.warning(at, WarningKind::ORDER_MARK, repair);
+    }
+    spelling_warning(tokens, at)
+        .or(shape_warning(tokens, at))
+        .or(if tokens.begins_command(at) {
+            command_warning(view, at)
+        } else {
+            argument_warning(view, at)
+        })
+}
+
+/// The warning for an argument.
+fn argument_warning(view: View<'_, '_>, at: usize) -> Option<Warning> {
+    let tokens = view.tokens;
+    let text = tokens.text(at);
+    if is_number(text) {
+        return digit_warning(tokens, at).or(pattern_warning(tokens, at, text));
+    }
+    if text.ends_with(b",") {
+        return comma_warning(tokens, at);
+    }
+    inline_warning(tokens, at)
+        .or(loop_warning(view, at))
+        .or(signal_warning(tokens, at))
+        .or(job_number(tokens, at, text))
+        .or(glob_warning(tokens, at, text))
+        .or(colon_warning(tokens, at, text))
+        .or(pattern_warning(tokens, at, text))
+}
+
+/// The warning for `kill %1` or `wait %1`.
+fn job_number(tokens: Tokens<'_>, at: usize, text: &[u8]) -> Option<Warning> {
+    if !text.starts_with(b"%") || !tokens.is_one_of(tokens.command_start(at), &["kill", "wait"]) {
+        return None;
+    }
+    let repair = Repair::of("keep each $apid, and wait for it: job=$apid, and wait $job");
+    tokens.warning(at, WarningKind::JOB, repair)
+}
+
+/// The warning for characters of a word that quote nothing here.
+fn spelling_warning(tokens: Tokens<'_>, at: usize) -> Option<Warning> {
+    let text = tokens.text(at);
+    match find_any(text, b"\"\\") {
+        Some(found) if text.get(found) == Some(&b'"') => double_warning(tokens, at, found),
+        Some(found) => backslash_warning(tokens, at, found),
+        None => print_warning(tokens, at, text),
+    }
+}
+
+/// The warning for quotation marks as of print, or a blank that doesn't break a line.
+fn print_warning(tokens: Tokens<'_>, at: usize, text: &[u8]) -> Option<Warning> {
+    let is_printed = text.starts_with(b"\xe2\x80\x98")
+        || text.starts_with(b"\xe2\x80\x9c")
+        || has(text, b"\xc2\xa0");
+    if !is_printed {
+        return None;
+    }
+    let repair = Repair::of("write ' and a blank as from the keyboard");
+    tokens.warning(at, WarningKind::QUOTES, repair)
+}
+
+/// The warning for the first double quote of a command, which is at this offset of a word.
+fn double_warning(tokens: Tokens<'_>, at: usize, offset: usize) -> Option<Warning> {
+    if matches!(tokens.before(at).quote, Some(before) if before >= tokens.command_start(at)) {
+        return None;
+    }
+    let open = offset_in(tokens.span(at), offset).saturating_add(1);
+    tokens.warning(at, WarningKind::DOUBLE, without_double_quotes(tokens, open))
+}
+
+/// The place of a byte of a span.
+fn offset_in(span: Span, offset: usize) -> usize {
+    (span.start as usize).saturating_add(offset)
+}
+
+/// The span of these places, as far as places have 32 bits.
+pub(crate) fn span(start: usize, stop: usize) -> Span {
+    Span {
+        start: u32::try_from(start).unwrap_or(u32::MAX),
+        stop: u32::try_from(stop).unwrap_or(u32::MAX),
+    }
+}
+
+/// What to write in place of the text from this place to the next double quote.
+fn without_double_quotes(tokens: Tokens<'_>, open: usize) -> Repair {
+    let general = Repair::of("write 'a b', and 'a '$x if a variable is in it");
+    let rest = after(tokens.script, open);
+    let Some(length) = find_any(rest, b"\"\n'") else {
+        return general;
+    };
+    let (inner, end) = rest.split_at(length.min(rest.len()));
+    let close = open.saturating_add(length);
+    let dollar = find(inner, b"$");
+    match (end.first(), dollar) {
+        (Some(b'"'), None) => Repair::around("write '", span(open, close), "'"),
+        (Some(b'"'), Some(dollar)) => match inner.get(dollar..) {
+            Some(value) if !value.contains(&b' ') => {
+                with_value(span(open, open.saturating_add(dollar)), close)
+            }
+            _ => general,
+        },
+        _ => general,
+    }
+}
+
+/// A text of this span, with a value after it up to this place.
+fn with_value(text: Span, close: usize) -> Repair {
+    let value = Span {
+        start: text.stop,
+        ..span(0, close)
+    };
+    if text.start == text.stop {
+        Repair::around("write ", value, "")
+    } else {
+        Repair::pair(["write '", "'", ""], text, value)
+    }
+}
+
+/// The warning for a backslash at this offset of a word, before a character that it would quote in other shells.
+fn backslash_warning(tokens: Tokens<'_>, at: usize, offset: usize) -> Option<Warning> {
+    let place = offset_in(tokens.span(at), offset);
+    let next = tokens.script.get(place.saturating_add(1))?;
+    if !QUOTED.contains(next) {
+        return None;
+    }
+    let start = tokens.span(at).start as usize;
+    let repair = Repair::pair(
+        ["write '", "", "'"],
+        span(start, place),
+        span(place.saturating_add(1), end_of_escaped(tokens, at, place)),
+    );
+    tokens.warning(at, WarningKind::BACKSLASH, repair)
+}
+
+/// The end of the text that begins after a backslash at this place of a word: that of the word, or else of the next
+/// token of the line.
+fn end_of_escaped(tokens: Tokens<'_>, at: usize, place: usize) -> usize {
+    let after = place.saturating_add(1);
+    for index in at..at.saturating_add(3) {
+        let stop = tokens.span(index).stop as usize;
+        if stop > after && tokens.line(index) == tokens.line(at) {
+            return stop;
+        }
+    }
+    after
+}
+
+/// The warning for a word of a shape that means more in other shells.
+fn shape_warning(tokens: Tokens<'_>, at: usize) -> Option<Warning> {
+    let text = tokens.text(at);
+    if text.starts_with(b"~") {
+        return tilde_warning(tokens, at, text).or(hash_warning(tokens, at));
+    }
+    if text.ends_with(b"[") {
+        return class_warning(tokens, at);
+    }
+    path_warning(tokens, at, text)
+        .or(star_or_class(tokens, at, text))
+        .or(hash_warning(tokens, at))
+}
+
+/// The warning for a word that begins with a tilde.
+fn tilde_warning(tokens: Tokens<'_>, at: usize, text: &[u8]) -> Option<Warning> {
+    let start = offset_in(tokens.span(at), 1);
+    let rest = span(start, tokens.span(at).stop as usize);
+    let is_alone = text.len() == 1;
+    if is_alone && is_match(tokens, at) {
+        return None;
+    }
+    let repair = if is_alone || text.starts_with(b"~/") {
+        Repair::around("write $home", rest, "")
+    } else if is_plain(text, b"~_-/.") {
+        Repair::around("write the path of the home directory of ", rest, "")
+    } else {
+        return None;
+    };
+    tokens.warning(at, WarningKind::TILDE, repair)
+}
+
+/// Whether a tilde at this index compares, or is a pattern or a mark and not the argument of a command.
+fn is_match(tokens: Tokens<'_>, at: usize) -> bool {
+    tokens.begins_command(at)
+        || !tokens.is(at.wrapping_sub(1), TokenKind::Word)
+        || matches!(
+            tokens.kind(at.wrapping_sub(2)),
+            Some(TokenKind::Redirection(_, _))
+        )
+}
+
+/// The warning for a path that Linux doesn't have.
+fn path_warning(tokens: Tokens<'_>, at: usize, text: &[u8]) -> Option<Warning> {
+    for path in &PATHS {
+        if text.starts_with(*path) {
+            let repair = Repair::of("use the variable, the descriptor or a program in its place");
+            return tokens.warning(at, WarningKind::PLAN9, repair);
+        }
+    }
+    None
+}
+
+/// The warning for `[^a]`, at its bracket.
+fn class_warning(tokens: Tokens<'_>, at: usize) -> Option<Warning> {
+    let caret = at.wrapping_add(1);
+    let rest = caret.wrapping_add(1);
+    let is_class = tokens.is(caret, TokenKind::Caret)
+        && tokens.touches_next(at)
+        && tokens.touches_next(caret)
+        && tokens.is(rest, TokenKind::Word)
+        && tokens.text(rest).contains(&b']');
+    if !is_class {
+        return None;
+    }
+    let repair = Repair::pair(["write ", "~", ""], tokens.span(at), tokens.span(rest));
+    tokens.warning(at, WarningKind::CLASS, repair)
+}
+
+/// The warning for `[!a]`, `**` or `1..5`.
+fn star_or_class(tokens: Tokens<'_>, at: usize, text: &[u8]) -> Option<Warning> {
+    if !has_any(text, b"*[.") {
+        return None;
+    }
+    if has(text, b"**") {
+        let repair = Repair::of(
+            "write * for names of one directory, and use find for all below it",
+        );
+        return tokens.warning(at, WarningKind::PATTERN, repair);
+    }
+    not_class(tokens, at, text).or(range_warning(tokens, at, text))
+}
+
+/// The warning for `[!a]`.
+fn not_class(tokens: Tokens<'_>, at: usize, text: &[u8]) -> Option<Warning> {
+    let open = find(text, b"[!")?;
+    let rest = text.get(open.saturating_add(2)..)?;
+    if !rest.contains(&b']') || rest.starts_with(b"]") {
+        return None;
+    }
+    let found = tokens.span(at);
+    let bang = offset_in(found, open).saturating_add(1);
+    let repair = Repair::pair(
+        ["write ", "~", ""],
+        span(found.start as usize, bang),
+        span(bang.saturating_add(1), found.stop as usize),
+    );
+    tokens.warning(at, WarningKind::CLASS, repair)
+}
+
+/// The warning for `1..5`.
+fn range_warning(tokens: Tokens<'_>, at: usize, text: &[u8]) -> Option<Warning> {
+    let dots = find(text, b"..")?;
+    let (low, rest) = text.split_at(dots.min(text.len()));
+    let high = rest.get(2..)?;
+    if !is_number(low) || !is_number(high) {
+        return None;
+    }
+    let found = tokens.span(at);
+    let middle = offset_in(found, dots);
+    let repair = Repair::pair(
+        ["write `{seq ", " ", "}"],
+        span(found.start as usize, middle),
+        span(middle.saturating_add(2), found.stop as usize),
+    );
+    tokens.warning(at, WarningKind::RANGE, repair)
+}
+
+/// The warning for a comment that begins directly after the token at this index.
+pub(crate) fn hash_warning(tokens: Tokens<'_>, at: usize) -> Option<Warning> {
+    let found = tokens.span(at);
+    let rest = tokens.script.get(found.stop as usize..)?;
+    if !rest.starts_with(b"#") {
+        return None;
+    }
+    let length = before(rest, b" \t\n'").len();
+    let stop = (found.stop as usize).saturating_add(length);
+    let repair = Repair::around("write '", span(found.start as usize, stop), "'");
+    tokens.warning(at, WarningKind::HASH, repair)
+}
+
+/// The warning for a caret that begins a word, or ends one.
+pub(crate) fn caret_warning(tokens: Tokens<'_>, at: usize) -> Option<Warning> {
+    let last = at.wrapping_sub(1);
+    let next = at.wrapping_add(1);
+    let is_first = tokens.touches_next(at);
+    if tokens.touches_next(last) == is_first
+        || !matches!(tokens.kind(next), Some(TokenKind::Word | TokenKind::Dollar))
+    {
+        return None;
+    }
+    let word = if is_first {
+        tokens.span_to(at, next)
+    } else {
+        tokens.span_to(last, at)
+    };
+    tokens.warning(at, WarningKind::CARET, Repair::around("write '", word, "'"))
+}

@@ -1,0 +1,3 @@
+//! How parts of a script are shown.
+
+pub(crate) mod escaped;
