@@ -49,21 +49,24 @@ pub(crate) fn can_bind(rt: &HostRuntime) -> Result<bool, AllocError> {
     })
 }
 
-/// A command that ends after so many seconds with all that it has started, and, if it is bound, when this process is
-/// gone.
+/// A command that is sent a signal when this process is gone, if it is bound.
+pub(crate) fn bound(alloc: Global, is_bound: bool, program: &str) -> Result<Command, AllocError> {
+    if !is_bound {
+        return Command::new(alloc, program);
+    }
+    let mut command = Command::new(alloc, "setpriv")?;
+    command.args(["--pdeathsig", "TERM", program])?;
+    Ok(command)
+}
+
+/// Such a command that ends after so many seconds, with all that it has started.
 pub(crate) fn bounded(
     alloc: Global,
     is_bound: bool,
     seconds: u32,
     program: &str,
 ) -> Result<Command, AllocError> {
-    let mut command = if is_bound {
-        let mut command = Command::new(alloc, "setpriv")?;
-        command.args(["--pdeathsig", "TERM", "timeout"])?;
-        command
-    } else {
-        Command::new(alloc, "timeout")?
-    };
+    let mut command = bound(alloc, is_bound, "timeout")?;
     command
         .args(["-k", "1"])?
         .arg(format!(in alloc; "{seconds}")?)?

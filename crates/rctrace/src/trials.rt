@@ -1,6 +1,6 @@
 //! The runs of a script with each call of its first process refused in turn, each in a fresh copy of a directory.
 
-use crate::guard::{Guard, bounded, can_bind};
+use crate::guard::{Guard, bound, bounded, can_bind};
 use crate::options::Asked;
 use crate::room::Room;
 use crate::table::{LEGEND, Outcome, TITLES, only_in};
@@ -97,7 +97,7 @@ impl Trials<'_> {
     fn copy_files(&self) -> Result<()> {
         let directory = self.asked.directory.context("no directory")?;
         let from = format!(in self.rt.alloc(); "{directory}/.")?;
-        let mut command = Command::new(self.rt.alloc(), "cp")?;
+        let mut command = self.command("cp")?;
         command
             .arg("-a")?
             .arg("--")?
@@ -148,6 +148,11 @@ impl Trials<'_> {
         })
     }
 
+    /// A command that ends when this process is gone, if it is bound.
+    fn command(&self, program: &str) -> Result<Command, AllocError> {
+        bound(self.rt.alloc(), self.is_bound, program)
+    }
+
     /// How a command ends.
     fn status(&self, command: &mut Command) -> Result<ExitStatus> {
         let ended = command.status(&self.rt);
@@ -157,7 +162,7 @@ impl Trials<'_> {
     /// Orders the calls of a run by process.
     fn sort_calls(&self) -> Result<()> {
         let calls = self.room.place("run/calls")?;
-        let mut command = Command::new(self.rt.alloc(), "sort")?;
+        let mut command = self.command("sort")?;
         command
             .arg("-s")?
             .args(["-k", "1,1", "-o", calls.as_str(), calls.as_str()])?
@@ -220,7 +225,7 @@ impl Trials<'_> {
     /// Whether the files are the same, and which are there in place of none, if they can be compared.
     fn compare_files(&self) -> Result<Option<(bool, Vec<String>)>> {
         let alloc = self.rt.alloc();
-        let mut command = Command::new(alloc, "diff")?;
+        let mut command = self.command("diff")?;
         command
             .args(["-rq", "plain/files", "refused/files"])?
             .env("LC_ALL", "C")?
@@ -249,7 +254,7 @@ impl Trials<'_> {
         let alloc = self.rt.alloc();
         let title = format!(in alloc; "call {number} refused: {call}\n")?;
         kept.write_all(title.as_bytes())?;
-        let mut command = Command::new(alloc, "diff")?;
+        let mut command = self.command("diff")?;
         command
             .args(["-r", "plain", "refused"])?
             .current_dir(self.room.path())?
