@@ -1,5 +1,5 @@
-pub mod Lists
+pub mod Braces
 pub mod Made
-pub mod Quotes
+pub mod Parts
 pub mod Walks
 pub mod Written

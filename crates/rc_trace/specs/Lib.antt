@@ -1,4 +1,6 @@
 pub mod Views
+pub mod Quotes
+pub mod Starts
 pub mod Texts
 pub mod Written
 pub mod Lines

@@ -1,11 +1,17 @@
 -- What lines are written to, and what they show.
 use Rattle.std.specs.Prelude.{ℕ, List, Bool, string_bytes}
 use Rattle.rc_model.specs.Run.Calls.{Event}
+use Rattle.rc_trace.specs.Texts.{Style}
+use Rattle.rc_trace.specs.Views.{style_of}
 use Rattle.rc_trace.specs.declared.lines.Lines.{Lines}
 
 -- what the lines begin with
 abbrev pub process_of : {O : Type 0} {w : _} → Lines O w → List ℕ
 process_of lines = string_bytes lines.process
+
+-- how they show launches
+abbrev pub style_in : {O : Type 0} {w : _} → Lines O w → Style
+style_in lines = style_of lines.manner
 
 -- what the lines are written to
 abbrev pub out_of : {O : Type 0} {w : _} → Lines O w → O

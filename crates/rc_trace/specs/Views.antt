@@ -1,7 +1,14 @@
 -- How what is shown stands for calls and answers.
-use Rattle.std.specs.Prelude.{map, string_bytes}
+use Rattle.std.specs.Prelude.{ℕ, List, Bool, map, string_bytes}
+use denote.Ref.{Bor}
+use Rattle.rc_text.specs.Texts.{text_bytes}
+use Rattle.rc_text.specs.declared.texts.Text.{Text}
 use Rattle.rc_model.specs.Run.Calls as calls
 use Rattle.rc_world.specs.Views.{launch_of}
+use Rattle.rc_trace.specs.Texts.{Style}
+use Rattle.rc_trace.specs.Texts as style
+use Rattle.rc_trace.specs.declared.manner.Manner.{Manner}
+use Rattle.rc_trace.specs.declared.manner.Manner.TheVariants as manner
 use Rattle.rc_trace.specs.declared.shown.ShownCall.{ShownCall}
 use Rattle.rc_trace.specs.declared.shown.ShownCall.TheVariants as call
 use Rattle.rc_trace.specs.declared.shown.ShownAnswer.{ShownAnswer}
@@ -32,3 +39,16 @@ shown_answer (answer.Ended ending) = calls.ended ending
 shown_answer (answer.Names names) = calls.names (map string_bytes names.now)
 shown_answer (answer.Found kind) = calls.found kind
 shown_answer (answer.Refused fault) = calls.refused fault
+
+-- how launches are shown
+abbrev pub style_of : Manner → Style
+style_of manner.Whole = style.Whole
+style_of (manner.Brief known images) = style.Brief (map string_bytes known.items) images
+
+-- whether a shell is strict, and the words of what it is to run
+abbrev pub piece_of : Bool × Bor (List Text) → Bool × List (List ℕ)
+piece_of x = (x.0, map text_bytes x.1.now)
+
+-- two borrowed texts
+abbrev pub pair_of : Bor (List ℕ) × Bor (List ℕ) → List ℕ × List ℕ
+pair_of x = (x.0.now, x.1.now)

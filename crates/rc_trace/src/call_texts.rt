@@ -1,65 +1,121 @@
 //! How calls and their answers are written, each on one line.
 
-ghost use Rattle.std.specs.Prelude.{◌≡◌, map, string_bytes};
-ghost use Rattle.std.specs.Fmt.{debug_str};
+ghost use Rattle.std.specs.Prelude.{◌≡◌, ◌++◌, OnOk, map, string_bytes};
+ghost use Rattle.std.specs.Fmt.{decimal};
+ghost use Rattle.rc_model.specs.Run.Calls.{open_file, write};
 ghost use Rattle.rc_text.specs.Texts.{text_bytes};
-ghost use Rattle.rc_trace.specs.Texts.{answer_text, call_text, ending_text, kind_name, launch_text, mode_name};
-ghost use Rattle.rc_trace.specs.Texts.{has_quotes, needs_quotes, path_text, program_text, refusal_name, slot_text};
-ghost use Rattle.rc_trace.specs.Texts.{slots_text, texts_text};
-ghost use Rattle.rc_trace.specs.Views.{shown_answer, shown_call};
+ghost use Rattle.rc_trace.specs.Quotes.{path_text};
+ghost use Rattle.rc_trace.specs.Texts.{answer_text, call_text, ending_text, handed_text, kind_name, launch_text};
+ghost use Rattle.rc_trace.specs.Texts.{mode_name};
+ghost use Rattle.rc_trace.specs.Texts.{program_text, refusal_name, shown_text, slot_text, slots_text};
+ghost use Rattle.rc_trace.specs.Views.{shown_answer, shown_call, style_of};
 ghost use Rattle.rc_world.specs.Views.{launch_of, program_of};
 
+use crate::manner::Manner;
+use crate::quotes::{push_bytes, push_names, push_path, push_quoted, push_texts};
 use crate::shown::{ShownAnswer, ShownCall};
+use crate::starts::push_start;
 use rc_text::Text;
 use rc_world::{Ending, Fault, Kind, Launch, Mode, Program, Slot, Slots};
-use std::fmt;
+use std::alloc::AllocError;
 
-impl fmt::Display for ShownCall<'_> {
-    ghost output = { λ call. call_text (shown_call call) };
-
-    fn fmt<W: fmt::Write>(&self, f: &mut fmt::Formatter<W>) -> fmt::Result {
-        match self {
-            ShownCall::Open(path, mode) => write!(
-                f,
-                "open {} to {}",
-                PathText(path),
-                mode_name(*mode)
-            ),
-            ShownCall::Here(text) => write!(f, "here {text:?}"),
-            ShownCall::Pipe => f.write_str("pipe"),
-            ShownCall::Close(file) => write!(f, "close {}", file.0),
-            ShownCall::Read(file) => write!(f, "read {}", file.0),
-            ShownCall::Write(slot, text) => write!(
-                f,
-                "write {} {}",
-                SlotText(*slot),
-                BytesText(text)
-            ),
-            ShownCall::Start(launch) => write!(f, "{}", LaunchText(launch)),
-            ShownCall::Wait(child) => write!(f, "wait {}", child.0),
-            ShownCall::List(path) => write!(f, "list {}", PathText(path)),
-            ShownCall::Probe(path) => write!(f, "probe {}", PathText(path)),
-            ShownCall::Chdir(path) => write!(f, "chdir {}", PathText(path)),
+/// Writes a call, with all that a launch hands over.
+pub fn push_call(out: &mut String, call: ShownCall<'_>) -> Result<(), AllocError>
+    ensures { OnOk result (string_bytes out.new ≡ string_bytes out.old ++ call_text (shown_call call.entry)) }
+{
+    match call {
+        ShownCall::Open(path, mode) => push_opening(out, path, mode),
+        ShownCall::Here(text) => {
+            out.push_str("here ")?;
+            push_quoted(out, text)
         }
+        ShownCall::Pipe => out.push_str("pipe"),
+        ShownCall::Close(file) => push_numbered(out, "close ", file.0),
+        ShownCall::Read(file) => push_numbered(out, "read ", file.0),
+        ShownCall::Write(slot, text) => push_writing(out, slot, text),
+        ShownCall::Start(launch) => push_launch(out, launch),
+        ShownCall::Wait(child) => push_numbered(out, "wait ", child.0),
+        ShownCall::List(path) => push_named(out, "list ", path),
+        ShownCall::Probe(path) => push_named(out, "probe ", path),
+        ShownCall::Chdir(path) => push_named(out, "chdir ", path),
     }
 }
 
-impl fmt::Display for ShownAnswer<'_> {
-    ghost output = { λ answer. answer_text (shown_answer answer) };
-
-    fn fmt<W: fmt::Write>(&self, f: &mut fmt::Formatter<W>) -> fmt::Result {
-        match self {
-            ShownAnswer::File(file) => write!(f, "file {}", file.0),
-            ShownAnswer::Pair(reader, writer) => write!(f, "pipe {} {}", reader.0, writer.0),
-            ShownAnswer::Done => f.write_str("done"),
-            ShownAnswer::Bytes(bytes) => write!(f, "text {}", BytesText(bytes)),
-            ShownAnswer::Child(child) => write!(f, "child {}", child.0),
-            ShownAnswer::Ended(ending) => write!(f, "{}", EndingText(*ending)),
-            ShownAnswer::Names(names) => write!(f, "names {}", TextsText(names)),
-            ShownAnswer::Found(kind) => f.write_str(kind_name(*kind)),
-            ShownAnswer::Refused(fault) => f.write_str(refusal_name(*fault)),
+/// Writes a call as it is shown.
+pub(crate) fn push_shown(
+    out: &mut String,
+    manner: &Manner,
+    call: ShownCall<'_>,
+) -> Result<(), AllocError>
+    ensures { OnOk result (string_bytes out.new
+        ≡ string_bytes out.old ++ shown_text (style_of manner.now) (shown_call call.entry)) }
+{
+    match (call, manner) {
+        (ShownCall::Start(launch), Manner::Brief { known, images }) => {
+            push_start(out, launch, known, *images)
         }
+        _ => push_call(out, call),
     }
+}
+
+/// Writes what a call was answered.
+pub(crate) fn push_answer(out: &mut String, answer: ShownAnswer<'_>) -> Result<(), AllocError>
+    ensures { OnOk result (string_bytes out.new ≡ string_bytes out.old ++ answer_text (shown_answer answer.entry)) }
+{
+    match answer {
+        ShownAnswer::File(file) => push_numbered(out, "file ", file.0),
+        ShownAnswer::Pair(reader, writer) => {
+            push_numbered(out, "pipe ", reader.0)?;
+            push_numbered(out, " ", writer.0)
+        }
+        ShownAnswer::Done => out.push_str("done"),
+        ShownAnswer::Bytes(bytes) => {
+            out.push_str("text ")?;
+            push_bytes(out, bytes)
+        }
+        ShownAnswer::Child(child) => push_numbered(out, "child ", child.0),
+        ShownAnswer::Ended(ending) => push_ending(out, ending),
+        ShownAnswer::Names(names) => {
+            out.push_str("names ")?;
+            push_names(out, names)
+        }
+        ShownAnswer::Found(kind) => out.push_str(kind_name(kind)),
+        ShownAnswer::Refused(fault) => out.push_str(refusal_name(fault)),
+    }
+}
+
+/// Writes a tag and a number.
+pub(crate) fn push_numbered(out: &mut String, tag: &str, number: u32) -> Result<(), AllocError>
+    ensures { OnOk result (string_bytes out.new ≡ string_bytes out.old ++ (tag.now ++ decimal number)) }
+{
+    let digits = number.to_string(*out.allocator())?;
+    out.push_str(tag)?;
+    out.push_str(&digits)
+}
+
+/// Writes a tag and a path.
+fn push_named(out: &mut String, tag: &str, path: &str) -> Result<(), AllocError>
+    ensures { OnOk result (string_bytes out.new ≡ string_bytes out.old ++ (tag.now ++ path_text path.now)) }
+{
+    out.push_str(tag)?;
+    push_path(out, path)
+}
+
+fn push_opening(out: &mut String, path: &str, mode: Mode) -> Result<(), AllocError>
+    ensures { OnOk result (string_bytes out.new ≡ string_bytes out.old ++ call_text (open_file path.now mode)) }
+{
+    push_named(out, "open ", path)?;
+    out.push_str(" to ")?;
+    out.push_str(mode_name(mode))
+}
+
+fn push_writing(out: &mut String, slot: Slot, text: &[u8]) -> Result<(), AllocError>
+    ensures { OnOk result (string_bytes out.new ≡ string_bytes out.old ++ call_text (write slot text.now)) }
+{
+    out.push_str("write ")?;
+    push_slot(out, slot)?;
+    out.push_str(" ")?;
+    push_bytes(out, text)
 }
 
 fn mode_name(mode: Mode) -> &'static str
@@ -97,167 +153,71 @@ fn refusal_name(fault: Fault) -> &'static str
     }
 }
 
-/// How a child ended.
-#[derive(Drop)]
-struct EndingText(Ending);
-
-impl fmt::Display for EndingText {
-    ghost output = { λ ending. ending_text ending.0 };
-
-    fn fmt<W: fmt::Write>(&self, f: &mut fmt::Formatter<W>) -> fmt::Result {
-        match self.0 {
-            Ending::Code(code) => write!(f, "code {code}"),
-            Ending::Signal => f.write_str("signal"),
-        }
-    }
-}
-
-/// What a descriptor of a child stands for.
-#[derive(Drop)]
-struct SlotText(Slot);
-
-impl fmt::Display for SlotText {
-    ghost output = { λ slot. slot_text slot.0 };
-
-    fn fmt<W: fmt::Write>(&self, f: &mut fmt::Formatter<W>) -> fmt::Result {
-        match self.0 {
-            Slot::Own(number) => write!(f, "{number}"),
-            Slot::To(file) => write!(f, "file {}", file.0),
-        }
-    }
-}
-
-/// The descriptors of a child.
-#[derive(Drop)]
-struct SlotsText(Slots);
-
-impl fmt::Display for SlotsText {
-    ghost output = { λ slots. slots_text slots.0 };
-
-    fn fmt<W: fmt::Write>(&self, f: &mut fmt::Formatter<W>) -> fmt::Result {
-        let Slots {
-            input,
-            output,
-            errors,
-        } = self.0;
-        write!(
-            f,
-            "{} {} {}",
-            SlotText(input),
-            SlotText(output),
-            SlotText(errors)
-        )
-    }
-}
-
-/// Bytes in quotes, if they are UTF-8.
-#[derive(Drop)]
-struct BytesText<'a>(&'a [u8]);
-
-#[tactic(auto, using(crate::proofs::Quotes::ascii_is_text))]
-impl fmt::Display for BytesText<'_> {
-    ghost output = { λ text. debug_str text.0.now };
-
-    fn fmt<W: fmt::Write>(&self, f: &mut fmt::Formatter<W>) -> fmt::Result {
-        match str::from_utf8(self.0) {
-            Ok(text) => write!(f, "{text:?}"),
-            Err(_) => f.write_str("no text"),
-        }
-    }
-}
-
-/// Texts in quotes.
-#[derive(Drop)]
-struct TextsText<'a>(&'a [String]);
-
-impl fmt::Display for TextsText<'_> {
-    ghost output = { λ texts. texts_text (map string_bytes texts.0.now) };
-
-    fn fmt<W: fmt::Write>(&self, f: &mut fmt::Formatter<W>) -> fmt::Result {
-        let texts = self.0;
-        write!(f, "{texts:?}")
-    }
-}
-
-/// Texts that are shared, in quotes.
-#[derive(Drop)]
-struct SharedTexts<'a>(&'a [Text]);
-
-impl fmt::Display for SharedTexts<'_> {
-    ghost output = { λ texts. texts_text (map text_bytes texts.0.now) };
-
-    fn fmt<W: fmt::Write>(&self, f: &mut fmt::Formatter<W>) -> fmt::Result {
-        f.write_str("[")?;
-        let mut separator = "";
-        for text in self.0 {
-            write!(f, "{separator}{:?}", text.as_str())?;
-            separator = ", ";
-        }
-        f.write_str("]")
-    }
-}
-
-/// What is started.
-#[derive(Drop)]
-struct LaunchText<'a>(&'a Launch);
-
-impl fmt::Display for LaunchText<'_> {
-    ghost output = { λ launch. launch_text (launch_of launch.0.now) };
-
-    fn fmt<W: fmt::Write>(&self, f: &mut fmt::Formatter<W>) -> fmt::Result {
-        let Launch {
-            program,
-            args,
-            env,
-            slots,
-        } = self.0;
-        let program = ProgramText(program);
-        let (args, env, slots) = (SharedTexts(args), SharedTexts(env), SlotsText(*slots));
-        write!(f, "start {program} {args} {env} {slots}")
-    }
-}
-
-/// The program that is started.
-#[derive(Drop)]
-struct ProgramText<'a>(&'a Program);
-
-impl fmt::Display for ProgramText<'_> {
-    ghost output = { λ program. program_text (program_of program.0.now) };
-
-    fn fmt<W: fmt::Write>(&self, f: &mut fmt::Formatter<W>) -> fmt::Result {
-        match self.0 {
-            Program::Shell => f.write_str("the shell"),
-            Program::Path(path) => write!(f, "{}", PathText(path)),
-        }
-    }
-}
-
-/// Whether a path with this byte is put in quotes: a blank, a control character, a quote or a backslash.
-fn needs_quotes(byte: u8) -> bool
-    ensures { result ≡ needs_quotes byte }
+/// Writes how a child ended.
+fn push_ending(out: &mut String, ending: Ending) -> Result<(), AllocError>
+    ensures { OnOk result (string_bytes out.new ≡ string_bytes out.old ++ ending_text ending) }
 {
-    matches!(byte, 0..=b' ' | b'"' | b'\\' | 0x7f)
+    match ending {
+        Ending::Code(code) => push_numbered(out, "code ", u32::from(code)),
+        Ending::Signal => out.push_str("signal"),
+    }
 }
 
-fn has_quotes(path: &str) -> bool
-    ensures { result ≡ has_quotes path.now }
+/// Writes what a descriptor of a child stands for.
+fn push_slot(out: &mut String, slot: Slot) -> Result<(), AllocError>
+    ensures { OnOk result (string_bytes out.new ≡ string_bytes out.old ++ slot_text slot) }
 {
-    path.bytes().any(|byte| needs_quotes(byte))
+    match slot {
+        Slot::Own(number) => push_numbered(out, "", u32::from(number)),
+        Slot::To(file) => push_numbered(out, "file ", file.0),
+    }
 }
 
-/// A path as it is, or in quotes if it could be taken for something else.
-#[derive(Drop)]
-struct PathText<'a>(&'a str);
+/// Writes the descriptors of a child.
+fn push_slots(out: &mut String, slots: Slots) -> Result<(), AllocError>
+    ensures { OnOk result (string_bytes out.new ≡ string_bytes out.old ++ slots_text slots) }
+{
+    push_slot(out, slots.input)?;
+    out.push_str(" ")?;
+    push_slot(out, slots.output)?;
+    out.push_str(" ")?;
+    push_slot(out, slots.errors)
+}
 
-impl fmt::Display for PathText<'_> {
-    ghost output = { λ path. path_text path.0.now };
+/// Writes what is started, with all that it is handed.
+fn push_launch(out: &mut String, launch: &Launch) -> Result<(), AllocError>
+    ensures { OnOk result (string_bytes out.new ≡ string_bytes out.old ++ launch_text (launch_of launch.now)) }
+{
+    out.push_str("start ")?;
+    push_program(out, &launch.program)?;
+    out.push_str(" ")?;
+    push_handed(out, &launch.args, &launch.env, launch.slots)
+}
 
-    fn fmt<W: fmt::Write>(&self, f: &mut fmt::Formatter<W>) -> fmt::Result {
-        let path = self.0;
-        if has_quotes(path) {
-            write!(f, "{path:?}")
-        } else {
-            f.write_str(path)
-        }
+/// Writes arguments, an environment and descriptors.
+#[tactic(auto, unfolding(crate::specs::Texts::handed_text))]
+fn push_handed(
+    out: &mut String,
+    args: &[Text],
+    entries: &[Text],
+    slots: Slots,
+) -> Result<(), AllocError>
+    ensures { OnOk result (string_bytes out.new ≡ string_bytes out.old
+        ++ handed_text (map text_bytes args.now) (map text_bytes entries.now) slots) }
+{
+    push_texts(out, args)?;
+    out.push_str(" ")?;
+    push_texts(out, entries)?;
+    out.push_str(" ")?;
+    push_slots(out, slots)
+}
+
+/// Writes the program that is started.
+fn push_program(out: &mut String, program: &Program) -> Result<(), AllocError>
+    ensures { OnOk result (string_bytes out.new ≡ string_bytes out.old ++ program_text (program_of program.now)) }
+{
+    match program {
+        Program::Shell => out.push_str("the shell"),
+        Program::Path(path) => push_path(out, path),
     }
 }

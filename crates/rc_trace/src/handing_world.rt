@@ -1,11 +1,12 @@
 //! A world that hands words to the shells that it starts.
 
-ghost use Rattle.std.specs.Prelude.{◌≡◌, ◌≤◌, IfOk, None, map, vec_len};
+ghost use Rattle.std.specs.Prelude.{◌≡◌, ◌≤◌, IfOk, None, map, string_bytes, vec_len};
 ghost use Rattle.rc_model.specs.Run.Calls.{open_file, here, make_pipe, close, read, write, start, wait};
 ghost use Rattle.rc_model.specs.Run.Calls.{list_names, probe, change_dir};
 ghost use Rattle.rc_model.specs.declared.limits.TheConstants.{LONGEST_READ};
 ghost use Rattle.rc_text.specs.Texts.{text_bytes};
-ghost use Rattle.rc_trace.specs.Handing.{Hands, HandsOn, IsHanded, Passes, handed_on, with_words};
+ghost use Rattle.rc_trace.specs.Handing.{Hands, HandsOn, IsHanded, Passes, handed_on, name_by, names_of};
+ghost use Rattle.rc_trace.specs.Handing.{with_words, words_by};
 ghost use Rattle.rc_world.specs.Views.{launch_of};
 ghost use Rattle.rc_world.specs.Views.{file_answer, pair_answer, done_answer, bytes_answer};
 ghost use Rattle.rc_world.specs.Views.{child_answer, ending_answer, names_answer, kind_answer};
@@ -29,7 +30,10 @@ pub struct HandingWorld<W> {
 
 impl<W> HandingWorld<W> {
     pub fn new(alloc: Global, world: W, options: Vec<String>, process: String) -> HandingWorld<W>
-        ensures { handed_on result ≡ world }
+        ensures world { handed_on result ≡ world }
+        ensures options { (names_of result).options ≡ map string_bytes options.items }
+        ensures process { (names_of result).process ≡ string_bytes process }
+        ensures started { (names_of result).started ≡ 0 }
     {
         HandingWorld {
             alloc,
@@ -40,25 +44,40 @@ impl<W> HandingWorld<W> {
         }
     }
 
-    /// The words for a shell.
-    fn words(&self) -> Result<Vec<Text>, AllocError> {
-        let count = self.options.len().saturating_add(1);
-        let mut words = Vec::with_capacity(self.alloc, count)?;
-        for option in &self.options {
-            words.push(Text::of(self.alloc, option)?)?;
-        }
-        let (process, number) = (&self.process, self.started);
-        let name = format!(in self.alloc; "{process}.{number}")?;
-        words.push(Text::from_string(self.alloc, name)?)?;
+    /// The words for the shell that was started last.
+    fn words(&self) -> Result<Vec<Text>, AllocError>
+        ensures { IfOk result (λ words. map text_bytes words.items ≡ words_by (names_of self.now)) }
+    {
+        let mut words = texts_of(self.alloc, &self.options)?;
+        words.push(Text::from_string(self.alloc, self.name()?)?)?;
         Ok(words)
+    }
+
+    /// The name of the shell that was started last.
+    fn name(&self) -> Result<String, AllocError>
+        ensures { IfOk result (λ name. string_bytes name ≡ name_by (names_of self.now)) }
+    {
+        let (process, number) = (&self.process, self.started);
+        format!(in self.alloc; "{process}.{number}")
     }
 
     /// A launch that hands over further words.
     fn handed(&self, launch: &Launch) -> Result<Launch, AllocError>
-        ensures { IfOk result (λ handed. IsHanded (launch_of launch.now) (launch_of handed)) }
+        ensures { IfOk result (λ handed. IsHanded (names_of self.now) (launch_of launch.now) (launch_of handed)) }
     {
         with_words(self.words()?, launch)
     }
+}
+
+/// The texts of strings.
+fn texts_of(alloc: Global, strings: &[String]) -> Result<Vec<Text>, AllocError>
+    ensures { IfOk result (λ texts. map text_bytes texts.items ≡ map string_bytes strings.now) }
+{
+    let mut texts = Vec::new(alloc);
+    for string in strings {
+        texts.push(Text::of(alloc, string)?)?;
+    }
+    Ok(texts)
 }
 
 /// A launch with these words before its own.

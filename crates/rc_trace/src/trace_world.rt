@@ -4,7 +4,7 @@ ghost use Rattle.std.specs.Prelude.{◌≡◌, ◌≤◌, IfOk, [], vec_len};
 ghost use Rattle.rc_model.specs.Run.Calls.{open_file, here, make_pipe, close, read, write, start, wait};
 ghost use Rattle.rc_model.specs.Run.Calls.{list_names, probe, change_dir};
 ghost use Rattle.rc_model.specs.declared.limits.TheConstants.{LONGEST_READ};
-ghost use Rattle.rc_trace.specs.Lines.{first_of, is_whole, out_of, process_of, trail_of};
+ghost use Rattle.rc_trace.specs.Lines.{first_of, is_whole, out_of, process_of, style_in, trail_of};
 ghost use Rattle.rc_trace.specs.Made.{HasMade};
 ghost use Rattle.rc_world.specs.Views.{launch_of};
 ghost use Rattle.rc_world.specs.Views.{file_answer, pair_answer, done_answer, bytes_answer};
@@ -37,6 +37,7 @@ impl<W: World, O: Write> TraceWorld<W, O> {
         ensures world { traced result ≡ world }
         ensures first { first_world result ≡ world }
         ensures process { process_of (lines_of result) ≡ process_of lines }
+        ensures style { style_in (lines_of result) ≡ style_in lines }
         ensures out { out_of (lines_of result) ≡ out_of lines }
         ensures begun { first_of (lines_of result) ≡ out_of lines }
         ensures none { trail_of (lines_of result) ≡ [] }

@@ -1,8 +1,12 @@
 //! Runs a script and shows each call that it makes with its answer: `rctrace FILE arg ..`.
 #![tactic(auto)]
 
+mod environment;
+mod guard;
 mod options;
 mod paths;
+mod room;
+mod table;
 mod tracing;
 mod trials;
 
@@ -10,40 +14,43 @@ use options::{Asked, Refused};
 use rc_cli::report;
 use rc_host::arguments;
 use std::process::ExitCode;
-use tracing::{TraceError, trace};
+use tracing::{TraceError, USAGE, trace};
 use trials::try_all;
 
-/// The version of the shell with its tools, and the line of kits that proves it.
+/// The version of the shell with its tools, and the kit that proves it.
 const VERSION: &str = "rctrace 0.3.0 (rattle-kit-13)";
-
-fn is_version_asked(arguments: &[String]) -> bool {
-    matches!(arguments, [only] if only.as_str() == "--version")
-}
 
 /// Does what the arguments ask for.
 fn run(rt: HostRuntime, arguments: &[String]) -> ExitCode {
-    if is_version_asked(arguments) {
-        return show_version(&rt);
+    match arguments {
+        [first] if first.as_str() == "--version" => say(&rt, VERSION),
+        [first] if first.as_str() == "--help" => say(&rt, USAGE),
+        _ => match Asked::of(arguments) {
+            Some((asked, request)) if !matches!(asked.refused, Refused::Each) => {
+                end(&rt, trace(rt, asked, request))
+            }
+            Some((asked, _)) => try_each(rt, asked),
+            None => end(&rt, Err(TraceError::Usage)),
+        },
     }
-    let Some((asked, request)) = Asked::of(arguments) else {
-        return end(&rt, Err(TraceError::Usage));
-    };
-    if !matches!(asked.refused, Refused::Each) {
-        return end(&rt, trace(rt, asked, request));
+}
+
+/// Writes a line.
+fn say(rt: &HostRuntime, text: &str) -> ExitCode {
+    match println!(rt; "{text}") {
+        Ok(()) => ExitCode::SUCCESS,
+        Err(_) => ExitCode::FAILURE,
     }
+}
+
+/// Refuses each call in turn.
+fn try_each(rt: HostRuntime, asked: Asked<'_>) -> ExitCode {
     match try_all(rt, asked) {
         Ok(()) => ExitCode::SUCCESS,
         Err(error) => {
             let _ = eprintln!(rt; "rctrace: {error:#}");
             ExitCode::FAILURE
         }
-    }
-}
-
-fn show_version(rt: &HostRuntime) -> ExitCode {
-    match println!(rt; "{VERSION}") {
-        Ok(()) => ExitCode::SUCCESS,
-        Err(_) => ExitCode::FAILURE,
     }
 }
 

@@ -1,5 +1,6 @@
 //! A run of the shell whose calls are shown.
 
+use crate::environment::manner;
 use crate::options::{Asked, Refused};
 use crate::paths::absolute;
 use rc_cli::{Request, RunError};
@@ -14,6 +15,10 @@ use std::{env, fmt, fs, io};
 
 /// The name of the first process.
 pub(crate) const FIRST: &str = "1";
+
+pub(crate) const USAGE: &str =
+    "usage: rctrace [-E] [-S] [-o file] [-r n] [-d directory] [-e] [-c text | file] [arg ...]\n\
+     usage: rctrace [-E] [-S] -r all [-t seconds] -d directory [-e] [-c text | file] [arg ...]";
 
 /// Why nothing was run, or why the run failed.
 #[derive(Clone, Copy)]
@@ -56,10 +61,7 @@ impl<'a, T: Drop> From<AllocFailed<T>> for TraceError<'a> {
 impl fmt::Display for TraceError<'_> {
     fn fmt<W: fmt::Write>(&self, f: &mut fmt::Formatter<W>) -> fmt::Result {
         match self {
-            TraceError::Usage => f.write_str(
-                "usage: rctrace [-o file] [-r n] [-d directory] [-e] [-c text | file] [arg ...]\n\
-                 usage: rctrace -r all -d directory [-e] [-c text | file] [arg ...]",
-            ),
+            TraceError::Usage => f.write_str(USAGE),
             TraceError::CannotOpen(name) => write!(f, "rctrace: cannot open {name}"),
             TraceError::CannotEnter(name) => write!(f, "rctrace: cannot enter {name}"),
             TraceError::Run(error) => write!(f, "{error}"),
@@ -124,8 +126,9 @@ fn run_to<'a, O: Write + Drop>(
     let process = asked.process.unwrap_or(FIRST);
     let refusing = RefusalWorld::new(alloc, world, refusal(asked.refused));
     let name = String::from_str(alloc, process)?;
-    let handing = HandingWorld::new(alloc, refusing, options(alloc, path)?, name);
-    let lines = Lines::new(alloc, String::from_str(alloc, process)?, out);
+    let handing = HandingWorld::new(alloc, refusing, options(alloc, asked, path)?, name);
+    let process = String::from_str(alloc, process)?;
+    let lines = Lines::new(alloc, process, manner(alloc, asked, &entries)?, out);
     let mut traced = TraceWorld::new(handing, lines);
     enter(&rt, asked.directory)?;
     let ran = run_shown(alloc, &mut traced, asked.arguments, &entries, input);
@@ -137,8 +140,18 @@ fn run_to<'a, O: Write + Drop>(
 }
 
 /// The words that a shell is handed before its name.
-fn options(alloc: Global, path: Option<String>) -> Result<Vec<String>, AllocError> {
+fn options(
+    alloc: Global,
+    asked: Asked<'_>,
+    path: Option<String>,
+) -> Result<Vec<String>, AllocError> {
     let mut options = Vec::new(alloc);
+    if asked.environment {
+        options.push(String::from_str(alloc, "-E")?)?;
+    }
+    if asked.images {
+        options.push(String::from_str(alloc, "-S")?)?;
+    }
     if let Some(path) = path {
         options.push(String::from_str(alloc, "-o")?)?;
         options.push(path)?;

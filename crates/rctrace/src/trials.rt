@@ -1,26 +1,23 @@
 //! The runs of a script with each call of its first process refused in turn, each in a fresh copy of a directory.
-//!
-//! The room is a directory of its own. Each run is made in its directory `run`, so that all runs have the same paths:
-//! there are the files `calls`, `output`, `errors` and `status`, and the directory `files`, in which the script runs.
-//! That of the run without a refusal is called `plain` afterwards, and that of any other one `refused` for a while.
 
+use crate::guard::{Guard, bound, bounded, can_bind};
 use crate::options::Asked;
-use crate::paths::absolute;
+use crate::room::Room;
+use crate::table::{LEGEND, Outcome, TITLES, only_in};
 use crate::tracing::FIRST;
 use anyhow::{Context, Result, bail};
 use rc_host::own_path;
 use std::alloc::AllocError;
-use std::fs::DirBuilder;
-use std::os::unix::fs::DirBuilderExt;
+use std::io::Write;
 use std::process::{Command, ExitStatus, Stdio};
-use std::random::RandomSource;
-use std::{env, fs, process};
+use std::time::{Duration, Instant};
+use std::{env, process};
 
 /// More calls than are refused in turn.
 const MOST_CALLS: usize = 100_000;
 
-/// The mode of the room, which nobody but its owner may enter.
-const PRIVATE: u32 = 0o700;
+/// How many seconds a run may take, unless it was told.
+const MOST_SECONDS: u32 = 60;
 
 /// The runs of a script.
 #[derive(Drop)]
@@ -29,92 +26,83 @@ struct Trials<'a> {
     asked: Asked<'a>,
     /// The path of this program.
     program: String,
-    /// The path of the room.
-    room: String,
+    room: Room,
+    /// Whether the runs end when this process is gone.
+    is_bound: bool,
+    /// How many seconds a run may take.
+    seconds: u32,
 }
 
 /// Runs the script without a refusal, and then once for each call, until a run meets no refusal. Shows what is
 /// different.
 pub(crate) fn try_all(rt: HostRuntime, asked: Asked<'_>) -> Result<()> {
     let program = own_path(rt.alloc(), env::current_exe(&rt), process::id(rt.process()))?;
-    let room = room(&rt)?;
+    let room = Room::new(rt)?;
+    let guard = Guard::over(&rt, room.path());
+    let is_bound = can_bind(&rt)?;
+    let seconds = asked.seconds.unwrap_or(MOST_SECONDS);
     let trials = Trials {
         rt,
         asked,
         program,
         room,
+        is_bound,
+        seconds,
     };
     let tried = trials.refuse_each();
-    let room = trials.room.as_str();
-    let removed = fs::remove_dir_all(&rt, room).context(format_args!("cannot remove {room}"));
+    let removed = trials.room.remove();
+    if let Ok(guard) = guard {
+        guard.end()?;
+    }
     tried?;
     removed
-}
-
-/// Makes a directory with a name that nobody can guess.
-fn room(rt: &HostRuntime) -> Result<String> {
-    let mut random = [0u8; 16];
-    rt.fill_bytes(&mut random)?;
-    let number = u128::from_le_bytes(random);
-    let parent = absolute(rt, env::temp_dir(rt)?.as_str())?;
-    let path = format!(in rt.alloc(); "{parent}/rctrace.{number}")?;
-    DirBuilder::new()
-        .mode(PRIVATE)
-        .create(rt, path.as_str())
-        .context(format_args!("cannot create {path}"))?;
-    Ok(path)
 }
 
 impl Trials<'_> {
     fn refuse_each(&self) -> Result<()> {
         self.run("plain", None)?;
         self.show_plain()?;
-        let mut is_compared = true;
+        println!(self.rt; "{TITLES}")?;
+        let (mut all_compared, mut some_silent) = (true, false);
         for number in 1..MOST_CALLS {
             self.run("refused", Some(number))?;
-            if !self.show_refused(number)? {
-                if !is_compared {
-                    bail!("some files could not be compared");
+            let Some(call) = self.refused_call(number)? else {
+                return self.show_differences(all_compared, some_silent);
+            };
+            match self.outcome(number, call)? {
+                Some(outcome) => {
+                    println!(self.rt; "{outcome}")?;
+                    some_silent |= outcome.is_silent();
                 }
-                return Ok(());
+                None => all_compared = false,
             }
-            is_compared &= self.compare()?;
-            fs::remove_dir_all(&self.rt, self.path("refused")?.as_str()).context(
-                "cannot remove the files of a run",
-            )?;
+            self.room.remove_directory("refused")?;
         }
         bail!("too many calls")
-    }
-
-    /// A path in the room.
-    fn path(&self, name: &str) -> Result<String, AllocError> {
-        let room = &self.room;
-        format!(in self.rt.alloc(); "{room}/{name}")
     }
 
     /// Runs the script in a fresh copy of the directory, with this call refused, and calls the directory of the run by
     /// this name then.
     fn run(&self, name: &str, refused: Option<usize>) -> Result<()> {
-        let run = self.path("run")?;
-        fs::create_dir(&self.rt, run.as_str()).context(format_args!("cannot create {run}"))?;
+        self.room.make_directory("run")?;
         self.copy_files()?;
         let status = self.run_to_files(&mut self.traced(refused)?)?;
-        self.write_status(status)?;
+        self.room
+            .write("run/status", &format!(in self.rt.alloc(); "{status}\n")?)?;
         self.sort_calls()?;
-        let to = self.path(name)?;
-        fs::rename(&self.rt, run.as_str(), to.as_str()).context(format_args!("cannot rename {run}"))
+        self.room.rename("run", name)
     }
 
     /// Copies the directory, with all that is in it.
     fn copy_files(&self) -> Result<()> {
         let directory = self.asked.directory.context("no directory")?;
         let from = format!(in self.rt.alloc(); "{directory}/.")?;
-        let mut command = Command::new(self.rt.alloc(), "cp")?;
+        let mut command = self.command("cp")?;
         command
             .arg("-a")?
             .arg("--")?
             .arg(&from)?
-            .arg(&self.path("run/files")?)?;
+            .arg(&self.room.place("run/files")?)?;
         if !self.status(&mut command)?.success() {
             bail!("cannot copy {directory}");
         }
@@ -124,9 +112,15 @@ impl Trials<'_> {
     /// The command that shows the calls of the script, with this one refused.
     fn traced(&self, refused: Option<usize>) -> Result<Command> {
         let alloc = self.rt.alloc();
-        let mut command = Command::new(alloc, &self.program)?;
-        command.arg("-o")?.arg(&self.path("run/calls")?)?;
-        command.arg("-d")?.arg(&self.path("run/files")?)?;
+        let mut command = bounded(alloc, self.is_bound, self.seconds, &self.program)?;
+        command.arg("-o")?.arg(&self.room.place("run/calls")?)?;
+        command.arg("-d")?.arg(&self.room.place("run/files")?)?;
+        if self.asked.environment {
+            command.arg("-E")?;
+        }
+        if self.asked.images {
+            command.arg("-S")?;
+        }
         if let Some(number) = refused {
             command.arg("-r")?.arg(format!(in alloc; "{number}")?)?;
         }
@@ -136,13 +130,27 @@ impl Trials<'_> {
         Ok(command)
     }
 
-    /// Runs a command without input, whose output goes into files of the run.
-    fn run_to_files(&self, command: &mut Command) -> Result<ExitStatus> {
+    /// Runs a command without input, whose output goes into files of the run, and returns how it ended: its number,
+    /// `signal`, or `cut` if it took too long.
+    fn run_to_files(&self, command: &mut Command) -> Result<String> {
         command
             .stdin(Stdio::null())
-            .stdout(fs::create(&self.rt, self.path("run/output")?.as_str())?)
-            .stderr(fs::create(&self.rt, self.path("run/errors")?.as_str())?);
-        self.status(command)
+            .stdout(self.room.create("run/output")?)
+            .stderr(self.room.create("run/errors")?);
+        let begun = Instant::now(&self.rt)?;
+        let status = self.status(command)?;
+        if begun.elapsed(&self.rt)? >= Duration::from_secs(u64::from(self.seconds)) {
+            return Ok(String::from_str(self.rt.alloc(), "cut")?);
+        }
+        Ok(match status.code() {
+            Some(code) => format!(in self.rt.alloc(); "{code}")?,
+            None => String::from_str(self.rt.alloc(), "signal")?,
+        })
+    }
+
+    /// A command that ends when this process is gone, if it is bound.
+    fn command(&self, program: &str) -> Result<Command, AllocError> {
+        bound(self.rt.alloc(), self.is_bound, program)
     }
 
     /// How a command ends.
@@ -151,21 +159,10 @@ impl Trials<'_> {
         ended.context(format_args!("cannot run {}", command.get_program()))
     }
 
-    /// Writes down how a run ended.
-    fn write_status(&self, status: ExitStatus) -> Result<()> {
-        let text = match status.code() {
-            Some(code) => format!(in self.rt.alloc(); "{code}\n")?,
-            None => String::from_str(self.rt.alloc(), "signal\n")?,
-        };
-        fs::write(&self.rt, self.path("run/status")?.as_str(), text.as_str()).context(
-            "cannot write the status",
-        )
-    }
-
     /// Orders the calls of a run by process.
     fn sort_calls(&self) -> Result<()> {
-        let calls = self.path("run/calls")?;
-        let mut command = Command::new(self.rt.alloc(), "sort")?;
+        let calls = self.room.place("run/calls")?;
+        let mut command = self.command("sort")?;
         command
             .arg("-s")?
             .args(["-k", "1,1", "-o", calls.as_str(), calls.as_str()])?
@@ -176,48 +173,108 @@ impl Trials<'_> {
         Ok(())
     }
 
-    /// What a file in the room holds.
-    fn text(&self, name: &str) -> Result<String> {
-        fs::read_to_string(&self.rt, self.path(name)?.as_str()).context(format_args!(
-            "cannot read {name}"
-        ))
-    }
-
     /// Shows how many calls the first process made without a refusal, and how it ended. It is an error if it made
-    /// none: then the shell has said why on descriptor 2, unless the script needs none.
+    /// none: then the shell has said why on descriptor 2, unless the script needs none. It is one, too, if it took too
+    /// long.
     fn show_plain(&self) -> Result<()> {
-        let calls = self.text("plain/calls")?;
-        let status = self.text("plain/status")?;
+        let calls = self.room.text("plain/calls")?;
+        let status = self.room.text("plain/status")?;
+        let status = status.trim_end();
         let count = calls.lines().filter(|line| is_of_first(line)).count();
-        println!(self.rt;
-            "no call refused: {count} calls, status {}",
-            status.trim_end()
-        )?;
+        println!(self.rt; "no call refused: {count} calls, status {status}")?;
+        if status == "cut" {
+            bail!("the script was cut after {} seconds", self.seconds);
+        }
         if count == 0 {
-            eprint!(self.rt; "{}", self.text("plain/errors")?)?;
+            eprint!(self.rt; "{}", self.room.text("plain/errors")?)?;
             bail!("there is no call to refuse");
         }
         Ok(())
     }
 
-    /// Shows which call was refused, and returns whether one was.
-    fn show_refused(&self, number: usize) -> Result<bool> {
-        let calls = self.text("refused/calls")?;
+    /// The call that was refused, if one was.
+    fn refused_call(&self, number: usize) -> Result<Option<String>> {
+        let calls = self.room.text("refused/calls")?;
         let mut of_first = calls.lines().filter(|line| is_of_first(line));
-        let Some(line) = of_first.nth(number.saturating_sub(1)) else {
-            return Ok(false);
-        };
-        println!(self.rt; "call {number} refused: {}", call_of(line))?;
-        Ok(true)
+        Ok(match of_first.nth(number.saturating_sub(1)) {
+            Some(line) => Some(String::from_str(self.rt.alloc(), call_of(line))?),
+            None => None,
+        })
     }
 
-    /// Shows what is different with a refusal, and returns whether all files could be compared.
-    fn compare(&self) -> Result<bool> {
-        let mut command = Command::new(self.rt.alloc(), "diff")?;
+    /// What a run has come to, unless its files can't be compared. Its differences are kept.
+    fn outcome(&self, number: usize, call: String) -> Result<Option<Outcome>> {
+        let are_kept = self.keep_differences(number, &call)?;
+        let Some((same_files, left)) = self.compare_files()? else {
+            return Ok(None);
+        };
+        if !are_kept {
+            return Ok(None);
+        }
+        let status = self.room.text("refused/status")?;
+        Ok(Some(Outcome {
+            number,
+            call,
+            status: String::from_str(self.rt.alloc(), status.trim_end())?,
+            same_output: self.room.bytes("plain/output")? == self.room.bytes("refused/output")?,
+            same_files,
+            left,
+        }))
+    }
+
+    /// Whether the files are the same, and which are there in place of none, if they can be compared.
+    fn compare_files(&self) -> Result<Option<(bool, Vec<String>)>> {
+        let alloc = self.rt.alloc();
+        let mut command = self.command("diff")?;
+        command
+            .args(["-rq", "plain/files", "refused/files"])?
+            .env("LC_ALL", "C")?
+            .current_dir(self.room.path())?
+            .stdout(self.room.create("files")?);
+        let code = self.status(&mut command)?.code();
+        if !matches!(code, Some(0 | 1)) {
+            return Ok(None);
+        }
+        let mut left = Vec::new(alloc);
+        let only = self.room.text("files")?;
+        for line in only.lines() {
+            if let Some((inside, name)) = only_in(line, "refused/files") {
+                let path = format!(in alloc; "{inside}/{name}")?;
+                let path = path.strip_prefix('/').unwrap_or(&path);
+                left.push(String::from_str(alloc, path)?)
+                    .map_err(AllocError::from)?;
+            }
+        }
+        Ok(Some((code == Some(0), left)))
+    }
+
+    /// Keeps what is different with a refusal, and returns whether all could be compared.
+    fn keep_differences(&self, number: usize, call: &str) -> Result<bool> {
+        let mut kept = self.room.end_of("differences")?;
+        let alloc = self.rt.alloc();
+        let title = format!(in alloc; "call {number} refused: {call}\n")?;
+        kept.write_all(title.as_bytes())?;
+        let mut command = self.command("diff")?;
         command
             .args(["-r", "plain", "refused"])?
-            .current_dir(&self.room)?;
+            .current_dir(self.room.path())?
+            .stdout(kept);
         Ok(matches!(self.status(&mut command)?.code(), Some(0 | 1)))
+    }
+
+    /// Shows what is different with each refusal.
+    fn show_differences(&self, all_compared: bool, some_silent: bool) -> Result<()> {
+        if some_silent {
+            println!(self.rt; "{LEGEND}")?;
+        }
+        println!(self.rt; "")?;
+        self.rt
+            .stdout()
+            .write_all(&self.room.bytes("differences")?)?;
+        if !all_compared {
+            bail!("some files could not be compared");
+        }
+        Ok(())
     }
 }
 

@@ -15,7 +15,7 @@ use rc_image::{ImageError, read_image};
 use rc_machine::{Machine, Progress};
 use rc_scope::State;
 use rc_shell::{Ran, ShellFault, execute, execute_image};
-use rc_trace::{Lines, TraceWorld};
+use rc_trace::{Lines, Manner, TraceWorld};
 use rc_tree::Cmd;
 use rc_world::{Tape, World};
 use std::alloc::{AllocError, Global};
@@ -30,7 +30,8 @@ pub fn run(alloc: Global, row: &Row<'_>, calls: &Calls, limit: u64) -> Result<St
 /// What comes of a row where its calls are taken from the lines that show them.
 pub fn run_shown(alloc: Global, row: &Row<'_>, calls: &Calls) -> Result<Story, RowError> {
     let tape = Tape::new(calls.answers(alloc)?);
-    let lines = Lines::new(alloc, String::from_str(alloc, "1")?, Vec::new(alloc));
+    let process = String::from_str(alloc, "1")?;
+    let lines = Lines::new(alloc, process, Manner::Whole, Vec::new(alloc));
     let mut traced = TraceWorld::new(tape, lines);
     let end = end_of(alloc, row, &mut traced, row.limit)?;
     let (_, lines) = traced.into_parts();
