@@ -6,6 +6,7 @@
        COUNT documents PROGRAM             the same, with a fresh file of one line, which has no name, as its input
        COUNT subshells [PROGRAM]           so many times this program, which runs the other one, if it is named
        COUNT backquotes [PROGRAM]          as many, and reads what they write
+       COUNT jobs PROGRAM                  as many of these at once, without the shell's input, and waits for all
        COUNT pipelines STAGES PROGRAM      so many times so many copies of the program; each but the last is run by
                                            this one
 
@@ -23,7 +24,7 @@
 
 extern char **environ;
 
-enum { LONGEST_PATH = 4096, LONGEST_SCRIPT = 4096, MOST_WORDS = 4, MOST_STAGES = 64 };
+enum { LONGEST_PATH = 4096, LONGEST_SCRIPT = 4096, MOST_WORDS = 4, MOST_STAGES = 64, MOST_JOBS = 1000 };
 
 static const int own[3] = {0, 1, 2};
 
@@ -131,6 +132,19 @@ static void pipeline(char **stage, char **last, int stages)
         await(children[k]);
 }
 
+static void run_jobs(char **stage, int count)
+{
+    pid_t jobs[MOST_JOBS];
+    must(count <= MOST_JOBS);
+    for (int k = 0; k < count; k++) {
+        int nothing = open("/dev/null", O_RDONLY | O_NOCTTY | O_CLOEXEC);
+        jobs[k] = spawn(stage, (int[3]){nothing, 1, 2});
+        close(nothing);
+    }
+    for (int k = 0; k < count; k++)
+        await(jobs[k]);
+}
+
 /* Does what the words of a script say. */
 static void run(char **words, int count)
 {
@@ -138,6 +152,10 @@ static void run(char **words, int count)
     char *work = words[1], *program = count > 2 ? words[count - 1] : NULL;
     char *command[] = {program, NULL}, *stage[] = {path, "alone", program, NULL};
     must(readlink("/proc/self/exe", path, sizeof path - 1) > 0);
+    if (strcmp(work, "jobs") == 0) {
+        run_jobs(stage, atoi(words[0]));
+        return;
+    }
     for (int k = atoi(words[0]); k > 0; k--) {
         if (strcmp(work, "commands") == 0)
             await(spawn(command, own));
