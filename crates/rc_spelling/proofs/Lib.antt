@@ -3,3 +3,4 @@ pub mod Strings
 pub mod Turns
 mod Mirror
 pub mod Spelling
+pub mod Rests

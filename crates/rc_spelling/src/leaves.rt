@@ -31,7 +31,7 @@ fn string_at(count: usize, bytes: &[u8]) -> Result<(&str, &[u8]), ImageError>
 
 /// A text, after its length in bytes.
 #[tactic(auto, unfolding(crate::specs::Steps::text_by))]
-fn text_at(bytes: &[u8]) -> Result<(&str, &[u8]), ImageError>
+pub(crate) fn text_at(bytes: &[u8]) -> Result<(&str, &[u8]), ImageError>
     ensures { Gives (λ x. (x.0.now, x.1.now)) result (text_by bytes.now) }
 {
     let (length, rest) = count_at(b':', bytes)?;
