@@ -1,7 +1,7 @@
 //! The bodies of functions.
 
-ghost use Rattle.std.specs.Prelude.{◌≡◌, IfOk, IsTrue, codes, drop};
-ghost use Rattle.rc_model.specs.Syntax.Text.{begins_with};
+ghost use Rattle.std.specs.Prelude.{◌≡◌, IfOk, Ok};
+ghost use Rattle.rc_model.specs.Handed.TreeReading.{read_spelling};
 ghost use Rattle.rc_tree.specs.View.{cmd_tree};
 ghost use Rattle.rc_scope.specs.FunctionBodies.{IsBody, IsImage, body_tree, image_tree};
 ghost use Rattle.rc_scope.specs.KeptEntries.{kept_text};
@@ -31,9 +31,10 @@ impl Drop for Body {
 }
 
 /// What follows the mark of an image.
+#[tactic(auto, using(crate::proofs::Images::places))]
 fn spelling(kept: &KeptEntry) -> &[u8]
-    requires { IsTrue (begins_with (codes "rc1;") (kept_text kept.now)) }
-    ensures { result.now ≡ drop 4 (kept_text kept.now) }
+    requires { IsImage kept.now }
+    ensures { read_spelling result.now ≡ Ok (image_tree (kept_text kept.now)) }
 {
     let (_, image) = kept.entry.as_str().as_bytes().split_at(kept.start);
     let (_, spelling) = image.split_at("rc1;".len());
@@ -41,6 +42,7 @@ fn spelling(kept: &KeptEntry) -> &[u8]
 }
 
 /// The tree of an image that has one.
+#[tactic(auto, using(std::proofs::lemmas::Grind::common_steps))]
 fn read_image(alloc: Global, kept: &KeptEntry) -> Result<Box<Cmd>, AllocError>
     requires { IsImage kept.now }
     ensures { IfOk result (λ tree. cmd_tree tree.value ≡ image_tree (kept_text kept.now)) }
@@ -65,6 +67,7 @@ impl Body {
     }
 
     /// A body with the same tree, or the same image.
+    #[tactic(auto, using(crate::proofs::Images::copies))]
     pub(crate) fn copy(&self) -> Result<Body, AllocError>
         ensures { IfOk result (λ copy. (body_tree copy ≡ body_tree self.now) × (IsBody self.now → IsBody copy)) }
     {

@@ -289,7 +289,7 @@ pub here_refused : (bytes : List ℕ) (e : ImageFault) → count_from 0 bytes �
 unfolding past_here
 here_refused bytes e h = uncounted past_piece (count_from 0 bytes) e h
 
-pub ruleset args = (args_start, args_refused, each_more, each_done, common_steps)
+pub ruleset arguments = (args_start, args_refused, each_more, each_done, common_steps)
 
 pub ruleset here_docs = (here_start, here_refused, each_more, each_done, common_steps)
 
@@ -301,30 +301,27 @@ emptied : (rest : List ℕ) → length rest ≡ 0 → (length rest == 0) ≡ tru
 emptied [] h = refl
 emptied (b ∷ bs) h = absurd (omega arith)
 
-pub whole_at : (q : Read-of (Node t.cmd)) (rest : List ℕ) → rest_of q ≡ Ok rest → length rest ≡ 0 → whole q ≡ Ok (tree_or_empty (whole q))
-whole_at (Ok x) rest h k = ended x.0 x.1 (length x.1 == 0) (ap (λ (l : List ℕ). length l == 0) (same x.1 rest h) ∙ emptied rest k)
-  where
-    same : (a b : List ℕ) → Ok a ≡ Ok b → a ≡ b
-    same a b e = cc
+same_rest : (a b : List ℕ) → ◌≡◌ {A = Rest} (Ok a) (Ok b) → a ≡ b
+same_rest a b e = cc
 
-    ended : (c : Node t.cmd) (l : List ℕ) (b : Bool) → b ≡ true → (if b then Ok c else Err Trailing) ≡ Ok (tree_or_empty (if b then Ok c else Err Trailing))
-    ended c l true e = refl
-    ended c l false e = absurd (cc)
+ended : (c : Node t.cmd) (b : Bool) (q : Result (Node t.cmd) ImageFault) → b ≡ true → q ≡ (if b then Ok c else Err Trailing) → q ≡ Ok (tree_or_empty q)
+ended c true q e h = h ∙ ap (λ z. Ok (tree_or_empty z)) (sym h)
+ended c false q e h = absurd (cc)
+
+whole_at : (q : Read-of (Node t.cmd)) (rest : List ℕ) → rest_of q ≡ Ok rest → length rest ≡ 0 → whole q ≡ Ok (tree_or_empty (whole q))
+whole_at (Ok x) rest h k = ended x.0 (length x.1 == 0) (whole (Ok x)) (ap (λ (l : List ℕ). length l == 0) (same_rest x.1 rest h) ∙ emptied rest k) refl
 whole_at (Err e) rest h k = absurd (cc)
 
 pub spelled : (bytes rest : List ℕ) → past_cmd MOST_LEVELS bytes ≡ Ok rest → length rest ≡ 0 → read_spelling bytes ≡ Ok (tree_or_empty (read_spelling bytes))
 unfolding past_cmd
 spelled bytes rest h k = whole_at (cmd_at MOST_LEVELS bytes) rest h k
 
-trails : (q : Read-of (Node t.cmd)) (rest : List ℕ) → rest_of q ≡ Ok rest → 0 < length rest → whole q ≡ Err Trailing
-trails (Ok x) [] h k = absurd (omega arith)
-trails (Ok x) (b ∷ bs) h k = more x.0 x.1 (same x.1 (b ∷ bs) h)
-  where
-    same : (l m : List ℕ) → Ok l ≡ Ok m → l ≡ m
-    same l m e = cc
+follows : (c : Node t.cmd) (l rest : List ℕ) → l ≡ rest → 0 < length rest → whole {X = Node t.cmd} (Ok (c, l)) ≡ Err Trailing
+follows c l [] e h = absurd (omega (arith, h))
+follows c l (b ∷ bs) e h = ap (λ (z : List ℕ). whole {X = Node t.cmd} (Ok (c, z))) e
 
-    more : (c : Node t.cmd) (l : List ℕ) → l ≡ b ∷ bs → (if length l == 0 then Ok c else Err Trailing) ≡ Err Trailing
-    more c l e = ap (λ (z : List ℕ). if length z == 0 then Ok c else Err Trailing) e
+trails : (q : Read-of (Node t.cmd)) (rest : List ℕ) → rest_of q ≡ Ok rest → 0 < length rest → whole q ≡ Err Trailing
+trails (Ok x) rest h k = follows x.0 x.1 rest (same_rest x.1 rest h) k
 trails (Err e) rest h k = absurd (cc)
 
 pub trailing : (bytes rest : List ℕ) → past_cmd MOST_LEVELS bytes ≡ Ok rest → 0 < length rest → read_spelling bytes ≡ Err Trailing

@@ -174,7 +174,7 @@ fn check_arg_of(below: usize, shape: ArgShape, bytes: &[u8]) -> Result<&[u8], Im
 
 /// Arguments, at least this many.
 #[cycle(check)]
-#[tactic(auto, using(crate::proofs::Rests::args))]
+#[tactic(auto, using(crate::proofs::Rests::arguments))]
 fn check_args(least: usize, left: usize, bytes: &[u8]) -> Result<&[u8], ImageError>
     ensures { Gives (λ rest. rest.now) result (past_args least left bytes.now) }
 {
