@@ -65,10 +65,10 @@ fn read_boxed(alloc: Global, text: &str) -> Result<Box<Cmd>, ImageError>
 fn check_tree(text: &str) -> Result<(), ImageError>
     ensures { Gives (λ _. image_tree text.now) result (read_tree text.now) }
 {
-    match text.strip_prefix(MARK) {
-        Some(spelling) => check_spelling(spelling.as_bytes()),
-        None => Err(InputError::Fault(beginning_fault(text))),
-    }
+    let Some(rest) = text.strip_prefix(MARK) else {
+        return Err(InputError::Fault(beginning_fault(text)));
+    };
+    check_spelling(rest.as_bytes())
 }
 
 /// The tree of an image.
