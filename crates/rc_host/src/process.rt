@@ -1,6 +1,6 @@
 //! What a program gets from its process.
-ghost use Rattle.std.specs.Prelude.{◌≡◌, ◌==◌, ◌+◌, ◌<◌, ◌≤◌, pos, None, Some, IfOk, IfSome, OnErr, count_by, drop, map};
-ghost use Rattle.std.specs.Prelude.{string_bytes, vec_len, ◌↔◌, IsTrue, Err, IsOkAnd, MatchResult};
+ghost use Rattle.std.specs.Prelude.{◌≡◌, ◌==◌, ◌+◌, ◌<◌, ◌≤◌, pos, None, Some, IfOk, IfSome, OnErr, count_by, drop};
+ghost use Rattle.std.specs.Prelude.{map, string_bytes, vec_len, ◌↔◌, IsTrue, Err, IsOkAnd, MatchResult};
 ghost use Rattle.std.specs.Path.{path_buf_bytes};
 ghost use Rattle.rc_host.specs.Names.{entries_in};
 ghost use Rattle.rc_host.specs.Process.{arguments_error, is_deleted, own_path, program_link, IsFileLost};
@@ -214,8 +214,8 @@ pub(crate) fn is_file_lost(refused: &io::Error) -> bool
     )
 }
 
-/// The path with which this program starts itself. What finds it has three pages of buffers on the stack, which a launch
-/// of any other program is not to have.
+/// The path with which this program starts itself. What finds it has three pages of buffers on the stack, which a
+/// launch of any other program is not to have.
 #[inline(never)]
 pub(crate) fn own_program(rt: &HostRuntime) -> Result<String, AllocError> {
     own_path(rt.alloc(), env::current_exe(rt), process::id(rt.process()))
