@@ -4,21 +4,30 @@ use Rattle.std.specs.Prelude.{slice_get, Bool, true, false, codes, None}
 use Rattle.rc_model.specs.Syntax.Words.{Word, written, word_texts, subject}
 use Rattle.rc_model.specs.Run.Calls.{to_file, slot_of, with_slot}
 use Rattle.rc_model.specs.declared.call.Slots.{Slots}
-use Rattle.rc_model.specs.Syntax.Tree.{is_empty, has_no_items, guards, Node, Many, cmd, arg, item, pair, redir, link, branch, none, more, count, Empty, Seq, Simple, Assign, Redirect, Pipeline, AndOr, Not, Subshell, If, IfNot, While, ForAll, For, Switch, Match, Define, Undefine, Brace, Lit, Concat, Paren, Var, Count, Flat, Sub, Back, Item, Pair, Open, Copy, Here, Link, Branch}
+use Rattle.rc_model.specs.Syntax.Tree.{is_empty, has_no_items, guards, Node, Many, cmd, arg, item, pair, redir, link, branch, none, more, count}
+use Rattle.rc_model.specs.Syntax.Tree.{Empty, Seq, Simple, Assign, Redirect, Pipeline, AndOr, Not, Subshell, If, IfNot, While, ForAll, For, Switch}
+use Rattle.rc_model.specs.Syntax.Tree.{Match, Define, Undefine, Brace, Lit, Concat, Paren, Var, Count, Flat, Sub, Back, Item, Pair, Open, Copy, Here}
+use Rattle.rc_model.specs.Syntax.Tree.{Link, Branch}
 use Rattle.rc_model.specs.Run.Plans.{Plan}
 use Rattle.rc_model.specs.Run.State.{State, set_value, push_local, with_status, inverted, undefine}
 use Rattle.rc_model.specs.Run.Shell.{under, leaves, stops}
 use Rattle.rc_model.specs.Run.FileNames.{expanded}
-use Rattle.rc_model.specs.Run.Acts.{check, variable, value_words, count_words, flat_words, selected_words, concat_words, match_status, define_each, open_one, open_here, subshell, background, back_words}
+use Rattle.rc_model.specs.Run.Acts.{check, variable, value_words, count_words, flat_words, selected_words, concat_words, match_status, define_each}
+use Rattle.rc_model.specs.Run.Acts.{open_one, open_here, subshell, background, back_words}
 use Rattle.rc_model.specs.Run.Builtins.{run_words}
-use Rattle.rc_model.specs.Run.Meaning.{checked, called_means, Runner, Caller, cmd_means, arg_means, args_mean, parts_mean, more_parts_mean, items_mean, pairs_mean, redirs_mean, links_mean, branches_mean, meaning}
-use Rattle.rc_model.specs.Code.Layout.{run_code, Check, Part, Nothing, Do, ◌⨾◌, KeptTree, KeptPieces, cmd_code, arg_code, args_code, parts_code, more_parts_code, items_code, pairs_code, redirs_code, links_code, branches_code, unlocal, code, Nil, Join, Glob, Value, Select, Drop, Invert, Local, Unlocal, Unredir, Background}
+use Rattle.rc_model.specs.Run.Meaning.{checked, called_means, Runner, Caller, cmd_means, arg_means, args_mean, parts_mean, more_parts_mean}
+use Rattle.rc_model.specs.Run.Meaning.{items_mean, pairs_mean, redirs_mean, links_mean, branches_mean, meaning}
+use Rattle.rc_model.specs.Code.Layout.{run_code, Check, Part, Nothing, Do, ◌⨾◌, KeptTree, KeptPieces, cmd_code, arg_code, args_code, parts_code}
+use Rattle.rc_model.specs.Code.Layout.{more_parts_code, items_code, pairs_code, redirs_code, links_code, branches_code, unlocal, code, Nil, Join}
+use Rattle.rc_model.specs.Code.Layout.{Glob, Value, Select, Drop, Invert, Local, Unlocal, Unredir, Background}
 use Rattle.rc_model.specs.Code.Layout as op
 use Rattle.rc_model.specs.Code.Machine.{Config, Scope, InLocal, InRedirection, Step, goes, end_locals, end_redirs}
 use Rattle.law_machine.proofs.Place.{stands_first, stands_code}
 use Rattle.law_machine.proofs.Run.{Point, at, mid, Comes, Runs, does, runs_at, settle_runs, leads_comes, comes_same}
-use Rattle.law_machine.proofs.Legs.{Words, spot, before, afterwards, Leg, Does, leg_then, leg_nothing, leg_do, leg_keep, leg_pure, leg_at, leg_first, leg_last, comes_op, puts_runs, acts_runs, tree_runs, pieces_runs}
-use Rattle.law_machine.proofs.Forms.{Acts, leg_local, leg_file, leg_copied, body, end_of, CallsRun, run_leg, if_leg, if_not_leg, link_leg, condition_leg, branch_leg, while_leg, looping, each_leg, piping, pipe_leg}
+use Rattle.law_machine.proofs.Legs.{Words, spot, before, afterwards, Leg, Does, leg_then, leg_nothing, leg_do, leg_keep, leg_pure, leg_at, leg_first}
+use Rattle.law_machine.proofs.Legs.{leg_last, comes_op, puts_runs, acts_runs, tree_runs, pieces_runs}
+use Rattle.law_machine.proofs.Forms.{Acts, leg_local, leg_file, leg_copied, body, end_of, CallsRun, run_leg, if_leg, if_not_leg, link_leg}
+use Rattle.law_machine.proofs.Forms.{condition_leg, branch_leg, while_leg, looping, each_leg, piping, pipe_leg}
 
 -- ** single instructions
 
@@ -211,7 +220,8 @@ module _ (n m : ℕ) (le : n ≤ suc m) (call : Caller) (calls_run : CallsRun m 
         leg_then (arg_leg name c c.words) (λ x.
         leg_then (arg_leg value c (x ∷ c.words)) (λ v.
         leg_then (glob_leg n c (x ∷ c.words) v) (λ w.
-        leg_then (leg_do {to = λ p y s. at (spot within p c.words (push_local s y (word_texts w)))} c (w ∷ x ∷ c.words) Local (λ p s. settle_runs (variable c.slots x s) _ (λ y s1. runs_at y s1))) (λ y.
+        leg_then (leg_do {to = λ p y s. at (spot within p c.words (push_local s y (word_texts w)))} c (w ∷ x ∷ c.words) Local (λ p s. settle_runs (variable c.slots x s) _ (λ y s1. runs_at y s1)))
+        (λ y.
         leg_at (λ s. push_local s y (word_texts w)) (
         leg_local {to = λ p a s. mid (end_k_locals c k c.scopes p s)} (local_leg rest within all (suc k) (omega (arith, e)) inner m l))))))
 
@@ -226,7 +236,8 @@ module _ (n m : ℕ) (le : n ≤ suc m) (call : Caller) (calls_run : CallsRun m 
         let within : ℕ → Config = λ h. record c { scopes = InRedirection (Some h) c.slots ∷ c.scopes; slots = with_slot c.slots slot (to_file h) } in
         leg_then (arg_leg path c c.words) (λ v.
         leg_then (glob_leg n c c.words v) (λ w.
-        leg_then (leg_do {to = λ p h s. at (spot (within h) p c.words s)} c (w ∷ c.words) (op.Open mode slot) (λ p s. settle_runs (open_one c.slots mode (word_texts w) s) _ (λ h s1. runs_at h s1))) (λ h.
+        leg_then (leg_do {to = λ p h s. at (spot (within h) p c.words s)} c (w ∷ c.words) (op.Open mode slot) (λ p s. settle_runs (open_one c.slots mode (word_texts w) s) _ (λ h s1. runs_at h s1)))
+        (λ h.
         leg_file h c.slots (end_k_redirs c k c.scopes c.slots) (redirs_leg rest (within h) all (suc k) (omega (arith, e)) inner m l))))
     redirs_leg (more (Copy to from) rest) c all k e inner m l =
         let within = record c { scopes = InRedirection None c.slots ∷ c.scopes; slots = with_slot c.slots to (slot_of c.slots from) } in

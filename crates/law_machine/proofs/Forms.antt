@@ -14,7 +14,8 @@ use Rattle.rc_model.specs.Run.Shell.{ShellResult, Next, Exit, under, leaves, cha
 use Rattle.rc_model.specs.Run.Acts.{closing, start_stages, end_stages, from_pipe, StartedStages, Running, Refused}
 use Rattle.rc_model.specs.Run.Builtins.{Called, Finished, Body, BodyWith, run_words}
 use Rattle.rc_model.specs.Run.Meaning.{Runner, Caller, called_means, local_end, file_end, piped, linked, if_means, if_not_means, condition, turns, each_more, each, if_so}
-use Rattle.rc_model.specs.Code.Layout.{Op, KeptStages, Code, Part, Nothing, Do, Past, PastKeep, Loop, Either, ◌⨾◌, ops_of, kept_of, code, cmd_code, Run, SetNull, WasTrue, IfTrue, IfFalse, Jump, EndPipe, Return, Case, condition_code, skip_by}
+use Rattle.rc_model.specs.Code.Layout.{Op, KeptStages, Code, Part, Nothing, Do, Past, PastKeep, Loop, Either, ◌⨾◌, ops_of, kept_of, code, cmd_code}
+use Rattle.rc_model.specs.Code.Layout.{Run, SetNull, WasTrue, IfTrue, IfFalse, Jump, EndPipe, Return, Case, condition_code, skip_by}
 use Rattle.rc_model.specs.Code.Layout as op
 use Rattle.rc_model.specs.Code.Machine.{act, last_stage, Scope, InLocal, InRedirection, InPipeline, InLoop, Config, Step, goes, unwind, enter, frame_of}
 use Rattle.law_machine.proofs.Place.{past_then, Stands, HasAt, has_front, has_back, past, kept_past, stands_first, stands_second, stands_code}

@@ -5,16 +5,21 @@ use Rattle.rc_model.specs.Syntax.Words.{Word, written, word_texts, subject}
 use Rattle.rc_model.specs.Run.Patterns.{matched}
 use Rattle.rc_model.specs.Run.Calls.{Answer, to_file, slot_of, with_slot, plain}
 use Rattle.rc_model.specs.declared.call.Slots.{Slots}
-use Rattle.rc_model.specs.Syntax.Tree.{is_empty, has_no_items, guards, Node, Many, cmd, arg, item, pair, redir, link, branch, none, more, Empty, Seq, Simple, Assign, Redirect, Pipeline, AndOr, Not, Subshell, If, IfNot, While, ForAll, For, Switch, Match, Define, Undefine, Brace, Lit, Concat, Paren, Var, Count, Flat, Sub, Back, Item, Pair, Open, Copy, Here, Link, Branch}
+use Rattle.rc_model.specs.Syntax.Tree.{is_empty, has_no_items, guards, Node, Many, cmd, arg, item, pair, redir, link, branch, none, more, Empty, Seq}
+use Rattle.rc_model.specs.Syntax.Tree.{Simple, Assign, Redirect, Pipeline, AndOr, Not, Subshell, If, IfNot, While, ForAll, For, Switch, Match, Define}
+use Rattle.rc_model.specs.Syntax.Tree.{Undefine, Brace, Lit, Concat, Paren, Var, Count, Flat, Sub, Back, Item, Pair, Open, Copy, Here, Link, Branch}
 use Rattle.rc_model.specs.declared.syntax.Logic.{Logic}
 use Rattle.rc_model.specs.declared.syntax.Logic.TheVariants.{And, Or}
 use Rattle.rc_model.specs.Run.Plans.{Plan, done_with, ask, cut}
 use Rattle.rc_model.specs.Run.State.{State, set_value, push_local, with_flag, is_true}
 use Rattle.rc_model.specs.Run.Shell.{ShellResult, Next, Exit, Shell, under, leaves, skip, change, stops}
 use Rattle.rc_model.specs.Run.FileNames.{expanded}
-use Rattle.rc_model.specs.Run.Acts.{check, variable, value_words, concat_words, open_one, open_here, subshell, background, StartedStages, Running, Refused, start_stages, end_stages, from_pipe, back_words}
+use Rattle.rc_model.specs.Run.Acts.{check, variable, value_words, concat_words, open_one, open_here, subshell, background, StartedStages, Running}
+use Rattle.rc_model.specs.Run.Acts.{Refused, start_stages, end_stages, from_pipe, back_words}
 use Rattle.rc_model.specs.Run.Builtins.{Called, Finished, Body, BodyWith, run_words}
-use Rattle.rc_model.specs.Run.Meaning.{checked, Runner, Caller, called_means, local_end, file_end, pipe_end, piped, linked, if_means, if_not_means, condition, turns, each_more, each, bound, if_so, cmd_means, arg_means, args_mean, parts_mean, more_parts_mean, items_mean, pairs_mean, redirs_mean, links_mean, branches_mean, meaning}
+use Rattle.rc_model.specs.Run.Meaning.{checked, Runner, Caller, called_means, local_end, file_end, pipe_end, piped, linked, if_means, if_not_means}
+use Rattle.rc_model.specs.Run.Meaning.{condition, turns, each_more, each, bound, if_so, cmd_means, arg_means, args_mean, parts_mean, more_parts_mean}
+use Rattle.rc_model.specs.Run.Meaning.{items_mean, pairs_mean, redirs_mean, links_mean, branches_mean, meaning}
 use Rattle.rc_model.specs.Run.Script.{waits, whole, script, Within}
 use Rattle.law_machine.proofs.Less.{Less, less_plays}
 
@@ -134,7 +139,9 @@ module _ (m n : ℕ) (le : m ≤ n) (call call' : Caller) (more_call : (slots : 
     more_cmd (Redirect redirs d) g slots s = more_redirs redirs (cmd_means d g call m) (cmd_means d g call' n) (more_cmd d g) slots s
     more_cmd (Pipeline stages last) g slots s =
         more_after (start_stages slots stages) _ _ (λ st. more_piped slots (cmd_means last g call m) (cmd_means last g call' n) (more_cmd last g) st) s
-    more_cmd (AndOr first links) g slots s = more_bind (cmd_means first (guards links g) call m slots) (cmd_means first (guards links g) call' n slots) _ _ (more_cmd first (guards links g) slots) (λ a. more_links links g slots) s
+    more_cmd (AndOr first links) g slots s =
+        more_bind (cmd_means first (guards links g) call m slots) (cmd_means first (guards links g) call' n slots) _ _
+        (more_cmd first (guards links g) slots) (λ a. more_links links g slots) s
     more_cmd (Not d) g slots s = more_before (cmd_means d true call m slots) (cmd_means d true call' n slots) _ (more_cmd d true slots) s
     more_cmd (Subshell d) g slots s = less_same (subshell slots d s)
     more_cmd (If test d) g slots s = more_bind (cmd_means test true call m slots) (cmd_means test true call' n slots) _ _ (more_cmd test true slots) (λ a. more_if _ _ (more_cmd d g slots)) s
@@ -212,7 +219,8 @@ module _ (m n : ℕ) (le : m ≤ n) (call call' : Caller) (more_call : (slots : 
     more_links : (l : Many link) (g : Bool) (slots : Slots) → More (links_mean l g call m slots) (links_mean l g call' n slots)
     more_links none g slots s = refl
     more_links (more (Link logic c) l) g slots s =
-        more_bind (linked logic (cmd_means c (guards l g) call m slots)) (linked logic (cmd_means c (guards l g) call' n slots)) _ _ (more_linked logic _ _ (more_cmd c (guards l g) slots)) (λ a. more_links l g slots) s
+        more_bind (linked logic (cmd_means c (guards l g) call m slots)) (linked logic (cmd_means c (guards l g) call' n slots)) _ _
+        (more_linked logic _ _ (more_cmd c (guards l g) slots)) (λ a. more_links l g slots) s
 
     more_branches : (l : Many branch) (g : Bool) (v : List Word) (slots : Slots) → More (branches_mean l g v call m slots) (branches_mean l g v call' n slots)
     more_branches none g v slots s = refl
