@@ -1,6 +1,7 @@
 -- Items that are compiled one after the other.
-use Rattle.std.proofs.Common.{◌≡◌, Bool, true, false, [], sym, ap, ◌∙◌}
+use Rattle.std.proofs.Common.{◌≡◌, Bool, true, false, Option, Some, None, if◌then◌else◌, [], sym, ap, ◌∙◌}
 use Rattle.std.proofs.lemmas.Grind.{common_steps}
+use Rattle.std.proofs.lemmas.Option.{none-some, same_Some}
 use Rattle.rc_model.specs.Code.Layout.{Code, Do, Return, ◌⨾◌, cmd_code, code, items_code}
 use Rattle.rc_model.specs.Syntax.Tree.{Node, Many, Item, Seq, item, none, more, snoc}
 use Rattle.rc_tree.specs.View.{tree_lists}
@@ -20,5 +21,10 @@ pub whole_items : (items : Many item) (a c : Code) → a ≡ with_part (record {
 whole_items items a c has written =
     written ∙ ap (λ d. with_part d (Do Return)) has
     ∙ (sym (with_part-then (record { ops = []; kept = [] }) (items_code items false) (Do Return)) ∙ with_part-alone (cmd_code (Seq items) false ⨾ Do Return))
+
+-- what is written, if memory was not refused
+pub written_so_far : (is_spent : Bool) (a x : Code) → (if is_spent then None else Some a) ≡ Some x → a ≡ x
+written_so_far true a x has = absurd (none-some x has)
+written_so_far false a x has = same_Some a x has
 
 pub ruleset compiling = (items_then, with_part-Nothing, tree_lists, common_steps)

@@ -6,3 +6,4 @@ pub mod OtherForms
 pub mod ProperTrees
 pub mod Items
 pub mod Frozen
+pub mod Fusing

@@ -6,3 +6,4 @@ pub mod Writing
 pub mod Emission
 pub mod ProperCode
 pub mod Compiled
+pub mod Fusion

@@ -5,11 +5,13 @@ ghost use Rattle.std.specs.Option.{option_copied};
 ghost use Rattle.law_handed.specs.Kept.{AllKeptProper};
 ghost use Rattle.rc_model.specs.Handed.Proper.{IsProperTree};
 ghost use Rattle.rc_tree.specs.View.{cmd_tree, stages_tree, pieces_tree};
+ghost use Rattle.rc_code.specs.Fusion.{AreFused, IsTagged, fused_prop, tag_of};
 ghost use Rattle.rc_code.specs.Listings.{listing_of};
 ghost use Rattle.rc_code.specs.Names.{IsNamed, op_of, pipeline_at};
 ghost use Rattle.rc_code.specs.ProperCode.{kept_prop};
 ghost use Rattle.rc_code.specs.Words.{word_at};
 
+use crate::fusion::{Fused, Runs, fuse};
 use crate::listing::Listing;
 use crate::pipelines::Pipeline;
 use rc_text::Literal;
@@ -21,9 +23,9 @@ use std::rc::Rc;
 #[derive(Clone, Copy)]
 pub enum Op {
     /// Pushes the empty list.
-    Nil,
+    Nil(Fused),
     /// Pushes a list of one word, that of this number.
-    Word(u32),
+    Word(Fused, u32),
     /// Pops two lists and pushes the first followed by the second.
     Join,
     /// Pops two lists and pushes their concatenation, word by word.
@@ -37,7 +39,7 @@ pub enum Op {
     /// Pops the name of a variable and a list of subscripts, and pushes the members that they select.
     Select,
     /// Pops a list and pushes its words, with file names in place of patterns.
-    Glob,
+    Glob(Fused),
     /// Pushes the output of the tree at this index.
     Back(u32),
     /// Pops a list and runs it as a simple command.
@@ -123,6 +125,7 @@ impl Drop for Kept {
 pub struct Code {
     listing: Rc<Listing>,
     ghost proper: { AllKeptProper (listing_of listing.value).kept } by { kept_prop (listing_of listing.value).kept },
+    ghost fused: { AreFused listing.value } by { fused_prop listing.value },
 }
 
 impl Drop for Code {
@@ -153,14 +156,16 @@ impl Code {
     #[tactic(auto, unfolding(crate::specs::Views::code_of))]
     pub(crate) fn of(
         alloc: Global,
-        listing: Listing,
+        mut listing: Listing,
         written: Result<(), AllocError>,
+        runs: Runs,
     ) -> Result<Code, AllocError>
         requires { OnOk written (AllKeptProper (listing_of listing).kept) }
         ensures whole { OnOk result (IsOk written) }
         ensures code { IfOk result (λ code. code_of code ≡ listing_of listing) }
     {
         written?;
+        fuse(&mut listing, runs);
         Ok(Code {
             listing: Rc::new(alloc, listing)?,
         })
@@ -172,6 +177,7 @@ impl Code {
         ensures op { option_map (op_of (names_of self.now)) (option_copied result)
             ≡ slice_get (code_of self.now).ops place }
         ensures named { IfSome (option_copied result) (λ op. IsNamed (names_of self.now) op) }
+        ensures tagged { IfSome (option_copied result) (λ op. IsTagged (code_of self.now).ops place (tag_of op)) }
         ensures within { IsSome result → place < 2 ^ 63 }
     {
         self.listing.ops.get(place)

@@ -1,20 +1,25 @@
 //! A compiler to which the items of a script come one after the other, so that no tree holds them all.
 
-ghost use Rattle.std.specs.Prelude.{◌≡◌, IfOk, IsErr, OnErr, OnOk};
+ghost use Rattle.std.specs.Prelude.{◌≡◌, IfOk, IsErr, None, OnErr, OnOk};
 ghost use Rattle.rc_model.specs.Code.Layout.{code};
 ghost use Rattle.rc_model.specs.Handed.Proper.{IsProperTree};
 ghost use Rattle.rc_model.specs.Syntax.Tree as tree;
 ghost use Rattle.rc_model.specs.Syntax.Tree.{Many, Seq, none, snoc};
 ghost use Rattle.rc_tree.specs.View.{item_tree};
-ghost use Rattle.rc_code.specs.Compiled.{HasCompiled, IsSpent};
+ghost use Rattle.rc_code.specs.Compiled.{HasCompiled, code_so_far};
 ghost use Rattle.rc_code.specs.Views.{code_of};
 
 use crate::code::{Code, Op};
 use crate::emission::emit_commands::emit_items;
+use crate::fusion::Runs;
 use crate::listing::Listing;
 use rc_tree::Item;
 use std::alloc::{AllocError, Global};
 use std::slice;
+
+/// From this number of instructions on a script is taken for one that runs once. A shorter one, as of an `eval`, may be
+/// run again.
+const LONG_SCRIPT: usize = 1024;
 
 /// The code of the items so far.
 pub struct Compiler {
@@ -52,8 +57,8 @@ impl Compiler {
     pub fn add(&mut self, item: &Item) -> Result<(), AllocError>
         ensures ok { (items : Many tree.item) → HasCompiled items self.old →
             OnOk result (HasCompiled (snoc items (item_tree item.now)) self.new) }
-        ensures err { OnErr result (IsSpent self.new) }
-        ensures spent { IsSpent self.old → IsErr result }
+        ensures err { OnErr result (code_so_far self.new ≡ None) }
+        ensures spent { code_so_far self.old ≡ None → IsErr result }
     {
         if self.is_spent {
             return Err(AllocError);
@@ -76,6 +81,11 @@ impl Compiler {
             is_spent: _,
         } = self;
         let written = listing.put(Op::Return);
-        Code::of(alloc, listing, written)
+        let runs = if listing.ops.len() < LONG_SCRIPT {
+            Runs::Often
+        } else {
+            Runs::Once
+        };
+        Code::of(alloc, listing, written, runs)
     }
 }

@@ -4,9 +4,11 @@
 mod code;
 mod compiler;
 mod emission;
+mod fusion;
 mod instruction_numbers;
 mod interned_words;
 mod listing;
+mod names;
 mod pipelines;
 
 ghost use Rattle.std.specs.Prelude.{◌≡◌, false, IfOk, OnOk};
@@ -19,7 +21,10 @@ ghost use Rattle.rc_code.specs.Writing.{Writes};
 pub use code::{Code, Op};
 pub use compiler::Compiler;
 use emission::emit_commands::emit_cmd;
+pub use fusion::Fused;
+use fusion::Runs;
 use listing::Listing;
+pub use names::{has_digits, is_name, is_readable};
 pub use pipelines::Pipeline;
 use rc_tree::Cmd;
 use std::alloc::{AllocError, Global};
@@ -31,7 +36,7 @@ pub fn compile(alloc: Global, cmd: &Cmd) -> Result<Code, AllocError>
 {
     let mut listing = Listing::empty(alloc);
     let written = emit_whole(alloc, &mut listing, cmd);
-    Code::of(alloc, listing, written)
+    Code::of(alloc, listing, written, Runs::Often)
 }
 
 /// Emits a whole command, with its `Return`.

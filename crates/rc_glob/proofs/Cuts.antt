@@ -72,7 +72,9 @@ nowhere w c cs b e n h k p = let x : false ≡ true = ap (list_any has_pattern) 
 pub further_has : (w c : Word) (cs : List Word) (v : Word) (b : Bool) → components w ≡ c ∷ cs → cs ≡ components v → b ≡ has_pattern c → b ≡ false → has_pattern w ≡ true → has_pattern v ≡ true
 further_has w c cs v b e n h k p = sym (components_pattern v) ∙ (ap (list_any has_pattern) (sym n) ∙ rest_has w c cs e p (sym h ∙ k))
 
-walk_from : (v d : Word) (ds : List Word) (path : List ℕ) → components v ≡ d ∷ ds → list_any has_pattern (components v) ≡ true → walk (components v) path ≡ paths_from (components v) (path ++ codes "/")
+walk_from : (v d : Word) (ds : List Word) (path : List ℕ) → components v ≡ d ∷ ds →
+    list_any has_pattern (components v) ≡ true → walk (components v) path
+    ≡ paths_from (components v) (path ++ codes "/")
 walk_from v d ds path e h =
     ap (λ l. walk l path) e
     ∙ (ap (λ b. cond b (step d (walk ds) (path ++ codes "/")) (if_there (path ++ 47 ∷ join_with_byte 47 (map word_text (d ∷ ds))))) (ap (list_any has_pattern) (sym e) ∙ h)

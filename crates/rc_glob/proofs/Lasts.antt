@@ -20,7 +20,8 @@ pub record Cut (text front : List ℕ) (count left : ℕ) : Type 0 where
 pub no_cut : (text : List ℕ) (count : ℕ) → Cut text text count count
 no_cut text count = record { is = take_all (length text) text (omega arith); within = omega arith; many = refl }
 
-pub cut_more : (text front before : List ℕ) (c count left less : ℕ) → front ≡ before ++ encode_utf8 c → chars front ≡ chars before ++ c ∷ [] → left ≡ less + 1 → Cut text front count left → Cut text before count less
+pub cut_more : (text front before : List ℕ) (c count left less : ℕ) → front ≡ before ++ encode_utf8 c →
+    chars front ≡ chars before ++ c ∷ [] → left ≡ less + 1 → Cut text front count left → Cut text before count less
 cut_more text front before c count left less h k l cut =
     let whole : length front ≡ length before + length (encode_utf8 c) = ap length h ∙ length-append before (encode_utf8 c) in
     let some : length (chars front) ≡ length (chars before) + 1 = ap length k ∙ length-append (chars before) (c ∷ []) in

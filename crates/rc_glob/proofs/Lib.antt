@@ -8,7 +8,7 @@ pub mod Reaching
 pub mod Slashes
 pub mod Sorting
 pub mod Subjects
-pub mod Sums
+pub mod Hashes
 pub mod Texts
 pub mod Walks
 pub mod Widths

@@ -60,7 +60,8 @@ next_by e a w t s bw bt (suc k) m q h = (k, ap (λ m. after_move (greedy_from k 
 going_star : (e a : Bool) (w v : Word) (t : List ℕ) (s : Bool) (bw : Word) (bt : List ℕ) → move e w t ≡ PastStar v → Going e a w t s bw bt → Going e a v t true v t
 going_star e a w v t s bw bt q g = let n = next_by e a w t s bw bt g.moves (PastStar v) q g.is in record { moves = n.0; is = n.1 }
 
-pub going_one : (e a : Bool) (w v : Word) (c : ℕ) (t u : List ℕ) (s r : Bool) (bw : Word) (bt : List ℕ) → move e w t ≡ PastOne c v u → r ≡ (s && stands_for e c) → Going e a w t s bw bt → Going e a v u r bw bt
+pub going_one : (e a : Bool) (w v : Word) (c : ℕ) (t u : List ℕ) (s r : Bool) (bw : Word) (bt : List ℕ) →
+    move e w t ≡ PastOne c v u → r ≡ (s && stands_for e c) → Going e a w t s bw bt → Going e a v u r bw bt
 going_one e a w v c t u s r bw bt q h g =
     let n = next_by e a w t s bw bt g.moves (PastOne c v u) q g.is in record { moves = n.0; is = ap (λ z. greedy_from n.0 e v u z bw bt) h ∙ n.1 }
 
@@ -71,7 +72,9 @@ going_end e a w t s bw bt q g = same_Some true a (next_by e a w t s bw bt g.move
 back_by : (e a : Bool) (w : Word) (t : List ℕ) (s : Bool) (bw : Word) (bt : List ℕ) → move e w t ≡ Miss → Going e a w t s bw bt → (k : ℕ) × (goes_back (greedy_from k e) e s bw bt ≡ Some a)
 back_by e a w t s bw bt q g = next_by e a w t s bw bt g.moves Miss q g.is
 
-going_back : (e a : Bool) (w : Word) (t : List ℕ) (s : Bool) (bw : Word) (c : ℕ) (bt more : List ℕ) → move e w t ≡ Miss → s ≡ true → bt ≡ c ∷ more → stands_for e c ≡ true → Going e a w t s bw bt → Going e a bw more s bw more
+going_back : (e a : Bool) (w : Word) (t : List ℕ) (s : Bool) (bw : Word) (c : ℕ) (bt more : List ℕ) →
+    move e w t ≡ Miss → s ≡ true → bt ≡ c ∷ more → stands_for e c ≡ true → Going e a w t s bw bt →
+    Going e a bw more s bw more
 going_back e a w t s bw c bt more q h k may g =
     let n = back_by e a w t s bw bt q g in
     record {
@@ -92,7 +95,8 @@ no_text e a w t s bw bt q h k g =
     let n = back_by e a w t s bw bt q g in
     same_Some false a (ap (goes_back (greedy_from n.0 e) e true bw) (sym k) ∙ ap (λ z. goes_back (greedy_from n.0 e) e z bw bt) (sym h) ∙ n.1)
 
-no_further : (e a : Bool) (w : Word) (t : List ℕ) (s : Bool) (bw : Word) (c : ℕ) (bt more : List ℕ) → move e w t ≡ Miss → s ≡ true → bt ≡ c ∷ more → stands_for e c ≡ false → Going e a w t s bw bt → false ≡ a
+no_further : (e a : Bool) (w : Word) (t : List ℕ) (s : Bool) (bw : Word) (c : ℕ) (bt more : List ℕ) →
+    move e w t ≡ Miss → s ≡ true → bt ≡ c ∷ more → stands_for e c ≡ false → Going e a w t s bw bt → false ≡ a
 no_further e a w t s bw c bt more q h k may g =
     let n = back_by e a w t s bw bt q g in
     same_Some false a (
@@ -104,7 +108,9 @@ no_further e a w t s bw c bt more q h k may g =
 
 -- ** one answer
 
-same_by : (e a b : Bool) (go back : Matcher) (s : Bool) (bw : Word) (bt : List ℕ) → ((w : Word) (t : List ℕ) (s : Bool) (bw : Word) (bt : List ℕ) → go w t s bw bt ≡ Some a → back w t s bw bt ≡ Some b → a ≡ b) →
+same_by : (e a b : Bool) (go back : Matcher) (s : Bool) (bw : Word) (bt : List ℕ) →
+    ((w : Word) (t : List ℕ) (s : Bool) (bw : Word) (bt : List ℕ) → go w t s bw bt ≡ Some a →
+    back w t s bw bt ≡ Some b → a ≡ b) →
     (m : Bool) → cond m (go bw bt true bw bt) (Some false) ≡ Some a → cond m (back bw bt true bw bt) (Some false) ≡ Some b → a ≡ b
 same_by e a b go back s bw bt f true h k = f bw bt true bw bt h k
 same_by e a b go back s bw bt f false h k = same_Some a b (sym h ∙ k)
@@ -161,7 +167,8 @@ star_nowhere e a w v t s bw bt test m n q g = sym (place_is e a v t test None n 
 
 -- ** back to the star, and on to the next place
 
-later_by : (e a : Bool) (w : Word) (t : List ℕ) (bw : Word) (c : ℕ) (bt : List ℕ) (test : List ℕ → Bool) (b : Bool) → stands_for e c ≡ b → move e w t ≡ Miss → Starts test bw → Going e a w t true bw (c ∷ bt) →
+later_by : (e a : Bool) (w : Word) (t : List ℕ) (bw : Word) (c : ℕ) (bt : List ℕ) (test : List ℕ → Bool) (b : Bool) →
+    stands_for e c ≡ b → move e w t ≡ Miss → Starts test bw → Going e a w t true bw (c ∷ bt) →
     a ≡ at_place (star_match e bw) (cond b (first_place e test bt) None)
 later_by e a w t bw c bt test true h m n g = place_is e a bw bt test (first_place e test bt) n refl (going_back e a w t true bw c (c ∷ bt) bt m refl refl h g)
 later_by e a w t bw c bt test false h m n g = sym (no_further e a w t true bw c (c ∷ bt) bt m refl refl h g)

@@ -92,11 +92,13 @@ last_at e n (c ∷ front) end h =
 pub no_last : (e : Bool) (n : ℕ) (t : List ℕ) → length t < n → first_place e (λ x. length x == n) t ≡ None
 no_last e n t l = none_short e (λ x. length x == n) n (other_length n) t l
 
-pub last_there : (e : Bool) (n : ℕ) (t front end : List ℕ) (b : Bool) → t ≡ front ++ end → length end ≡ n → b ≡ list_all (λ c. stands_for e c) front → b ≡ true → Some end ≡ first_place e (λ x. length x == n) t
+pub last_there : (e : Bool) (n : ℕ) (t front end : List ℕ) (b : Bool) → t ≡ front ++ end → length end ≡ n →
+    b ≡ list_all (λ c. stands_for e c) front → b ≡ true → Some end ≡ first_place e (λ x. length x == n) t
 last_there e n t front end b h k l q =
     sym (ap (first_place e (λ x. length x == n)) h ∙ last_at e n front end k ∙ ap (λ z. cond z (Some end) None) (sym l ∙ q))
 
-pub last_not : (e : Bool) (n : ℕ) (t front end : List ℕ) (b : Bool) → t ≡ front ++ end → length end ≡ n → b ≡ list_all (λ c. stands_for e c) front → b ≡ false → None ≡ first_place e (λ x. length x == n) t
+pub last_not : (e : Bool) (n : ℕ) (t front end : List ℕ) (b : Bool) → t ≡ front ++ end → length end ≡ n →
+    b ≡ list_all (λ c. stands_for e c) front → b ≡ false → None ≡ first_place e (λ x. length x == n) t
 last_not e n t front end b h k l q =
     sym (ap (first_place e (λ x. length x == n)) h ∙ last_at e n front end k ∙ ap (λ z. cond z (Some end) None) (sym l ∙ q))
 

@@ -68,7 +68,8 @@ module _ {A : Type 0} (text : A → List ℕ) where
   rising [] h = tt
   rising (x ∷ xs) h = sorted_texts (x ∷ xs) (sorted_from_all_adjacent (on_texts text) (x ∷ xs) x (λ k l. is_less _ (h k x l)))
 
-  pub all_less : (xs : List A) (r : Bool) → IsTrue r → IsAllAdjacentAnswer (λ x y b. b ≡ is_lt (cmp_by x y)) xs r → (k : ℕ) (d : A) → k + 1 < length xs → is_lt (cmp_by (slice_index_or xs k d) (slice_index_or xs (k + 1) d)) ≡ true
+  pub all_less : (xs : List A) (r : Bool) → IsTrue r → IsAllAdjacentAnswer (λ x y b. b ≡ is_lt (cmp_by x y)) xs r →
+      (k : ℕ) (d : A) → k + 1 < length xs → is_lt (cmp_by (slice_index_or xs k d) (slice_index_or xs (k + 1) d)) ≡ true
   all_less xs true h below k d l = sym (below k d l)
   all_less xs false h below k d l = absurd (cc h)
 
@@ -103,7 +104,8 @@ module _ {A : Type 0} (text : A → List ℕ) where
 abbrev Strings : Type 0
 Strings = List (String Global)
 
-pub in_order : (xs ys : Strings) → IsPermutation xs ys → IsSorted (cmp_by string_bytes) ys → (zs : Strings) → IsFiltered (DiffersFromLast string_eq) [] ys zs → map string_bytes zs ≡ ordered (map string_bytes xs)
+pub in_order : (xs ys : Strings) → IsPermutation xs ys → IsSorted (cmp_by string_bytes) ys → (zs : Strings) →
+    IsFiltered (DiffersFromLast string_eq) [] ys zs → map string_bytes zs ≡ ordered (map string_bytes xs)
 in_order xs ys moved rising zs h = ap (map string_bytes) (dedup_is string_eq ys zs h) ∙ left_in_order string_bytes xs ys moved rising
 
 -- ** the strings whose texts pass a test

@@ -27,3 +27,8 @@ module _ {X Y : Type 0} (t : X → Y → Bool) where
 
 pub by_words : (subject patterns : List Word) → matched subject patterns ≡ list_any (is_met patterns) subject
 by_words subject patterns = any_swap (λ p w. matches p (map (λ m. m.0) w) false) patterns subject
+
+-- one pattern
+pub by_one : (b : Bool) → b ≡ b || false
+by_one true = refl
+by_one false = refl

@@ -56,7 +56,8 @@ module _ {A : Type 0} (s : State) where
   pub collected_memory : (a b : Option (List Event)) (whole rest : Plan (ShellResult (List A))) (found : List A) → Collected a b s whole rest found → Left a b whole NoMemory
   collected_memory a b whole rest found so_far = so_far.left b NoMemory (left_memory b rest)
 
-  pub collected_end : (a b : Option (List Event)) (whole rest : Plan (ShellResult (List A))) (found : List A) → rest ≡ done_with (Next [] s) → Collected a b s whole rest found → RanBetween a b whole (done_with (Next found s))
+  pub collected_end : (a b : Option (List Event)) (whole rest : Plan (ShellResult (List A))) (found : List A) →
+      rest ≡ done_with (Next [] s) → Collected a b s whole rest found → RanBetween a b whole (done_with (Next found s))
   collected_end a b whole rest found e so_far =
       subst (λ l. RanBetween a b whole (done_with (Next l s))) (append-nil found)
       (so_far.ends b [] (subst (λ p. RanBetween b b p (done_with (Next [] s))) (sym e) (ran_none b (done_with (Next [] s)))))
@@ -73,7 +74,8 @@ module _ (c : Word) (path : List ℕ) where
       Left a b (asks (list_names (directory path)) (λ x. fitting_names c (as_names x))) stop
   left_listing a b stop p e l = left_asked a b stop (list_names (directory path)) as_names (λ v. done_with (fitting_names c v)) (subst (λ p. Left a b (asks (list_names p) as_names) stop) e l)
 
-  pub ran_listing : (a b : Option (List Event)) (p : List ℕ) (v : Option (List (List ℕ))) (names : List (List ℕ)) → p ≡ directory path → RanBetween a b (asks (list_names p) as_names) (done_with v) → names ≡ fitting_names c v →
+  pub ran_listing : (a b : Option (List Event)) (p : List ℕ) (v : Option (List (List ℕ))) (names : List (List ℕ)) →
+      p ≡ directory path → RanBetween a b (asks (list_names p) as_names) (done_with v) → names ≡ fitting_names c v →
       RanBetween a b (asks (list_names (directory path)) (λ x. fitting_names c (as_names x))) (done_with names)
   ran_listing a b p v names e h q =
       ran_answered a b b (list_names (directory path)) as_names v (λ v. done_with (fitting_names c v)) (done_with names) (subst (λ p. RanBetween a b (asks (list_names p) as_names) (done_with v)) e h)
@@ -96,7 +98,9 @@ module _ (c : Word) (path : List ℕ) where
       subst (λ l. RanBetween a b (asks (list_names (directory path)) (λ x. fitting_names c (as_names x))) (done_with (map string_bytes l))) (sym g)
       (subst (λ p. RanBetween a b (asks (list_names (directory p)) (λ x. fitting_names c (as_names x))) (done_with (map string_bytes items))) e h) in
       let ran : RanBetween a b (listed c next path s) (each_name next path names s) =
-      ran_answered a b b (list_names (directory path)) (λ x. fitting_names c (as_names x)) names (λ ns. each_name next path ns s) (each_name next path names s) listing (ran_none b (each_name next path names s)) in
+      ran_answered a b b (list_names (directory path)) (λ x. fitting_names c (as_names x)) names
+      (λ ns. each_name next path ns s) (each_name next path names s) listing
+      (ran_none b (each_name next path names s)) in
       subst (λ f. Collected a b s (whole s) (each_name next path names s) (map text_bytes f)) (sym n)
       (collected_from s a b (whole s) (each_name next path names s) (subst (λ m. RanBetween a b (m s) (each_name next path names s)) (sym w) ran))
 
@@ -121,13 +125,16 @@ words_left : (words : List Word) (i : ℕ) (w : Word) → i < length words → w
 words_left words i w lt is = drop-cons words i w lt ∙ (ap (λ n. get_or words i w ∷ drop n words) (sym (add-one i)) ∙ ap (λ d. d ∷ drop (i + 1) words) (sym is))
 
 -- the names that are left: this one and those after it
-pub names_left : (names : List (String Global)) (i : ℕ) (name : String Global) → i < length names → name ≡ get_or names i name → map string_bytes (drop i names) ≡ string_bytes name ∷ map string_bytes (drop (i + 1) names)
+pub names_left : (names : List (String Global)) (i : ℕ) (name : String Global) → i < length names →
+    name ≡ get_or names i name → map string_bytes (drop i names)
+    ≡ string_bytes name ∷ map string_bytes (drop (i + 1) names)
 names_left names i name lt is =
     ap (map string_bytes) (drop-cons names i name lt)
     ∙ (ap (λ n. string_bytes (get_or names i name) ∷ map string_bytes (drop n names)) (sym (add-one i))
     ∙ ap (λ d. string_bytes d ∷ map string_bytes (drop (i + 1) names)) (sym is))
 
-module _ (a b : Option (List Event)) (s : State) (whole : Plan (ShellResult (List (List ℕ)))) (f : List ℕ → Shell (List (List ℕ))) (path : List ℕ) (names : List (String Global)) (i : ℕ) (found : List Text) where
+module _ (a b : Option (List Event)) (s : State) (whole : Plan (ShellResult (List (List ℕ)))) (f : List ℕ →
+    Shell (List (List ℕ))) (path : List ℕ) (names : List (String Global)) (i : ℕ) (found : List Text) where
   -- these names are left
   abbrev pub At : Option (List Event) → ℕ → List Text → Type 0
   At now n list = Collected a now s whole (each_name f path (map string_bytes (drop n names)) s) (map text_bytes list)
@@ -136,7 +143,8 @@ module _ (a b : Option (List Event)) (s : State) (whole : Plan (ShellResult (Lis
       Collected a b s whole (both (f (path ++ string_bytes name)) (each_name f path (map string_bytes (drop (i + 1) names))) s) (map text_bytes found)
   at_name name lt is so_far = subst (λ ns. Collected a b s whole (each_name f path ns s) (map text_bytes found)) (names_left names i name lt is) so_far
 
-  pub next_name : (c : Option (List Event)) (name : String Global) (below new : List Text) (w : List ℕ) → i < length names → name ≡ get_or names i name → w ≡ path ++ string_bytes name → new ≡ found ++ below →
+  pub next_name : (c : Option (List Event)) (name : String Global) (below new : List Text) (w : List ℕ) →
+      i < length names → name ≡ get_or names i name → w ≡ path ++ string_bytes name → new ≡ found ++ below →
       At b i found → RanBetween b c (f w s) (done_with (Next (map text_bytes below) s)) → At c (i + 1) new
   next_name c name below new w lt is e n so_far h =
       let rest = each_name f path (map string_bytes (drop (i + 1) names)) in
@@ -183,7 +191,9 @@ module _ (a b : Option (List Event)) (s : State) (whole : Plan (ShellResult (Lis
   pub left_word : (c : Option (List Event)) (stop : Stop) (w : Word) → i < length words → w ≡ get_or words i w → AtWord b i found → Left b c (expanded_word w s) stop → Left a c whole stop
   left_word c stop w lt is so_far l = collected_left s a b c stop whole (expanded_word w) (expanded (drop (i + 1) words)) found (at_word w lt is so_far) l
 
-  pub memory_after_word : (c : Option (List Event)) (w : Word) (first : List Word) → i < length words → w ≡ get_or words i w → AtWord b i found → RanBetween b c (expanded_word w s) (done_with (Next first s)) → Left a c whole NoMemory
+  pub memory_after_word : (c : Option (List Event)) (w : Word) (first : List Word) → i < length words →
+      w ≡ get_or words i w → AtWord b i found → RanBetween b c (expanded_word w s) (done_with (Next first s)) →
+      Left a c whole NoMemory
   memory_after_word c w first lt is so_far h =
       collected_memory s a c whole (expanded (drop (i + 1) words) s) (found ++ first)
       (collected_step s a b c whole (expanded_word w) (expanded (drop (i + 1) words)) found first (at_word w lt is so_far) h)
@@ -203,7 +213,8 @@ module _ (path : List ℕ) (s : State) where
   pub left_probed : (a b : Option (List Event)) (p : List ℕ) (k : Option Kind) → p ≡ path → RanBetween a b (asks (probe p) as_kind) (done_with k) → Left a b (if_there path s) NoMemory
   left_probed a b p k e h = left_answered a b b NoMemory (probe path) as_kind k next (subst (λ p. RanBetween a b (asks (probe p) as_kind) (done_with k)) e h) (left_memory b (next k))
 
-  pub ran_probed : (a b : Option (List Event)) (p : List ℕ) (k : Option Kind) (paths : List (List ℕ)) → p ≡ path → RanBetween a b (asks (probe p) as_kind) (done_with k) → paths ≡ (if is_some k then path ∷ [] else []) →
+  pub ran_probed : (a b : Option (List Event)) (p : List ℕ) (k : Option Kind) (paths : List (List ℕ)) → p ≡ path →
+      RanBetween a b (asks (probe p) as_kind) (done_with k) → paths ≡ (if is_some k then path ∷ [] else []) →
       RanBetween a b (if_there path s) (done_with (Next paths s))
   ran_probed a b p k paths d h e =
       ran_answered a b b (probe path) as_kind k next (done_with (Next paths s)) (subst (λ p. RanBetween a b (asks (probe p) as_kind) (done_with k)) d h)
@@ -215,7 +226,8 @@ module _ (path : List ℕ) (s : State) where
 pub ran_value : {X : Type 0} (a : Option (List Event)) (s : State) (x y : X) → x ≡ y → RanBetween a a (done_with (Next y s)) (done_with (Next x s))
 ran_value a s x y h = subst (λ z. RanBetween a a (done_with (Next y s)) (done_with (Next z s))) (sym h) (ran_none a (done_with (Next y s)))
 
-pub comes_alone : (a b : Option (List Event)) (s : State) (p : Plan (ShellResult (List Word))) (x : List Word) (r : Outcome (List Word) Stop) → MatchResult r (λ list. list ≡ x) (λ stop. stop ≡ NoMemory) →
+pub comes_alone : (a b : Option (List Event)) (s : State) (p : Plan (ShellResult (List Word))) (x : List Word)
+    (r : Outcome (List Word) Stop) → MatchResult r (λ list. list ≡ x) (λ stop. stop ≡ NoMemory) →
     RanBetween a b p (done_with (Next x s)) → Comes a b p (λ list. Next list s) r
 comes_alone a b s p x (Ok v) h ran = subst (λ l. RanBetween a b p (done_with (Next l s))) (sym h) ran
 comes_alone a b s p x (Err stop) h ran = subst (λ t. Left a b p t) (sym h) (left_here a b p (done_with (Next x s)) ran)

@@ -157,10 +157,13 @@ pub width_none : (word rest others : List Ch) (first : Ch) (n : ℕ) (b : Bool) 
 width_none word rest others first n b h k q so_far =
     sym (so_far ∙ ap (more n) (ap (λ w. width (parts_from Outside (marks w))) h ∙ width_star (mark_of first) (marks others) (sym k ∙ q)))
 
-pub width_next : (word rest others new : List Ch) (first : Ch) (n : ℕ) → rest ≡ first ∷ others → width (parts_from Outside (mark_of first ∷ marks others)) ≡ one_more (width (parts_from Outside (marks new))) →
+pub width_next : (word rest others new : List Ch) (first : Ch) (n : ℕ) → rest ≡ first ∷ others →
+    width (parts_from Outside (mark_of first ∷ marks others)) ≡ one_more (width (parts_from Outside (marks new))) →
     width (parts_from Outside (marks word)) ≡ more n (width (parts_from Outside (marks rest))) → width (parts_from Outside (marks word)) ≡ more (n + 1) (width (parts_from Outside (marks new)))
 width_next word rest others new first n h k so_far =
     so_far ∙ (ap (more n) (ap (λ w. width (parts_from Outside (marks w))) h ∙ k) ∙ more_one n (width (parts_from Outside (marks new))))
 
-pub width_end : (word rest : List Ch) (n : ℕ) → length rest ≡ 0 → width (parts_from Outside (marks word)) ≡ more n (width (parts_from Outside (marks rest))) → Some n ≡ width (parts_from Outside (marks word))
+pub width_end : (word rest : List Ch) (n : ℕ) → length rest ≡ 0 →
+    width (parts_from Outside (marks word)) ≡ more n (width (parts_from Outside (marks rest))) →
+    Some n ≡ width (parts_from Outside (marks word))
 width_end word rest n h so_far = sym (so_far ∙ (ap (λ w. more n (width (parts_from Outside (marks w)))) (nil_from_length rest h) ∙ more_none n))

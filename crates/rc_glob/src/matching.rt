@@ -1,9 +1,10 @@
 //! Pattern matching: from left to right, with one star to go back to.
-ghost use Rattle.std.specs.Prelude.{◌≡◌, false, option_map};
+ghost use Rattle.std.specs.Prelude.{◌≡◌, ◌∷◌, [], false, option_map};
 ghost use Rattle.std.specs.List.{list_any};
 ghost use Rattle.std.specs.Str.{chars};
 ghost use Rattle.rc_model.specs.Run.Patterns.{is_dots, matched, matches, Outside, parts_from, parts_match};
 ghost use Rattle.rc_model.specs.Mirrors.Greedy.{after_one, after_star, move};
+ghost use Rattle.rc_model.specs.Syntax.Words.{written};
 ghost use Rattle.rc_text.specs.Literals.{marks};
 ghost use Rattle.rc_glob.specs.Moves.{move_of, LeavesLess};
 ghost use Rattle.rc_glob.specs.Subjects.{is_met};
@@ -11,7 +12,7 @@ ghost use Rattle.rc_glob.specs.Subjects.{is_met};
 use crate::classes::{class_end, class_holds};
 use crate::search::stands_for;
 use crate::stars::{Start, later_place, next_place, start_of};
-use rc_text::{Ch, Word, any_pattern, first_char};
+use rc_text::{Ch, Literal, Word, any_pattern, first_char};
 
 /// The next move of a match.
 enum Move<'a> {
@@ -143,7 +144,7 @@ pub(crate) fn is_match(word: &[Ch], text: &str, explicit: bool) -> bool
 
 /// Whether the word matches the whole text. In path mode no pattern character stands for `/`, and a word that has one
 /// matches neither `.` nor `..`. It allocates nothing. What follows the last star is compared only with the end of the
-/// text. Characters between two stars are looked for by a rolling sum, mostly in about as many steps as the text has
+/// text. Characters between two stars are looked for by a rolling hash, mostly in about as many steps as the text has
 /// characters. No match takes more steps than a few times the length of the word times that of the text.
 pub fn matches(word: &Word, text: &str, explicit: bool) -> bool
     ensures { result ≡ matches word.now (chars text.now) explicit }
@@ -171,4 +172,22 @@ pub fn matched(subject: &[Word], patterns: &[Word]) -> bool
     ensures { result ≡ matched subject.now patterns.now }
 {
     subject.iter().any(|word| is_met(patterns, word))
+}
+
+/// Whether a pattern of a script matches a word.
+fn meets_literal(pattern: &Literal, word: &Word) -> bool
+    ensures { result ≡ is_met (written pattern.now.0 pattern.now.1 ∷ []) word.now }
+{
+    let subject = word.text();
+    match pattern.pattern() {
+        Some(chars) => is_match(chars, subject, false),
+        None => pattern.text() == subject,
+    }
+}
+
+/// Whether a pattern of a script matches the subject. It makes no word of the pattern.
+pub fn matched_literal(subject: &[Word], pattern: &Literal) -> bool
+    ensures { result ≡ matched subject.now (written pattern.now.0 pattern.now.1 ∷ []) }
+{
+    subject.iter().any(|word| meets_literal(pattern, word))
 }

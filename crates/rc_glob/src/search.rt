@@ -7,11 +7,11 @@ ghost use Rattle.std.specs.Str.{chars, IsUtf8};
 ghost use Rattle.rc_model.specs.Run.Patterns.{stands_for};
 ghost use Rattle.rc_glob.specs.Characters.{characters};
 ghost use Rattle.rc_glob.specs.Places.{begins_with, first_place};
-ghost use Rattle.rc_glob.specs.Sums.{add_char, scale_from, sum_from};
+ghost use Rattle.rc_glob.specs.Hashes.{add_char, scale_from, hash_from};
 
 use rc_text::{Ch, first_char};
 
-/// The factor of a sum before the next character is added.
+/// The prime of the 64-bit FNV hash: a hash is multiplied by it before the next character is added.
 const FACTOR: u64 = 1_099_511_628_211;
 
 /// Whether a pattern character may stand for the character.
@@ -81,31 +81,33 @@ pub(crate) fn last_place(explicit: bool, count: usize, text: &str) -> Option<&st
 }
 
 /// Multiplies and adds, modulo 2^64.
-fn scaled(sum: u64, scale: u64, next: u64) -> u64
-    ensures { result ≡ (sum * scale + next) % 2 ^ 64 }
+fn scaled(hash: u64, scale: u64, next: u64) -> u64
+    ensures { result ≡ (hash * scale + next) % 2 ^ 64 }
 {
-    sum.wrapping_mul(scale).wrapping_add(next)
+    hash.wrapping_mul(scale).wrapping_add(next)
 }
 
-fn add_char(sum: u64, c: char) -> u64
-    ensures { result ≡ add_char sum c }
+/// A hash with one more character.
+fn add_char(hash: u64, c: char) -> u64
+    ensures { result ≡ add_char hash c }
 {
-    scaled(sum, FACTOR, c as u64)
+    scaled(hash, FACTOR, c as u64)
 }
 
-fn sum_of(run: &[Ch]) -> u64
-    ensures { result ≡ sum_from 0 (characters run.now) }
+/// The hash of the characters.
+fn hash_of(run: &[Ch]) -> u64
+    ensures { result ≡ hash_from 0 (characters run.now) }
 {
-    let mut sum = 0;
+    let mut hash = 0;
     let mut rest = run;
     'run: while let Some((first, others)) = rest.split_first() {
-        sum = add_char(sum, first.c);
+        hash = add_char(hash, first.c);
         rest = others;
     }
-    sum
+    hash
 }
 
-/// The factor by which the characters multiply the sum of those before them.
+/// The power of the prime by which the characters multiply the hash of those before them.
 fn scale_of(run: &[Ch]) -> u64
     ensures { result ≡ scale_from 1 (characters run.now) }
 {
@@ -118,25 +120,25 @@ fn scale_of(run: &[Ch]) -> u64
     scale
 }
 
-/// The sum of the first characters of the text, and what follows them, if it has that many.
+/// The hash of the first characters of the text, and what follows them, if it has that many.
 fn read(count: usize, text: &str) -> Option<(u64, &str)>
     ensures parts { MatchOption result (length (chars text.now) < count)
-        (λ x. (count ≤ length (chars text.now)) × (x.0 ≡ sum_from 0 (take count (chars text.now)))
+        (λ x. (count ≤ length (chars text.now)) × (x.0 ≡ hash_from 0 (take count (chars text.now)))
         × (chars x.1.now ≡ drop count (chars text.now))) }
     ensures utf8 { IfSome result (λ x. IsUtf8 x.1.now) }
 {
-    let mut sum = 0;
+    let mut hash = 0;
     let mut rest = text;
     let mut left = count;
     while left > 0 {
         let Some((c, more)) = first_char(rest) else {
             return None;
         };
-        sum = add_char(sum, c);
+        hash = add_char(hash, c);
         rest = more;
         left -= 1;
     }
-    Some((sum, rest))
+    Some((hash, rest))
 }
 
 /// Whether the text begins with the characters.
@@ -158,35 +160,36 @@ fn begins_with(run: &[Ch], text: &str) -> bool
     true
 }
 
-/// Whether the text begins with the characters. They are compared only if the sums are equal.
-fn stands_at(run: &[Ch], text: &str, sum: u64, wanted: u64) -> bool
-    requires { begins_with (characters run.now) (chars text.now) ≡ true → sum ≡ wanted }
+/// Whether the text begins with the characters. They are compared only if the hashes are equal.
+fn stands_at(run: &[Ch], text: &str, hash: u64, wanted: u64) -> bool
+    requires { begins_with (characters run.now) (chars text.now) ≡ true → hash ≡ wanted }
     ensures { result ≡ begins_with (characters run.now) (chars text.now) }
 {
-    if sum == wanted {
+    if hash == wanted {
         begins_with(run, text)
     } else {
         false
     }
 }
 
-/// The text from the first place at which the characters occur, if a star may stand for what is before them. The sum of
-/// as many characters of the text moves along with the place; they are compared only if it is that of the characters.
+/// The text from the first place at which the characters occur, if a star may stand for what is before them. It is the
+/// search of Rabin and Karp, by a rolling hash: the hash of the text up to the end of a window of as many characters
+/// moves along with the place, and the window is compared only if its hash is that of the characters.
 pub(crate) fn find<'a>(explicit: bool, run: &[Ch], text: &'a str) -> Option<&'a str>
     ensures place { option_map (λ rest. chars rest.now) result
         ≡ first_place explicit (begins_with (characters run.now)) (chars text.now) }
     ensures shorter { IfSome result (λ rest. length rest.now ≤ length text.now) }
     ensures utf8 { IfSome result (λ rest. IsUtf8 rest.now) }
 {
-    let goal = sum_of(run);
+    let goal = hash_of(run);
     let scale = scale_of(run);
     let mut before = 0;
     let mut place = text;
-    let Some((mut sum, mut ahead)) = read(run.len(), text) else {
+    let Some((mut hash, mut ahead)) = read(run.len(), text) else {
         return None;
     };
     'places: loop {
-        if stands_at(run, place, sum, scaled(before, scale, goal)) {
+        if stands_at(run, place, hash, scaled(before, scale, goal)) {
             return Some(place);
         }
         let Some((c, more)) = first_char(place) else {
@@ -199,7 +202,7 @@ pub(crate) fn find<'a>(explicit: bool, run: &[Ch], text: &'a str) -> Option<&'a 
             return None;
         };
         before = add_char(before, c);
-        sum = add_char(sum, next);
+        hash = add_char(hash, next);
         place = more;
         ahead = further;
     }

@@ -11,5 +11,6 @@ pub mod Pipelines
 pub mod Runs
 pub mod Machines
 pub mod Instructions
-pub mod Sequences
+pub mod Fused
+pub mod Listed
 pub mod Standings

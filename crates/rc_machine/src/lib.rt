@@ -5,8 +5,8 @@ mod configuration;
 mod control;
 mod descriptors;
 mod expressions;
+mod fused;
 mod machine;
-mod sequences;
 mod stack;
 mod steps;
 

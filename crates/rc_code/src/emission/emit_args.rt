@@ -8,6 +8,7 @@ ghost use Rattle.rc_code.specs.Emission.{list_code};
 
 use crate::code::Op;
 use crate::emission::kept::kept_part;
+use crate::fusion::Fused;
 use crate::listing::Listing;
 use rc_tree::Arg;
 use std::alloc::{AllocError, Global};
@@ -51,7 +52,7 @@ pub(crate) fn emit_arg(alloc: Global, code: &mut Listing, arg: &Arg) -> Result<(
 pub(crate) fn emit_list(alloc: Global, code: &mut Listing, words: &[Arg]) -> Result<(), AllocError>
     ensures { OnOk result (Writes code.old code.new (list_code (args_tree words.now))) }
 {
-    code.put(Op::Nil)?;
+    code.put(Op::Nil(Fused::Alone))?;
     for word in words {
         emit_arg(alloc, code, word)?;
         code.put(Op::Join)?;
@@ -66,7 +67,7 @@ fn emit_parts(alloc: Global, code: &mut Listing, parts: &[Arg]) -> Result<(), Al
     ensures { OnOk result (Writes code.old code.new (parts_code (args_tree parts.now))) }
 {
     let Some((first, further)) = parts.split_first() else {
-        return code.put(Op::Nil);
+        return code.put(Op::Nil(Fused::Alone));
     };
     emit_arg(alloc, code, first)?;
     for part in further {

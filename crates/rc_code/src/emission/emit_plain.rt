@@ -11,6 +11,7 @@ ghost use Rattle.rc_code.specs.Emission.{subject_code, match_code, define_code, 
 use crate::code::Op;
 use crate::emission::emit_args::{emit_arg, emit_list};
 use crate::emission::kept::{kept_part, kept_pieces};
+use crate::fusion::Fused;
 use crate::instruction_numbers::in_32_bits;
 use crate::listing::Listing;
 use rc_tree::{Arg, Cmd, Redir};
@@ -28,7 +29,7 @@ pub(crate) fn emit_simple(
     ensures { OnOk result (Writes code.old code.new (cmd_code (tree.Simple (args_tree words.now)) guarded)) }
 {
     emit_list(alloc, code, words)?;
-    code.put(Op::Glob)?;
+    code.put(Op::Glob(Fused::Alone))?;
     code.put(Op::Run)?;
     if guarded { Ok(()) } else { code.put(Op::Check) }
 }
@@ -54,7 +55,7 @@ pub(crate) fn emit_members(
     ensures { OnOk result (Writes code.old code.new (members_code (args_tree words.now) (arg_tree name.now))) }
 {
     emit_list(alloc, code, words)?;
-    code.put(Op::Glob)?;
+    code.put(Op::Glob(Fused::Alone))?;
     emit_arg(alloc, code, name)
 }
 
@@ -83,7 +84,7 @@ pub(crate) fn emit_pairs(
     for pair in pairs {
         emit_arg(alloc, code, &pair.0)?;
         emit_arg(alloc, code, &pair.1)?;
-        code.put(Op::Glob)?;
+        code.put(Op::Glob(Fused::Alone))?;
         put_assign(code, bare)?;
     }
     Ok(())
@@ -110,7 +111,7 @@ fn emit_redir(alloc: Global, code: &mut Listing, redir: &Redir) -> Result<(), Al
     match redir {
         Redir::Open { mode, slot, file } => {
             emit_arg(alloc, code, file)?;
-            code.put(Op::Glob)?;
+            code.put(Op::Glob(Fused::Alone))?;
             code.put(Op::Open {
                 mode: *mode,
                 slot: *slot,

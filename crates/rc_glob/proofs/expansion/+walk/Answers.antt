@@ -14,26 +14,36 @@ walk-returns-in_err-component g t c = λ s. passed_up _ _ _ _ c.from_residual.re
 pub walk-returns-in_err-names : goal.walk-returns-in_err-names
 walk-returns-in_err-names g t c = λ s.
     passed_up _ _ _ _ c.from_residual-in_err-names.result c.in_err-names.field-0.0 c.from_residual-in_err-names.ensures.1
-    (left_listed (marks c.in_ok-component.component.now) (string_bytes c.advance.new.path) _ _ _ s (walk (components_of c.in_ok-component.rest)) (paths_from (components (marks c.args.word.now)) (string_bytes c.args.path))
+    (left_listed (marks c.in_ok-component.component.now) (string_bytes c.advance.new.path) _ _ _ s
+    (walk (components_of c.in_ok-component.rest)) (paths_from (components (marks c.args.word.now))
+    (string_bytes c.args.path))
     c.deref.result.now c.in_ok-component.ensures.goes_on c.deref.ensures c.in_err-names.ensures)
 
 pub walk-returns-in_err-paths_in : goal.walk-returns-in_err-paths_in
 walk-returns-in_err-paths_in g t c = λ s.
     passed_up _ _ _ _ c.from_residual-in_err-paths_in.result NoMemory c.from_residual-in_err-paths_in.ensures.1
-    (left_alone (marks c.in_ok-component.component.now) (string_bytes c.advance.new.path) _ _ s (walk (components_of c.in_ok-component.rest)) (paths_from (components (marks c.args.word.now)) (string_bytes c.args.path))
+    (left_alone (marks c.in_ok-component.component.now) (string_bytes c.advance.new.path) _ _ s
+    (walk (components_of c.in_ok-component.rest)) (paths_from (components (marks c.args.word.now))
+    (string_bytes c.args.path))
     c.deref.result.now c.in_ok-names.names.items c.in_ok-component.ensures.goes_on c.deref.ensures c.in_ok-names.ensures)
 
 pub walk-returns-in_default : goal.walk-returns-in_default
 walk-returns-in_default g t c = λ s.
-    ran_alone (marks c.in_ok-component.component.now) (string_bytes c.advance.new.path) _ _ s (walk (components_of c.in_ok-component.rest)) (paths_from (components (marks c.args.word.now)) (string_bytes c.args.path))
+    ran_alone (marks c.in_ok-component.component.now) (string_bytes c.advance.new.path) _ _ s
+    (walk (components_of c.in_ok-component.rest)) (paths_from (components (marks c.args.word.now))
+    (string_bytes c.args.path))
     c.deref.result.now c.in_ok-names.names.items c.in_ok-component.ensures.goes_on c.deref.ensures c.in_ok-names.ensures
     c.deref-in_default.result.now c.in_ok-paths_in.field-0.items (ap (λ o. walk (components_of o)) c.in_default.is) c.deref-in_default.ensures c.in_ok-paths_in.ensures
 
 pub walk-loop-name-init : goal.walk-loop-name-init
 walk-loop-name-init g t c = λ s.
-    begun (marks c.in_ok-component.component.now) (string_bytes c.advance.new.path) _ _ s (walk (components (marks c.in-Some.rest.now))) (paths_from (components (marks c.args.word.now)) (string_bytes c.args.path))
+    begun (marks c.in_ok-component.component.now) (string_bytes c.advance.new.path) _ _ s
+    (walk (components (marks c.in-Some.rest.now))) (paths_from (components (marks c.args.word.now))
+    (string_bytes c.args.path))
     c.deref.result.now c.in_ok-names.names.items c.deref-name-items.result.now c.new-found.result.items
-    (c.in_ok-component.ensures.goes_on ∙ ap (λ o. listed (marks c.in_ok-component.component.now) (walk (components_of o)) (string_bytes c.advance.new.path)) c.in-Some.is) c.deref.ensures c.in_ok-names.ensures c.deref-name-items.ensures.value c.new-found.ensures.items
+    (c.in_ok-component.ensures.goes_on ∙ ap (λ o. listed (marks c.in_ok-component.component.now)
+    (walk (components_of o)) (string_bytes c.advance.new.path)) c.in-Some.is) c.deref.ensures c.in_ok-names.ensures
+    c.deref-name-items.ensures.value c.new-found.ensures.items
 
 pub walk-returns-in_err-whole : goal.walk-returns-in_err-whole
 walk-returns-in_err-whole g t c = λ s.
@@ -84,5 +94,6 @@ walk_on-returns-in_err-push_text g t c = λ s. passed_up _ _ _ _ c.from_residual
 pub walk_on-returns : goal.walk_on-returns
 walk_on-returns g t c = λ s.
     comes_as _ _ _ _ _ _
-    (ap (λ m. m s) (on_plain (marks c.args.rest.now) (string_bytes c.args.path) (string_bytes c.push.new.self) (string_bytes c.push_text.new.path) c.any_pattern.result c.any_pattern.ensures c.if-any_pattern.false
+    (ap (λ m. m s) (on_plain (marks c.args.rest.now) (string_bytes c.args.path) (string_bytes c.push.new.self)
+    (string_bytes c.push_text.new.path) c.any_pattern.result c.any_pattern.ensures c.if-any_pattern.false
     (with_slash _ _ c.in_ok-push.ensures.bytes) c.in_ok-push_text.ensures)) (c.if_there.ensures s)

@@ -17,4 +17,5 @@ pub returns-in-None : goal.returns-in-None
 returns-in-None g c = λ s.
     let w = c.args.word.now in
     comes_alone _ _ s _ (w ∷ []) _ c.itself.ensures
-    (subst (λ names. RanBetween (g.W.World.events c.args.world.now) (g.W.World.events c.find_files.new.world) (expanded_word w s) (done_with (Next (words_for w names) s))) c.in-None.is (c.in_ok-names.ensures s))
+    (subst (λ names. RanBetween (g.W.World.events c.args.world.now) (g.W.World.events c.find_files.new.world)
+    (expanded_word w s) (done_with (Next (words_for w names) s))) c.in-None.is (c.in_ok-names.ensures s))

@@ -19,4 +19,5 @@ returns-then-is_empty g c = λ s.
 pub returns : goal.returns
 returns g c = λ s.
     ran_names s c.args.word.now _ _ c.in-Some.ensures.1 c.in-Some.ensures.0 c.new.ensures.bytes _ _ _ _ (c.in_ok-paths.ensures s)
-    (some_paths c.args.word.now c.in_ok-paths.paths.items c.as_slice.result.now c.ordered_paths.result.items _ c.is_empty.result c.is_empty.ensures c.as_slice.ensures.value c.if-is_empty.false c.ordered_paths.ensures refl)
+    (some_paths c.args.word.now c.in_ok-paths.paths.items c.as_slice.result.now c.ordered_paths.result.items _
+    c.is_empty.result c.is_empty.ensures c.as_slice.ensures.value c.if-is_empty.false c.ordered_paths.ensures refl)

@@ -14,4 +14,5 @@ in_order : (x y : String Global) → is_le (string_cmp x y) ≡ true → is_lt (
 in_order x y h = ap is_lt (string_cmp_total.antisymm y x) ∙ not_below (string_cmp x y) h
 
 pub returns-then-is_sorted-clause-sorted : goal.returns-then-is_sorted-clause-sorted
-returns-then-is_sorted-clause-sorted c k d _ h = in_order (slice_index_or c.args.texts.items k d) (slice_index_or c.args.texts.items (k + 1) d) ((rw c.as_slice.ensures.value at c.if-is_sorted.ensures.cases) k d h)
+returns-then-is_sorted-clause-sorted c k d _ h = in_order (slice_index_or c.args.texts.items k d)
+    (slice_index_or c.args.texts.items (k + 1) d) ((rw c.as_slice.ensures.value at c.if-is_sorted.ensures.cases) k d h)

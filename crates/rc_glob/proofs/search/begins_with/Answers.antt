@@ -1,6 +1,6 @@
 use Rattle.std.proofs.Common.{sym, ◌∙◌}
 use Rattle.std.specs.Str.{chars}
-use Rattle.rc_glob.proofs.Sums.{begins_all, begins_next, begins_none, begins_other}
+use Rattle.rc_glob.proofs.Hashes.{begins_all, begins_next, begins_none, begins_other}
 use Rattle.rc_glob.proofs.search.begins_with.Goals as goal
 
 pub run-preserved : goal.run-preserved

@@ -1,15 +1,15 @@
 use Rattle.std.proofs.Common.{refl, ap, length, arith}
-use Rattle.rc_glob.proofs.Sums.{read_end, read_rest, read_sum}
+use Rattle.rc_glob.proofs.Hashes.{read_end, read_rest, read_hash}
 use Rattle.rc_glob.proofs.search.read.Goals as goal
 
 pub loop-left-init : goal.loop-left-init
-loop-left-init c = record { sum = refl; rest = refl; many = refl; utf8 = c.utf8.text }
+loop-left-init c = record { hash = refl; rest = refl; many = refl; utf8 = c.utf8.text }
 
 pub loop-left-preserved : goal.loop-left-preserved
 loop-left-preserved c =
     let one = ap length c.in-Some.ensures.chars in
     record {
-      sum = read_sum _ _ _ _ _ _ _ _ c.in-Some.ensures.chars (omega arith) c.add_char-sum.ensures c.loop-left.invariant.sum;
+      hash = read_hash _ _ _ _ _ _ _ _ c.in-Some.ensures.chars (omega arith) c.add_char-hash.ensures c.loop-left.invariant.hash;
       rest = read_rest _ _ _ _ _ _ c.in-Some.ensures.chars (omega arith) c.loop-left.invariant.rest;
       many = omega (arith, c.loop-left.invariant.many);
       utf8 = c.in-Some.ensures.utf8;
@@ -20,4 +20,4 @@ returns-in_default-clause-parts c = omega (arith, ap length c.in_default.ensures
 
 pub returns-clause-parts : goal.returns-clause-parts
 returns-clause-parts c =
-    read_end _ _ _ _ _ c.loop-left-test.false c.loop-left.invariant.sum c.loop-left.invariant.rest c.loop-left.invariant.many
+    read_end _ _ _ _ _ c.loop-left-test.false c.loop-left.invariant.hash c.loop-left.invariant.rest c.loop-left.invariant.many

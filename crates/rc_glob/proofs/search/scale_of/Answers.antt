@@ -1,5 +1,5 @@
 use Rattle.std.proofs.Common.{rules}
-use Rattle.rc_glob.proofs.Sums.{scale_next}
+use Rattle.rc_glob.proofs.Hashes.{scale_next}
 use Rattle.rc_glob.proofs.search.scale_of.Goals as goal
 
 pub run-preserved : goal.run-preserved

@@ -1,5 +1,5 @@
 use Rattle.std.proofs.Common.{◌≡◌, length}
-use Rattle.rc_glob.specs.Sums.{scale_from}
+use Rattle.rc_glob.specs.Hashes.{scale_from}
 use Rattle.rc_glob.specs.Characters.{characters}
 use Rattle.rc_glob.proofs.search.scale_of.Given as goal
 
