@@ -173,7 +173,10 @@ simple_from_meets : (a T W : ℕ) (p : Reader (Node t.arg)) → GoodPart a false
     {rest : List Lexeme} → Phrase g.simple ts x rest → length ts ≤ k → depths x.0 ≤ T → depths x.1 ≤ T → most_stages_in x.0 ≤ W → most_stages_in x.1 ≤ W →
     Meets a T W (d.simple_from p k as' rs ts) ((append as' x.0, append rs x.1), rest)
 unfolding d.simple_from
-simple_from_meets a T W p gp zero as' rs (g.simple_end {rest = rest} h j) le d1 d2 w1 w2 = record { met = both as' (append as' none) rs (append rs none) rest (sym (append_none as')) (sym (append_none rs)) }
+simple_from_meets a T W p gp zero as' rs (g.simple_end {rest = rest} h j) le d1 d2 w1 w2 = record {
+  met = both as' (append as' none) rs
+      (append rs none) rest (sym (append_none as')) (sym (append_none rs));
+}
 simple_from_meets a T W p gp (suc k) as' rs (g.simple_end {rest = rest} h j) le d1 d2 w1 w2 =
     rw (h, j) (record { met = both as' (append as' none) rs (append rs none) rest (sym (append_none as')) (sym (append_none rs)) })
 simple_from_meets a T W p gp zero as' rs (g.simple_word q s) le d1 d2 w1 w2 = let one = Phrase-shorter q in absurd (omega arith)
@@ -241,7 +244,9 @@ part_meets a T W r gr (g.word_part) dt dw = record { met = refl }
 part_meets a T W r gr (g.quoted_part) dt dw = record { met = refl }
 part_meets a T W r gr (g.paren_part {ts = ts} {rest = rest} {as' = xs} q) dt dw =
     bind (d.members_by (r (d.a_part true)) ts) _ (xs, rest) (t.Paren xs, rest)
-    (deepen (d.members_by (r (d.a_part true)) ts) (xs, rest) (members_meets a (depths xs) (most_stages_in xs) (r (d.a_part true)) (good_part a r gr true) q (omega arith) (omega arith)) (omega arith) (omega arith))
+    (deepen (d.members_by (r (d.a_part true)) ts) (xs, rest)
+    (members_meets a (depths xs) (most_stages_in xs) (r (d.a_part true)) (good_part a r gr true) q (omega arith) (omega arith)) (omega arith)
+    (omega arith))
     (record { met = refl })
 part_meets a T W r gr (g.back_part {inside = inside} {ts = ts} {rest = rest} {c = c} q) dt dw =
     bind (d.brace_by r (past_blanks inside ts)) _ (c, rest) (t.Back c, rest) (brace_meets a T W r gr q (omega arith) (omega arith)) (record { met = refl })
@@ -250,7 +255,9 @@ part_meets a T W r gr (g.var_part {ts = ts} {rest = rest} {n = n} q h) dt dw =
 part_meets a T W r gr (g.sub_part {ts = ts} {more' = next} {rest = rest} {n = n} {as' = xs} q s) dt dw =
     bind (r d.a_name ts) _ (n, Subscript ∷ next) (t.Sub n xs, rest) (deepen (r d.a_name ts) (n, Subscript ∷ next) (gr.name q) (omega arith) (omega arith))
     (bind (d.members_by (r (d.a_part true)) next) _ (xs, rest) (t.Sub n xs, rest)
-    (deepen (d.members_by (r (d.a_part true)) next) (xs, rest) (members_meets a (depths xs) (most_stages_in xs) (r (d.a_part true)) (good_part a r gr true) s (omega arith) (omega arith)) (omega arith) (omega arith))
+    (deepen (d.members_by (r (d.a_part true)) next) (xs, rest)
+    (members_meets a (depths xs) (most_stages_in xs) (r (d.a_part true)) (good_part a r gr true) s (omega arith) (omega arith)) (omega arith)
+    (omega arith))
     (record { met = refl }))
 part_meets a T W r gr (g.count_part {ts = ts} {rest = rest} {n = n} q) dt dw =
     bind (r d.a_name ts) _ (n, rest) (t.Count n, rest) (deepen (r d.a_name ts) (n, rest) (gr.name q) (omega arith) (omega arith)) (record { met = refl })

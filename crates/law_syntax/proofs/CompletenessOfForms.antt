@@ -20,7 +20,9 @@ branch_meets : (a T W : ℕ) (r : Readers) → Good a r → {ts mid next : List 
 unfolding d.branch_by
 branch_meets a T W r gr {ts = ts} {mid = mid} {next = next} {as' = xs} {is = is} q h s d1 d2 w1 w2 =
     bind (d.words_by (r (d.a_part false)) ts) _ (xs, mid) (t.Branch xs (t.Seq is), next)
-    (deepen (d.words_by (r (d.a_part false)) ts) (xs, mid) (words_meets a (depths xs) (most_stages_in xs) (r (d.a_part false)) (good_part a r gr false) q (omega arith) (omega arith)) (omega arith) (omega arith))
+    (deepen (d.words_by (r (d.a_part false)) ts) (xs, mid)
+    (words_meets a (depths xs) (most_stages_in xs) (r (d.a_part false)) (good_part a r gr false) q (omega arith) (omega arith)) (omega arith)
+    (omega arith))
     (rw h (bind (r (d.a_list true) mid) _ (is, next) (t.Branch xs (t.Seq is), next) (deepen (r (d.a_list true) mid) (is, next) (gr.list s) (omega arith) (omega arith)) (record { met = refl })))
 
 same_tail : (x y : Lexeme) (ts us : List Lexeme) → x ∷ ts ≡ y ∷ us → ts ≡ us
@@ -78,11 +80,15 @@ unfolding d.switch_by d.branches_by
 switch_meets a T W r gr {ts = ts} {mid = mid} {inner = inner} {next = next} {rest = rest} {n = n} {bs = bs} {rs = rs} q e s v dt dw =
     let z = redirect_tall rs (t.Switch n bs) (omega arith) in
     bind (d.arg_by (r (d.a_part false)) false ts) _ (n, mid) (redirect rs (t.Switch n bs), rest)
-    (deepen (d.arg_by (r (d.a_part false)) false ts) (n, mid) (arg_meets a (depth n) (most_stages n) (r (d.a_part false)) false (good_part a r gr false) q (omega arith) (omega arith)) (omega arith) (omega arith))
+    (deepen (d.arg_by (r (d.a_part false)) false ts) (n, mid)
+    (arg_meets a (depth n) (most_stages n) (r (d.a_part false)) false (good_part a r gr false) q (omega arith) (omega arith)) (omega arith)
+    (omega arith))
     (rw e (bind (d.branches_from r (length inner) none inner) _ (bs, next) (redirect rs (t.Switch n bs), rest)
     (branches_from_meets a T W r gr (length inner) none next s refl (omega arith) (omega arith) (omega arith))
     (bind (d.redirs_by (r (d.a_part false)) next) _ (rs, rest) (redirect rs (t.Switch n bs), rest)
-    (deepen (d.redirs_by (r (d.a_part false)) next) (rs, rest) (redirs_meets a (depths rs) (most_stages_in rs) (r (d.a_part false)) (good_part a r gr false) v (omega arith) (omega arith)) (omega arith) (omega arith))
+    (deepen (d.redirs_by (r (d.a_part false)) next) (rs, rest)
+    (redirs_meets a (depths rs) (most_stages_in rs) (r (d.a_part false)) (good_part a r gr false) v (omega arith) (omega arith)) (omega arith)
+    (omega arith))
     (record { met = refl }))))
 
 match_meets : (a T W : ℕ) (r : Readers) → Good a r → {ts mid rest : List Lexeme} {n : Node t.arg} {as' : Many t.arg} → Phrase (g.arg false) ts n mid → Phrase g.words mid as' rest →
@@ -90,9 +96,13 @@ match_meets : (a T W : ℕ) (r : Readers) → Good a r → {ts mid rest : List L
 unfolding d.match_by
 match_meets a T W r gr {ts = ts} {mid = mid} {rest = rest} {n = n} {as' = xs} q s dt dw =
     bind (d.arg_by (r (d.a_part false)) false ts) _ (n, mid) (t.Match n xs, rest)
-    (deepen (d.arg_by (r (d.a_part false)) false ts) (n, mid) (arg_meets a (depth n) (most_stages n) (r (d.a_part false)) false (good_part a r gr false) q (omega arith) (omega arith)) (omega arith) (omega arith))
+    (deepen (d.arg_by (r (d.a_part false)) false ts) (n, mid)
+    (arg_meets a (depth n) (most_stages n) (r (d.a_part false)) false (good_part a r gr false) q (omega arith) (omega arith)) (omega arith)
+    (omega arith))
     (bind (d.words_by (r (d.a_part false)) mid) _ (xs, rest) (t.Match n xs, rest)
-    (deepen (d.words_by (r (d.a_part false)) mid) (xs, rest) (words_meets a (depths xs) (most_stages_in xs) (r (d.a_part false)) (good_part a r gr false) s (omega arith) (omega arith)) (omega arith) (omega arith))
+    (deepen (d.words_by (r (d.a_part false)) mid) (xs, rest)
+    (words_meets a (depths xs) (most_stages_in xs) (r (d.a_part false)) (good_part a r gr false) s (omega arith) (omega arith)) (omega arith)
+    (omega arith))
     (record { met = refl }))
 
 define_meets : (a T W : ℕ) (r : Readers) → Good a r → {ts mid next rest : List Lexeme} {n : Node t.arg} {as' : Many t.arg} (c : Node t.cmd) → Phrase (g.arg false) ts n mid →
@@ -101,9 +111,13 @@ define_meets : (a T W : ℕ) (r : Readers) → Good a r → {ts mid next rest : 
 unfolding d.define_by
 define_meets a T W r gr {ts = ts} {mid = mid} {next = next} {rest = rest} {n = n} {as' = xs} c q s dt dw m =
     bind (d.arg_by (r (d.a_part false)) false ts) _ (n, mid) (c, rest)
-    (deepen (d.arg_by (r (d.a_part false)) false ts) (n, mid) (arg_meets a (depth n) (most_stages n) (r (d.a_part false)) false (good_part a r gr false) q (omega arith) (omega arith)) (omega arith) (omega arith))
+    (deepen (d.arg_by (r (d.a_part false)) false ts) (n, mid)
+    (arg_meets a (depth n) (most_stages n) (r (d.a_part false)) false (good_part a r gr false) q (omega arith) (omega arith)) (omega arith)
+    (omega arith))
     (bind (d.words_by (r (d.a_part false)) mid) _ (xs, next) (c, rest)
-    (deepen (d.words_by (r (d.a_part false)) mid) (xs, next) (words_meets a (depths xs) (most_stages_in xs) (r (d.a_part false)) (good_part a r gr false) s (omega arith) (omega arith)) (omega arith) (omega arith)) m)
+    (deepen (d.words_by (r (d.a_part false)) mid) (xs, next)
+    (words_meets a (depths xs) (most_stages_in xs) (r (d.a_part false)) (good_part a r gr false) s (omega arith) (omega arith)) (omega arith)
+    (omega arith)) m)
 
 pub stage_meets : (a T W : ℕ) (r : Readers) → Good a r → {ts : List Lexeme} {c : Node t.cmd} {rest : List Lexeme} → Phrase g.stage ts c rest → depth c ≤ T → most_stages c ≤ W →
     Meets (suc a) T W (d.opening_by r ts) (Staged c, rest)
@@ -112,10 +126,13 @@ stage_meets a T W r gr (g.simple_stage {ts = ts} {mid = mid} {rest = rest} {a = 
     let z = redirect_tall x.1 (t.Simple (more n x.0)) (omega arith) in
     let c : Node t.cmd = redirect x.1 (t.Simple (more n x.0)) in
     rw (opening_first r ts h (arg_begins q)) (bind (d.arg_by (r (d.a_part false)) false ts) _ (n, mid) (Staged c, rest)
-    (deepen (d.arg_by (r (d.a_part false)) false ts) (n, mid) (arg_meets a (depth n) (most_stages n) (r (d.a_part false)) false (good_part a r gr false) q (omega arith) (omega arith)) (omega arith) (omega arith))
+    (deepen (d.arg_by (r (d.a_part false)) false ts) (n, mid)
+    (arg_meets a (depth n) (most_stages n) (r (d.a_part false)) false (good_part a r gr false) q (omega arith) (omega arith)) (omega arith)
+    (omega arith))
     (rw (first_simple r n mid j) (bind (d.simple_by (r (d.a_part false)) mid) _ (x, rest) (Staged c, rest)
     (deepen (d.simple_by (r (d.a_part false)) mid) (x, rest)
-    (simple_meets a (max (depths x.0) (depths x.1)) (max (most_stages_in x.0) (most_stages_in x.1)) (r (d.a_part false)) (good_part a r gr false) s (omega arith) (omega arith) (omega arith) (omega arith))
+    (simple_meets a (max (depths x.0) (depths x.1)) (max (most_stages_in x.0) (most_stages_in x.1)) (r (d.a_part false)) (good_part a r gr false) s
+    (omega arith) (omega arith) (omega arith) (omega arith))
     (omega arith) (omega arith))
     (record { met = refl }))))
 stage_meets a T W r gr (g.brace_stage {ts = ts} {mid = mid} {rest = rest} {c = c} {rs = rs} q s) dt dw =
@@ -123,7 +140,9 @@ stage_meets a T W r gr (g.brace_stage {ts = ts} {mid = mid} {rest = rest} {c = c
     rw (brace_opens r q) (staged_meets (suc a) T W (d.block_by r ts) (redirect rs (t.Brace c)) rest (bind (d.brace_by r ts) _ (c, mid) (redirect rs (t.Brace c), rest)
     (brace_meets a T W r gr q (omega arith) (omega arith))
     (bind (d.redirs_by (r (d.a_part false)) mid) _ (rs, rest) (redirect rs (t.Brace c), rest)
-    (deepen (d.redirs_by (r (d.a_part false)) mid) (rs, rest) (redirs_meets a (depths rs) (most_stages_in rs) (r (d.a_part false)) (good_part a r gr false) s (omega arith) (omega arith)) (omega arith) (omega arith))
+    (deepen (d.redirs_by (r (d.a_part false)) mid) (rs, rest)
+    (redirs_meets a (depths rs) (most_stages_in rs) (r (d.a_part false)) (good_part a r gr false) s (omega arith) (omega arith)) (omega arith)
+    (omega arith))
     (record { met = refl }))))
 stage_meets a T W r gr (g.switch_stage {ts = ts} {rest = rest} {a = n} {bs = bs} {rs = rs} h q e s v) dt dw =
     rw h (staged_meets (suc a) T W (d.switch_by r (past_caret ts)) (redirect rs (t.Switch n bs)) rest (switch_meets a T W r gr q e s v dt dw))
@@ -221,9 +240,13 @@ leading_meets a T W r gr (g.subshell_leading {ts = ts} {rest = rest} {c = c} h q
     rw h (bind (r d.an_operand (past_caret ts)) _ (c, rest) (t.Subshell c, rest) (deepen (r d.an_operand (past_caret ts)) (c, rest) (gr.operand q) (omega arith) (omega arith)) (record { met = refl }))
 leading_meets a T W r gr (g.redir_leading {after_if = f} {ts = ts} {mid = mid} {next = next} {rest = rest} {r = n} {rs = ns} {c = c} q s v) dt dw =
     rw (leading_redirected r f ts (redir_begins q)) (bind (d.redir_by (r (d.a_part false)) ts) _ (n, mid) (t.Redirect (more n ns) c, rest)
-    (deepen (d.redir_by (r (d.a_part false)) ts) (n, mid) (redir_meets a (depth n) (most_stages n) (r (d.a_part false)) (good_part a r gr false) q (omega arith) (omega arith)) (omega arith) (omega arith))
+    (deepen (d.redir_by (r (d.a_part false)) ts) (n, mid)
+    (redir_meets a (depth n) (most_stages n) (r (d.a_part false)) (good_part a r gr false) q (omega arith) (omega arith)) (omega arith)
+    (omega arith))
     (bind (d.redirs_by (r (d.a_part false)) mid) _ (ns, next) (t.Redirect (more n ns) c, rest)
-    (deepen (d.redirs_by (r (d.a_part false)) mid) (ns, next) (redirs_meets a (depths ns) (most_stages_in ns) (r (d.a_part false)) (good_part a r gr false) s (omega arith) (omega arith)) (omega arith) (omega arith))
+    (deepen (d.redirs_by (r (d.a_part false)) mid) (ns, next)
+    (redirs_meets a (depths ns) (most_stages_in ns) (r (d.a_part false)) (good_part a r gr false) s (omega arith) (omega arith)) (omega arith)
+    (omega arith))
     (bind (d.optional_operand_by r next) _ (c, rest) (t.Redirect (more n ns) c, rest) (optional_meets a T W r gr v (omega arith) (omega arith)) (record { met = refl }))))
 leading_meets a T W r gr (g.if_leading {after_if = f} {ts = ts} {mid = mid} {rest = rest} {c = c} {d = e} h q s) dt dw =
     rw (h, paren_conditions r f q) (bind (d.paren_by r (past_caret ts)) _ (c, mid) (t.If c e, rest) (paren_meets a T W r gr q (omega arith) (omega arith))

@@ -99,7 +99,8 @@ comment_runs (t.next c cs rest h r) due p = by (t.class_of c) (λ e. eqb-false c
     by class.LineEnd e = absurd (e refl)
     by k e = join_nil (run Comment due (t.after_char p c) (cs ++ rest))
 
-no_operator : (prev : Previous) (dollars : List Token) (q : Place) (due : List PendingHereDoc) (p : Place) (rest : List ℕ) → operated_run prev dollars q None due p rest ≡ Err (t.fault BadDescriptor q.line)
+no_operator : (prev : Previous) (dollars : List Token) (q : Place) (due : List PendingHereDoc) (p : Place) (rest : List ℕ)
+    → operated_run prev dollars q None due p rest ≡ Err (t.fault BadDescriptor q.line)
 no_operator prev dollars q due p [] = refl
 no_operator prev dollars q due p (c ∷ cs) = refl
 

@@ -111,20 +111,28 @@ further ds due p rest ih g =
 -- after a `$`: `#`, `"` or anything else
 sigil_at : (ds : List Token) (due : List PendingHereDoc) (p : Place) (c : ℕ) (cs : List ℕ) → Resolves (c ∷ cs) → (a b : Bool) → (c == 35) ≡ a → (c == 34) ≡ b →
     run (Operator previous.Dollar ds p (36 ∷ [])) due (t.after_char p 36) (c ∷ cs) ≡ resolved (t.names (c ∷ cs)) ds due p (36 ∷ c ∷ cs)
-sigil_at ds due p c cs ih true b e f = subst (λ z. run (Operator previous.Dollar ds p (36 ∷ [])) due (t.after_char p 36) (z ∷ cs) ≡ resolved (t.names (z ∷ cs)) ds due p (36 ∷ z ∷ cs)) (sym (eqb-true c 35 e)) known
+sigil_at ds due p c cs ih true b e f =
+    subst (λ z. run (Operator previous.Dollar ds p (36 ∷ [])) due (t.after_char p 36) (z ∷ cs) ≡ resolved (t.names (z ∷ cs)) ds due p (36 ∷ z ∷ cs))
+    (sym (eqb-true c 35 e)) known
   where
     known : run (Operator previous.Dollar ds p (36 ∷ [])) due (t.after_char p 36) (35 ∷ cs) ≡ resolved (t.names (35 ∷ cs)) ds due p (36 ∷ 35 ∷ cs)
     known =
         join_nil (run (Operator previous.Dollar ds p (36 ∷ 35 ∷ [])) due (t.after_char (t.after_char p 36) 35) cs)
         ∙ sigil_count ds p due (t.after_char (t.after_char p 36) 35) cs
-        ∙ ap (t.join (bare ds) []) (sym (join_nil (run (Operator previous.Apart [] p (36 ∷ [])) due (t.after_char p 36) (35 ∷ cs)) ∙ join_nil (run (Operator previous.Apart [] p (36 ∷ 35 ∷ [])) due (t.after_char (t.after_char p 36) 35) cs)))
-sigil_at ds due p c cs ih false true e f = subst (λ z. run (Operator previous.Dollar ds p (36 ∷ [])) due (t.after_char p 36) (z ∷ cs) ≡ resolved (t.names (z ∷ cs)) ds due p (36 ∷ z ∷ cs)) (sym (eqb-true c 34 f)) known
+        ∙ ap (t.join (bare ds) [])
+        (sym (join_nil (run (Operator previous.Apart [] p (36 ∷ [])) due (t.after_char p 36) (35 ∷ cs)) ∙ join_nil
+        (run (Operator previous.Apart [] p (36 ∷ 35 ∷ [])) due (t.after_char (t.after_char p 36) 35) cs)))
+sigil_at ds due p c cs ih false true e f =
+    subst (λ z. run (Operator previous.Dollar ds p (36 ∷ [])) due (t.after_char p 36) (z ∷ cs) ≡ resolved (t.names (z ∷ cs)) ds due p (36 ∷ z ∷ cs))
+    (sym (eqb-true c 34 f)) known
   where
     known : run (Operator previous.Dollar ds p (36 ∷ [])) due (t.after_char p 36) (34 ∷ cs) ≡ resolved (t.names (34 ∷ cs)) ds due p (36 ∷ 34 ∷ cs)
     known =
         join_nil (run (Operator previous.Dollar ds p (36 ∷ 34 ∷ [])) due (t.after_char (t.after_char p 36) 34) cs)
         ∙ sigil_flat ds p due (t.after_char (t.after_char p 36) 34) cs
-        ∙ ap (t.join (bare ds) []) (sym (join_nil (run (Operator previous.Apart [] p (36 ∷ [])) due (t.after_char p 36) (34 ∷ cs)) ∙ join_nil (run (Operator previous.Apart [] p (36 ∷ 34 ∷ [])) due (t.after_char (t.after_char p 36) 34) cs)))
+        ∙ ap (t.join (bare ds) [])
+        (sym (join_nil (run (Operator previous.Apart [] p (36 ∷ [])) due (t.after_char p 36) (34 ∷ cs)) ∙ join_nil
+        (run (Operator previous.Apart [] p (36 ∷ 34 ∷ [])) due (t.after_char (t.after_char p 36) 34) cs)))
 sigil_at ds due p c cs ih false false e f = further ds due p (c ∷ cs) ih (neither (c == 35) (c == 34) e f)
   where
     neither : (a b : Bool) → a ≡ false → b ≡ false → ((a && true) || ((b && true) || false)) ≡ false
@@ -193,10 +201,12 @@ pub count_ends : (prev : Previous) (q : Place) (due : List PendingHereDoc) (p : 
     LexemeEnds prev (t.meant prev rest t.DollarCount) q due p rest (operated_run prev [] q (Some t.DollarCount) due p rest)
 count_ends (previous.Here begin' end) q due p rest a = absurd cc
 count_ends prev q due p rest a =
-    count_first prev q due p rest a ∙ ap (t.join (t.caret prev t.Dollar q) []) (resolves rest (t.token t.DollarCount q p ∷ []) due p) ∙ dollar_lexeme (t.names rest) prev t.DollarCount q due p rest a refl refl
+    count_first prev q due p rest a ∙ ap (t.join (t.caret prev t.Dollar q) []) (resolves rest (t.token t.DollarCount q p ∷ []) due p) ∙ dollar_lexeme
+    (t.names rest) prev t.DollarCount q due p rest a refl refl
 
 pub flat_ends : (prev : Previous) (q : Place) (due : List PendingHereDoc) (p : Place) (rest : List ℕ) → t.awaits_mark prev ≡ false →
     LexemeEnds prev (t.meant prev rest t.DollarFlat) q due p rest (operated_run prev [] q (Some t.DollarFlat) due p rest)
 flat_ends (previous.Here begin' end) q due p rest a = absurd cc
 flat_ends prev q due p rest a =
-    flat_first prev q due p rest a ∙ ap (t.join (t.caret prev t.Dollar q) []) (resolves rest (t.token t.DollarFlat q p ∷ []) due p) ∙ dollar_lexeme (t.names rest) prev t.DollarFlat q due p rest a refl refl
+    flat_first prev q due p rest a ∙ ap (t.join (t.caret prev t.Dollar q) []) (resolves rest (t.token t.DollarFlat q p ∷ []) due p) ∙ dollar_lexeme
+    (t.names rest) prev t.DollarFlat q due p rest a refl refl

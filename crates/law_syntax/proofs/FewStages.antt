@@ -170,3 +170,12 @@ few_stages_read levels ts rest is h = narrow (subst (λ o. Few most_stages_in o)
 
     narrow : Few {A = Many t.item} most_stages_in (Ok (is, rest)) → most_stages_in is ≤ 64
     narrow m = m.few
+
+pub few_stages_command : (levels : ℕ) (f : Bool) (ts rest : List Lexeme) (c : Node t.cmd) → d.read levels (d.a_command f) ts ≡ Ok (c, rest) → most_stages c ≤ 64
+few_stages_command levels f ts rest c h = narrow (subst (λ o. Few most_stages o) h (s.command f ts))
+  where
+    s : Small (λ n ts. d.read levels n ts)
+    s = read_few levels
+
+    narrow : Few {A = Node t.cmd} most_stages (Ok (c, rest)) → most_stages c ≤ 64
+    narrow m = m.few

@@ -1,6 +1,7 @@
 -- What is read has at most 64 stages in each pipeline: names, arguments, redirections, the words of a simple command and lists in brackets.
 use Rattle.std.proofs.Common.{◌≡◌, ℕ, zero, suc, ◌≤◌, max, Bool, true, false, List, ◌∷◌, length, Option, Some, None, Ok, Err, if◌then◌else◌, refl, arith}
-use Rattle.rc_model.specs.Syntax.Tokens.{Lexeme, Word, Quoted, Newline, LeftParen, RightParen, LeftBrace, RightBrace, Backquote, Redirection, CopyTo, HereDoc, Dollar, DollarCount, DollarFlat, Name, Subscript}
+use Rattle.rc_model.specs.Syntax.Tokens.{Lexeme, Word, Quoted, Newline, LeftParen, RightParen, LeftBrace, RightBrace, Backquote, Redirection, CopyTo}
+use Rattle.rc_model.specs.Syntax.Tokens.{HereDoc, Dollar, DollarCount, DollarFlat, Name, Subscript}
 use Rattle.rc_model.specs.Syntax.Tree.{Sort, Node, Many, none, more, count, snoc}
 use Rattle.rc_model.specs.Syntax.Tree as t
 use Rattle.rc_model.specs.Syntax.WellFormed.{most_stages, most_stages_in}

@@ -1,5 +1,5 @@
 -- What is read has at most 64 stages in each pipeline: the stages of a pipeline and control forms.
-use Rattle.std.proofs.Common.{ℕ, zero, suc, ◌≤◌, Bool, true, false, List, ◌∷◌, length, Err, if◌then◌else◌, arith}
+use Rattle.std.proofs.Common.{ℕ, zero, suc, ◌≤◌, Bool, true, false, List, ◌∷◌, length, if◌then◌else◌, arith}
 use Rattle.rc_model.specs.Syntax.Tokens.{Lexeme, Word, Semicolon, Newline, Equals, LeftParen, RightParen, LeftBrace, RightBrace}
 use Rattle.rc_model.specs.Syntax.Tree.{Node, Many, none, more, snoc}
 use Rattle.rc_model.specs.Syntax.Tree as t
@@ -8,8 +8,11 @@ use Rattle.rc_model.specs.Syntax.Grammar.{keyword, past_newlines, past_caret, be
 use Rattle.rc_model.specs.declared.syntax.Keyword.{Keyword}
 use Rattle.rc_model.specs.Mirrors.Descent as d
 use Rattle.rc_model.specs.Mirrors.Descent.{Read, Reader, Readers}
-use Rattle.rc_model.specs.declared.syntax.Keyword.TheVariants.{At as AtWord, Bang as BangWord, Fn as FnWord, For as ForWord, If as IfWord, In as InWord, Match as MatchWord, Not as NotWord, Plain as NoKeyword, Switch as SwitchWord, While as WhileWord}
-use Rattle.law_syntax.proofs.FewStagesInArguments.{Few, opening_wide, bind, either, few_snoc, few_redirect, Small, arg_few, members_few, words_few, redir_few, redirs_few, simple_few, brace_few, paren_few}
+use Rattle.rc_model.specs.declared.syntax.Keyword.TheVariants.{At as AtWord, Bang as BangWord, Fn as FnWord, For as ForWord, If as IfWord}
+use Rattle.rc_model.specs.declared.syntax.Keyword.TheVariants.{In as InWord, Match as MatchWord, Not as NotWord, Plain as NoKeyword}
+use Rattle.rc_model.specs.declared.syntax.Keyword.TheVariants.{Switch as SwitchWord, While as WhileWord}
+use Rattle.law_syntax.proofs.FewStagesInArguments.{Few, opening_wide, bind, either, few_snoc, few_redirect, Small, arg_few, members_few, words_few}
+use Rattle.law_syntax.proofs.FewStagesInArguments.{redir_few, redirs_few, simple_few, brace_few, paren_few}
 use Rattle.rc_model.specs.declared.fault.DescentFault.TheVariants as descent
 
 -- what follows `switch`, `~` and `fn`

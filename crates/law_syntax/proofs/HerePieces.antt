@@ -1,5 +1,5 @@
 -- The pieces that are computed of the body of a here document are those of the rule, and no others are.
-use Rattle.std.proofs.Common.{◌≡◌, refl, sym, ap, subst, ◌∙◌, ℕ, zero, suc, ◌+◌, ◌≤◌, ◌<◌, Bool, true, false, ◌==◌, ◌&&◌, List, [], ◌∷◌, ◌++◌, length, arith, append_assoc, append-nil}
+use Rattle.std.proofs.Common.{◌≡◌, refl, sym, ap, subst, ◌∙◌, ℕ, zero, suc, ◌≤◌, ◌<◌, Bool, true, false, ◌==◌, List, [], ◌∷◌, ◌++◌, length, arith, append_assoc, append-nil}
 use Rattle.std.specs.Prelude.{if◌then◌else◌}
 use Rattle.std.specs.List.{list_all}
 use Rattle.std.specs.Char.{encode_utf8}
@@ -29,7 +29,8 @@ joined_none (more p ps) = ap (λ z. more p z) (joined_none ps)
 plain_other : (bs : List ℕ) (before : Many t.piece) (c : ℕ) (cs : List ℕ) → (c == 36) ≡ false → pieces_from (Plain bs) before (c ∷ cs) ≡ pieces_from (Plain (bs ++ encode_utf8 c)) before cs
 plain_other bs before c cs h = ap (λ b. pieces_from (if b then Dollar bs else Plain (bs ++ encode_utf8 c)) before cs) h
 
-dollar_alone : (bs : List ℕ) (before : Many t.piece) (cs : List ℕ) → goes_on_name cs ≡ false → begins_dollar cs ≡ false → pieces_from (Dollar bs) before cs ≡ pieces_from (Plain (bs ++ 36 ∷ [])) before cs
+dollar_alone : (bs : List ℕ) (before : Many t.piece) (cs : List ℕ) → goes_on_name cs ≡ false → begins_dollar cs ≡ false
+    → pieces_from (Dollar bs) before cs ≡ pieces_from (Plain (bs ++ 36 ∷ [])) before cs
 dollar_alone bs before [] h k = refl
 dollar_alone bs before (c ∷ cs) h k =
     ap (λ b. pieces_from (if b then Naming (encode_utf8 c) else (if c == 36 then Plain (bs ++ 36 ∷ []) else Plain (bs ++ 36 ∷ encode_utf8 c))) (if b then with_text before bs else before) cs) h
@@ -50,12 +51,14 @@ stand_for rest cs text (alone cs' text' h d k) bs before =
     ∙ ap (λ z. pieces_from (Plain z) before rest) (append_assoc bs (36 ∷ []) (encode_utf8_all text'))
 
 -- names
-name_begins : (bs : List ℕ) (before : Many t.piece) (c d : ℕ) (cs : List ℕ) → (c == 36) ≡ true → is_name_char d ≡ true → pieces_from (Plain bs) before (c ∷ d ∷ cs) ≡ pieces_from (Naming (encode_utf8 d)) (with_text before bs) cs
+name_begins : (bs : List ℕ) (before : Many t.piece) (c d : ℕ) (cs : List ℕ) → (c == 36) ≡ true → is_name_char d ≡ true
+    → pieces_from (Plain bs) before (c ∷ d ∷ cs) ≡ pieces_from (Naming (encode_utf8 d)) (with_text before bs) cs
 name_begins bs before c d cs h k =
     ap (λ b. pieces_from (if b then Dollar bs else Plain (bs ++ encode_utf8 c)) before (d ∷ cs)) h
     ∙ ap (λ b. pieces_from (if b then Naming (encode_utf8 d) else (if d == 36 then Plain (bs ++ 36 ∷ []) else Plain (bs ++ 36 ∷ encode_utf8 d))) (if b then with_text before bs else before) cs) k
 
-naming : (name : List ℕ) → list_all is_name_char name ≡ true → (bs : List ℕ) (before : Many t.piece) (rest : List ℕ) → pieces_from (Naming bs) before (name ++ rest) ≡ pieces_from (Naming (bs ++ encode_utf8_all name)) before rest
+naming : (name : List ℕ) → list_all is_name_char name ≡ true → (bs : List ℕ) (before : Many t.piece) (rest : List ℕ)
+    → pieces_from (Naming bs) before (name ++ rest) ≡ pieces_from (Naming (bs ++ encode_utf8_all name)) before rest
 naming [] h bs before rest = ap (λ z. pieces_from (Naming z) before rest) (sym (append-nil bs))
 naming (c ∷ name) h bs before rest =
     let k = and_parts (is_name_char c) (list_all is_name_char name) h in
@@ -196,7 +199,16 @@ past c cs false one two = some (c ∷ cs) one
 
 name_step : (c : ℕ) (cs : List ℕ) (b : Bool) → is_name_char c ≡ b → BeginsText (c ∷ cs) → BeginsText cs → BeginsName cs → BeginsName (c ∷ cs)
 name_step c cs true h one two name =
-    record { name = c ∷ name.name; rest = name.rest; ps = name.ps; is = ap (λ z. c ∷ z) name.is; all = and_from (is_name_char c) (list_all is_name_char name.name) h name.all; stops = name.stops; pieces = name.pieces }
+    record {
+      name = c ∷ name.name;
+      rest = name.rest;
+      ps = name.ps;
+      is = ap (λ z. c ∷ z) name.is;
+      all = and_from (is_name_char c)
+          (list_all is_name_char name.name) h name.all;
+      stops = name.stops;
+      pieces = name.pieces;
+    }
 name_step c cs false h one two name =
     let p = past c cs (c == 94) one two in
     record { name = []; rest = c ∷ cs; ps = p.0; is = refl; all = refl; stops = h; pieces = p.1 }

@@ -77,10 +77,15 @@ has_one_tree ts tree other a q =
     q.2 ∙ sym (ap (λ z. t.Seq z.0) e) ∙ sym p.2
 
 -- the faults of reading, and those after it
-whole_unexpected : (levels tall wide place : ℕ) (o : Read (Many t.item)) (is : Many t.item) → Meets levels tall wide o (is, []) → (d.whole o ≡ Err (descent.Unexpected, place)) ⊎ (d.whole o ≡ Err (descent.IfNot, place)) → ⊥
-whole_unexpected levels tall wide place (Ok y) is m h = either_way (nat_le (depth (t.Seq is)) 200) (subst (λ z. (d.whole (Ok z) ≡ Err (descent.Unexpected, place)) ⊎ (d.whole (Ok z) ≡ Err (descent.IfNot, place))) m.met h)
+whole_unexpected : (levels tall wide place : ℕ) (o : Read (Many t.item)) (is : Many t.item) → Meets levels tall wide o (is, [])
+    → (d.whole o ≡ Err (descent.Unexpected, place)) ⊎ (d.whole o ≡ Err (descent.IfNot, place)) → ⊥
+whole_unexpected levels tall wide place (Ok y) is m h =
+    either_way (nat_le (depth (t.Seq is)) 200)
+    (subst (λ z. (d.whole (Ok z) ≡ Err (descent.Unexpected, place)) ⊎ (d.whole (Ok z) ≡ Err (descent.IfNot, place))) m.met h)
   where
-    either_way : (b : Bool) → ((if b then done (t.Seq is) else Err (descent.TooDeep, 0)) ≡ Err (descent.Unexpected, place)) ⊎ ((if b then done (t.Seq is) else Err (descent.TooDeep, 0)) ≡ Err (descent.IfNot, place)) → ⊥
+    either_way : (b : Bool)
+        → ((if b then done (t.Seq is) else Err (descent.TooDeep, 0)) ≡ Err (descent.Unexpected, place)) ⊎ ((if b then done (t.Seq is) else Err (descent.TooDeep, 0)) ≡ Err (descent.IfNot, place))
+        → ⊥
     either_way true (inl k) = cc
     either_way true (inr k) = cc
     either_way false (inl k) = let e = same_fault _ _ k in cc

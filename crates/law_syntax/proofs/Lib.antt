@@ -18,6 +18,13 @@ pub mod OneTree
 pub mod Found
 pub mod Decided
 pub mod Shorter
+pub mod Ahead
+pub mod Extending
+pub mod Tails
+pub mod Elsewhere
+pub mod Counts
+pub mod LineEnds
+pub mod JoinedParts
 pub mod Lists
 pub mod Beginnings
 pub mod SoundnessOfArguments

@@ -12,7 +12,6 @@ use Rattle.law_syntax.specs.ByteLaws.{BytesLaw}
 use Rattle.law_syntax.proofs.High.{HighChar, encode_high, high_class}
 use Rattle.law_syntax.proofs.Ascii.{Reads, ascii, step_same}
 use Rattle.law_syntax.proofs.NotAscii.{high_step}
-use Rattle.rc_model.specs.declared.syntax.Class.TheVariants as class
 
 high_char : (c : ℕ) (cs : List ℕ) → Reads cs → 128 ≤ c → HighChar (encode_utf8 c) → Reads (c ∷ cs)
 high_char c cs ih k h s due p =

@@ -65,7 +65,8 @@ operator_runs prev dollars q acc due [] rest p h = ap (λ z. run (Operator prev 
 operator_runs prev dollars q acc due (c ∷ cs) rest p h =
     let e = append_assoc acc (c ∷ []) cs in
     let h' : t.begins_operator ((acc ++ c ∷ []) ++ cs) ≡ true = ap t.begins_operator e ∙ h in
-    ap (λ b. follow (cond b (goes [] (Operator prev dollars q (acc ++ c ∷ [])) due) (end_operator prev dollars q (t.operator acc) due p c (t.class_of c))) (λ s' due'. run s' due' (t.after_char p c) (cs ++ rest)))
+    ap (λ b. follow (cond b (goes [] (Operator prev dollars q (acc ++ c ∷ [])) due) (end_operator prev dollars q (t.operator acc) due p c (t.class_of c)))
+    (λ s' due'. run s' due' (t.after_char p c) (cs ++ rest)))
     (begins-front (acc ++ c ∷ []) cs h')
     ∙ join_nil (run (Operator prev dollars q (acc ++ c ∷ [])) due (t.after_char p c) (cs ++ rest))
     ∙ operator_runs prev dollars q (acc ++ c ∷ []) due cs rest (t.after_char p c) h'
@@ -80,14 +81,17 @@ pub operator_ends : (prev : Previous) (dollars : List Token) (q : Place) (acc : 
     run (Operator prev dollars q acc) due p rest ≡ operated_run prev dollars q (t.operator acc) due p rest
 operator_ends prev dollars q acc due p [] h = refl
 operator_ends prev dollars q acc due p (c ∷ cs) h =
-    ap (λ b. follow (cond b (goes [] (Operator prev dollars q (acc ++ c ∷ [])) due) (end_operator prev dollars q (t.operator acc) due p c (t.class_of c))) (λ s' due'. run s' due' (t.after_char p c) cs)) h
+    ap (λ b. follow (cond b (goes [] (Operator prev dollars q (acc ++ c ∷ [])) due) (end_operator prev dollars q (t.operator acc) due p c (t.class_of c)))
+    (λ s' due'. run s' due' (t.after_char p c) cs)) h
 
 -- from its first character on
-pub operator_begun : (prev : Previous) (due : List PendingHereDoc) (p : Place) (c : ℕ) (cs rest : List ℕ) → t.awaits_mark prev ≡ false → t.begins_operator (c ∷ cs) ≡ true → t.goes_on (c ∷ cs) rest ≡ false →
+pub operator_begun : (prev : Previous) (due : List PendingHereDoc) (p : Place) (c : ℕ) (cs rest : List ℕ) → t.awaits_mark prev ≡ false
+    → t.begins_operator (c ∷ cs) ≡ true → t.goes_on (c ∷ cs) rest ≡ false →
     run (Between prev) due p (c ∷ cs ++ rest) ≡ operated_run prev [] p (t.operator (c ∷ cs)) due (t.after_chars p (c ∷ cs)) rest
 operator_begun prev due p c cs rest a h g =
     ap (λ b. run_at (Between prev) due p c (cs ++ rest)
-    (cond b class.Operates (cond ((c == 32) || (c == 9)) class.Blank (cond (c == 10) class.LineEnd (cond (c == 35) class.Hash (cond (c == 39) class.Quote (cond (c == 92) class.Backslash class.Ordinary)))))))
+    (cond b class.Operates (cond ((c == 32) || (c == 9)) class.Blank
+    (cond (c == 10) class.LineEnd (cond (c == 35) class.Hash (cond (c == 39) class.Quote (cond (c == 92) class.Backslash class.Ordinary)))))))
     (begins-front (c ∷ []) cs h)
     ∙ begun prev a
     ∙ operator_runs prev [] p (c ∷ []) due cs rest (t.after_char p c) h

@@ -6,7 +6,8 @@ use Rattle.rc_model.specs.Syntax.Tree as t
 use Rattle.rc_model.specs.Syntax.Grammar.{Phrase, Level, Out, keyword, begins_first, begins_redir, begins_brace}
 use Rattle.rc_model.specs.declared.syntax.Keyword.{Keyword}
 use Rattle.rc_model.specs.Syntax.Grammar as g
-use Rattle.rc_model.specs.declared.syntax.Keyword.TheVariants.{At as AtWord, Bang as BangWord, Fn as FnWord, For as ForWord, If as IfWord, Match as MatchWord, Plain as NoKeyword, Switch as SwitchWord, While as WhileWord}
+use Rattle.rc_model.specs.declared.syntax.Keyword.TheVariants.{At as AtWord, Bang as BangWord, Fn as FnWord, For as ForWord, If as IfWord}
+use Rattle.rc_model.specs.declared.syntax.Keyword.TheVariants.{Match as MatchWord, Plain as NoKeyword, Switch as SwitchWord, While as WhileWord}
 use Rattle.law_syntax.proofs.Beginnings.{plain_is}
 
 -- the same tree and the same rest

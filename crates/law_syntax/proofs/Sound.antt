@@ -168,7 +168,10 @@ sound_of (g.define_stage {ts = ts} {a = a} {as' = as'} kw p q r) w =
     let c = sound_of q b.1 in
     let d = sound_of r c.1 in
     (record { sound = given (some a as') (both (both b.0.sound c.0.sound) d.0.sound) }, d.1)
-sound_of (g.undefine_stage {ts = ts} {a = a} {as' = as'} kw p q e) w = let b = sound_of p (past_caret_spelled ts w.1) in let c = sound_of q b.1 in (record { sound = given (some a as') (both b.0.sound c.0.sound) }, c.1)
+sound_of (g.undefine_stage {ts = ts} {a = a} {as' = as'} kw p q e) w =
+    let b = sound_of p (past_caret_spelled ts w.1) in
+    let c = sound_of q b.1 in
+    (record { sound = given (some a as') (both b.0.sound c.0.sound) }, c.1)
 sound_of (g.piped {c = c} {ss = ss} p q) w = let b = sound_of p w in let d = sound_of q b.1 in (pipeline_sound c ss b.0 d.0, d.1)
 sound_of (g.no_bar e) w = (tt, w)
 sound_of (g.bar_stage {ts = ts} p q) w = let b = sound_of p (past_newlines_spelled ts w.1) in let c = sound_of q b.1 in ((w.0, (b.0, c.0)), c.1)
@@ -176,7 +179,11 @@ sound_of (g.bar_leading {ts = ts} p) w = let b = sound_of p (past_newlines_spell
 sound_of (g.bar_assigned {ts = ts} p) w = let b = sound_of p (past_newlines_spelled ts w.1) in ((w.0, (b.0, tt)), b.1)
 sound_of (g.not_leading {ts = ts} kw p) w = let b = sound_of p (past_caret_spelled ts w.1) in (record { sound = b.0.sound }, b.1)
 sound_of (g.subshell_leading {ts = ts} kw p) w = let b = sound_of p (past_caret_spelled ts w.1) in (record { sound = b.0.sound }, b.1)
-sound_of (g.redir_leading {r = redir} {rs = rs} p q r) w = let b = sound_of p w in let c = sound_of q b.1 in let d = sound_of r c.1 in (record { sound = given (some redir rs) (both (both b.0.sound c.0.sound) d.0.sound) }, d.1)
+sound_of (g.redir_leading {r = redir} {rs = rs} p q r) w =
+    let b = sound_of p w in
+    let c = sound_of q b.1 in
+    let d = sound_of r c.1 in
+    (record { sound = given (some redir rs) (both (both b.0.sound c.0.sound) d.0.sound) }, d.1)
 sound_of (g.if_leading {ts = ts} kw p q) w = let b = sound_of p (past_caret_spelled ts w.1) in let c = sound_of q b.1 in (record { sound = both b.0.sound c.0.sound }, c.1)
 sound_of (g.while_leading {ts = ts} kw p q) w = let b = sound_of p (past_caret_spelled ts w.1) in let c = sound_of q b.1 in (record { sound = both b.0.sound c.0.sound }, c.1)
 sound_of (g.if_not_leading {next_text = text} {ts = ts} {next = next} kw e f p) w =
@@ -196,7 +203,11 @@ sound_of (g.for_leading {next_text = text} {ts = ts} {head = head} {mid = mid} {
     let c = sound_of q (past_caret_spelled list in'.1) in
     let d = sound_of r c.1 in
     (record { sound = both b.0.sound (both c.0.sound d.0.sound) }, d.1)
-sound_of (g.assignment {a = a} {v = v} {x = x} e p q r) w = let b = sound_of p w in let c = sound_of q b.1.1 in let d = sound_of r c.1 in (record { sound = given (some (t.Pair a v) x.0) (both (both (both b.0.sound c.0.sound) d.0.0.sound) d.0.1.sound) }, d.1)
+sound_of (g.assignment {a = a} {v = v} {x = x} e p q r) w =
+    let b = sound_of p w in
+    let c = sound_of q b.1.1 in
+    let d = sound_of r c.1 in
+    (record { sound = given (some (t.Pair a v) x.0) (both (both (both b.0.sound c.0.sound) d.0.0.sound) d.0.1.sound) }, d.1)
 sound_of (g.another_value e p q r) w = let b = sound_of p w in let c = sound_of q b.1.1 in let d = sound_of r c.1 in ((record { sound = both (both b.0.sound c.0.sound) d.0.0.sound }, d.0.1), d.1)
 sound_of (g.values_alone e) w = ((no_more, empty), w)
 sound_of (g.values_leading p) w = let b = sound_of p w in ((no_more, b.0), b.1)

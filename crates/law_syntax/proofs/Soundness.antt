@@ -1,5 +1,5 @@
 -- What the descent reads is a phrase: commands, lists of them, and all that is read, however many levels are left.
-use Rattle.std.proofs.Common.{◌≡◌, ℕ, zero, suc, ◌≤◌, Bool, true, false, not, ◌&&◌, List, [], ◌∷◌, length, Ok, Err, ◌⊎◌, inl, inr, refl, sym, ap, subst, arith}
+use Rattle.std.proofs.Common.{◌≡◌, ℕ, zero, suc, ◌≤◌, Bool, true, false, not, ◌&&◌, List, [], ◌∷◌, length, Ok, ◌⊎◌, inl, inr, refl, sym, ap, subst, arith}
 use Rattle.rc_model.specs.Syntax.Tokens.{Lexeme, Semicolon, Ampersand, Newline, AndAnd, OrOr}
 use Rattle.rc_model.specs.Syntax.Tree.{Node, Many, none, snoc}
 use Rattle.rc_model.specs.Syntax.Tree as t
@@ -81,7 +81,9 @@ unfolding d.item_end
 item_end_shorter (Semicolon ∷ ts) b h = let e = ap (λ z. length z.1) (ok_same (false, ts) b h) in omega arith
 item_end_shorter (Newline ∷ ts) b h = let e = ap (λ z. length z.1) (ok_same (false, ts) b h) in omega arith
 item_end_shorter (Ampersand ∷ ts) b h = let e = ap (λ z. length z.1) (ok_same (true, ts) b h) in omega arith
-item_end_shorter ts b h = elim (if_ok (closes ts) (done (false, ts)) (d.stops descent.Unexpected ts) b h) [ inl k ↦ (let e = ap (λ z. length z.1) (ok_same (false, ts) b k.1) in omega arith) | inr k ↦ absurd cc ]
+item_end_shorter ts b h =
+    elim
+    (if_ok (closes ts) (done (false, ts)) (d.stops descent.Unexpected ts) b h) [ inl k ↦ (let e = ap (λ z. length z.1) (ok_same (false, ts) b k.1) in omega arith) | inr k ↦ absurd cc ]
 
 item_turn_sound : (r : Readers) → Sound r → (s : Bool) (k : ℕ) (go_on : Bool → Many t.item → Reader (Many t.item))
     (goes : (f : Bool) (front : Many t.item) (ts : List Lexeme) (x : Many t.item × List Lexeme) → length ts ≤ k → go_on f front ts ≡ Ok x →

@@ -1,6 +1,7 @@
 -- What the descent reads is a phrase, for names, arguments, redirections, the words of a simple command and lists in brackets.
 use Rattle.std.proofs.Common.{◌≡◌, ℕ, zero, suc, ◌≤◌, Bool, true, false, List, [], ◌∷◌, length, Option, Some, None, Ok, Err, ◌⊎◌, inl, inr, refl, sym, ap, subst, ◌∙◌, arith}
-use Rattle.rc_model.specs.Syntax.Tokens.{Lexeme, Word, Quoted, Newline, LeftParen, RightParen, LeftBrace, RightBrace, Backquote, Redirection, CopyTo, HereDoc, Dollar, DollarCount, DollarFlat, Name, Subscript}
+use Rattle.rc_model.specs.Syntax.Tokens.{Lexeme, Word, Quoted, Newline, LeftParen, RightParen, LeftBrace, RightBrace, Backquote, Redirection, CopyTo}
+use Rattle.rc_model.specs.Syntax.Tokens.{HereDoc, Dollar, DollarCount, DollarFlat, Name, Subscript}
 use Rattle.rc_model.specs.Syntax.Tree.{Node, Many, none, more, snoc}
 use Rattle.rc_model.specs.Syntax.Tree as t
 use Rattle.rc_model.specs.Syntax.Grammar.{Phrase, Level, Out, past_blanks, after_caret, concat_of, begins_arg, begins_redir}

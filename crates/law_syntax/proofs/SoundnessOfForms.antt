@@ -1,5 +1,5 @@
 -- What the descent reads is a phrase, for the stages of a pipeline and for control forms.
-use Rattle.std.proofs.Common.{◌≡◌, ℕ, zero, suc, Bool, true, false, List, ◌∷◌, length, Ok, Err, inl, inr, if◌then◌else◌, refl, sym, ap, subst}
+use Rattle.std.proofs.Common.{◌≡◌, ℕ, zero, suc, Bool, true, false, List, ◌∷◌, length, Ok, inl, inr, if◌then◌else◌, refl, sym, ap, subst}
 use Rattle.rc_model.specs.Syntax.Tokens.{Lexeme, Word, Semicolon, Newline, Equals, LeftParen, RightParen, LeftBrace, RightBrace}
 use Rattle.rc_model.specs.Syntax.Tree.{Node, Many, none, more, snoc}
 use Rattle.rc_model.specs.Syntax.Tree as t
@@ -9,7 +9,9 @@ use Rattle.rc_model.specs.Syntax.Grammar as g
 use Rattle.rc_model.specs.Mirrors.Descent as d
 use Rattle.rc_model.specs.Mirrors.Descent.{Read, Readers, Opening, Staged, Named}
 use Rattle.law_syntax.proofs.Lists.{done, ok_same, bind_ok, if_ok, Adds, adds_none, adds_more, adds_same, all_added}
-use Rattle.rc_model.specs.declared.syntax.Keyword.TheVariants.{At as AtWord, Bang as BangWord, Fn as FnWord, For as ForWord, If as IfWord, In as InWord, Match as MatchWord, Not as NotWord, Plain as NoKeyword, Switch as SwitchWord, While as WhileWord}
+use Rattle.rc_model.specs.declared.syntax.Keyword.TheVariants.{At as AtWord, Bang as BangWord, Fn as FnWord, For as ForWord, If as IfWord}
+use Rattle.rc_model.specs.declared.syntax.Keyword.TheVariants.{In as InWord, Match as MatchWord, Not as NotWord, Plain as NoKeyword}
+use Rattle.rc_model.specs.declared.syntax.Keyword.TheVariants.{Switch as SwitchWord, While as WhileWord}
 use Rattle.law_syntax.proofs.SoundnessOfArguments.{Sound, found, arg_sound, members_sound, words_sound, redir_sound, redirs_sound, simple_sound, brace_sound, paren_sound}
 use Rattle.law_syntax.proofs.Beginnings.{arg_begins}
 use Rattle.rc_model.specs.declared.fault.DescentFault.TheVariants as descent
@@ -116,7 +118,8 @@ IsOpening ts (Named a) rest = (begins_first ts ≡ true) × Phrase (g.arg false)
 found_opening : (ts : List Lexeme) (y x : Opening × List Lexeme) → IsOpening ts y.0 y.1 → done y ≡ Ok x → IsOpening ts x.0 x.1
 found_opening ts y x p h = subst (λ z. IsOpening ts z.0 z.1) (ok_same y x h) p
 
-staged_sound : (ts : List Lexeme) (o : Read (Node t.cmd)) (x : Opening × List Lexeme) → ((y : Node t.cmd × List Lexeme) → o ≡ Ok y → Phrase g.stage ts y.0 y.1) → d.staged o ≡ Ok x → IsOpening ts x.0 x.1
+staged_sound : (ts : List Lexeme) (o : Read (Node t.cmd)) (x : Opening × List Lexeme)
+    → ((y : Node t.cmd × List Lexeme) → o ≡ Ok y → Phrase g.stage ts y.0 y.1) → d.staged o ≡ Ok x → IsOpening ts x.0 x.1
 staged_sound ts o x f h = let w = bind_ok o _ x h in found_opening ts (Staged w.0.0, w.0.1) x (f w.0 w.1) w.2
 
 after_first_sound : (r : Readers) → Sound r → (ts : List Lexeme) (a : Node t.arg) (mid : List Lexeme) (x : Opening × List Lexeme) → begins_first ts ≡ true → Phrase (g.arg false) ts a mid →

@@ -168,7 +168,8 @@ cut_spelled (k.bad_descriptor _ _ _ _ _ _ _ _ _ _) s z = tt
 cut_spelled (k.here _ _ _ cs rest _ _ _ _ r) s z = cut_spelled r (scalars_back cs rest s) (clean_back cs rest z)
 cut_spelled (k.no_mark begin end due p text o _ r) s z = join_spelled (token k.BareHere begin end ∷ []) [] o (tt, tt) tt (cut_spelled r s z)
 cut_spelled (k.newline prev due p cs rest bodies o _ b r) s z =
-    join_spelled (token k.Newline p (k.after_char p 10) ∷ []) bodies o (tt, tt) (bodies_texts b (scalars_front cs rest s) (clean_front cs rest z)) (cut_spelled r (scalars_back (10 ∷ cs) rest s) (clean_back (10 ∷ cs) rest z))
+    join_spelled (token k.Newline p (k.after_char p 10) ∷ []) bodies o (tt, tt) (bodies_texts b (scalars_front cs rest s) (clean_front cs rest z))
+    (cut_spelled r (scalars_back (10 ∷ cs) rest s) (clean_back (10 ∷ cs) rest z))
 cut_spelled (k.open_body _ _ _ _ _ _ _) s z = tt
 
 -- so is a here document with its body, and nothing else changes

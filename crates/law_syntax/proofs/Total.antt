@@ -54,11 +54,20 @@ eq_flip a b h = by (b == a) refl
     by false e = e
 
 plain_at : (c : ℕ) (cs : List ℕ) → (c == 39) ≡ false → QuotedOrOpen cs → QuotedOrOpen (c ∷ cs)
-plain_at c cs e (inl s) = inl (record { front = c ∷ s.front; rest = s.rest; is = ap (λ z. c ∷ z) s.is; has = record { after = s.has.after; is = s.has.is; inside = t.plain c s.front e s.has.inside; ends = s.has.ends } })
+plain_at c cs e (inl s) =
+    inl
+    (record { front = c ∷ s.front; rest = s.rest; is = ap (λ z. c ∷ z) s.is; has = record { after = s.has.after; is = s.has.is; inside = t.plain c s.front e s.has.inside; ends = s.has.ends } })
 plain_at c cs e (inr i) = inr (t.plain c cs e i)
 
 doubled_at : (cs : List ℕ) → QuotedOrOpen cs → QuotedOrOpen (39 ∷ 39 ∷ cs)
-doubled_at cs (inl s) = inl (record { front = 39 ∷ 39 ∷ s.front; rest = s.rest; is = ap (λ z. 39 ∷ 39 ∷ z) s.is; has = record { after = s.has.after; is = s.has.is; inside = t.doubled s.front s.has.inside; ends = s.has.ends } })
+doubled_at cs (inl s) =
+    inl
+    (record {
+      front = 39 ∷ 39 ∷ s.front;
+      rest = s.rest;
+      is = ap (λ z. 39 ∷ 39 ∷ z) s.is;
+      has = record { after = s.has.after; is = s.has.is; inside = t.doubled s.front s.has.inside; ends = s.has.ends };
+    })
 doubled_at cs (inr i) = inr (t.doubled cs i)
 
 quoted_or_open : (cs : List ℕ) → QuotedOrOpen cs
@@ -74,7 +83,12 @@ quoted_or_open (c ∷ d ∷ ds) = by (c == 39) (d == 39) refl refl (quoted_or_op
     by false b e f next nextnext = plain_at c (d ∷ ds) e next
     by true true e f next nextnext = subst QuotedOrOpen (sym (ap (λ z. z ∷ d ∷ ds) (eqb-true c 39 e) ∙ ap (λ z. 39 ∷ z ∷ ds) (eqb-true d 39 f))) (doubled_at ds nextnext)
     by true false e f next nextnext =
-        inl (record { front = []; rest = c ∷ d ∷ ds; is = refl; has = record { after = d ∷ ds; is = ap (λ z. z ∷ d ∷ ds) (eqb-true c 39 e); inside = t.nothing; ends = ap (λ v. v && true) (eq_flip d 39 f) } })
+        inl (record {
+          front = [];
+          rest = c ∷ d ∷ ds;
+          is = refl;
+          has = record { after = d ∷ ds; is = ap (λ z. z ∷ d ∷ ds) (eqb-true c 39 e); inside = t.nothing; ends = ap (λ v. v && true) (eq_flip d 39 f) };
+        })
 
 -- the longest beginning of an operator
 pub record Longest (acc front rest : List ℕ) : Type 0 where
@@ -204,9 +218,11 @@ lexeme_at : (n : ℕ) → Shorter n → (prev : Previous) (due : List PendingHer
     t.IsLexeme prev (c ∷ front) rest l → CutAt prev due p (c ∷ cs)
 lexeme_at n ih prev due p c cs front rest l e h s =
     let x = ih rest (shorter_rest n cs front rest e h) (t.after_token prev l) (t.pending_after prev l due) (t.after_chars p (c ∷ front)) in
-    subst (λ z. CutAt prev due p (c ∷ z)) (sym e) (record { outcome = t.join (t.tokens_of prev l p (t.after_chars p (c ∷ front))) [] x.outcome; cut = t.lexeme prev due p (c ∷ front) rest l x.outcome s x.cut })
+    subst (λ z. CutAt prev due p (c ∷ z)) (sym e)
+    (record { outcome = t.join (t.tokens_of prev l p (t.after_chars p (c ∷ front))) [] x.outcome; cut = t.lexeme prev due p (c ∷ front) rest l x.outcome s x.cut })
 
-word_at : (n : ℕ) → Shorter n → (prev : Previous) (due : List PendingHereDoc) (p : Place) (c : ℕ) (cs : List ℕ) → length cs ≤ n → t.begins_name prev c ≡ false → t.word_goes_on (c ∷ cs) ≡ true → CutAt prev due p (c ∷ cs)
+word_at : (n : ℕ) → Shorter n → (prev : Previous) (due : List PendingHereDoc) (p : Place) (c : ℕ) (cs : List ℕ) → length cs ≤ n
+    → t.begins_name prev c ≡ false → t.word_goes_on (c ∷ cs) ≡ true → CutAt prev due p (c ∷ cs)
 word_at n ih prev due p c cs h b g =
     let s = run_from t.word_goes_on refl c cs g in
     lexeme_at n ih prev due p c cs s.front s.rest (t.Word (encode_utf8_all (c ∷ s.front))) s.is h (t.word prev c s.front s.rest b s.has)
@@ -216,7 +232,8 @@ name_at n ih due p c cs h g =
     let s = run_from t.name_goes_on refl c cs g in
     lexeme_at n ih previous.Dollar due p c cs s.front s.rest (t.Name (encode_utf8_all (c ∷ s.front))) s.is h (t.name c s.front s.rest s.has)
 
-ordinary_at : (n : ℕ) → Shorter n → (prev : Previous) (due : List PendingHereDoc) (p : Place) (c : ℕ) (cs : List ℕ) → length cs ≤ n → t.word_goes_on (c ∷ cs) ≡ true → (b : Bool) → t.begins_name prev c ≡ b →
+ordinary_at : (n : ℕ) → Shorter n → (prev : Previous) (due : List PendingHereDoc) (p : Place) (c : ℕ) (cs : List ℕ) → length cs ≤ n
+    → t.word_goes_on (c ∷ cs) ≡ true → (b : Bool) → t.begins_name prev c ≡ b →
     CutAt prev due p (c ∷ cs)
 ordinary_at n ih prev due p c cs h g false e = word_at n ih prev due p c cs h e g
 ordinary_at n ih previous.Dollar due p c cs h g true e = name_at n ih due p c cs h e
@@ -274,13 +291,15 @@ operator_lexeme n ih prev due p c cs front rest e h a b g (Some t.BareHere) o =
 operator_lexeme n ih prev due p c cs front rest e h a b g (Some l) o =
     lexeme_at n ih prev due p c cs front rest (t.meant prev rest l) e h (t.operated prev (c ∷ front) rest l a o (λ z. absurd cc) g)
 
-operator_at : (n : ℕ) → Shorter n → (prev : Previous) (due : List PendingHereDoc) (p : Place) (c : ℕ) (cs : List ℕ) → length cs ≤ n → t.awaits_mark prev ≡ false → t.begins_operator (c ∷ []) ≡ true → CutAt prev due p (c ∷ cs)
+operator_at : (n : ℕ) → Shorter n → (prev : Previous) (due : List PendingHereDoc) (p : Place) (c : ℕ) (cs : List ℕ) → length cs ≤ n
+    → t.awaits_mark prev ≡ false → t.begins_operator (c ∷ []) ≡ true → CutAt prev due p (c ∷ cs)
 operator_at n ih prev due p c cs h a b =
     let s = operator_of (c ∷ []) cs b in
     operator_lexeme n ih prev due p c cs s.front s.rest s.is h a s.has.begins s.has.ends (t.operator (c ∷ s.front)) refl
 
 -- at a character, where a mark is looked for only if one may begin
-char_at : (n : ℕ) → Shorter n → (prev : Previous) (due : List PendingHereDoc) (p : Place) (c : ℕ) (cs : List ℕ) → length cs ≤ n → (k : Class) → t.class_of c ≡ k → (t.awaits_mark prev ≡ false) ⊎ (t.is_mark k ≡ true) →
+char_at : (n : ℕ) → Shorter n → (prev : Previous) (due : List PendingHereDoc) (p : Place) (c : ℕ) (cs : List ℕ) → length cs ≤ n → (k : Class)
+    → t.class_of c ≡ k → (t.awaits_mark prev ≡ false) ⊎ (t.is_mark k ≡ true) →
     CutAt prev due p (c ∷ cs)
 char_at n ih prev due p c cs h class.Blank e m = let x = ih cs h (t.after_blank prev) due (t.after_char p c) in record { outcome = x.outcome; cut = t.blank prev due p c cs x.outcome e x.cut }
 char_at n ih prev due p c cs h class.Ordinary e m = ordinary_at n ih prev due p c cs h (ap (λ k. t.is_in_word k cs) e) (t.begins_name prev c) refl
@@ -297,7 +316,8 @@ end_at : (prev : Previous) (due : List PendingHereDoc) (p : Place) → t.awaits_
 end_at prev [] p a = record { outcome = Ok ([], []); cut = t.finish prev p a }
 end_at prev (d ∷ due) p a = record { outcome = Err (t.fault OpenHere d.line); cut = t.open_here prev d due p a }
 
-without_mark : (begin' end : Place) (due : List PendingHereDoc) (p : Place) (text : List ℕ) → t.mark_goes_on text ≡ false → CutAt previous.Apart due p text → CutAt (previous.Here begin' end) due p text
+without_mark : (begin' end : Place) (due : List PendingHereDoc) (p : Place) (text : List ℕ) → t.mark_goes_on text ≡ false
+    → CutAt previous.Apart due p text → CutAt (previous.Here begin' end) due p text
 without_mark begin' end due p text h x = record { outcome = t.join (t.token t.BareHere begin' end ∷ []) [] x.outcome; cut = t.no_mark begin' end due p text x.outcome h x.cut }
 
 cut_at : (n : ℕ) → Shorter n → (c : ℕ) (cs : List ℕ) → length cs ≤ n → (prev : Previous) (due : List PendingHereDoc) (p : Place) → (b : Bool) → t.mark_goes_on (c ∷ cs) ≡ b → CutAt prev due p (c ∷ cs)

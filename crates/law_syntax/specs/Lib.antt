@@ -1,3 +1,4 @@
 pub mod Trees
 pub mod ByteReading
 pub mod ByteLaws
+pub mod Parts

@@ -3,6 +3,7 @@
 
 mod acceptance;
 mod bytes;
+mod parts;
 mod tokens;
 mod uniqueness;
 
@@ -14,6 +15,7 @@ pub use acceptance::{
     tree_of_text,
 };
 pub use bytes::{characters_by_bytes, in_pieces};
+pub use parts::{parts_join, parts_split, phrases_extend, phrases_leave_tails};
 pub use tokens::{here_pieces, reading, spelling};
 pub use uniqueness::one_tree;
 

@@ -13,7 +13,7 @@ mod plain;
 mod previous;
 
 pub use lexer::{Lexer, lex};
-pub use pieces::Pieces;
+pub use pieces::{Pieces, lex_bytes};
 use rc_model::{FaultKind, InputError, Mode, SyntaxFault};
 
 /// A part of the script, in bytes.

@@ -176,6 +176,15 @@ fn finished(
     finish_reading(reading, text, state, place)
 }
 
+/// Returns the tokens of a text that is there as a whole, or its first fault. A byte 0 is looked for first.
+pub fn lex_bytes(alloc: Global, text: &[u8]) -> Result<Vec<Token>, ScriptError>
+    ensures { Finishes text.now result }
+{
+    let state = LexerState::Between(Previous::Apart);
+    let place = Place { byte: 0, line: 1 };
+    finished(Reading::new(alloc), text, state, place, None)
+}
+
 /// The text so far, and what was read of it.
 pub struct Pieces {
     text: Vec<u8>,
