@@ -1,5 +1,6 @@
 -- The relation and the matcher that computes are the same.
-use Rattle.std.proofs.Common.{◌≡◌, ℕ, zero, suc, ◌<◌, Bool, true, false, cond, eqb, List, [], ◌∷◌, ◌++◌, length, Option, Some, None, refl, sym, ap, ◌∙◌, ◌⊎◌, inl, inr, append_assoc, arith, eq-eqb, ◌&&◌, ◌||◌, not}
+use Rattle.std.proofs.Common.{◌≡◌, ℕ, zero, suc, ◌<◌, Bool, true, false, cond, eqb, List, [], ◌∷◌, ◌++◌, length, Option, Some, None, refl, sym, ap}
+use Rattle.std.proofs.Common.{◌∙◌, ◌⊎◌, inl, inr, append_assoc, arith, eq-eqb, ◌&&◌, ◌||◌, not}
 use Rattle.std.specs.Prelude.{◌↔◌}
 use Rattle.std.specs.List.{list_all}
 use Rattle.std.proofs.lemmas.Bool.{eqb-true, or_right, and_parts}
@@ -140,7 +141,8 @@ Front e go t = (front rest : List ℕ) × (list_all (stands_for e) front ≡ tru
 run_more : (e : Bool) (go : List ℕ → Bool) (c : ℕ) (cs : List ℕ) → stands_for e c ≡ true → Front e go cs → Front e go (c ∷ cs)
 run_more e go c cs h f = (c ∷ f.0, f.1, ap (λ b. b && list_all (stands_for e) f.0) h ∙ f.2, ap (λ z. c ∷ z) f.3, f.4)
 
-run_by : (e : Bool) (go : List ℕ → Bool) (c : ℕ) (cs : List ℕ) → (any_run e go cs ≡ true → Front e go cs) → (a : Bool) → go (c ∷ cs) ≡ a → (a || (stands_for e c && any_run e go cs)) ≡ true → Front e go (c ∷ cs)
+run_by : (e : Bool) (go : List ℕ → Bool) (c : ℕ) (cs : List ℕ) → (any_run e go cs ≡ true → Front e go cs) → (a : Bool) → go (c ∷ cs) ≡ a
+    → (a || (stands_for e c && any_run e go cs)) ≡ true → Front e go (c ∷ cs)
 run_by e go c cs f true g h = ([], c ∷ cs, refl, refl, g)
 run_by e go c cs f false g h = let b = and_parts (stands_for e c) (any_run e go cs) h in run_more e go c cs b.0 (f b.1)
 
@@ -178,7 +180,8 @@ sound (suc n) e (m ∷ w) t l h = sound_by n e m w t (role m) refl (omega arith)
 abbrev Complete : ℕ → Bool → Type 0
 Complete n e = (v : Word) (t : List ℕ) → length v < n → Fits e v t → parts_match e (parts_from Outside v) t ≡ true
 
-complete_by : (n : ℕ) (e : Bool) (m : ℕ × Bool) (w : Word) (t : List ℕ) → length w < n → Complete n e → ((role m ≡ Star) × FitsLater e w t) ⊎ FitsOne e (m ∷ w) t → parts_match e (by_kind (role m) m.0 w) t ≡ true
+complete_by : (n : ℕ) (e : Bool) (m : ℕ × Bool) (w : Word) (t : List ℕ) → length w < n → Complete n e
+    → ((role m ≡ Star) × FitsLater e w t) ⊎ FitsOne e (m ∷ w) t → parts_match e (by_kind (role m) m.0 w) t ≡ true
 complete_by n e m w t l hyp (inl x) =
     ap (λ k. parts_match e (by_kind k m.0 w) t) x.0 ∙ ap (any_run e (parts_match e (parts_from Outside w))) x.1.3
     ∙ run_true e (parts_match e (parts_from Outside w)) x.1.0 x.1.1 x.1.2 (hyp w x.1.1 l x.1.4)

@@ -65,7 +65,8 @@ module _ (answers : Call → Answer) where
   step_back : (c : Word) (cs : List Word) (path p : List ℕ) (b : Bool) → has_pattern c ≡ b → Back cs → Step c cs path p →
       IsIn p (cond b (names_found answers c (found_from answers cs) path) (found_from answers cs (path ++ word_text c)))
   step_back c cs path p true h hyp x =
-      to_flat (λ n. found_from answers cs (path ++ n)) x.text p (fitting_names c (as_names (answers (list_names (directory path))))) (fitting_from c path x.text (x.first.pattern h)) (hyp (path ++ x.text) p x.rest)
+      to_flat (λ n. found_from answers cs (path ++ n)) x.text p (fitting_names c (as_names (answers (list_names (directory path)))))
+      (fitting_from c path x.text (x.first.pattern h)) (hyp (path ++ x.text) p x.rest)
   step_back c cs path p false h hyp x = subst (λ t. IsIn p (found_from answers cs (path ++ t))) (x.first.itself h) (hyp (path ++ x.text) p x.rest)
 
   -- a pattern character in the components: the last one decides
@@ -103,7 +104,8 @@ module _ (answers : Call → Answer) where
     checked = λ k. x.rest.checked (sym (ends_more c cs h) ∙ k);
   }
 
-  step_from : (c : Word) (cs : List Word) (path p : List ℕ) (ts : List (List ℕ)) → list_any has_pattern (c ∷ cs) ≡ true → Chosen answers (path ++ codes "/") (c ∷ cs) ts → p ≡ path ++ tail ts → (ends_plain (c ∷ cs) ≡ true → is_there answers p ≡ true) →
+  step_from : (c : Word) (cs : List Word) (path p : List ℕ) (ts : List (List ℕ)) → list_any has_pattern (c ∷ cs) ≡ true
+      → Chosen answers (path ++ codes "/") (c ∷ cs) ts → p ≡ path ++ tail ts → (ends_plain (c ∷ cs) ≡ true → is_there answers p ≡ true) →
       Step c cs (path ++ codes "/") p
   step_from c cs path p [] h x q k = absurd x
   step_from c cs path p (t ∷ ts) h x q k = record {
@@ -176,7 +178,8 @@ module _ (answers : Call → Answer) where
         checked = λ k. s.rest.checked (sym (ends_more c cs h) ∙ k);
       }
 
-  whole_step : (c : Word) (cs : List Word) (p : List ℕ) (ts : List (List ℕ)) → list_any has_pattern (c ∷ cs) ≡ true → Chosen answers [] (c ∷ cs) ts → p ≡ join_with_byte 47 ts → (ends_plain (c ∷ cs) ≡ true → is_there answers p ≡ true) → Step c cs [] p
+  whole_step : (c : Word) (cs : List Word) (p : List ℕ) (ts : List (List ℕ)) → list_any has_pattern (c ∷ cs) ≡ true → Chosen answers [] (c ∷ cs) ts
+      → p ≡ join_with_byte 47 ts → (ends_plain (c ∷ cs) ≡ true → is_there answers p ≡ true) → Step c cs [] p
   whole_step c cs p [] h x q k = absurd x
   whole_step c cs p (t ∷ ts) h x q k = record { text = t; first = x.0; rest = record { texts = ts; chosen = x.1; joined = q ∙ join_tail t ts; checked = λ e. k (ends_more c cs h ∙ e) } }
 
@@ -210,7 +213,9 @@ components_pattern [] = refl
 components_pattern (m ∷ w) = components_by m w (m.0 == 47) refl (components_pattern w)
 
 expands_by : (answers : Call → Answer) (w : Word) → has_pattern w ≡ true → (l : List (List ℕ)) → found_of answers (components w) ≡ l → Expands answers w (or_itself w l)
-expands_by answers w h [] q = itself (λ p x. nothing_in p (whole_back answers (components w) p (components_pattern w ∙ h) (record { texts = x.texts; chosen = x.chosen; joined = x.joined; checked = x.checked })))
+expands_by answers w h [] q =
+    itself
+    (λ p x. nothing_in p (whole_back answers (components w) p (components_pattern w ∙ h) (record { texts = x.texts; chosen = x.chosen; joined = x.joined; checked = x.checked })))
   where
     nothing_in : (p : List ℕ) → IsIn p (found_of answers (components w)) → ⊥
     nothing_in p y = subst (IsIn p) q y
@@ -223,11 +228,13 @@ expands_by answers w h (p ∷ ps) q = found (ordered (p ∷ ps)) (λ r. (to_name
 
     from_named : (r : List ℕ) → Named answers w r → IsIn r (ordered (p ∷ ps))
     from_named r x =
-        to_ordered r (p ∷ ps) (subst (IsIn r) q (whole_back answers (components w) r (components_pattern w ∙ h) (record { texts = x.texts; chosen = x.chosen; joined = x.joined; checked = x.checked })))
+        to_ordered r (p ∷ ps) (subst (IsIn r) q
+        (whole_back answers (components w) r (components_pattern w ∙ h) (record { texts = x.texts; chosen = x.chosen; joined = x.joined; checked = x.checked })))
 
     filled : ordered (p ∷ ps) ≢ []
     filled e = subst (IsIn p) e (to_ordered p (p ∷ ps) (inl refl))
 
 -- where each call has one answer, the calls of expansion give what the word stands for
-pub expansion-is : (answers : Call → Answer) (w : Word) → has_pattern w ≡ true → Gives answers (names_of w) (or_itself w (found_of answers (components w))) × Expands answers w (or_itself w (found_of answers (components w)))
+pub expansion-is : (answers : Call → Answer) (w : Word) → has_pattern w ≡ true
+    → Gives answers (names_of w) (or_itself w (found_of answers (components w))) × Expands answers w (or_itself w (found_of answers (components w)))
 expansion-is answers w h = (gives_names answers w, expands_by answers w h (found_of answers (components w)) refl)

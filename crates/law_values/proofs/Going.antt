@@ -44,7 +44,8 @@ module _ (e : Bool) (W : Word) (T : List ℕ) where
   none_left : (bw : Word) → Back e true bw [] → ⊥
   none_left bw b = let q = b.1.2 in cc
 
-  miss_by : (n : ℕ) → Decided n → (w : Word) (t : List ℕ) (bw : Word) (c : ℕ) (bt : List ℕ) (b : Bool) → stands_for e c ≡ b → (Fits e w t → ⊥) → Claim e W T w t true bw (c ∷ bt) → InTime (suc n) (length W) w t bw (c ∷ bt) →
+  miss_by : (n : ℕ) → Decided n → (w : Word) (t : List ℕ) (bw : Word) (c : ℕ) (bt : List ℕ) (b : Bool) → stands_for e c ≡ b → (Fits e w t → ⊥)
+      → Claim e W T w t true bw (c ∷ bt) → InTime (suc n) (length W) w t bw (c ∷ bt) →
       Decides e W T (cond b (greedy_from n e bw bt true bw bt) (Some false))
   miss_by n hyp w t bw c bt true h no_fit k i = hyp bw bt true bw bt (claim_back e W T w t bw c bt h no_fit k) (time_back n (length W) w t bw c bt i)
   miss_by n hyp w t bw c bt false h no_fit k i = inr (refl, claim_fails e W T w t true bw (c ∷ bt) no_fit (may_not bw c bt h) k)
@@ -66,7 +67,8 @@ module _ (e : Bool) (W : Word) (T : List ℕ) where
   one_by_one n hyp m w c t s bw bt (Some v) k q claim i =
       hyp v t (s && stands_for e c) bw bt (claim_one e W T (m ∷ w) c v t s bw bt q claim) (time_one n (length W) (m ∷ w) v c t bw bt (after_one-shorter e (m ∷ w) c v q) i)
 
-  one : (n : ℕ) → Decided n → (m : ℕ × Bool) (w : Word) (t : List ℕ) (s : Bool) (bw : Word) (bt : List ℕ) → (role m ≡ Star → ⊥) → Claim e W T (m ∷ w) t s bw bt → InTime (suc n) (length W) (m ∷ w) t bw bt →
+  one : (n : ℕ) → Decided n → (m : ℕ × Bool) (w : Word) (t : List ℕ) (s : Bool) (bw : Word) (bt : List ℕ) → (role m ≡ Star → ⊥)
+      → Claim e W T (m ∷ w) t s bw bt → InTime (suc n) (length W) (m ∷ w) t bw bt →
       Decides e W T (after_move (greedy_from n e) e (one_move e (m ∷ w) t) t s bw bt)
   one n hyp m w [] s bw bt k claim i = miss n hyp (m ∷ w) [] s bw bt (λ f. nothing_left m w k (Fits-cons f)) claim i
   one n hyp m w (c ∷ t) s bw bt k claim i = one_by_one n hyp m w c t s bw bt (after_one e (m ∷ w) c) k refl claim i
@@ -74,7 +76,8 @@ module _ (e : Bool) (W : Word) (T : List ℕ) where
   other : (m : ℕ × Bool) (k : Role) → role m ≡ k → (k ≡ Star → ⊥) → role m ≡ Star → ⊥
   other m k q h r = h (sym q ∙ r)
 
-  at_kind : (n : ℕ) → Decided n → (m : ℕ × Bool) (w : Word) (t : List ℕ) (s : Bool) (bw : Word) (bt : List ℕ) (k : Role) → role m ≡ k → Claim e W T (m ∷ w) t s bw bt → InTime (suc n) (length W) (m ∷ w) t bw bt →
+  at_kind : (n : ℕ) → Decided n → (m : ℕ × Bool) (w : Word) (t : List ℕ) (s : Bool) (bw : Word) (bt : List ℕ) (k : Role) → role m ≡ k
+      → Claim e W T (m ∷ w) t s bw bt → InTime (suc n) (length W) (m ∷ w) t bw bt →
       Decides e W T (after_move (greedy_from n e) e (move_by e (star_by k w) (m ∷ w) t) t s bw bt)
   at_kind n hyp m w t s bw bt Star q claim i = hyp w t true w t (claim_star e W T m w t s bw bt q claim) (time_star n (length W) m w t bw bt i)
   at_kind n hyp m w t s bw bt Question q claim i = one n hyp m w t s bw bt (other m Question q (λ z. cc)) claim i

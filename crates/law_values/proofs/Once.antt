@@ -36,7 +36,8 @@ Once (done_with x) = ⊤
 Once (ask c go) = (a : Answer) → AllCalls (λ d. d ≡ c → ⊥) (go a) × Once (go a)
 Once cut = ⊤
 
-all_under : {A X : Type 0} (P : Call → Type 0) (p : Plan (ShellResult A)) (go : A → State → Plan (ShellResult X)) → AllCalls P p → ((a : A) (s : State) → AllCalls P (go a s)) → AllCalls P (under p go leaves)
+all_under : {A X : Type 0} (P : Call → Type 0) (p : Plan (ShellResult A)) (go : A → State → Plan (ShellResult X)) → AllCalls P p
+    → ((a : A) (s : State) → AllCalls P (go a s)) → AllCalls P (under p go leaves)
 all_under P (done_with (Next a s)) go h k = k a s
 all_under P (done_with (Exit s owed)) go h k = tt
 all_under P (ask c f) go h k = (h.0, λ a. all_under P (f a) go (h.1 a) k)
@@ -97,7 +98,8 @@ each_all w h q [] s = tt
 each_all w h q (n ∷ ns) s =
     all_under (Among q (n ∷ ns)) (w (q ++ n) s) (λ first. each_name w q ns >>= (λ others. pure (first ++ others)))
     (all_map (IsUnder ((q ++ n) ++ codes "/")) (Among q (n ∷ ns)) (w (q ++ n) s) (λ c u. (n, inl refl, u)) (h (q ++ n) s))
-    (λ first t. all_under (Among q (n ∷ ns)) (each_name w q ns t) (λ others. pure (first ++ others)) (all_map (Among q ns) (Among q (n ∷ ns)) (each_name w q ns t) (one_more q n ns) (each_all w h q ns t)) (λ others u. tt))
+    (λ first t. all_under (Among q (n ∷ ns)) (each_name w q ns t) (λ others. pure (first ++ others))
+    (all_map (Among q ns) (Among q (n ∷ ns)) (each_name w q ns t) (one_more q n ns) (each_all w h q ns t)) (λ others u. tt))
 
 from_among : (q : List ℕ) (ns : List (List ℕ)) (c : Call) → Among q ns c → IsUnder q c
 from_among q ns c x = nearer q x.0 c (nearer (q ++ x.0) (codes "/") c x.2)
@@ -160,7 +162,8 @@ each_once w h o q (n ∷ ns) s r k =
     (λ c d u v. apart_names q n v.0 (k n (inl refl)) (k v.0 (inr v.1)) (above n v.0 ns r.0 v.1) c d u v.2)
     (h (q ++ n) s) (o (q ++ n) s)
     (λ first t. all_under (Among q ns) (each_name w q ns t) (λ others. pure (first ++ others)) (each_all w h q ns t) (λ others u. tt))
-    (λ first t. once_under (Among q ns) (λ d. ⊥) (each_name w q ns t) (λ others. pure (first ++ others)) (λ c d x y. absurd y) (each_all w h q ns t) (each_once w h o q ns t r.1 (λ m x. k m (inr x))) (λ others u. tt) (λ others u. tt))
+    (λ first t. once_under (Among q ns) (λ d. ⊥) (each_name w q ns t) (λ others. pure (first ++ others)) (λ c d x y. absurd y) (each_all w h q ns t)
+    (each_once w h o q ns t r.1 (λ m x. k m (inr x))) (λ others u. tt) (λ others u. tt))
 
 fitting_clean : (c : Word) (a : Answer) → Clean (fitting_names c (as_names a))
 fitting_clean c a m x =
@@ -190,7 +193,8 @@ apart_directory q ns k d x e =
 
 step_by : (c : Word) (w : Walk) → Below w → EachOnce w → (q : List ℕ) (s : State) (b : Bool) → Once (cond b (listed c w q) (w (q ++ word_text c)) s)
 step_by c w h o q s true = λ a. (
-  all_map (Among q (fitting_names c (as_names a))) (λ d. d ≡ list_names (directory q) → ⊥) (each_name w q (fitting_names c (as_names a)) s) (apart_directory q (fitting_names c (as_names a)) (fitting_clean c a)) (each_all w h q (fitting_names c (as_names a)) s),
+  all_map (Among q (fitting_names c (as_names a))) (λ d. d ≡ list_names (directory q) → ⊥) (each_name w q (fitting_names c (as_names a)) s)
+      (apart_directory q (fitting_names c (as_names a)) (fitting_clean c a)) (each_all w h q (fitting_names c (as_names a)) s),
   each_once w h o q (fitting_names c (as_names a)) s (ordered_sorted (filter (λ n. not (is_no_name n) && matches c (chars n) true) (unwrap_or (as_names a) []))) (fitting_clean c a),
 )
 step_by c w h o q s false = o (q ++ word_text c) s
@@ -202,10 +206,12 @@ append_nothing : (q : List ℕ) → q ≡ q ++ []
 append_nothing [] = refl
 append_nothing (c ∷ q) = ap (λ z. c ∷ z) (append_nothing q)
 
-step_below : (c : Word) (w : Walk) → Below w → (path : List ℕ) (s : State) (b : Bool) → AllCalls (IsUnder (path ++ codes "/")) (cond b (listed c w (path ++ codes "/")) (w ((path ++ codes "/") ++ word_text c)) s)
+step_below : (c : Word) (w : Walk) → Below w → (path : List ℕ) (s : State) (b : Bool)
+    → AllCalls (IsUnder (path ++ codes "/")) (cond b (listed c w (path ++ codes "/")) (w ((path ++ codes "/") ++ word_text c)) s)
 step_below c w h path s true = (
   record { rest = []; path = directory_path path ∙ append_nothing (path ++ codes "/"); look = refl },
-  λ a. all_map (Among (path ++ codes "/") (fitting_names c (as_names a))) (IsUnder (path ++ codes "/")) (each_name w (path ++ codes "/") (fitting_names c (as_names a)) s) (from_among (path ++ codes "/") (fitting_names c (as_names a)))
+  λ a. all_map (Among (path ++ codes "/") (fitting_names c (as_names a))) (IsUnder (path ++ codes "/"))
+      (each_name w (path ++ codes "/") (fitting_names c (as_names a)) s) (from_among (path ++ codes "/") (fitting_names c (as_names a)))
       (each_all w h (path ++ codes "/") (fitting_names c (as_names a)) s),
 )
 step_below c w h path s false =
@@ -215,7 +221,8 @@ step_below c w h path s false =
 below_by : (c : Word) (cs : List Word) → Below (walk cs) → (path : List ℕ) (s : State) (b : Bool) →
     AllCalls (IsUnder (path ++ codes "/")) (cond b (step c (walk cs) (path ++ codes "/")) (if_there (path ++ 47 ∷ join_with_byte 47 (map word_text (c ∷ cs)))) s)
 below_by c cs h path s true = step_below c (walk cs) h path s (has_pattern c)
-below_by c cs h path s false = (record { rest = join_with_byte 47 (map word_text (c ∷ cs)); path = sym (append_assoc path (codes "/") (join_with_byte 47 (map word_text (c ∷ cs)))); look = refl }, λ a. tt)
+below_by c cs h path s false =
+    (record { rest = join_with_byte 47 (map word_text (c ∷ cs)); path = sym (append_assoc path (codes "/") (join_with_byte 47 (map word_text (c ∷ cs)))); look = refl }, λ a. tt)
 
 walk_below : (cs : List Word) → Below (walk cs)
 walk_below [] path s = tt
@@ -239,7 +246,8 @@ abbrev Looks : Call → Type 0
 Looks c = looks c ≡ true
 
 step_looks : (c : Word) (w : Walk) → Below w → (q : List ℕ) (s : State) (b : Bool) → AllCalls Looks (cond b (listed c w q) (w (q ++ word_text c)) s)
-step_looks c w h q s true = (refl, λ a. all_map (Among q (fitting_names c (as_names a))) Looks (each_name w q (fitting_names c (as_names a)) s) (λ d x. x.2.look) (each_all w h q (fitting_names c (as_names a)) s))
+step_looks c w h q s true =
+    (refl, λ a. all_map (Among q (fitting_names c (as_names a))) Looks (each_name w q (fitting_names c (as_names a)) s) (λ d x. x.2.look) (each_all w h q (fitting_names c (as_names a)) s))
 step_looks c w h q s false = all_map (IsUnder ((q ++ word_text c) ++ codes "/")) Looks (w (q ++ word_text c) s) (λ d u. u.look) (h (q ++ word_text c) s)
 
 paths_look : (cs : List Word) (s : State) → AllCalls Looks (paths_of cs s)
@@ -247,7 +255,9 @@ paths_look [] s = tt
 paths_look (c ∷ cs) s = step_looks c (walk cs) (walk_below cs) [] s (has_pattern c)
 
 names_once : (w : Word) (s : State) → Once (names_of w s)
-names_once w s = once_under Looks (λ d. ⊥) (paths_of (components w) s) (λ paths. pure (or_itself w paths)) (λ c d x y. absurd y) (paths_look (components w) s) (paths_once (components w) s) (λ paths t. tt) (λ paths t. tt)
+names_once w s =
+    once_under Looks (λ d. ⊥) (paths_of (components w) s) (λ paths. pure (or_itself w paths)) (λ c d x y. absurd y) (paths_look (components w) s)
+    (paths_once (components w) s) (λ paths t. tt) (λ paths t. tt)
 
 names_look : (w : Word) (s : State) → AllCalls Looks (names_of w s)
 names_look w s = all_under Looks (paths_of (components w) s) (λ paths. pure (or_itself w paths)) (paths_look (components w) s) (λ paths t. tt)
@@ -270,8 +280,12 @@ goes_once (done_with x) [] q o g = tt
 goes_once (ask c go) [] q o g = tt
 goes_once cut [] q o g = tt
 goes_once (done_with x) (e ∷ es) q o g = absurd g
-goes_once (ask c go) (e ∷ es) q o g =
-    (goes_all (λ d. d ≡ e.call → ⊥) (go e.answer) es q (all_map (λ d. d ≡ c → ⊥) (λ d. d ≡ e.call → ⊥) (go e.answer) (λ d n k. n (k ∙ g.0)) (o e.answer).0) g.2, goes_once (go e.answer) es q (o e.answer).1 g.2)
+goes_once (ask c go) (e ∷ es) q o g = (
+  goes_all (λ d. d ≡ e.call → ⊥) (go e.answer) es q
+      (all_map (λ d. d ≡ c → ⊥) (λ d. d ≡ e.call → ⊥) (go e.answer) (λ d n k. n (k ∙ g.0)) (o e.answer).0) g.2,
+  goes_once (go e.answer) es q
+      (o e.answer).1 g.2,
+)
 goes_once cut (e ∷ es) q o g = absurd g
 
 -- what was answered to a call

@@ -1,5 +1,6 @@
 -- What subscripts select, by places and as it is computed.
-use Rattle.std.proofs.Common.{◌≡◌, ℕ, zero, suc, ◌+◌, ◌-◌, ◌<◌, ◌≤◌, Bool, true, false, cond, leb, eqb, List, [], ◌∷◌, ◌++◌, length, take, drop, Option, Some, None, refl, sym, ap, subst, ◌∙◌, ◌⊎◌, inl, inr, ◌&&◌, ◌||◌, not, arith, append_assoc}
+use Rattle.std.proofs.Common.{◌≡◌, ℕ, zero, suc, ◌+◌, ◌-◌, ◌<◌, ◌≤◌, Bool, true, false, cond, leb, eqb, List, [], ◌∷◌, ◌++◌, length, take, drop}
+use Rattle.std.proofs.Common.{Option, Some, None, refl, sym, ap, subst, ◌∙◌, ◌⊎◌, inl, inr, ◌&&◌, ◌||◌, not, arith, append_assoc}
 use Rattle.std.specs.Prelude.{◌↔◌}
 use Rattle.std.specs.List.{list_any, list_all, before_first, after_first, position_or_len}
 use Rattle.std.proofs.Math.Seq.{take-length}
@@ -53,7 +54,8 @@ between_drop : (d : ℕ) (xs : Texts) (last place : ℕ) → members_between (pl
 between_drop zero xs last place = between_take xs (place + 0) last place (omega arith)
 between_drop (suc d) [] last place = sym (ap (drop (suc d)) (take_nil (suc last - place)))
 between_drop (suc d) (x ∷ xs) last place =
-    ap (λ b. cond (b && leb place last) (x ∷ members_between (place + suc d) last (suc place) xs) (members_between (place + suc d) last (suc place) xs)) (not_yet_there place d (leb_tells (place + suc d) place))
+    ap (λ b. cond (b && leb place last) (x ∷ members_between (place + suc d) last (suc place) xs) (members_between (place + suc d) last (suc place) xs))
+    (not_yet_there place d (leb_tells (place + suc d) place))
     ∙ ap (λ n. members_between n last (suc place) xs) (let e : place + suc d ≡ suc place + d = omega arith in e)
     ∙ between_drop d xs last (suc place) ∙ drop_by d x xs last place (leb_tells place last)
 
@@ -208,7 +210,9 @@ dash_ways : (value : Texts) (text a b : List ℕ) (o p : Option ℕ) → text �
 dash_ways value text a b None p q h k l = subst (Selects value text) (sym (ap (selected_by value) q ∙ at_dash value a b h ∙ ap (from_place (front value b)) k)) (other (no_first value text a b q h k))
 dash_ways value text a [] (Some m) p q h k l = by_names value text m (length value) (onward a m q k)
 dash_ways value text a (e ∷ b) (Some m) None q h k l =
-    subst (Selects value text) (sym (ap (selected_by value) q ∙ at_dash value a (e ∷ b) h ∙ ap (λ z. from_place z (number_of a)) (front_none value e b l) ∙ of_none (number_of a))) (other (no_last value text a e b q h l))
+    subst (Selects value text)
+    (sym (ap (selected_by value) q ∙ at_dash value a (e ∷ b) h ∙ ap (λ z. from_place z (number_of a)) (front_none value e b l) ∙ of_none (number_of a)))
+    (other (no_last value text a e b q h l))
 dash_ways value text a (e ∷ b) (Some m) (Some n) q h k l = by_names value text m n (range a (e ∷ b) m n q k l)
 
 ways_by : (value : Texts) (text : List ℕ) (x : Bool) → list_any dash text ≡ x → Ways value text

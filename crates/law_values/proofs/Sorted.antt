@@ -82,7 +82,8 @@ module _ (k : List ℕ) where
   itself_in [] = inl refl
   itself_in (e ∷ es) = itself_by e es (text_cmp k e.0) refl (itself_in es)
 
-  others_by : (p : List ℕ) (e : List ℕ × Unit {0}) (es : Entries) (o : Ordering) → (IsIn p (keys es) → IsIn p (keys (put es))) → IsIn p (keys (e ∷ es)) → IsIn p (keys (match_ordering o ((k, tt) ∷ e ∷ es) ((e.0, tt) ∷ es) (e ∷ put es)))
+  others_by : (p : List ℕ) (e : List ℕ × Unit {0}) (es : Entries) (o : Ordering) → (IsIn p (keys es) → IsIn p (keys (put es)))
+      → IsIn p (keys (e ∷ es)) → IsIn p (keys (match_ordering o ((k, tt) ∷ e ∷ es) ((e.0, tt) ∷ es) (e ∷ put es)))
   others_by p e es Less f x = inr x
   others_by p e es Equal f x = x
   others_by p e es Greater f (inl x) = inl x

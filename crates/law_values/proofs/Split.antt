@@ -47,10 +47,21 @@ module _ (p : ℕ → Bool) where
       subst (Splits p ((c ∷ cs) ++ rest)) (sym (filled_member (c ∷ cs) others (not_nil c cs))) (next ((c ∷ cs) ++ rest) [] (c ∷ cs) rest (filled others) refl (not_nil c cs) clear ends refl s)
 
   of_parts : (cs : List ℕ) (parts : List (List ℕ)) → Parts cs parts → Splits p cs (filled parts)
-  of_parts cs parts x = subst (λ z. Splits p z (filled parts)) (sym x.cut) (subst (λ z. Splits p (x.first ++ x.rest) (filled z)) (sym x.is) (with_first x.first x.rest x.others x.clear x.ends x.splits))
+  of_parts cs parts x =
+      subst (λ z. Splits p z (filled parts)) (sym x.cut)
+      (subst (λ z. Splits p (x.first ++ x.rest) (filled z)) (sym x.is) (with_first x.first x.rest x.others x.clear x.ends x.splits))
 
   parts_by : (c : ℕ) (cs : List ℕ) (b : Bool) → p c ≡ b → Parts cs (slice_split p cs) → Parts (c ∷ cs) (cond b ([] ∷ slice_split p cs) (onto_first c (slice_split p cs)))
-  parts_by c cs true h x = record { first = []; rest = c ∷ cs; others = slice_split p cs; is = refl; cut = refl; clear = refl; ends = h; splits = gap_more c cs (runs p cs) h (of_parts cs (slice_split p cs) x) }
+  parts_by c cs true h x = record {
+    first = [];
+    rest = c ∷ cs;
+    others = slice_split p cs;
+    is = refl;
+    cut = refl;
+    clear = refl;
+    ends = h;
+    splits = gap_more c cs (runs p cs) h (of_parts cs (slice_split p cs) x);
+  }
   parts_by c cs false h x = record {
     first = c ∷ x.first;
     rest = x.rest;

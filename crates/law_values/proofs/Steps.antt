@@ -1,5 +1,6 @@
 -- How a pattern is matched from left to right, with one star to go back to.
-use Rattle.std.proofs.Common.{◌≡◌, ℕ, suc, ◌<◌, ◌≤◌, Bool, true, false, cond, eqb, List, [], ◌∷◌, ◌++◌, length, Option, Some, None, refl, sym, ap, subst, ◌∙◌, ◌⊎◌, inl, inr, append_assoc, arith, eq-eqb, ◌&&◌, not}
+use Rattle.std.proofs.Common.{◌≡◌, ℕ, suc, ◌<◌, ◌≤◌, Bool, true, false, cond, eqb, List, [], ◌∷◌, ◌++◌, length, Option, Some, None, refl, sym, ap}
+use Rattle.std.proofs.Common.{subst, ◌∙◌, ◌⊎◌, inl, inr, append_assoc, arith, eq-eqb, ◌&&◌, not}
 use Rattle.std.specs.List.{list_all}
 use Rattle.std.proofs.lemmas.Bool.{eqb-true, and_parts, not-true}
 use Rattle.std.proofs.lemmas.List.{length-append}
@@ -19,7 +20,8 @@ FitsOne e w t = (c : ℕ) × (rest : List ℕ) × (v : List (ℕ × Bool)) × (t
 pub no_way : {A : Type 0} → false ≡ true → A
 no_way h = absurd cc
 
-class_end-found : (members : List (ℕ × Bool)) (close : ℕ × Bool) (word : List (ℕ × Bool)) → list_all (λ x. not (is_close x)) members ≡ true → is_close close ≡ true → class_end (members ++ close ∷ word) ≡ Some (members, word)
+class_end-found : (members : List (ℕ × Bool)) (close : ℕ × Bool) (word : List (ℕ × Bool)) → list_all (λ x. not (is_close x)) members ≡ true
+    → is_close close ≡ true → class_end (members ++ close ∷ word) ≡ Some (members, word)
 class_end-found [] close word h k = ap (λ b. cond b (Some ([], word)) (class_with close (class_end word))) k
 class_end-found (m ∷ ms) close word h k =
     let both = and_parts (not (is_close m)) (list_all (λ x. not (is_close x)) ms) h in
@@ -147,7 +149,8 @@ same_class e (Some p) c d v u h k =
     (sym a.2 ∙ b.2, b.1)
 
 -- what follows a character or class doesn't depend on the character
-same_rest_by : (e : Bool) (k : Role) (x : ℕ) (w : List (ℕ × Bool)) (c d : ℕ) (v u : List (ℕ × Bool)) → one_by e k x w c ≡ Some v → one_by e k x w d ≡ Some u → stands_for e c ≡ true → (v ≡ u) × (stands_for e d ≡ true)
+same_rest_by : (e : Bool) (k : Role) (x : ℕ) (w : List (ℕ × Bool)) (c d : ℕ) (v u : List (ℕ × Bool)) → one_by e k x w c ≡ Some v
+    → one_by e k x w d ≡ Some u → stands_for e c ≡ true → (v ≡ u) × (stands_for e d ≡ true)
 same_rest_by e Star x w c d v u h k may = absurd cc
 same_rest_by e Question x w c d v u h k may = let a = cond_some (stands_for e c) w v h in let b = cond_some (stands_for e d) w u k in (sym a.1 ∙ b.1, b.0)
 same_rest_by e Open x w c d v u h k may = same_class e (class_end w) c d v u h k
@@ -160,7 +163,8 @@ same_rest : (e : Bool) (w : List (ℕ × Bool)) (c d : ℕ) (v u : List (ℕ × 
 same_rest e [] c d v u h k may = absurd cc
 same_rest e (m ∷ w) c d v u h k may = same_rest_by e (role m) m.0 w c d v u h k may
 
-or_star : (e : Bool) (m : ℕ × Bool) (w : List (ℕ × Bool)) (c : ℕ) (v : List (ℕ × Bool)) (t : List ℕ) → after_one e (m ∷ w) c ≡ Some v → ((role m ≡ Star) × FitsLater e w t) ⊎ FitsOne e (m ∷ w) t → FitsOne e (m ∷ w) t
+or_star : (e : Bool) (m : ℕ × Bool) (w : List (ℕ × Bool)) (c : ℕ) (v : List (ℕ × Bool)) (t : List ℕ) → after_one e (m ∷ w) c ≡ Some v
+    → ((role m ≡ Star) × FitsLater e w t) ⊎ FitsOne e (m ∷ w) t → FitsOne e (m ∷ w) t
 or_star e m w c v t h (inl x) = absurd (no_star e m w c v x.0 h)
 or_star e m w c v t h (inr o) = o
 
@@ -241,7 +245,8 @@ neither : {A B : Type 0} → (A → ⊥) → (B → ⊥) → A ⊎ B → ⊥
 neither a b (inl x) = a x
 neither a b (inr y) = b y
 
-pushed : (e : Bool) (bw : List (ℕ × Bool)) (bt : List ℕ) (w : List (ℕ × Bool)) (c : ℕ) (v : List (ℕ × Bool)) (t : List ℕ) → after_one e w c ≡ Some v → stands_for e c ≡ true → Passed e bw bt w (c ∷ t) → Passed e bw bt v t
+pushed : (e : Bool) (bw : List (ℕ × Bool)) (bt : List ℕ) (w : List (ℕ × Bool)) (c : ℕ) (v : List (ℕ × Bool)) (t : List ℕ) → after_one e w c ≡ Some v
+    → stands_for e c ≡ true → Passed e bw bt w (c ∷ t) → Passed e bw bt v t
 pushed e bw bt w c v t h may p = record {
   front = p.front ++ c ∷ [];
   parts = p.parts ∙ sym (append_assoc p.front (c ∷ []) t);
@@ -285,7 +290,8 @@ after_fits e w c v t h f =
     let same : o.2 ≡ v = same_Some o.2 v (sym o.4 ∙ ap (after_one e w) (sym d) ∙ h) in
     subst (λ z. Fits e v z) r (subst (λ z. Fits e z o.1) same o.5)
 
-one_ways : (e : Bool) (w : List (ℕ × Bool)) (c : ℕ) (v : List (ℕ × Bool)) (t : List ℕ) (s : Bool) (bw : List (ℕ × Bool)) (bt : List ℕ) → after_one e w c ≡ Some v → (s ≡ true → Passed e bw bt w (c ∷ t)) →
+one_ways : (e : Bool) (w : List (ℕ × Bool)) (c : ℕ) (v : List (ℕ × Bool)) (t : List ℕ) (s : Bool) (bw : List (ℕ × Bool)) (bt : List ℕ)
+    → after_one e w c ≡ Some v → (s ≡ true → Passed e bw bt w (c ∷ t)) →
     (b : Bool) → stands_for e c ≡ b → Fits e w (c ∷ t) ⊎ Back e s bw bt → Fits e v t ⊎ Back e (s && b) bw bt
 one_ways e w c v t s bw bt h trail b k (inl f) = inl (after_fits e w c v t h f)
 one_ways e w c v t s bw bt h trail true k (inr l) = inr (ap (λ z. z && true) l.0, l.1)
@@ -307,7 +313,8 @@ claim_star e W T m w t s bw bt k c = record {
 }
 
 -- an element is passed; where it was a `/` that no star may take, there is no star to go back to from then on
-pub claim_one : (e : Bool) (W : List (ℕ × Bool)) (T : List ℕ) (w : List (ℕ × Bool)) (c : ℕ) (v : List (ℕ × Bool)) (t : List ℕ) (s : Bool) (bw : List (ℕ × Bool)) (bt : List ℕ) → after_one e w c ≡ Some v →
+pub claim_one : (e : Bool) (W : List (ℕ × Bool)) (T : List ℕ) (w : List (ℕ × Bool)) (c : ℕ) (v : List (ℕ × Bool)) (t : List ℕ) (s : Bool) (bw : List (ℕ × Bool)) (bt : List ℕ)
+    → after_one e w c ≡ Some v →
     Claim e W T w (c ∷ t) s bw bt → Claim e W T v t (s && stands_for e c) bw bt
 claim_one e W T w c v t s bw bt h k = record {
   forth = λ f. one_ways e w c v t s bw bt h k.trail (stands_for e c) refl (k.forth f);
@@ -329,7 +336,8 @@ claim_back e W T w t bw c bt may no_fit k = record {
 pub claim_end : (e : Bool) (W : List (ℕ × Bool)) (T : List ℕ) (s : Bool) (bw : List (ℕ × Bool)) (bt : List ℕ) → Claim e W T [] [] s bw bt → Fits e W T
 claim_end e W T s bw bt k = k.here end
 
-pub claim_fails : (e : Bool) (W : List (ℕ × Bool)) (T : List ℕ) (w : List (ℕ × Bool)) (t : List ℕ) (s : Bool) (bw : List (ℕ × Bool)) (bt : List ℕ) → (Fits e w t → ⊥) → (Back e s bw bt → ⊥) → Claim e W T w t s bw bt → Fits e W T → ⊥
+pub claim_fails : (e : Bool) (W : List (ℕ × Bool)) (T : List ℕ) (w : List (ℕ × Bool)) (t : List ℕ) (s : Bool) (bw : List (ℕ × Bool)) (bt : List ℕ)
+    → (Fits e w t → ⊥) → (Back e s bw bt → ⊥) → Claim e W T w t s bw bt → Fits e W T → ⊥
 claim_fails e W T w t s bw bt no_fit no_back k f = neither no_fit no_back (k.forth f)
 
 pub length_after_class : (w : List (ℕ × Bool)) (p : List (ℕ × Bool) × List (ℕ × Bool)) → IsClass w p → length p.1 < length w
@@ -352,7 +360,8 @@ pub after_one-shorter : (e : Bool) (w : List (ℕ × Bool)) (c : ℕ) (v : List 
 after_one-shorter e [] c v h = absurd cc
 after_one-shorter e (m ∷ w) c v h = shorter_by e (role m) m.0 w c v h
 
-no_one_by : (e : Bool) (m : ℕ × Bool) (w : List (ℕ × Bool)) (c : ℕ) (t : List ℕ) → (role m ≡ Star → ⊥) → after_one e (m ∷ w) c ≡ None → ((role m ≡ Star) × FitsLater e w (c ∷ t)) ⊎ FitsOne e (m ∷ w) (c ∷ t) → ⊥
+no_one_by : (e : Bool) (m : ℕ × Bool) (w : List (ℕ × Bool)) (c : ℕ) (t : List ℕ) → (role m ≡ Star → ⊥) → after_one e (m ∷ w) c ≡ None
+    → ((role m ≡ Star) × FitsLater e w (c ∷ t)) ⊎ FitsOne e (m ∷ w) (c ∷ t) → ⊥
 no_one_by e m w c t n h (inl x) = n x.0
 no_one_by e m w c t n h (inr o) =
     let d : c ≡ o.0 = cc in

@@ -18,7 +18,8 @@ follow_goes answers (done_with x) (e ∷ es) q g h = absurd g
 follow_goes answers (ask c go) (e ∷ es) q g h = ap (λ a. answered_by answers (go a)) (ap answers (sym g.0) ∙ h.0) ∙ follow_goes answers (go e.answer) es q g.2 h.1
 follow_goes answers cut (e ∷ es) q g h = absurd g
 
-pub expansion_by_trace : (w : Word) (s : State) (trace : List Event) (r : ShellResult (List Word)) (answers : Call → Answer) → has_pattern w ≡ true → Goes (names_of w s) trace (done_with r) → Agreeing answers trace →
+pub expansion_by_trace : (w : Word) (s : State) (trace : List Event) (r : ShellResult (List Word)) (answers : Call → Answer) → has_pattern w ≡ true
+    → Goes (names_of w s) trace (done_with r) → Agreeing answers trace →
     (ws : List Word) × (r ≡ Next ws s) × Expands answers w ws
 expansion_by_trace w s trace r answers h g a =
     let x = expansion-is answers w h in

@@ -58,12 +58,17 @@ module _ (answers : Call → Answer) where
   gives_each walk f g path [] = gives_pure []
   gives_each walk f g path (n ∷ ns) =
       gives_bind answers (walk (path ++ n)) (λ first. each_name walk path ns >>= (λ others. pure (first ++ others))) (f (path ++ n)) (f (path ++ n) ++ flat_map (λ m. f (path ++ m)) ns) (g (path ++ n))
-      (gives_bind answers (each_name walk path ns) (λ others. pure (f (path ++ n) ++ others)) (flat_map (λ m. f (path ++ m)) ns) (f (path ++ n) ++ flat_map (λ m. f (path ++ m)) ns) (gives_each walk f g path ns) (gives_pure (f (path ++ n) ++ flat_map (λ m. f (path ++ m)) ns)))
+      (gives_bind answers (each_name walk path ns) (λ others. pure (f (path ++ n) ++ others)) (flat_map (λ m. f (path ++ m)) ns)
+      (f (path ++ n) ++ flat_map (λ m. f (path ++ m)) ns) (gives_each walk f g path ns)
+      (gives_pure (f (path ++ n) ++ flat_map (λ m. f (path ++ m)) ns)))
 
-  gives_step : (c : Word) (walk : List ℕ → Shell (List (List ℕ))) (f : List ℕ → List (List ℕ)) → ((p : List ℕ) → Gives answers (walk p) (f p)) → (path : List ℕ) → Gives answers (step c walk path) (found_step c f path)
+  gives_step : (c : Word) (walk : List ℕ → Shell (List (List ℕ))) (f : List ℕ → List (List ℕ)) → ((p : List ℕ) → Gives answers (walk p) (f p))
+      → (path : List ℕ) → Gives answers (step c walk path) (found_step c f path)
   gives_step c walk f g path =
       gives_cond (has_pattern c) (listed c walk path) (walk (path ++ word_text c)) (names_found c f path) (f (path ++ word_text c))
-      (gives_bind answers (call (list_names (directory path))) (λ a. each_name walk path (fitting_names c (as_names a))) (answers (list_names (directory path))) (names_found c f path) (gives_call (list_names (directory path))) (gives_each walk f g path (fitting_names c (as_names (answers (list_names (directory path)))))))
+      (gives_bind answers (call (list_names (directory path))) (λ a. each_name walk path (fitting_names c (as_names a)))
+      (answers (list_names (directory path))) (names_found c f path) (gives_call (list_names (directory path)))
+      (gives_each walk f g path (fitting_names c (as_names (answers (list_names (directory path)))))))
       (g (path ++ word_text c))
 
   gives_there : (path : List ℕ) → Gives answers (if_there path) (found_there path)
@@ -81,4 +86,6 @@ module _ (answers : Call → Answer) where
   gives_paths (c ∷ cs) = gives_step c (walk cs) (found_from cs) (gives_walk cs) []
 
   pub gives_names : (w : Word) → Gives answers (names_of w) (or_itself w (found_of (components w)))
-  gives_names w = gives_bind answers (paths_of (components w)) (λ paths. pure (or_itself w paths)) (found_of (components w)) (or_itself w (found_of (components w))) (gives_paths (components w)) (gives_pure (or_itself w (found_of (components w))))
+  gives_names w =
+      gives_bind answers (paths_of (components w)) (λ paths. pure (or_itself w paths)) (found_of (components w))
+      (or_itself w (found_of (components w))) (gives_paths (components w)) (gives_pure (or_itself w (found_of (components w))))

@@ -34,7 +34,8 @@ only_done x r [] g = (refl, cc)
 only_done x r (e ∷ es) g = absurd g
 
 -- a word becomes the same for all answers that agree with the trace
-expands_so : (w : Word) (s : State) (trace : List Event) (x : ShellResult (List Word)) (vs : List Word) → x ≡ Next vs s → has_pattern w ≡ true → Goes (names_of w s) trace (done_with x) → (answers : Call → Answer) → Agreeing answers trace → Expands answers w vs
+expands_so : (w : Word) (s : State) (trace : List Event) (x : ShellResult (List Word)) (vs : List Word) → x ≡ Next vs s → has_pattern w ≡ true
+    → Goes (names_of w s) trace (done_with x) → (answers : Call → Answer) → Agreeing answers trace → Expands answers w vs
 expands_so w s trace x vs is h g answers a =
     let e = expansion_by_trace w s trace x answers h g a in
     let same : e.0 ≡ vs = cc in
@@ -50,13 +51,15 @@ word_by w s trace x false h g =
     let d = only_done (Next (w ∷ []) s) x trace g in
     (w ∷ [], d.1, subst (λ z. ExpandsBy w z (w ∷ [])) (sym d.0) (plain h))
 
-pub expanded-is : (ws : List Word) (s : State) (trace : List Event) (r : ShellResult (List Word)) → Goes (expanded ws s) trace (done_with r) → (vs : List Word) × (r ≡ Next vs s) × AllExpand ws trace vs
+pub expanded-is : (ws : List Word) (s : State) (trace : List Event) (r : ShellResult (List Word)) → Goes (expanded ws s) trace (done_with r)
+    → (vs : List Word) × (r ≡ Next vs s) × AllExpand ws trace vs
 expanded-is [] s trace r g = let d = only_done (Next [] s) r trace g in ([], d.1, subst (λ z. AllExpand [] z []) (sym d.0) none)
 expanded-is (w ∷ ws) s trace r g =
     let others : List Word → List Word → Shell (List Word) = λ first more. pure (first ++ more) in
     let k = goes_cut (expanded_word w s) (λ first. expanded ws >>= others first) trace r g in
     let e = word_by w s k.before k.middle (has_pattern w) refl k.first in
-    let h : Goes (under (expanded ws s) (others e.0) leaves) k.after (done_with r) = subst (λ z. Goes (under (done_with z) (λ first. expanded ws >>= others first) leaves) k.after (done_with r)) e.1 k.rest in
+    let h : Goes (under (expanded ws s) (others e.0) leaves) k.after (done_with r) =
+    subst (λ z. Goes (under (done_with z) (λ first. expanded ws >>= others first) leaves) k.after (done_with r)) e.1 k.rest in
     let l = goes_cut (expanded ws s) (others e.0) k.after r h in
     let f = expanded-is ws s l.before l.middle l.first in
     let i : Goes (under (done_with (Next f.0 s)) (others e.0) leaves) l.after (done_with r) = subst (λ z. Goes (under (done_with z) (others e.0) leaves) l.after (done_with r)) f.1 l.rest in

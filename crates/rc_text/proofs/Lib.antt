@@ -3,7 +3,7 @@ pub mod LiteralMarks
 pub mod Cuts
 pub mod Decoding
 pub mod Digits
-pub mod Halves
+pub mod MarkedRuns
 pub mod Marks
 pub mod Places
 pub mod Runs

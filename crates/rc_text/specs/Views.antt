@@ -1,38 +1,47 @@
--- The characters of a word as the definitions have them.
-use Rattle.std.specs.Prelude.{◌≡◌, ℕ, Bool, true, false, List, ◌++◌, map, take, drop}
-use Rattle.std.specs.Str.{chars, IsCharBoundary}
-use Rattle.rc_model.specs.Syntax.Words.{Word, has_pattern, written}
+-- The marks of a text, and the word that they make of it.
+use Rattle.std.specs.Prelude.{◌≡◌, ℕ, Bool, true, false, not, List, ◌++◌, ◌⊎◌, length, map}
+use Rattle.std.proofs.Common.{inl, inr}
+use Rattle.std.specs.Str.{chars, IsUtf8}
+use Rattle.rc_model.specs.Syntax.Words.{Word, has_pattern}
 use Rattle.rc_text.specs.Literals.{marks}
-use Rattle.rc_text.specs.Texts.{text_bytes}
-use Rattle.rc_text.specs.declared.words.Letters.{Letters}
-use Rattle.rc_text.specs.declared.words.Letters.TheVariants.{Plain, Marked, Halves, Mixed, Literal}
+use Rattle.rc_text.specs.Runs.{marked_runs, AreRuns}
+use Rattle.rc_text.specs.declared.words.marks.MarkRoom.{MarkRoom}
+use Rattle.rc_text.specs.declared.words.marks.MarkRoom.TheVariants.{Few, Many, Pattern}
 
--- a text whose characters all have this mark
-abbrev pub with_mark : Bool → (text : List ℕ) → Word
-with_mark mark text = map (λ c. (c, mark)) (chars text)
+-- the runs that stand in this room, or the characters with their marks
+abbrev pub marks_in : MarkRoom → (Bool × List ℕ) ⊎ Word
+marks_in (Few runs) = inl runs
+marks_in (Many runs) = inl runs.value
+marks_in (Pattern chars) = inr (marks chars.value.items)
 
--- a text whose characters have one mark before the cut, and one mark after it
-abbrev pub halves : (first second : Bool) (cut : ℕ) (text : List ℕ) → Word
-halves first second cut text = with_mark first (take cut text) ++ with_mark second (drop cut text)
+-- there are runs
+abbrev pub HasRuns : (Bool × List ℕ) ⊎ Word → Type 0
+HasRuns (inl runs) = Unit {0}
+HasRuns (inr word) = ⊥
 
--- the word of letters
-abbrev pub word_of : Letters → Word
-word_of (Plain text) = written (text_bytes text) true
-word_of (Marked text) = written (text_bytes text) false
-word_of (Halves first second cut text) = halves first second cut (text_bytes text)
-word_of (Mixed mixed) = marks mixed.value.chars.items
-word_of (Literal literal) = written literal.value.0 literal.value.1
+-- there are characters with their marks
+abbrev pub HasPattern : (Bool × List ℕ) ⊎ Word → Type 0
+HasPattern (inl runs) = ⊥
+HasPattern (inr word) = Unit {0}
 
--- The letters are marked as their variant says: if all are marked, or those of a half, none is a pattern character; a
--- text is cut between two characters; characters with marks of their own are those of the text.
-abbrev pub AreMarked : Letters → Type 0
-AreMarked (Plain text) = Unit {0}
-AreMarked (Marked text) = has_pattern (written (text_bytes text) false) ≡ false
-AreMarked (Halves first second cut text) =
-    IsCharBoundary (text_bytes text) cut × (has_pattern (halves first second cut (text_bytes text)) ≡ false)
-AreMarked (Mixed mixed) = map (λ m. m.0) (marks mixed.value.chars.items) ≡ chars (text_bytes mixed.value.text)
-AreMarked (Literal literal) = Unit {0}
+-- the word of a text with these marks
+abbrev pub word_of : (text : List ℕ) → (Bool × List ℕ) ⊎ Word → Word
+word_of text (inl runs) = marked_runs runs.0 runs.1 text
+word_of text (inr word) = word
 
--- each character has this mark
-abbrev pub HaveMark : Bool → Word → Type 0
-HaveMark mark w = map (λ c. (c, mark)) (map (λ m. m.0) w) ≡ w
+-- whether a literal with these marks is quoted
+abbrev pub is_quoted_by : (Bool × List ℕ) ⊎ Word → Bool
+is_quoted_by (inl runs) = not runs.0
+is_quoted_by (inr word) = false
+
+-- The marks fit the text: the runs are parts of it without a pattern character, and the characters with their marks are
+-- its own, with a pattern character among them.
+abbrev pub AreMarked : (text : List ℕ) → (Bool × List ℕ) ⊎ Word → Type 0
+AreMarked text (inl runs) = AreRuns runs.1 text × (has_pattern (marked_runs runs.0 runs.1 text) ≡ false)
+AreMarked text (inr word) = (map (λ m. m.0) word ≡ chars text) × (has_pattern word ≡ true)
+
+-- the marks of two texts, of which the first has this many bytes, as those of one
+abbrev pub AreMarkedAsOne : (left : (Bool × List ℕ) ⊎ Word) (end : ℕ) (right all : (Bool × List ℕ) ⊎ Word) → Type 0
+AreMarkedAsOne left end right all =
+    (t v : List ℕ) → length t ≡ end → IsUtf8 t → IsUtf8 v → AreMarked t left → AreMarked v right →
+    AreMarked (t ++ v) all × (word_of (t ++ v) all ≡ word_of t left ++ word_of v right)

@@ -1,6 +1,6 @@
 //! Texts that their copies share.
 
-ghost use Rattle.std.specs.Prelude.{◌≡◌, ◌++◌};
+ghost use Rattle.std.specs.Prelude.{◌≡◌, ◌++◌, string_bytes, IfOk};
 ghost use Rattle.std.specs.Str.{IsUtf8};
 ghost use Rattle.rc_text.specs.Rooms.{bytes_in};
 
@@ -8,6 +8,9 @@ use crate::words::joined_text;
 use arrayvec::ArrayString;
 use std::alloc::{AllocError, Global};
 use std::rc::Rc;
+
+/// How many bytes may follow a text that was appended to before it is moved.
+const ROOM: usize = 32;
 
 /// Where a text stands.
 #[derive(Drop)]
@@ -28,6 +31,17 @@ impl Drop for Text {
     }
 }
 
+/// Joins two texts, with room for what may follow them.
+fn growing_text(alloc: Global, left: &str, right: &str) -> Result<String, AllocError>
+    ensures { IfOk result (λ text. string_bytes text ≡ left.now ++ right.now) }
+{
+    let size = left.len().saturating_add(right.len());
+    let mut text = String::with_capacity(alloc, size.saturating_add(ROOM))?;
+    text.push_str(left)?;
+    text.push_str(right)?;
+    Ok(text)
+}
+
 impl Clone for Text {
     ghost use Rattle.rc_text.specs.Texts.{text_bytes};
 
@@ -44,7 +58,7 @@ impl Clone for Text {
 }
 
 impl Text {
-    ghost use Rattle.std.specs.Prelude.{[], IfOk, OnErr, OnOk, string_bytes};
+    ghost use Rattle.std.specs.Prelude.{[], OnErr, OnOk};
     ghost use Rattle.rc_text.specs.Texts.{text_bytes};
 
     /// The empty text.
@@ -160,7 +174,7 @@ impl Text {
                 }
             }
         }
-        let joined = joined_text(alloc, self.as_str(), next)?;
+        let joined = growing_text(alloc, self.as_str(), next)?;
         *self = Text::shared(alloc, joined)?;
         Ok(())
     }

@@ -38,7 +38,7 @@ pub fn concat_words(
 fn pairwise(alloc: Global, lefts: &[Word], rights: &[Word]) -> Result<List, AllocError>
     ensures { IfOk result (λ list. list ≡ pairwise lefts.now rights.now) }
 {
-    let mut list = List::new(alloc);
+    let mut list = List::with_capacity(alloc, lefts.len())?;
     for (left, right) in lefts.iter().zip(rights) {
         list.push(Word::joined(alloc, left, right)?)?;
     }
@@ -48,7 +48,7 @@ fn pairwise(alloc: Global, lefts: &[Word], rights: &[Word]) -> Result<List, Allo
 fn before_each(alloc: Global, first: &Word, words: &[Word]) -> Result<List, AllocError>
     ensures { IfOk result (λ list. list ≡ map (λ w. first.now ++ w) words.now) }
 {
-    let mut list = List::new(alloc);
+    let mut list = List::with_capacity(alloc, words.len())?;
     for word in words {
         list.push(Word::joined(alloc, first, word)?)?;
     }
@@ -58,7 +58,7 @@ fn before_each(alloc: Global, first: &Word, words: &[Word]) -> Result<List, Allo
 fn after_each(alloc: Global, words: &[Word], last: &Word) -> Result<List, AllocError>
     ensures { IfOk result (λ list. list ≡ map (λ w. w ++ last.now) words.now) }
 {
-    let mut list = List::new(alloc);
+    let mut list = List::with_capacity(alloc, words.len())?;
     for word in words {
         list.push(Word::joined(alloc, word, last)?)?;
     }

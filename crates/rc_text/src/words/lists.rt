@@ -34,6 +34,13 @@ impl List {
         List(SmallVec::new(alloc))
     }
 
+    /// The list with no words, and with room for this many.
+    pub(crate) fn with_capacity(alloc: Global, count: usize) -> Result<List, AllocError>
+        ensures { IfOk result (λ list. list ≡ []) }
+    {
+        Ok(List(SmallVec::with_capacity(alloc, count)?))
+    }
+
     /// Texts as words with no marks.
     pub fn plain(alloc: Global, texts: Vec<Text>) -> Result<List, AllocError>
         ensures { IfOk result (λ list. list ≡ plain_words (map text_bytes texts.items)) }

@@ -4,9 +4,11 @@ ghost use Rattle.std.specs.Prelude.{◌≡◌, ◌++◌, false, true, map, IfOk,
 ghost use Rattle.std.specs.List.{list_any};
 ghost use Rattle.std.specs.Str.{chars};
 ghost use Rattle.rc_model.specs.Syntax.Words.{has_pattern, is_pattern, is_pattern_char, written};
-ghost use Rattle.rc_text.specs.Literals.{mark_of, marks, KeepsPatterns};
+ghost use Rattle.rc_text.specs.Literals.{mark_of, marks};
+ghost use Rattle.rc_text.specs.Views.{is_quoted_by, word_of, AreMarked};
 
 use crate::texts::Text;
+use crate::words::marks::Marks;
 use std::alloc::{AllocError, Global};
 use std::marker::Model;
 
@@ -17,34 +19,30 @@ pub struct Ch {
     pub pat: bool,
 }
 
-/// A word of a script: a text, and whether it is quoted.
+/// A word of a script: a text, and its marks, which its words share.
 pub struct Literal {
     text: Text,
-    quoted: bool,
-    /// The characters, if there is a pattern character among them.
-    chars: Option<Vec<Ch>>,
+    marks: Marks,
 }
 
 impl Drop for Literal {
     fn drop(self) {
-        let Literal {
-            text: _,
-            quoted: _,
-            chars: _,
-        } = self;
+        let Literal { text: _, marks: _ } = self;
     }
 }
 
 impl Model for Literal {
-    ghost use Rattle.std.specs.Prelude.{ℕ, Bool, List};
-    ghost use Rattle.rc_text.specs.Literals.{KeepsPatterns};
+    ghost use Rattle.std.specs.Prelude.{◌≡◌, ℕ, Bool, List};
+    ghost use Rattle.rc_model.specs.Syntax.Words.{written};
     ghost use Rattle.rc_text.specs.Texts.{text_bytes};
+    ghost use Rattle.rc_text.specs.Views.{is_quoted_by, word_of, AreMarked};
 
     ghost Value = { List ℕ × Bool };
 
-    ghost view = { λ l. (text_bytes l.text, l.quoted) };
+    ghost view = { λ l. (text_bytes l.text, is_quoted_by l.marks) };
 
-    ghost invariant = { λ l. KeepsPatterns (text_bytes l.text) l.quoted l.chars };
+    ghost invariant = { λ l. AreMarked (text_bytes l.text) l.marks
+        × (word_of (text_bytes l.text) l.marks ≡ written (text_bytes l.text) (is_quoted_by l.marks)) };
 }
 
 fn is_pattern_char(c: char) -> bool
@@ -89,15 +87,16 @@ fn all_marked(alloc: Global, text: &str) -> Result<Vec<Ch>, AllocError>
     Ok(all)
 }
 
-/// The characters of a word, if there is a pattern character among them.
+/// The marks of a word of this text. Each character of an unquoted one is marked, and none of a quoted one.
 #[tactic(auto, using(crate::proofs::LiteralMarks::patterns_of))]
-fn pattern_chars(alloc: Global, text: &str, quoted: bool) -> Result<Option<Vec<Ch>>, AllocError>
-    ensures { IfOk result (λ chars. KeepsPatterns text.now quoted chars) }
+fn written_marks(alloc: Global, text: &str, quoted: bool) -> Result<Marks, AllocError>
+    ensures { IfOk result (λ all. AreMarked text.now all
+        × (word_of text.now all ≡ written text.now quoted) × (is_quoted_by all ≡ quoted)) }
 {
     if quoted || !has_pattern_char(text) {
-        return Ok(None);
+        return Ok(Marks::one(!quoted));
     }
-    Ok(Some(all_marked(alloc, text)?))
+    Marks::of_pattern(alloc, all_marked(alloc, text)?)
 }
 
 impl Literal {
@@ -107,13 +106,9 @@ impl Literal {
     pub fn new(alloc: Global, text: &str, quoted: bool) -> Result<Literal, AllocError>
         ensures { IfOk result (λ literal. literal ≡ (text.now, quoted)) }
     {
-        let copy = Text::of(alloc, text)?;
-        let chars = pattern_chars(alloc, text, quoted)?;
-        Ok(Literal {
-            text: copy,
-            quoted,
-            chars,
-        })
+        let marks = written_marks(alloc, text, quoted)?;
+        let text = Text::of(alloc, text)?;
+        Ok(Literal { text, marks })
     }
 
     /// The text without its quotes.
@@ -123,13 +118,6 @@ impl Literal {
         self.text.as_str()
     }
 
-    /// The text without its quotes, as the literal keeps it.
-    pub(crate) fn as_text(&self) -> &Text
-        ensures { text_bytes result.now ≡ self.now.0 }
-    {
-        &self.text
-    }
-
     /// The text without its quotes, shared. It fails only if it has too many owners.
     pub(crate) fn shared_text(&self) -> Result<Text, AllocError>
         ensures { IfOk result (λ text. text_bytes text ≡ self.now.0) }
@@ -137,10 +125,12 @@ impl Literal {
         self.text.clone()
     }
 
-    pub(crate) fn is_quoted(&self) -> bool
-        ensures { result ≡ self.now.1 }
+    /// The marks of the characters.
+    pub(crate) fn marks(&self) -> &Marks
+        ensures fit { AreMarked self.now.0 result.now }
+        ensures word { word_of self.now.0 result.now ≡ written self.now.0 self.now.1 }
     {
-        self.quoted
+        &self.marks
     }
 
     /// The characters, if there is a pattern character among them.
@@ -149,9 +139,6 @@ impl Literal {
             (λ chars. (marks chars.now ≡ written self.now.0 self.now.1)
             × (has_pattern (written self.now.0 self.now.1) ≡ true)) }
     {
-        match &self.chars {
-            Some(chars) => Some(chars.as_slice()),
-            None => None,
-        }
+        self.marks.pattern()
     }
 }

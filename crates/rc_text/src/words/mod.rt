@@ -1,72 +1,51 @@
 //! Words: characters, each of them marked or not.
 
 pub(crate) mod concatenation;
+pub(crate) mod few_runs;
 pub(crate) mod lists;
 pub(crate) mod literal;
+pub(crate) mod marks;
 pub(crate) mod quoting;
+pub(crate) mod runs;
 
 ghost use Rattle.std.specs.Prelude.{◌≡◌, [], ◌++◌, true, false, map, string_bytes};
-ghost use Rattle.std.specs.Prelude.{IfOk, IfSome, IsTrue, OnErr, OnOk, MatchOption};
-ghost use Rattle.std.specs.Str.{chars, IsCharBoundary};
+ghost use Rattle.std.specs.Prelude.{IfOk, IsTrue, OnErr, OnOk, MatchOption};
+ghost use Rattle.std.specs.Str.{chars};
 ghost use Rattle.rc_model.specs.Syntax.Words.{has_pattern, unmarked, word_text, written};
 ghost use Rattle.rc_text.specs.Literals.{marks};
 ghost use Rattle.rc_text.specs.Texts.{text_bytes};
-ghost use Rattle.rc_text.specs.Views.{halves, with_mark, word_of, AreMarked, HaveMark};
+ghost use Rattle.rc_text.specs.Views.{word_of, AreMarked};
 
 use crate::texts::Text;
-use literal::{Ch, Literal, any_pattern, push_text};
+use literal::{Ch, Literal};
+use marks::Marks;
 use std::alloc::{AllocError, Global};
 use std::default::MadeWith;
 use std::marker::Model;
 use std::rc::Rc;
 
-/// A text with a mark for each of its characters.
-#[derive(Drop)]
-pub(crate) struct MixedText {
-    text: Text,
-    /// The characters of the text.
-    chars: Vec<Ch>,
-}
-
-/// A text, and which of its characters are marked.
-#[derive(Drop)]
-pub(crate) enum Letters {
-    /// No character is marked.
-    Plain(Text),
-    /// All characters are marked, and none is a pattern character.
-    Marked(Text),
-    /// The characters before the cut, a number of bytes, have one mark, and so have those after it. No marked one is a
-    /// pattern character.
-    Halves {
-        first: bool,
-        second: bool,
-        cut: u32,
-        text: Text,
-    },
-    /// Each character has its own mark. Few words are mixed, and the box keeps the others small.
-    Mixed(Box<MixedText>),
-    /// A word of a script, shared by all its evaluations.
-    Literal(Rc<Literal>),
-}
-
 /// A word: characters, each of them marked or not.
-pub struct Word(Letters);
+pub struct Word {
+    text: Text,
+    marks: Marks,
+}
 
 impl Drop for Word {
     fn drop(self) {
-        let Word(_) = self;
+        let Word { text: _, marks: _ } = self;
     }
 }
 
 impl Model for Word {
     ghost use Rattle.std.specs.Prelude.{ℕ, Bool, List};
+    ghost use Rattle.rc_text.specs.Texts.{text_bytes};
     ghost use Rattle.rc_text.specs.Views.{word_of, AreMarked};
 
     ghost Value = { List (ℕ × Bool) };
 
-    ghost view = { λ w. word_of w.0 };
+    ghost view = { λ w. word_of (text_bytes w.text) w.marks };
 
-    ghost invariant = { λ w. AreMarked w.0 };
+    ghost invariant = { λ w. AreMarked (text_bytes w.text) w.marks };
 }
 
 impl Clone for Word {
@@ -76,26 +55,9 @@ impl Clone for Word {
 
     /// Copies the characters and their marks.
     fn clone(&self) -> Result<Word, AllocError> {
-        match &self.0 {
-            Letters::Plain(text) => Ok(Word::plain(text.clone()?)),
-            Letters::Marked(text) => Ok(Word(Letters::Marked(text.clone()?))),
-            Letters::Halves {
-                first,
-                second,
-                cut,
-                text,
-            } => Ok(Word(Letters::Halves {
-                first: *first,
-                second: *second,
-                cut: *cut,
-                text: text.clone()?,
-            })),
-            Letters::Mixed(mixed) => {
-                let alloc = *mixed.chars.allocator();
-                Word::mixed(alloc, mixed.text.clone()?, mixed.chars.clone()?)
-            }
-            Letters::Literal(literal) => Word::literal(literal),
-        }
+        let marks = self.marks.copied()?;
+        let text = self.text.clone()?;
+        Ok(Word { text, marks })
     }
 }
 
@@ -107,21 +69,6 @@ impl MadeWith<Global> for Word {
     fn made_with(_alloc: Global) -> Word {
         Word::empty()
     }
-}
-
-/// Adds the characters of a text. Those before the cut have one mark, and so have those after it.
-fn push_halves(
-    all: &mut Vec<Ch>,
-    first: bool,
-    second: bool,
-    cut: usize,
-    text: &str,
-) -> Result<(), AllocError>
-    requires { IsCharBoundary text.now cut }
-    ensures { OnOk result (marks all.new.items ≡ marks all.old.items ++ halves first second cut text.now) }
-{
-    push_text(all, &text[..cut], first)?;
-    push_text(all, &text[cut..], second)
 }
 
 /// Joins two texts.
@@ -147,16 +94,8 @@ impl Word {
     pub fn plain(text: Text) -> Word
         ensures { result ≡ written (text_bytes text) true }
     {
-        Word(Letters::Plain(text))
-    }
-
-    /// A text with a mark for each of its characters.
-    fn mixed(alloc: Global, text: Text, all: Vec<Ch>) -> Result<Word, AllocError>
-        requires { map (λ m. m.0) (marks all.items) ≡ chars (text_bytes text) }
-        ensures { IfOk result (λ word. word ≡ marks all.items) }
-    {
-        let mixed = Box::new(alloc, MixedText { text, chars: all })?;
-        Ok(Word(Letters::Mixed(mixed)))
+        let marks = Marks::one(false);
+        Word { text, marks }
     }
 
     /// A word of a script. Each character of an unquoted one is marked, and none of a quoted one.
@@ -164,62 +103,50 @@ impl Word {
         ensures { IfOk result (λ word. word ≡ written text.now quoted) }
     {
         let literal = Literal::new(alloc, text, quoted)?;
-        Ok(Word(Letters::Literal(Rc::new(alloc, literal)?)))
+        Word::of_literal(&literal)
     }
 
-    /// A word that shares its literal. It fails only if the literal has too many owners.
+    /// A word that shares what is long with its literal. It fails only if that has too many owners.
     pub fn literal(literal: &Rc<Literal>) -> Result<Word, AllocError>
         ensures { IfOk result (λ word. word ≡ written literal.now.value.0 literal.now.value.1) }
     {
-        Ok(Word(Letters::Literal(literal.clone()?)))
+        Word::of_literal(literal)
+    }
+
+    fn of_literal(literal: &Literal) -> Result<Word, AllocError>
+        ensures { IfOk result (λ word. word ≡ written literal.now.0 literal.now.1) }
+    {
+        let marks = literal.marks().copied()?;
+        let text = literal.shared_text()?;
+        Ok(Word { text, marks })
     }
 
     /// Joins two words.
     pub(crate) fn joined(alloc: Global, left: &Word, right: &Word) -> Result<Word, AllocError>
         ensures { IfOk result (λ word. word ≡ left.now ++ right.now) }
     {
-        let front = left.as_text();
-        let text = front.joined(alloc, right.text())?;
-        match (left.common_mark(), right.common_mark()) {
-            (Some(first), Some(second)) => {
-                Word::halves(alloc, first, second, front.as_str().len(), text)
-            }
-            _ => Word::mixed(alloc, text, Word::all_chars(alloc, left, right)?),
-        }
+        let next = right.text.as_str();
+        let marks = left
+            .marks
+            .joined(alloc, left.text.as_str(), &right.marks, next)?;
+        let text = left.text.joined(alloc, next)?;
+        Ok(Word { text, marks })
     }
 
-    /// Appends characters of one mark, none of them a pattern character. The text grows in place if those at its end
-    /// have this mark. After an error the word is as before.
-    fn push_marked(&mut self, alloc: Global, next: &str, mark: bool) -> Result<(), AllocError>
-        requires { has_pattern (with_mark mark next.now) ≡ false }
-        ensures ok { OnOk result (self.new ≡ self.old ++ with_mark mark next.now) }
+    /// Appends a text with these marks: in place, if no other has the text. After an error the word is as before.
+    fn push(&mut self, alloc: Global, next: &str, next_marks: &Marks) -> Result<(), AllocError>
+        requires { AreMarked next.now next_marks.now }
+        ensures ok { OnOk result (self.new ≡ self.old ++ word_of next.now next_marks.now) }
         ensures err { OnErr result (self.new ≡ self.old) }
     {
-        match &mut self.0 {
-            Letters::Plain(text) if !mark => text.push_str(alloc, next),
-            Letters::Marked(text) if mark => text.push_str(alloc, next),
-            Letters::Halves { second, text, .. } if *second == mark => text.push_str(alloc, next),
-            _ => {
-                *self = self.with_end(alloc, next, mark)?;
-                Ok(())
-            }
+        if self.marks.go_on(next_marks) {
+            return self.text.push_str(alloc, next);
         }
-    }
-
-    /// The word with characters of one mark after it, none of them a pattern character.
-    fn with_end(&self, alloc: Global, next: &str, mark: bool) -> Result<Word, AllocError>
-        requires { has_pattern (with_mark mark next.now) ≡ false }
-        ensures { IfOk result (λ word. word ≡ self.now ++ with_mark mark next.now) }
-    {
-        let front = self.as_text();
-        let text = front.joined(alloc, next)?;
-        if let Some(first) = self.common_mark() {
-            return Word::halves(alloc, first, mark, front.as_str().len(), text);
-        }
-        let mut chars = Vec::with_capacity(alloc, text.as_str().len())?;
-        self.push_chars(&mut chars)?;
-        push_text(&mut chars, next, mark)?;
-        Word::mixed(alloc, text, chars)
+        let front = &self.text;
+        let marks = self.marks.joined(alloc, front.as_str(), next_marks, next)?;
+        self.text.push_str(alloc, next)?;
+        self.marks = marks;
+        Ok(())
     }
 
     /// Appends a text of which no character is marked. After an error the word is as before.
@@ -227,7 +154,7 @@ impl Word {
         ensures ok { OnOk result (self.new ≡ self.old ++ written next.now true) }
         ensures err { OnErr result (self.new ≡ self.old) }
     {
-        self.push_marked(alloc, next, false)
+        self.push(alloc, next, &Marks::one(false))
     }
 
     /// Appends a word of a script. After an error the word is as before.
@@ -235,111 +162,15 @@ impl Word {
         ensures ok { OnOk result (self.new ≡ self.old ++ written next.now.0 next.now.1) }
         ensures err { OnErr result (self.new ≡ self.old) }
     {
-        if next.pattern().is_none() {
-            return self.push_marked(alloc, next.text(), !next.is_quoted());
-        }
-        let next = Word::written(alloc, next.text(), next.is_quoted())?;
-        *self = Word::joined(alloc, self, &next)?;
-        Ok(())
+        self.push(alloc, next.text(), next.marks())
     }
 
-    /// Appends the characters of another word. If they all have the mark of those at the end, the text grows in place.
-    /// After an error the word is as before.
+    /// Appends the characters of another word. After an error the word is as before.
     pub fn append(&mut self, alloc: Global, next: &Word) -> Result<(), AllocError>
         ensures ok { OnOk result (self.new ≡ self.old ++ next.now) }
         ensures err { OnErr result (self.new ≡ self.old) }
     {
-        match next.common_mark() {
-            Some(mark) => self.push_marked(alloc, next.text(), mark),
-            None => {
-                *self = Word::joined(alloc, self, next)?;
-                Ok(())
-            }
-        }
-    }
-
-    /// A text in two halves. If the first is too long for the number of its bytes, each character gets its own mark.
-    fn halves(
-        alloc: Global,
-        first: bool,
-        second: bool,
-        cut: usize,
-        text: Text,
-    ) -> Result<Word, AllocError>
-        requires cut { IsCharBoundary (text_bytes text) cut }
-        requires no_pattern { has_pattern (halves first second cut (text_bytes text)) ≡ false }
-        ensures { IfOk result (λ word. word ≡ halves first second cut (text_bytes text)) }
-    {
-        if first == second {
-            return Ok(Word::with_mark(text, first));
-        }
-        if let Ok(cut) = u32::try_from(cut) {
-            return Ok(Word(Letters::Halves {
-                first,
-                second,
-                cut,
-                text,
-            }));
-        }
-        let mut chars = Vec::with_capacity(alloc, text.as_str().len())?;
-        push_halves(&mut chars, first, second, cut, text.as_str())?;
-        Word::mixed(alloc, text, chars)
-    }
-
-    /// A text whose characters all have this mark, and none of them is a pattern character.
-    fn with_mark(text: Text, mark: bool) -> Word
-        requires { has_pattern (with_mark mark (text_bytes text)) ≡ false }
-        ensures { result ≡ with_mark mark (text_bytes text) }
-    {
-        if mark {
-            Word(Letters::Marked(text))
-        } else {
-            Word::plain(text)
-        }
-    }
-
-    /// The mark of all its characters, if none of them is a pattern character.
-    fn common_mark(&self) -> Option<bool>
-        ensures { IfSome result (λ mark. HaveMark mark self.now × (has_pattern self.now ≡ false)) }
-    {
-        match &self.0 {
-            Letters::Plain(_) => Some(false),
-            Letters::Marked(_) => Some(true),
-            Letters::Halves { .. } | Letters::Mixed(_) => None,
-            Letters::Literal(literal) => match literal.pattern() {
-                Some(_) => None,
-                None => Some(!literal.is_quoted()),
-            },
-        }
-    }
-
-    /// The characters of both words.
-    fn all_chars(alloc: Global, left: &Word, right: &Word) -> Result<Vec<Ch>, AllocError>
-        ensures { IfOk result (λ all. marks all.items ≡ left.now ++ right.now) }
-    {
-        let size = left.text().len().saturating_add(right.text().len());
-        let mut chars = Vec::with_capacity(alloc, size)?;
-        left.push_chars(&mut chars)?;
-        right.push_chars(&mut chars)?;
-        Ok(chars)
-    }
-
-    /// Adds the characters of the word.
-    fn push_chars(&self, chars: &mut Vec<Ch>) -> Result<(), AllocError>
-        ensures { OnOk result (marks chars.new.items ≡ marks chars.old.items ++ self.now) }
-    {
-        match &self.0 {
-            Letters::Plain(text) => push_text(chars, text.as_str(), false),
-            Letters::Marked(text) => push_text(chars, text.as_str(), true),
-            Letters::Halves {
-                first,
-                second,
-                cut,
-                text,
-            } => push_halves(chars, *first, *second, *cut as usize, text.as_str()),
-            Letters::Mixed(mixed) => chars.extend_from_slice(mixed.chars.as_slice()),
-            Letters::Literal(literal) => push_text(chars, literal.text(), !literal.is_quoted()),
-        }
+        self.push(alloc, next.text.as_str(), &next.marks)
     }
 
     /// The characters without their marks.
@@ -347,58 +178,37 @@ impl Word {
         ensures text { result.now ≡ word_text self.now }
         ensures characters { chars result.now ≡ map (λ m. m.0) self.now }
     {
-        self.as_text().as_str()
+        self.text.as_str()
     }
 
-    /// The characters without their marks, as the word keeps them.
-    fn as_text(&self) -> &Text
-        ensures { chars (text_bytes result.now) ≡ map (λ m. m.0) self.now }
+    /// The text, which is let go of by the word.
+    fn take_text(self) -> Text
+        ensures text { text_bytes result ≡ word_text self }
+        ensures characters { chars (text_bytes result) ≡ map (λ m. m.0) self }
     {
-        match &self.0 {
-            Letters::Plain(text) => text,
-            Letters::Marked(text) => text,
-            Letters::Halves { text, .. } => text,
-            Letters::Mixed(mixed) => &mixed.text,
-            Letters::Literal(literal) => literal.as_text(),
-        }
+        let Word { text, marks: _ } = self;
+        text
     }
 
-    /// Returns the characters without their marks. It fails only if those of a literal have too many owners.
+    /// Returns the characters without their marks.
     pub fn into_text(self) -> Result<Text, AllocError>
         ensures { IfOk result (λ text. text_bytes text ≡ word_text self) }
     {
-        let Word(letters) = self;
-        match letters {
-            Letters::Plain(text) => Ok(text),
-            Letters::Marked(text) => Ok(text),
-            Letters::Halves { text, .. } => Ok(text),
-            Letters::Mixed(mixed) => Ok(Box::into_inner(mixed).text),
-            Letters::Literal(literal) => literal.shared_text(),
-        }
+        Ok(self.take_text())
     }
 
     /// Whether it is known, without a look at the characters, that none of them is marked.
     pub fn is_plain(&self) -> bool
         ensures { IsTrue result → unmarked self.now ≡ self.now }
     {
-        matches!(self.0, Letters::Plain(_))
+        self.marks.is_plain()
     }
 
-    /// Removes the marks. It fails only if the characters of a literal have too many owners.
+    /// Removes the marks.
     pub fn unmarked(self) -> Result<Word, AllocError>
         ensures { IfOk result (λ word. word ≡ unmarked self) }
     {
-        let Word(letters) = self;
-        match letters {
-            Letters::Plain(text) => Ok(Word::plain(text)),
-            Letters::Marked(text) => Ok(Word::plain(text)),
-            Letters::Halves { text, .. } => Ok(Word::plain(text)),
-            Letters::Mixed(mixed) => Ok(Word::plain(Box::into_inner(mixed).text)),
-            Letters::Literal(literal) => {
-                let text = literal.shared_text()?;
-                Ok(Word::plain(text))
-            }
-        }
+        Ok(Word::plain(self.take_text()))
     }
 
     /// The characters, if there is a pattern character among them.
@@ -406,13 +216,7 @@ impl Word {
         ensures { MatchOption result (has_pattern self.now ≡ false)
             (λ chars. (marks chars.now ≡ self.now) × (has_pattern self.now ≡ true)) }
     {
-        match &self.0 {
-            Letters::Mixed(mixed) if any_pattern(mixed.chars.as_slice()) => {
-                Some(mixed.chars.as_slice())
-            }
-            Letters::Literal(literal) => literal.pattern(),
-            _ => None,
-        }
+        self.marks.pattern()
     }
 
     /// Whether there is a marked `*`, `?` or `[` among the characters.

@@ -1,4 +1,4 @@
-use Rattle.std.proofs.Common.{ap, ◌∙◌, false, true, map}
+use Rattle.std.proofs.Common.{ap, map, false, true, ◌∙◌}
 use Rattle.std.proofs.lemmas.Str.{chars-nil}
 use Rattle.rc_model.specs.Syntax.Words.{written}
 use Rattle.rc_text.proofs.words.Word.empty.Goals as goal

@@ -1,7 +1,16 @@
-use Rattle.std.proofs.Common.{ap, sym, ◌∙◌, refl}
+use Rattle.std.proofs.Common.{ℕ, Bool, map, ap, sym, ◌∙◌}
+use Rattle.std.proofs.lemmas.Str.{IsUtf8-had}
 use Rattle.std.specs.Str.{chars}
 use Rattle.rc_text.proofs.Marks.{text_of_word}
+use Rattle.rc_text.proofs.MarkedRuns.{characters_of}
 use Rattle.rc_text.proofs.words.Word.text.Goals as goal
 
 pub returns-clause-text : goal.returns-clause-text
-returns-clause-text c = text_of_word _ _ _ c.as_str.utf8 (sym (ap chars c.as_str.ensures ∙ c.as_text.ensures)) refl
+returns-clause-text c =
+    let text = c.self.inside.text in
+    c.as_str.ensures ∙ text_of_word _ _ _ (IsUtf8-had _ text.ok) (characters_of _ _ (IsUtf8-had _ text.ok) c.self.invariant) c.self.view_is
+
+pub returns-clause-characters : goal.returns-clause-characters
+returns-clause-characters c =
+    let text = c.self.inside.text in
+    ap chars c.as_str.ensures ∙ sym (characters_of _ _ (IsUtf8-had _ text.ok) c.self.invariant) ∙ ap (map (λ (m : ℕ × Bool). m.0)) c.self.view_is
