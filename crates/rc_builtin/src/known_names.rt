@@ -104,8 +104,8 @@ fn command_line<W: World>(
         Reads W.events world.old world.new s
         (command_line name.now shown.now (function_of s name.now) (builtin_named name.now)) known result }
 {
-    if let Some(body) = state.function(name) {
-        return Ok(function_line(alloc, name, body)?);
+    if let Some(body) = state.function(name)? {
+        return Ok(function_line(alloc, name, &body)?);
     }
     if Builtin::named(name).is_some() {
         return Ok(builtin_line(alloc, name)?);

@@ -15,7 +15,8 @@ pub(crate) enum Sort {
     Entries,
 }
 
-/// Adds each text in the bytes that is to be kept, and returns how many texts there are, kept or not.
+/// Adds the texts in the bytes that are of use, and returns how many there are in all. A name that is `.`, `..` or no
+/// UTF-8 is of no use, nor is an entry that is no UTF-8.
 pub(crate) fn push_ended(
     texts: &mut Vec<String>,
     bytes: &[u8],
@@ -35,7 +36,7 @@ pub(crate) fn push_ended(
     Ok(count)
 }
 
-/// Adds the text, if it is kept.
+/// Adds the text, if it is of use.
 fn push_kept(texts: &mut Vec<String>, bytes: &[u8], sort: Sort) -> Result<(), AllocError>
     ensures { OnOk result (map string_bytes texts.new.items
         ≡ map string_bytes texts.old.items ++ kept sort bytes.now) }
@@ -48,6 +49,7 @@ fn push_kept(texts: &mut Vec<String>, bytes: &[u8], sort: Sort) -> Result<(), Al
     Ok(())
 }
 
+/// The text, if it is of use.
 fn kept_text(bytes: &[u8], sort: Sort) -> Option<&str>
     ensures { MatchOption result (kept sort bytes.now ≡ []) (λ text. kept sort bytes.now ≡ text.now ∷ []) }
 {

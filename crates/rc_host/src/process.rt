@@ -24,7 +24,7 @@ use thiserror::Error;
 const NOT_OPEN: i32 = 9;
 
 /// How many bytes of a long environment are read at first.
-const ENVIRONMENT_BYTES: usize = 4_096;
+const ENVIRONMENT_BYTES: usize = 8_192;
 
 /// For how many entries of the environment there is room at first. An environment that has more is long.
 const USUAL_ENTRIES: usize = 64;
@@ -32,7 +32,8 @@ const USUAL_ENTRIES: usize = 64;
 /// For how many bytes of an environment that is not long there is room at first.
 const USUAL_BYTES: usize = 1_024;
 
-/// For how many bytes of an entry that is taken by its index there is room at first.
+/// For how many bytes of an entry that is taken by its index there is room at first. An environment that has a longer
+/// one is long.
 const ENTRY_BYTES: usize = 256;
 
 /// The fault of the arguments of a program.
@@ -85,7 +86,10 @@ fn arguments_error(error: &io::Error) -> InputError<ArgumentsFault>
 /// The entries of the environment that are UTF-8, in their order. A long environment is read from Linux.
 pub fn entries(rt: &HostRuntime) -> Result<Vec<String>, AllocError> {
     if !is_present(rt, USUAL_ENTRIES) {
-        return entries_by_place(rt);
+        if let Some(bytes) = usual_environment(rt)? {
+            let (entries, _) = entries_in(rt.alloc(), &bytes)?;
+            return Ok(entries);
+        }
     }
     if let Ok(bytes) = environment(rt) {
         let (entries, count) = entries_in(rt.alloc(), &bytes)?;
@@ -149,6 +153,23 @@ fn environment_by_place<R: Env + AllocGlobal>(rt: &R) -> Result<Vec<u8>, AllocEr
         bytes.push(0)?;
     }
     Ok(bytes)
+}
+
+/// The environment of this process as `environment_by_place` returns it, unless it is long.
+fn usual_environment<R: Env + AllocGlobal>(rt: &R) -> Result<Option<Vec<u8>>, AllocError> {
+    let mut bytes = Vec::with_capacity(rt.alloc(), USUAL_BYTES)?;
+    let mut buffer = vec![in rt.alloc(); 0u8; ENTRY_BYTES]?;
+    for place in 0..USUAL_ENTRIES + 1 {
+        match rt.var_at(place, &mut buffer) {
+            Ok(length) => {
+                bytes.extend_from_slice(&buffer[..length])?;
+                bytes.push(0)?;
+            }
+            Err(FillError::NotPresent) => return Ok(Some(bytes)),
+            Err(FillError::TooLong) => return Ok(None),
+        }
+    }
+    Ok(None)
 }
 
 /// Fills the buffer with the entry at an index of the environment, and returns the entry's length. A buffer that is

@@ -1,12 +1,10 @@
 -- The functions that entries denote, and the whole state.
-use Rattle.std.specs.Prelude.{Option, Some, None, IfSome, Result, Ok, Err, if◌then◌else◌, not, ◌||◌, is_some, codes, drop, map, string_bytes, option_map, length}
+use Rattle.std.specs.Prelude.{Option, Some, None, Result, Ok, Err, if◌then◌else◌, not, ◌||◌, is_some, codes, drop, map, string_bytes, length}
 use Rattle.std.proofs.Common.{◌≡◌, ℕ, List, [], ◌∷◌, ◌++◌, ◌&&◌, Bool, true, false, cond, refl, sym, ap, subst, ◌∙◌, ◌<◌, ◌≤◌, ◌+◌, get_or, drop-cons, add-one}
 use Rattle.std.specs.Str.{bytes_eq}
 use Rattle.std.specs.List.{list_any}
 use Rattle.std.specs.Map.{lookup}
-use Rattle.std.specs.Option.{option_copied}
 use Rattle.std.specs.Result.{IsErrAnd}
-use denote.Ref.{Bor}
 use Rattle.std.specs.declared.alloc.Global.{Global}
 use Rattle.std.specs.declared.string.String.{String}
 use Rattle.std.proofs.Math.ListN.{drop_of_length-le}
@@ -22,8 +20,11 @@ use Rattle.rc_model.specs.Handed.Environment.{Bindings, Functions, bindings, wit
 use Rattle.rc_model.specs.Handed.Environment as e
 use Rattle.law_image.proofs.Trees.{one_spelling, reads_spellings}
 use Rattle.rc_image.specs.Entries.{function_in, values_state, with_function, with_functions}
-use Rattle.rc_tree.specs.View.{cmd_tree}
-use Rattle.rc_tree.specs.declared.types.Cmd.{Cmd}
+use Rattle.rc_model.specs.Handed.Proper.{IsProperTree}
+use Rattle.law_image.proofs.ReadProper.{read_script}
+use Rattle.rc_scope.specs.FunctionBodies.{IsImage, image_tree}
+use Rattle.rc_scope.specs.KeptEntries.{kept_text}
+use Rattle.rc_scope.specs.declared.kept_entries.KeptEntry.{KeptEntry}
 use Rattle.rc_model.specs.declared.fault.InputError.TheVariants as error
 use Rattle.rc_model.specs.Syntax.Faults.{Fails, Gives}
 use Rattle.rc_spelling.specs.Faults.{ImageError}
@@ -155,20 +156,16 @@ step_by : (s : State) (name image : List ℕ) (f : Option (List ℕ × List ℕ)
 unfolding with_function
 step_by s name image f t h k = ap (with_function s) (sym h) ∙ ap (λ z. if z then Ok s else (read_tree image >>= λ c. Ok (define s name c))) k
 
-some_copied : (t : Bool) (r : Option (Bor Cmd)) (o : Option (Node cmd)) → option_map cmd_tree (option_copied r) ≡ o → t ≡ is_some r → is_some o ≡ t
-some_copied t None o h k = ap is_some (sym h) ∙ sym k
-some_copied t (Some x) o h k = ap is_some (sym h) ∙ sym k
-
 pub nothing_new : (s : State) (entry : List ℕ) → None ≡ function_in (cut_entry entry) → with_function s (function_in (cut_entry entry)) ≡ Ok s
 nothing_new s entry h = no_function s (function_in (cut_entry entry)) h
 
-pub is_there : (s : State) (name image entry : List ℕ) (r : Option (Bor Cmd)) → Some (name, image) ≡ function_in (cut_entry entry) → option_map cmd_tree (option_copied r) ≡ function_of s name → is_some r ≡ true →
+pub is_there : (s : State) (name image entry : List ℕ) (t : Bool) → Some (name, image) ≡ function_in (cut_entry entry) → t ≡ is_some (function_of s name) → t ≡ true →
     with_function s (function_in (cut_entry entry)) ≡ Ok s
-is_there s name image entry r h k i = step_by s name image (function_in (cut_entry entry)) true h (some_copied true r (function_of s name) k (sym i))
+is_there s name image entry t h k i = step_by s name image (function_in (cut_entry entry)) true h (sym k ∙ i)
 
-is_new : (s : State) (name image entry : List ℕ) (r : Option (Bor Cmd)) → Some (name, image) ≡ function_in (cut_entry entry) → option_map cmd_tree (option_copied r) ≡ function_of s name → is_some r ≡ false →
+is_new : (s : State) (name image entry : List ℕ) (t : Bool) → Some (name, image) ≡ function_in (cut_entry entry) → t ≡ is_some (function_of s name) → t ≡ false →
     with_function s (function_in (cut_entry entry)) ≡ (read_tree image >>= λ c. Ok (define s name c))
-is_new s name image entry r h k i = step_by s name image (function_in (cut_entry entry)) false h (some_copied false r (function_of s name) k (sym i))
+is_new s name image entry t h k i = step_by s name image (function_in (cut_entry entry)) false h (sym k ∙ i)
 
 -- a fault goes through what follows
 pub fails_on : {X Y : Type 0} (e : ImageError) (r : Result X ImageFault) (k : X → Result Y ImageFault) → Fails e r → Fails e (r >>= k)
@@ -180,10 +177,10 @@ pub passed_on : {X Y : Type 0} (view : X → Y) (r : Result X ImageError) (e : I
 passed_on view (Ok x) e w h k = absurd h
 passed_on view (Err x) e w h k = subst (λ y. Fails y w) (sym h) k
 
-pub bad_image : (s : State) (name image entry : List ℕ) (r : Option (Bor Cmd)) (e : ImageError) → Some (name, image) ≡ function_in (cut_entry entry) → option_map cmd_tree (option_copied r) ≡ function_of s name → is_some r ≡ false →
+pub bad_image : (s : State) (name image entry : List ℕ) (t : Bool) (e : ImageError) → Some (name, image) ≡ function_in (cut_entry entry) → t ≡ is_some (function_of s name) → t ≡ false →
     Fails e (read_tree image) → Fails e (with_function s (function_in (cut_entry entry)))
-bad_image s name image entry r e h k i w =
-    subst (Fails e) (sym (is_new s name image entry r h k i)) (fails_on e (read_tree image) (λ c. Ok (define s name c)) w)
+bad_image s name image entry t e h k i w =
+    subst (Fails e) (sym (is_new s name image entry t h k i)) (fails_on e (read_tree image) (λ c. Ok (define s name c)) w)
 
 abbrev first_of : Option (List ℕ × List ℕ) → List ℕ
 first_of None = []
@@ -203,26 +200,21 @@ unfolding function_in
 function_named name text None h = cc
 function_named name text (Some b) h = named_by b.0 b.1 name text (is_function b.0) refl h
 
-pub is_defined : (s t : State) (name image entry : List ℕ) (r : Option (Bor Cmd)) (c : Node cmd) → Some (name, image) ≡ function_in (cut_entry entry) → option_map cmd_tree (option_copied r) ≡ function_of s name → is_some r ≡ false →
-    read_tree image ≡ Ok c → t ≡ (if is_function_name name then define s name c else s) → with_function s (function_in (cut_entry entry)) ≡ Ok t
-is_defined s t name image entry r c h k i w d =
-    is_new s name image entry r h k i
-    ∙ ap (λ z. z >>= λ c. Ok (define s name c)) w
-    ∙ ap Ok (sym (d ∙ ap (λ z. if z then define s name c else s) (function_named name image (cut_entry entry) h)))
+pub is_defined : (s t : State) (name text entry : List ℕ) (d : Bool) (kept : KeptEntry) → Some (name, text) ≡ function_in (cut_entry entry) → d ≡ is_some (function_of s name) → d ≡ false →
+    read_tree text ≡ Ok (image_tree text) → kept_text kept ≡ text → t ≡ (if is_function_name name then define s name (image_tree (kept_text kept)) else s) → with_function s (function_in (cut_entry entry)) ≡ Ok t
+is_defined s t name text entry d kept h k i w e z =
+    is_new s name text entry d h k i
+    ∙ ap (λ r. r >>= λ c. Ok (define s name c)) w
+    ∙ ap Ok (sym (z ∙ ap (λ b. if b then define s name (image_tree (kept_text kept)) else s) (function_named name text (cut_entry entry) h) ∙ ap (λ x. define s name (image_tree x)) e))
 
--- what was defined has the image that it was read from
-defined_body : (s : State) (name text : List ℕ) (c : Node cmd) → read_tree text ≡ Ok c → IfSome (function_of (define s name c) name) (λ b. text ≡ image b)
-defined_body s name text c h =
-    subst (λ o. IfSome o (λ b. text ≡ image b))
-    (sym (found s.functions name name c ∙ ap (λ t. cond t (Some c) (lookup (bytes_eq name) s.functions)) ((bytes_eq-Decides name name).1 refl)))
-    (one_spelling c text ((reads_spellings text c).0 h).0)
+-- an image that was read is kept as it is
+pub is_kept : (kept : KeptEntry) (text : List ℕ) → kept_text kept ≡ text → read_tree text ≡ Ok (image_tree text) → IsImage kept
+is_kept kept text e w =
+    subst (λ x. (read_tree x ≡ Ok (image_tree x)) × (x ≡ image (image_tree x))) (sym e)
+    (w, one_spelling (image_tree text) text ((reads_spellings text (image_tree text)).0 w).0)
 
-pub is_image : (s t : State) (name text entry : List ℕ) (c : Node cmd) → Some (name, text) ≡ function_in (cut_entry entry) →
-    read_tree text ≡ Ok c → t ≡ (if is_function_name name then define s name c else s) → IfSome (function_of t name) (λ b. text ≡ image b)
-is_image s t name text entry c h w d =
-    subst (λ z. IfSome (function_of z name) (λ b. text ≡ image b))
-    (sym (d ∙ ap (λ z. if z then define s name c else s) (function_named name text (cut_entry entry) h)))
-    (defined_body s name text c w)
+pub kept_proper : (kept : KeptEntry) (text : List ℕ) → kept_text kept ≡ text → read_tree text ≡ Ok (image_tree text) → IsProperTree (image_tree (kept_text kept))
+kept_proper kept text e w = subst (λ x. IsProperTree (image_tree x)) (sym e) (read_script text (image_tree text) w)
 
 -- the functions of the entries that are left
 next_by_cut : (s t : State) (cut : Option (List ℕ × List ℕ)) (bs : Bindings) → with_function s (function_in cut) ≡ Ok t → defined_in s (with_cut cut bs) ≡ defined_in t bs

@@ -6,8 +6,6 @@ use Rattle.std.proofs.lemmas.Bool.{ne_eqb}
 use Rattle.std.specs.Char.{encode_utf8}
 use Rattle.std.specs.List.{flat_map, list_any}
 use mathlib.Core.Bool.{true≢false}
-use Rattle.std.specs.declared.alloc.Global.{Global}
-use Rattle.std.specs.declared.string.String.{String}
 use Rattle.rc_text.specs.declared.texts.Text.{Text}
 use Rattle.rc_text.specs.Texts.{text_bytes}
 use Rattle.rc_model.specs.Handed.Image.{escape, escaped, value_text}

@@ -10,8 +10,6 @@ use Rattle.rc_text.specs.Texts.{text_bytes}
 use Rattle.rc_model.specs.Syntax.Text.{text_cmp}
 use Rattle.rc_model.specs.Run.State.{State, status_name, visible}
 use Rattle.rc_model.specs.Handed.Environment.{Bindings}
-use Rattle.std.specs.Prelude.{Option, Some, None, IfSome}
-use Rattle.rc_model.specs.Syntax.Tree.{Node, cmd}
 use Rattle.rc_model.specs.Handed.Image.{image, entry, entries, value_text, with_binding, with_functions, stays_behind, handed_values}
 use Rattle.rc_scope.specs.Bindings.{binding_of, bindings_of, visible_values}
 use Rattle.rc_scope.specs.Bodies.{definitions_of}
@@ -144,8 +142,3 @@ pub function_after : (e name image : List ℕ) → e ≡ entry (codes "fn#" ++ n
 function_after e name image h =
     let front : length (codes "fn#" ++ name) ≡ 3 + length name = length-append (codes "fn#") name in
     ap (λ n. drop (n + 1) e) (sym front) ∙ value_after e (codes "fn#" ++ name) image h
-
-pub kept_image : (o : Option (Node cmd)) (e name text : List ℕ) → e ≡ entry (codes "fn#" ++ name, text) →
-    IfSome o (λ b. text ≡ image b) → IfSome o (λ b. drop (3 + length name + 1) e ≡ image b)
-kept_image None e name text h i = i
-kept_image (Some b) e name text h i = function_after e name text h ∙ i

@@ -12,8 +12,8 @@ use Rattle.rc_model.specs.Run.State.{status_name}
 use Rattle.rc_model.specs.Handed.Environment.{Bindings, Functions}
 use Rattle.rc_model.specs.Handed.Image.{image, value_text, with_functions}
 use Rattle.rc_model.specs.Handed.Proper.{Above, Ordered}
-use Rattle.rc_tree.specs.View.{cmd_tree}
 use Rattle.rc_scope.specs.Bodies.{definitions_of}
+use Rattle.rc_scope.specs.FunctionBodies.{body_tree}
 use Rattle.rc_scope.specs.declared.functions.Definition.{Definition}
 use Rattle.rc_image.specs.Additions.{additions, put_all}
 
@@ -162,5 +162,5 @@ begins_after k (b ∷ bs) h = h.0
 pub in_order : (ds : List Definition) (status : List ℕ) → Ordered (definitions_of ds) → with_functions (definitions_of ds) ((status_name, value_text (status ∷ [])) ∷ []) ≡ additions ds status
 in_order [] status h = refl
 in_order (d ∷ ds) status h =
-    ap (λ t. ins t (codes "fn#" ++ d.name.now) (image (cmd_tree d.function.now))) (in_order ds status h.1)
-    ∙ first_in (additions ds status) (codes "fn#" ++ d.name.now) (image (cmd_tree d.function.now)) (begins_after (codes "fn#" ++ d.name.now) (additions ds status) (comes_before d.name.now ds status h.0))
+    ap (λ t. ins t (codes "fn#" ++ d.name.now) (image (body_tree d.function.now))) (in_order ds status h.1)
+    ∙ first_in (additions ds status) (codes "fn#" ++ d.name.now) (image (body_tree d.function.now)) (begins_after (codes "fn#" ++ d.name.now) (additions ds status) (comes_before d.name.now ds status h.0))

@@ -6,8 +6,8 @@ use Rattle.rc_model.specs.Run.State.{status_name}
 use Rattle.rc_model.specs.Handed.Environment.{Bindings}
 use Rattle.rc_model.specs.Handed.Image.{entry, handed_values, image, stays_behind, value_text}
 use Rattle.rc_model.specs.Handed.Proper.{Above}
-use Rattle.rc_tree.specs.View.{cmd_tree}
 use Rattle.rc_scope.specs.Bindings.{bindings_of}
+use Rattle.rc_scope.specs.FunctionBodies.{body_tree}
 use Rattle.rc_scope.specs.declared.functions.Definition.{Definition}
 use Rattle.rc_scope.specs.declared.variables.Binding.{Binding}
 
@@ -17,7 +17,7 @@ is_mark b = (b == 1) || (b == 2)
 
 -- the name and the text that an environment has for a function
 abbrev pub function_text : Definition → List ℕ × List ℕ
-function_text d = (codes "fn#" ++ d.name.now, image (cmd_tree d.function.now))
+function_text d = (codes "fn#" ++ d.name.now, image (body_tree d.function.now))
 
 -- the functions, and then the status
 abbrev pub additions : List Definition → (status : List ℕ) → Bindings

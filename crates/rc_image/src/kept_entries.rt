@@ -24,10 +24,10 @@ fn keep_variable(alloc: Global, state: &mut State, name: &str) -> Result<(), All
 fn keep_function(alloc: Global, state: &mut State, name: &str) -> Result<(), AllocError>
     ensures { state_of state.new ≡ state_of state.old }
 {
-    let Some(body) = state.function(name) else {
+    let Some(body) = state.function(name)? else {
         return Ok(());
     };
-    let entry = body_entry(alloc, name, body)?;
+    let entry = body_entry(alloc, name, &body)?;
     let start = "fn#".len() + name.len() + "=".len();
     state.keep_function(name, KeptEntry { entry, start });
     Ok(())

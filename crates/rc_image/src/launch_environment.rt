@@ -7,6 +7,7 @@ ghost use Rattle.rc_model.specs.Handed.Image.{escaped, value_text, entry, entrie
 ghost use Rattle.rc_model.specs.Run.State.{status_name};
 ghost use Rattle.rc_tree.specs.View.{cmd_tree};
 ghost use Rattle.rc_scope.specs.Bindings.{binding_of};
+ghost use Rattle.rc_scope.specs.FunctionBodies.{body_tree};
 ghost use Rattle.rc_scope.specs.States.{state_of};
 ghost use Rattle.rc_image.specs.Additions.{is_handed, handed, PushesBelow};
 ghost use Rattle.rc_text.specs.Texts.{text_bytes};
@@ -173,12 +174,15 @@ pub(crate) fn image_entry(alloc: Global, name: &str, text: &str) -> Result<Text,
 
 /// The entry of a function, as it is kept or anew.
 fn function_entry(alloc: Global, definition: &Definition) -> Result<Text, AllocError>
-    ensures { let body = cmd_tree definition.now.function.now in
+    ensures { let body = body_tree definition.now.function.now in
         IfOk result (λ text. text_bytes text ≡ entry (codes "fn#" ++ definition.now.name.now, image body)) }
 {
     match definition.function.entry(definition.name) {
         Some(kept) => kept.clone(),
-        None => body_entry(alloc, definition.name, definition.function.body()),
+        None => {
+            let body = definition.function.body(alloc)?;
+            body_entry(alloc, definition.name, &body)
+        }
     }
 }
 

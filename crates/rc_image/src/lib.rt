@@ -18,6 +18,7 @@ ghost use Rattle.std.specs.Prelude.{string_bytes};
 ghost use Rattle.rc_model.specs.Handed.TreeReading.{read_tree};
 ghost use Rattle.rc_tree.specs.View.{cmd_tree};
 ghost use Rattle.rc_model.specs.Syntax.Faults.{Gives};
+ghost use Rattle.rc_scope.specs.FunctionBodies.{image_tree};
 ghost use Rattle.rc_image.specs.Images.{Writes, short_image};
 
 use beginning::{MARK, beginning_fault};
@@ -30,7 +31,7 @@ pub use launch_sizes::are_short;
 use rc_model::limits::LONGEST_ARGUMENT;
 pub use rc_model::{ImageFault, InputError};
 pub use rc_spelling::ImageError;
-use rc_spelling::{push_spelling, read_spelling};
+use rc_spelling::{check_spelling, push_spelling, read_spelling};
 use rc_tree::Cmd;
 pub use read_environment::read_env;
 pub use read_handed::{read_image, read_state};
@@ -57,6 +58,17 @@ fn read_boxed(alloc: Global, text: &str) -> Result<Box<Cmd>, ImageError>
         return Err(InputError::Fault(beginning_fault(text)));
     };
     read_spelling(alloc, spelling.as_bytes())
+}
+
+/// Whether an image has a tree, or else its first fault, as `read_tree` finds it. Nothing is allocated if it has one.
+#[tactic(auto, using(crate::proofs::Beginnings::images))]
+fn check_tree(alloc: Global, text: &str) -> Result<(), ImageError>
+    ensures { Gives (λ _. image_tree text.now) result (read_tree text.now) }
+{
+    let Some(rest) = text.strip_prefix(MARK) else {
+        return Err(InputError::Fault(beginning_fault(text)));
+    };
+    check_spelling(alloc, rest.as_bytes())
 }
 
 /// The tree of an image.

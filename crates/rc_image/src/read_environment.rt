@@ -1,11 +1,11 @@
 //! Reading the state that an environment denotes.
 
-ghost use Rattle.std.specs.Prelude.{◌≡◌, [], if◌then◌else◌, Ok, OnOk, IfOk, IfSome, map, string_bytes};
+ghost use Rattle.std.specs.Prelude.{◌≡◌, [], if◌then◌else◌, OnOk, IfOk, map, string_bytes};
 ghost use Rattle.rc_model.specs.Handed.Environment.{Bindings, bindings, with_cut, cut_entry, read_state};
 ghost use Rattle.rc_model.specs.Handed.Proper.{IsProperTree};
-ghost use Rattle.rc_model.specs.Handed.Image.{image};
-ghost use Rattle.rc_model.specs.Run.State.{define, function_of, is_function_name, is_name, set_value};
-ghost use Rattle.rc_tree.specs.View.{cmd_tree};
+ghost use Rattle.rc_model.specs.Run.State.{define, is_function_name, is_name, set_value};
+ghost use Rattle.rc_scope.specs.FunctionBodies.{IsImage, image_tree};
+ghost use Rattle.rc_scope.specs.KeptEntries.{kept_text};
 ghost use Rattle.rc_scope.specs.States.{state_of};
 ghost use Rattle.rc_model.specs.Syntax.Faults.{Gives};
 ghost use Rattle.rc_image.specs.Entries.{function_in, is_ignored, values_state, with_function, with_functions};
@@ -13,13 +13,11 @@ ghost use Rattle.rc_text.specs.Texts.{text_bytes};
 
 use crate::cut_entries::{cut_entry, function_entry, members};
 use crate::launch_environment::image_entry;
-use crate::{ImageError, read_tree};
+use crate::{ImageError, check_tree};
 use rc_model::InputError;
 use rc_scope::{KeptEntry, NameFault, State};
 use rc_text::Text;
-use rc_tree::Cmd;
 use std::alloc::{AllocError, Global};
-use std::rc::Rc;
 
 /// Whether a name is not read as that of a variable. The status comes only from a shell of the same kind.
 fn is_ignored(name: &str, own: bool) -> bool
@@ -71,32 +69,32 @@ fn read_values(alloc: Global, entries: &[String], own: bool) -> Result<State, Al
     Ok(state)
 }
 
-/// Defines a function, unless its name is bad.
-fn define(state: &mut State, name: &str, body: &Rc<Cmd>) -> Result<(), AllocError>
-    requires { IsProperTree (cmd_tree body.now.value) }
+/// Defines a function by its entry, unless its name is bad.
+fn define(state: &mut State, name: &str, kept: KeptEntry) -> Result<(), AllocError>
+    requires image { IsImage kept }
+    requires body { IsProperTree (image_tree (kept_text kept)) }
     ensures { OnOk result (state_of state.new
         ≡ (if is_function_name name.now
-        then define (state_of state.old) name.now (cmd_tree body.now.value)
+        then define (state_of state.old) name.now (image_tree (kept_text kept))
         else state_of state.old)) }
 {
-    match state.define_shared(name, body) {
+    match state.define_image(name, kept) {
         Err(InputError::NoMemory) => Err(AllocError),
         Ok(()) | Err(InputError::Fault(NameFault::BadName)) => Ok(()),
     }
 }
 
-/// Keeps the entry of a function with the image that its body was read from, so that launches hand that on.
-fn keep_image(alloc: Global, state: &mut State, name: &str, text: &str) -> Result<(), AllocError>
-    requires { IfSome (function_of (state_of state.old) name.now) (λ body. text.now ≡ image body) }
-    ensures { state_of state.new ≡ state_of state.old }
+/// An entry with the image of a function, which launches hand on.
+fn kept_image(alloc: Global, name: &str, text: &str) -> Result<KeptEntry, AllocError>
+    ensures { IfOk result (λ kept. kept_text kept ≡ text.now) }
 {
     let entry = image_entry(alloc, name, text)?;
     let start = "fn#".len() + name.len() + "=".len();
-    state.keep_function(name, KeptEntry { entry, start });
-    Ok(())
+    Ok(KeptEntry { entry, start })
 }
 
-/// Defines the function of an entry, if it is that of a function and there is none of its name yet.
+/// Defines the function of an entry, if it is that of a function and there is none of its name yet. Its image is
+/// checked, and no tree is made.
 fn define_entry(alloc: Global, state: &mut State, entry: &str) -> Result<(), ImageError>
     ensures { Gives (λ _. state_of state.new) result
         (with_function (state_of state.old) (function_in (cut_entry entry.now))) }
@@ -104,13 +102,12 @@ fn define_entry(alloc: Global, state: &mut State, entry: &str) -> Result<(), Ima
     let Some((name, image)) = function_entry(entry) else {
         return Ok(());
     };
-    if state.function(name).is_some() {
+    if state.has_function(name) {
         return Ok(());
     }
-    let body = read_tree(alloc, image)?;
-    let shared = Rc::new(alloc, body)?;
-    define(state, name, &shared)?;
-    Ok(keep_image(alloc, state, name, image)?)
+    check_tree(alloc, image)?;
+    let kept = kept_image(alloc, name, image)?;
+    Ok(define(state, name, kept)?)
 }
 
 /// Defines the functions of these entries. The first entry of a name counts.

@@ -13,8 +13,8 @@ use Rattle.std.specs.Cmp.Lexicographic.{slice_cmp}
 use Rattle.std.specs.Ordering.{nat_cmp}
 use Rattle.rc_model.specs.Run.State.{status_name}
 use Rattle.rc_model.specs.declared.call.ChildNo.{ChildNo}
-use Rattle.rc_tree.specs.View.{cmd_tree}
 use Rattle.rc_scope.specs.Bodies.{function_of, functions_of}
+use Rattle.rc_scope.specs.FunctionBodies.{body_tree}
 use Rattle.rc_scope.specs.Copies.{IsValueCopy, IsLocalCopy, AreCopies}
 use Rattle.rc_scope.specs.Locals.{name_of}
 use Rattle.rc_scope.specs.Rows.{entries_in, entries_of, row_of, AreIn, AreRows}
@@ -121,13 +121,13 @@ locals_copied v w k = names_same (reverse v.log.items) (reverse w.log.items) (zi
 pub ruleset variables = (stacks_copied, locals_copied)
 
 -- ** functions and children
-pub functions_same : (es fs : List (String Global × Function)) → AllZip (λ e f. (string_bytes f.0 ≡ string_bytes e.0) × (f.1 ≡ e.1)) es fs → functions_of fs ≡ functions_of es
+pub functions_same : (es fs : List (String Global × Function)) → AllZip (λ e f. (string_bytes f.0 ≡ string_bytes e.0) × (body_tree f.1 ≡ body_tree e.1)) es fs → functions_of fs ≡ functions_of es
 functions_same [] [] h = refl
 functions_same [] (f ∷ fs) h = absurd h
 functions_same (e ∷ es) [] h = absurd h
 functions_same (e ∷ es) (f ∷ fs) h =
-    ap (λ n. (n, cmd_tree f.1) ∷ functions_of fs) h.0.0
-    ∙ (ap (λ b. (string_bytes e.0, cmd_tree b) ∷ functions_of fs) h.0.1
+    ap (λ n. (n, body_tree f.1) ∷ functions_of fs) h.0.0
+    ∙ (ap (λ b. (string_bytes e.0, b) ∷ functions_of fs) h.0.1
     ∙ ap (λ gs. function_of e ∷ gs) (functions_same es fs h.1))
 
 pub children_same : (xs ys : List ChildNo) → AllZip (λ a b. b ≡ a) xs ys → child_numbers ys ≡ child_numbers xs

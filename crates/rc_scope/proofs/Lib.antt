@@ -1,3 +1,4 @@
+pub mod Images
 pub mod Rows
 pub mod Stacks
 pub mod Bodies

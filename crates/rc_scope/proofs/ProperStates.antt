@@ -13,9 +13,9 @@ use Rattle.rc_model.specs.Syntax.Tree.{Node, cmd}
 use Rattle.rc_model.specs.Run.State as model
 use Rattle.rc_model.specs.Run.State.{status_name, covered, is_name, is_function_name, put_values, with_status}
 use Rattle.rc_model.specs.Handed.Proper.{IsProper, IsProperTree, AllProperTrees}
-use Rattle.rc_tree.specs.View.{cmd_tree}
 use Rattle.law_image.proofs.Proper.{proper_set, proper_push, proper_pop, proper_define, proper_undefine, proper_same}
 use Rattle.rc_scope.specs.Bodies.{functions_of}
+use Rattle.rc_scope.specs.FunctionBodies.{body_tree}
 use Rattle.rc_scope.specs.ProperStates.{state_with, AreProper}
 use Rattle.rc_scope.specs.Stacks.{stacks_of, locals_of, stack_in, uncovered}
 use Rattle.rc_scope.specs.States.{state_of}
@@ -77,10 +77,10 @@ local_popped v w fs p e =
 with_functions : (v : Variables) (es fs : Entries) (gs : List (List ℕ × Node cmd)) → functions_of fs ≡ gs → IsProper (record (state_with v es) { functions = gs }) → AreProper v fs
 with_functions v es fs gs e p = subst (λ z. IsProper (record (state_with v es) { functions = z })) (sym e) p
 
-pub function_put : (v : Variables) (es fs : Entries) (name : String Global) (f : Function) → AreProper v es → IsTrue (is_function_name (string_bytes name)) → IsProperTree (cmd_tree f)
+pub function_put : (v : Variables) (es fs : Entries) (name : String Global) (f : Function) → AreProper v es → IsTrue (is_function_name (string_bytes name)) → IsProperTree (body_tree f)
     → fs ≡ insert_entry string_cmp es name f → AreProper v fs
 function_put v es fs name f p n body e =
-    with_functions v es fs _ (ap functions_of e ∙ insert_function es name f) (proper_define (state_with v es) (string_bytes name) (cmd_tree f) n body p)
+    with_functions v es fs _ (ap functions_of e ∙ insert_function es name f) (proper_define (state_with v es) (string_bytes name) (body_tree f) n body p)
 
 pub function_removed : (v : Variables) (es fs : Entries) (name : List ℕ) → AreProper v es → fs ≡ remove_entry (is_at (λ k. slice_cmp nat_cmp name (string_bytes k))) es → AreProper v fs
 function_removed v es fs name p e =
@@ -89,12 +89,12 @@ function_removed v es fs name p e =
 pub functions_kept : (v : Variables) (es fs : Entries) → AreProper v es → fs ≡ es → AreProper v fs
 functions_kept v es fs p e = subst (AreProper v) (sym e) p
 
-body_by : (t : Bool) (f g : Function) (o : Option Function) → IsProperTree (cmd_tree f) → (o ≡ Some g → IsProperTree (cmd_tree g)) → cond t (Some f) o ≡ Some g → IsProperTree (cmd_tree g)
-body_by true f g o p q h = let same : f ≡ g = cc in subst (λ z. IsProperTree (cmd_tree z)) same p
+body_by : (t : Bool) (f g : Function) (o : Option Function) → IsProperTree (body_tree f) → (o ≡ Some g → IsProperTree (body_tree g)) → cond t (Some f) o ≡ Some g → IsProperTree (body_tree g)
+body_by true f g o p q h = let same : f ≡ g = cc in subst (λ z. IsProperTree (body_tree z)) same p
 body_by false f g o p q h = q h
 
 -- the body of a function
-pub proper_body : (es : Entries) (test : String Global → Bool) (f : Function) → AllProperTrees (functions_of es) → lookup test es ≡ Some f → IsProperTree (cmd_tree f)
+pub proper_body : (es : Entries) (test : String Global → Bool) (f : Function) → AllProperTrees (functions_of es) → lookup test es ≡ Some f → IsProperTree (body_tree f)
 proper_body [] test f p h = absurd (cc)
 proper_body (e ∷ es) test f p h = body_by _ e.1 f _ p.0 (λ g. proper_body es test f p.1 g) h
 

@@ -1,6 +1,7 @@
 pub mod Rows
 pub mod RowLends
 pub mod KeptEntries
+pub mod FunctionBodies
 pub mod Locals
 pub mod MemberLists
 pub mod Stacks

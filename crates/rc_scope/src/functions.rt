@@ -7,9 +7,11 @@ ghost use Rattle.rc_model.specs.Handed.Proper.{IsProperTree};
 ghost use Rattle.rc_text.specs.Texts.{text_bytes};
 ghost use Rattle.rc_tree.specs.View.{cmd_tree};
 ghost use Rattle.rc_code.specs.Views.{code_of};
+ghost use Rattle.rc_scope.specs.FunctionBodies.{IsImage, body_tree, image_tree};
 ghost use Rattle.rc_scope.specs.KeptEntries.{kept_text};
 ghost use Rattle.rc_scope.specs.Bodies.{definitions_of, functions_of};
 
+use crate::function_bodies::Body;
 use crate::kept_entries::KeptEntry;
 use rc_code::{Code, compile};
 use rc_text::Text;
@@ -21,10 +23,10 @@ use std::rc::Rc;
 
 /// A function of a shell.
 pub struct Function {
-    body: Rc<Cmd>,
+    body: Body,
     /// The code of the body, once it has been needed.
     compiled: Option<Code>,
-    /// Its entry in an environment, once a launch has handed it over.
+    /// Its entry in an environment, once a launch has handed over a body that is a tree.
     kept: Option<KeptEntry>,
 }
 
@@ -50,35 +52,37 @@ impl Model for Function {
     ghost use Rattle.std.specs.Coded.{codes};
     ghost use Rattle.rc_model.specs.Code.Layout as layout;
     ghost use Rattle.rc_model.specs.Handed.Image as handed;
-    ghost use Rattle.rc_tree.specs.View.{cmd_tree};
     ghost use Rattle.rc_tree.specs.contracts.types.Cmd as e;
-    ghost use Rattle.rc_tree.specs.declared.types.Cmd.{Cmd};
     ghost use Rattle.rc_code.specs.Views.{code_of};
+    ghost use Rattle.rc_scope.specs.FunctionBodies.{IsBody, body_tree};
     ghost use Rattle.rc_scope.specs.KeptEntries.{kept_text};
+    ghost use Rattle.rc_scope.specs.declared.function_bodies.Body.{Body};
 
-    ghost Value = { Cmd };
+    ghost Value = { Body };
 
     ghost coded = { Prim.hlevel (codes, e.the_row.coded) };
 
-    ghost view = { λ f. f.body.value };
+    ghost view = { λ f. f.body };
 
-    ghost invariant = { λ f. IfSome f.compiled (λ done. code_of done ≡ layout.code (cmd_tree f.body.value))
-        × IfSome f.kept (λ kept. kept_text kept ≡ handed.image (cmd_tree f.body.value)) };
+    ghost invariant = { λ f. IsBody f.body
+        × IfSome f.compiled (λ done. code_of done ≡ layout.code (body_tree f.body))
+        × IfSome f.kept (λ kept. kept_text kept ≡ handed.image (body_tree f.body)) };
 }
 
 impl Clone for Function {
     ghost use Rattle.std.specs.Prelude.{◌≡◌};
+    ghost use Rattle.rc_scope.specs.FunctionBodies.{body_tree};
 
-    ghost is_clone = { λ f g. g ≡ f };
+    ghost is_clone = { λ f g. body_tree g ≡ body_tree f };
 
-    /// The body and its code are shared. The entry is not kept.
+    /// The body and its code are shared. The entry of a tree is not kept.
     fn clone(&self) -> Result<Function, AllocError> {
         let compiled = match &self.compiled {
             Some(code) => Some(code.clone()?),
             None => None,
         };
         Ok(Function {
-            body: self.body.clone()?,
+            body: self.body.copy()?,
             compiled,
             kept: None,
         })
@@ -88,31 +92,45 @@ impl Clone for Function {
 impl Function {
     /// A function of which nothing but the body is kept yet.
     pub(crate) fn new(body: Rc<Cmd>) -> Function
-        ensures { result ≡ body.value }
+        ensures { body_tree result ≡ cmd_tree body.value }
     {
         Function {
-            body,
+            body: Body::Tree(body),
             compiled: None,
             kept: None,
         }
     }
 
-    pub fn body(&self) -> &Cmd
-        ensures { result.now ≡ self.now }
+    /// A function whose body is in the image of an entry.
+    pub(crate) fn of_image(kept: KeptEntry) -> Function
+        requires { IsImage kept }
+        ensures { body_tree result ≡ image_tree (kept_text kept) }
     {
-        &self.body
+        Function {
+            body: Body::Image(kept),
+            compiled: None,
+            kept: None,
+        }
     }
 
-    /// The code of the body, which is compiled when it is first needed.
+    /// The body, which is shared, or read from its image.
+    pub fn body(&self, alloc: Global) -> Result<Rc<Cmd>, AllocError>
+        ensures { IfOk result (λ body. cmd_tree body.value ≡ body_tree self.now) }
+    {
+        self.body.tree(alloc)
+    }
+
+    /// The code of the body, which is compiled when it is first needed. A tree that was made for that is dropped.
     pub(crate) fn code(&mut self, alloc: Global) -> Result<Code, AllocError>
-        requires { IsProperTree (cmd_tree self.old) }
-        ensures code { IfOk result (λ done. code_of done ≡ code (cmd_tree self.old)) }
+        requires { IsProperTree (body_tree self.old) }
+        ensures code { IfOk result (λ done. code_of done ≡ code (body_tree self.old)) }
         ensures same { self.new ≡ self.old }
     {
         if let Some(code) = &self.compiled {
             return code.clone();
         }
-        let code = compile(alloc, &self.body)?;
+        let body = self.body.tree(alloc)?;
+        let code = compile(alloc, &body)?;
         let shared = code.clone()?;
         self.compiled = Some(code);
         Ok(shared)
@@ -121,22 +139,22 @@ impl Function {
     /// The entry of a function of this name that has this body, if it is kept.
     pub fn entry(&self, name: &str) -> Option<&Text>
         ensures { IfSome result
-            (λ kept. text_bytes kept.now ≡ entry (codes "fn#" ++ name.now, image (cmd_tree self.now))) }
+            (λ kept. text_bytes kept.now ≡ entry (codes "fn#" ++ name.now, image (body_tree self.now))) }
     {
-        match &self.kept {
-            Some(kept) => kept.named("fn#", name),
-            None => None,
+        match (&self.body, &self.kept) {
+            (Body::Image(kept), _) | (Body::Tree(_), Some(kept)) => kept.named("fn#", name),
+            (Body::Tree(_), None) => None,
         }
     }
 
     /// Whether its entry isn't kept.
     fn is_unkept(&self) -> bool {
-        self.kept.is_none()
+        matches!(self.body, Body::Tree(_)) && self.kept.is_none()
     }
 
     /// Keeps an entry that an environment has for the function.
     pub(crate) fn keep(&mut self, kept: KeptEntry)
-        requires { kept_text kept ≡ image (cmd_tree self.old) }
+        requires { kept_text kept ≡ image (body_tree self.old) }
         ensures { self.new ≡ self.old }
     {
         self.kept = Some(kept);

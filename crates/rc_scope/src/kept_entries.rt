@@ -1,11 +1,12 @@
 //! Entries of an environment that are kept between launches.
 
-ghost use Rattle.std.specs.Prelude.{◌≡◌, ◌++◌, IfSome};
+ghost use Rattle.std.specs.Prelude.{◌≡◌, ◌++◌, IfOk, IfSome};
 ghost use Rattle.rc_model.specs.Handed.Image.{entry};
 ghost use Rattle.rc_text.specs.Texts.{text_bytes};
 ghost use Rattle.rc_scope.specs.KeptEntries.{kept_text};
 
 use rc_text::Text;
+use std::alloc::AllocError;
 
 /// An entry of an environment, with the place where the text of a value, or the image of a function, begins in it.
 pub struct KeptEntry {
@@ -35,5 +36,15 @@ impl KeptEntry {
         } else {
             None
         }
+    }
+
+    /// An entry with the same text, which is shared.
+    pub(crate) fn copy(&self) -> Result<KeptEntry, AllocError>
+        ensures { IfOk result (λ copy. kept_text copy ≡ kept_text self.now) }
+    {
+        Ok(KeptEntry {
+            entry: self.entry.clone()?,
+            start: self.start,
+        })
     }
 }

@@ -1,8 +1,7 @@
 //! The state of a shell.
 
 ghost use Rattle.std.specs.Prelude.{◌≡◌, ◌↔◌, ◌∷◌, ◌++◌, [], IfOk, IfSome, OnOk, OnErr, false, map};
-ghost use Rattle.std.specs.Prelude.{string_bytes, option_map, codes, drop, take, length, ◌-◌, IsTrue};
-ghost use Rattle.std.specs.Option.{option_copied};
+ghost use Rattle.std.specs.Prelude.{string_bytes, option_map, codes, drop, take, length, ◌-◌, IsTrue, is_some};
 ghost use Rattle.std.specs.Result.{IsErrOf};
 ghost use Rattle.rc_model.specs.Run.State.{new_state, value_of, dollar_value, set_value, with_status};
 ghost use Rattle.rc_model.specs.Run.State.{with_flag, is_name};
@@ -16,6 +15,7 @@ ghost use Rattle.rc_tree.specs.View.{cmd_tree};
 ghost use Rattle.rc_scope.specs.Bindings.{bindings_of, visible_values};
 ghost use Rattle.rc_scope.specs.Bodies.{IsCodeOf, definitions_of};
 ghost use Rattle.rc_scope.specs.CompiledTexts.{IsCodeOfText};
+ghost use Rattle.rc_scope.specs.FunctionBodies.{IsImage, body_tree, image_tree};
 ghost use Rattle.rc_scope.specs.KeptEntries.{kept_text};
 ghost use Rattle.rc_scope.specs.ProperStates.{AreProper, proper_prop, state_with};
 ghost use Rattle.rc_scope.specs.Stacks.{flat_names};
@@ -25,13 +25,13 @@ use crate::background_children::place_of;
 use crate::environments::{Environment, Unkept};
 use crate::functions::{Function, definitions, names, unkept};
 use crate::kept_entries::KeptEntry;
-use crate::names::{NameFault, has_digits, is_function_name, is_name, is_status};
+use crate::names::{NameFault, is_function_name, is_status};
 use crate::recent_codes::RecentCodes;
 use crate::text_lists::strings_of;
 use crate::variables::Variables;
 use crate::variables::positional_members::member;
 use crate::variables::value_members::Members;
-use rc_code::Code;
+use rc_code::{Code, has_digits, is_name};
 use rc_model::{ChildNo, InputError};
 use rc_text::{Text, flat};
 use rc_tree::Cmd;
@@ -166,13 +166,24 @@ impl State {
         if !is_name(variable) {
             return Err(InputError::Fault(NameFault::BadName));
         }
+        self.set_known(variable, text)?;
+        Ok(())
+    }
+
+    /// Assigns one text to a variable whose name is known to be one. An `Err` changes nothing.
+    #[tactic(auto, unfolding(crate::specs::States::state_of))]
+    pub fn set_known(&mut self, variable: &str, text: Text) -> Result<(), AllocError>
+        requires { IsTrue (is_name variable.now) }
+        ensures ok { OnOk result (state_of self.new
+            ≡ set_value (state_of self.old) variable.now (text_bytes text ∷ [])) }
+        ensures err { OnErr result (state_of self.new ≡ state_of self.old) }
+    {
         if is_status(variable) {
             self.status = text;
             return Ok(());
         }
         let alloc = *self.background.allocator();
-        self.variables.set_one(alloc, variable, text)?;
-        Ok(())
+        self.variables.set_one(alloc, variable, text)
     }
 
     /// Appends one text to the value of a variable, whose room it takes if it can. On `Err` nothing has changed.
@@ -187,13 +198,24 @@ impl State {
         if !is_name(variable) {
             return Err(InputError::Fault(NameFault::BadName));
         }
+        self.append_known(variable, text)?;
+        Ok(())
+    }
+
+    /// The same for a variable whose name is known to be one.
+    #[tactic(auto, unfolding(crate::specs::States::state_of))]
+    pub fn append_known(&mut self, variable: &str, text: Text) -> Result<(), AllocError>
+        requires { IsTrue (is_name variable.now) }
+        ensures ok { OnOk result (state_of self.new
+            ≡ set_value (state_of self.old) variable.now
+            (value_of (state_of self.old) variable.now ++ text_bytes text ∷ [])) }
+        ensures err { OnErr result (state_of self.new ≡ state_of self.old) }
+    {
         if is_status(variable) {
-            self.append_to_status(text)?;
-            return Ok(());
+            return self.append_to_status(text);
         }
         let alloc = *self.background.allocator();
-        self.variables.append(alloc, variable, text)?;
-        Ok(())
+        self.variables.append(alloc, variable, text)
     }
 
     /// Appends a space and a text to the status, as an assignment of both does. On `Err` nothing has changed.
@@ -313,7 +335,7 @@ impl State {
             return Err(InputError::Fault(NameFault::BadName));
         }
         let body = Rc::new(*self.background.allocator(), body)?;
-        self.insert_function(name, body)?;
+        self.insert_function(name, Function::new(body))?;
         Ok(())
     }
 
@@ -328,20 +350,38 @@ impl State {
         if !is_function_name(name) {
             return Err(InputError::Fault(NameFault::BadName));
         }
-        self.insert_function(name, body.clone()?)?;
+        self.insert_function(name, Function::new(body.clone()?))?;
         Ok(())
     }
 
-    /// Inserts a function, or replaces its body.
+    /// Defines a function by an entry of an environment, whose image has the tree of its body. No tree is made until it
+    /// is needed. On `Err` nothing has changed.
     #[tactic(auto, using(crate::proofs::Bodies::bodies), unfolding(crate::specs::States::state_of))]
-    fn insert_function(&mut self, name: &str, body: Rc<Cmd>) -> Result<(), AllocError>
+    pub fn define_image(&mut self, name: &str, kept: KeptEntry) -> Result<(), InputError<NameFault>>
+        requires image { IsImage kept }
+        requires body { IsProperTree (image_tree (kept_text kept)) }
+        ensures ok { OnOk result (state_of self.new
+            ≡ define (state_of self.old) name.now (image_tree (kept_text kept))) }
+        ensures bad_name { IsErrOf result (InputError.Fault NameFault.BadName) ↔ (is_function_name name.now ≡ false) }
+        ensures err { OnErr result (state_of self.new ≡ state_of self.old) }
+    {
+        if !is_function_name(name) {
+            return Err(InputError::Fault(NameFault::BadName));
+        }
+        self.insert_function(name, Function::of_image(kept))?;
+        Ok(())
+    }
+
+    /// Inserts a function, or replaces one.
+    #[tactic(auto, using(crate::proofs::Bodies::bodies), unfolding(crate::specs::States::state_of))]
+    fn insert_function(&mut self, name: &str, function: Function) -> Result<(), AllocError>
         requires name { IsTrue (is_function_name name.now) }
-        requires body { IsProperTree (cmd_tree body.value) }
-        ensures ok { OnOk result (state_of self.new ≡ define (state_of self.old) name.now (cmd_tree body.value)) }
+        requires body { IsProperTree (body_tree function) }
+        ensures ok { OnOk result (state_of self.new ≡ define (state_of self.old) name.now (body_tree function)) }
         ensures err { OnErr result (state_of self.new ≡ state_of self.old) }
     {
         let name = String::from_str(*self.background.allocator(), name)?;
-        self.functions.insert(name, Function::new(body))?;
+        self.functions.insert(name, function)?;
         Ok(())
     }
 
@@ -353,14 +393,24 @@ impl State {
         let _ = self.functions.remove(name);
     }
 
-    /// Returns the body of a function.
+    /// Whether there is a function of this name.
     #[tactic(auto, using(crate::proofs::Bodies::bodies), unfolding(crate::specs::States::state_of))]
-    pub fn function(&self, name: &str) -> Option<&Cmd>
-        ensures { option_map cmd_tree (option_copied result) ≡ function_of (state_of self.now) name.now }
+    pub fn has_function(&self, name: &str) -> bool
+        ensures { result ≡ is_some (function_of (state_of self.now) name.now) }
     {
+        self.functions.get(name).is_some()
+    }
+
+    /// Returns the body of a function, which is shared, or read from its image.
+    #[tactic(auto, using(crate::proofs::Bodies::bodies), unfolding(crate::specs::States::state_of))]
+    pub fn function(&self, name: &str) -> Result<Option<Rc<Cmd>>, AllocError>
+        ensures { IfOk result (λ body. option_map (λ tree. cmd_tree tree.value) body
+            ≡ function_of (state_of self.now) name.now) }
+    {
+        let alloc = *self.background.allocator();
         match self.functions.get(name) {
-            Some(function) => Some(function.body()),
-            None => None,
+            Some(function) => Ok(Some(function.body(alloc)?)),
+            None => Ok(None),
         }
     }
 

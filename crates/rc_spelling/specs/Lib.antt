@@ -3,3 +3,4 @@ pub mod Nodes
 pub mod Shapes
 pub mod Steps
 pub mod Reading
+pub mod Rests

@@ -1,6 +1,6 @@
 //! Numbers in images, and the next byte of one.
 
-ghost use Rattle.std.specs.Prelude.{◌≡◌, ◌<◌, ◌≤◌, MatchOption};
+ghost use Rattle.std.specs.Prelude.{◌≡◌, ◌<◌, ◌≤◌, IfSome, MatchOption, Ok};
 ghost use Rattle.rc_model.specs.Run.Numbers.{greatest_number};
 ghost use Rattle.rc_model.specs.Syntax.Faults.{Gives};
 ghost use Rattle.rc_spelling.specs.Steps.{first_by, digit_here, number_here, value_from, after_digits};
@@ -11,6 +11,7 @@ use rc_model::limits::{GREATEST_NUMBER, MOST_STAGES};
 use rc_model::{ImageFault, InputError};
 
 /// Splits off the first byte.
+#[inline(always)]
 #[tactic(auto, using(crate::proofs::Digits::firsts))]
 pub(crate) fn first(bytes: &[u8]) -> Result<(u8, &[u8]), ImageError>
     ensures { Gives (λ x. (x.0, x.1.now)) result (first_by bytes.now) }
@@ -76,9 +77,24 @@ pub fn number(bytes: &[u8]) -> Option<(usize, &[u8])>
     number_from(0, bytes)
 }
 
-/// Parses a number and the mark after it.
+/// Parses a number of one digit and the mark after it.
+#[inline(always)]
+#[tactic(auto, using(crate::proofs::Plain::digits))]
+fn digit_at(mark: u8, bytes: &[u8]) -> Option<(usize, &[u8])>
+    ensures { IfSome result (λ x. number_by mark bytes.now ≡ Ok (x.0, x.1.now)) }
+{
+    let (digit, after) = bytes.split_first()?;
+    let (byte, rest) = after.split_first()?;
+    if digit.is_ascii_digit() && *byte == mark && !mark.is_ascii_digit() {
+        return Some(((*digit - b'0') as usize, rest));
+    }
+    None
+}
+
+/// Parses a number of any length and the mark after it.
 #[tactic(auto, using(crate::proofs::Digits::counts))]
-pub(crate) fn count_at(mark: u8, bytes: &[u8]) -> Result<(usize, &[u8]), ImageError>
+#[inline(never)]
+fn digits_at(mark: u8, bytes: &[u8]) -> Result<(usize, &[u8]), ImageError>
     ensures { Gives (λ x. (x.0, x.1.now)) result (number_by mark bytes.now) }
 {
     if !begins_number(bytes) {
@@ -96,7 +112,19 @@ pub(crate) fn count_at(mark: u8, bytes: &[u8]) -> Result<(usize, &[u8]), ImageEr
     Ok((number, rest))
 }
 
+/// Parses a number and the mark after it.
+#[inline(always)]
+pub(crate) fn count_at(mark: u8, bytes: &[u8]) -> Result<(usize, &[u8]), ImageError>
+    ensures { Gives (λ x. (x.0, x.1.now)) result (number_by mark bytes.now) }
+{
+    match digit_at(mark, bytes) {
+        Some(found) => Ok(found),
+        None => digits_at(mark, bytes),
+    }
+}
+
 /// Parses the length of a list, if it isn't too short.
+#[inline(always)]
 #[tactic(auto, unfolding(crate::specs::Steps::count_from))]
 pub(crate) fn count_from(least: usize, bytes: &[u8]) -> Result<(usize, &[u8]), ImageError>
     ensures { Gives (λ x. (x.0, x.1.now)) result (count_from least bytes.now) }

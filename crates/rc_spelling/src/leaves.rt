@@ -31,7 +31,7 @@ fn string_at(count: usize, bytes: &[u8]) -> Result<(&str, &[u8]), ImageError>
 
 /// A text, after its length in bytes.
 #[tactic(auto, unfolding(crate::specs::Steps::text_by))]
-fn text_at(bytes: &[u8]) -> Result<(&str, &[u8]), ImageError>
+pub(crate) fn text_at(bytes: &[u8]) -> Result<(&str, &[u8]), ImageError>
     ensures { Gives (λ x. (x.0.now, x.1.now)) result (text_by bytes.now) }
 {
     let (length, rest) = count_at(b':', bytes)?;
@@ -72,6 +72,7 @@ pub(crate) fn quoted(alloc: Global, bytes: &[u8]) -> Result<(Arg, &[u8]), ImageE
 }
 
 /// The descriptor that a command writes to.
+#[inline(always)]
 #[tactic(auto, unfolding(crate::specs::Steps::slot_by))]
 pub(crate) fn slot(bytes: &[u8]) -> Result<(u8, &[u8]), ImageError>
     ensures { Gives (λ x. (x.0, x.1.now)) result (slot_by bytes.now) }
@@ -117,6 +118,7 @@ pub(crate) fn copy(bytes: &[u8]) -> Result<(Redir, &[u8]), ImageError>
 }
 
 /// The mark of an item: whether it runs in the background.
+#[inline(always)]
 #[tactic(auto, unfolding(crate::specs::Steps::background_by))]
 pub(crate) fn background(bytes: &[u8]) -> Result<(bool, &[u8]), ImageError>
     ensures { Gives (λ x. (x.0, x.1.now)) result (background_by bytes.now) }
@@ -130,6 +132,7 @@ pub(crate) fn background(bytes: &[u8]) -> Result<(bool, &[u8]), ImageError>
 }
 
 /// The mark of an operand: how it is joined to those before it.
+#[inline(always)]
 #[tactic(auto, unfolding(crate::specs::Steps::logic_by))]
 pub(crate) fn logic(bytes: &[u8]) -> Result<(Logic, &[u8]), ImageError>
     ensures { Gives (λ x. (x.0, x.1.now)) result (logic_by bytes.now) }

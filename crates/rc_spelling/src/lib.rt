@@ -1,12 +1,14 @@
 //! The spelling of a tree in images: writing it, and reading it.
 #![tactic(auto)]
 
+mod check;
 mod image_error;
 mod image_numbers;
 mod leaves;
 mod marks;
 mod node_reader;
 mod nodes;
+mod plain_texts;
 mod shape;
 mod tree_reader;
 
@@ -20,6 +22,7 @@ ghost use Rattle.rc_tree.specs.View.{cmd_tree, body_tree, arg_tree, redir_tree, 
 ghost use Rattle.rc_tree.specs.View.{args_tree, items_tree, pairs_tree, redirs_tree, stages_tree, links_tree};
 ghost use Rattle.rc_tree.specs.View.{branches_tree};
 
+pub use check::check_spelling;
 pub use image_error::ImageError;
 pub use image_numbers::{begins_number, number};
 use rc_tree::{Arg, Branch, Cmd, Item, Logic, Mode, Piece, Redir, Stage};

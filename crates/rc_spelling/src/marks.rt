@@ -13,6 +13,7 @@ use crate::shape::{
 use rc_model::{ImageFault, InputError, Mode};
 
 /// The shape of a command, by its mark.
+#[inline(always)]
 #[tactic(auto, unfolding(crate::specs::Shapes::cmd_shape))]
 fn cmd_shape(mark: u8) -> Option<CmdShape>
     ensures { result ≡ cmd_shape mark }
@@ -42,6 +43,7 @@ fn cmd_shape(mark: u8) -> Option<CmdShape>
 }
 
 /// The shape of an argument, by its mark.
+#[inline(always)]
 #[tactic(auto, unfolding(crate::specs::Shapes::arg_shape))]
 fn arg_shape(mark: u8) -> Option<ArgShape>
     ensures { result ≡ arg_shape mark }
@@ -61,6 +63,7 @@ fn arg_shape(mark: u8) -> Option<ArgShape>
 }
 
 /// The shape of a redirection, by its mark.
+#[inline(always)]
 #[tactic(auto, unfolding(crate::specs::Shapes::redir_shape))]
 fn redir_shape(mark: u8) -> Option<RedirShape>
     ensures { result ≡ redir_shape mark }
@@ -76,6 +79,7 @@ fn redir_shape(mark: u8) -> Option<RedirShape>
 }
 
 /// The mark of a command.
+#[inline(always)]
 #[tactic(auto, unfolding(crate::specs::Shapes::mark_by))]
 pub(crate) fn cmd_mark(bytes: &[u8]) -> Result<(CmdShape, &[u8]), ImageError>
     ensures { Gives (λ x. (x.0, x.1.now)) result (mark_by cmd_shape bytes.now) }
@@ -88,6 +92,7 @@ pub(crate) fn cmd_mark(bytes: &[u8]) -> Result<(CmdShape, &[u8]), ImageError>
 }
 
 /// The mark of an argument.
+#[inline(always)]
 #[tactic(auto, unfolding(crate::specs::Shapes::mark_by))]
 pub(crate) fn arg_mark(bytes: &[u8]) -> Result<(ArgShape, &[u8]), ImageError>
     ensures { Gives (λ x. (x.0, x.1.now)) result (mark_by arg_shape bytes.now) }
@@ -100,6 +105,7 @@ pub(crate) fn arg_mark(bytes: &[u8]) -> Result<(ArgShape, &[u8]), ImageError>
 }
 
 /// The mark of a redirection.
+#[inline(always)]
 #[tactic(auto, unfolding(crate::specs::Shapes::mark_by))]
 pub(crate) fn redir_mark(bytes: &[u8]) -> Result<(RedirShape, &[u8]), ImageError>
     ensures { Gives (λ x. (x.0, x.1.now)) result (mark_by redir_shape bytes.now) }

@@ -103,3 +103,20 @@ pub(crate) enum RedirShape {
     /// Pieces.
     Here,
 }
+
+/// A node of a list, except an argument.
+#[derive(Clone, Copy)]
+pub(crate) enum Part {
+    /// A mark and a command.
+    Item,
+    /// Two arguments.
+    Pair,
+    /// What its own mark says.
+    Redir,
+    /// A descriptor and a command.
+    Stage,
+    /// A mark and a command.
+    Link,
+    /// Arguments and a command.
+    Branch,
+}

@@ -1,4 +1,4 @@
-//! The environment of the last launch, as Linux takes it: the next launch with the same entries makes no other.
+//! A cache of the environment of the last launch, as Linux takes it: the next launch with the same entries hits it.
 ghost use Rattle.std.specs.Prelude.{◌≡◌, ◌↔◌, ◌++◌, ◌∷◌, [], false, map, IfOk, IfErr, IsOk, IsTrue, OnOk, OnErr};
 ghost use Rattle.rc_text.specs.Texts.{text_bytes};
 ghost use Rattle.rc_host.specs.Requests.{Holds, IsNotHeld, handed_over, has_equals, is_no_entry};
@@ -9,8 +9,8 @@ use rc_world::Fault;
 use std::alloc::{AllocError, Global};
 use std::marker::Model;
 
-/// The entries of an environment, and their block, which is as Linux takes it: these texts in a sequence, each
-/// terminated by a byte 0.
+/// The cached entries, and their block, which is as Linux takes it: these texts in a sequence, each terminated by a
+/// byte 0.
 pub(crate) struct KeptEnvironment {
     entries: Vec<Text>,
     block: Vec<u8>,
@@ -58,7 +58,7 @@ impl KeptEnvironment {
         Ok(KeptEnvironment { entries, block })
     }
 
-    /// Keeps the entries of a launch in place of those before, if it has any, and returns whether it has. After an
+    /// Caches the entries of a launch in place of those before, if it has any, and returns whether it has. After an
     /// error all is as before. `Other`: an entry has a byte 0 or no equals sign, so that it can't be passed on.
     pub(crate) fn keep(&mut self, alloc: Global, entries: &[Text]) -> Result<bool, Fault>
         ensures kept { IfOk result (λ is_kept. handed_over is_kept self.new ≡ map text_bytes entries.now) }
@@ -76,7 +76,7 @@ impl KeptEnvironment {
         Ok(true)
     }
 
-    /// The block of the entries that are handed over: those that are kept, or none.
+    /// The block of the entries that are handed over: those of the cache, or none.
     pub(crate) fn block(&self, is_kept: bool) -> &[u8]
         ensures { Holds is_no_entry result.now (handed_over is_kept self.now) }
     {

@@ -8,8 +8,11 @@ use Rattle.rc_world.proofs.Joins.{left_here, passed_up}
 use Rattle.law_plans.proofs.Runs.{ran_none}
 use Rattle.rc_builtin.proofs.known_names.command_line.Goals as goal
 
+pub returns-in_err-body : goal.returns-in_err-body
+returns-in_err-body g c = passed_up _ _ _ _ c.from_residual.result NoMemory c.from_residual.ensures.1 (left_here _ _ _ _ (ran_none _ _))
+
 pub returns-in_err-function_line : goal.returns-in_err-function_line
-returns-in_err-function_line g c = passed_up _ _ _ _ c.from_residual.result NoMemory c.from_residual.ensures.1 (left_here _ _ _ _ (ran_none _ _))
+returns-in_err-function_line g c = passed_up _ _ _ _ c.from_residual-in_err-function_line.result NoMemory c.from_residual-in_err-function_line.ensures.1 (left_here _ _ _ _ (ran_none _ _))
 
 pub returns-in_err-builtin_line : goal.returns-in_err-builtin_line
 returns-in_err-builtin_line g c = passed_up _ _ _ _ c.from_residual-in_err-builtin_line.result NoMemory c.from_residual-in_err-builtin_line.ensures.1 (left_here _ _ _ _ (ran_none _ _))

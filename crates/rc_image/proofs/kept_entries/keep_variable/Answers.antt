@@ -1,4 +1,4 @@
-use Rattle.std.proofs.Common.{rules, ◌≡◌, ◌∙◌, ap, map}
+use Rattle.std.proofs.Common.{◌∙◌, ap, map}
 use Rattle.rc_text.specs.Texts.{text_bytes}
 use Rattle.rc_model.specs.Handed.Image.{value_text}
 use Rattle.rc_image.proofs.Handing.{value_after}

@@ -1,7 +1,5 @@
-use Rattle.std.proofs.Common.{arith, ◌≡◌, refl, sym, ap, [], ◌∷◌, ◌++◌, drop, length, map}
-use Rattle.std.proofs.lemmas.Grind.{common_steps}
+use Rattle.std.proofs.Common.{arith, refl, sym, ap, drop, length}
 use Rattle.std.proofs.lemmas.List.{drop_all}
-use Rattle.rc_text.specs.Texts.{text_bytes}
 use Rattle.rc_image.specs.Additions.{handed}
 use Rattle.rc_image.proofs.Handing.{ends_all, ends_at, ends_before, keeps_on, left_off, left_on}
 use Rattle.rc_image.proofs.launch_environment.push_below.Goals as goal

@@ -1,32 +1,28 @@
-use Rattle.std.proofs.Common.{rules, ◌∙◌}
-use Rattle.law_image.proofs.ReadProper.{read_script}
+use Rattle.std.proofs.Common.{rules}
 use Rattle.rc_scope.specs.States.{state_of}
-use Rattle.rc_image.proofs.Denoted.{nothing_new, is_there, passed_on, bad_image, is_defined, is_image}
+use Rattle.rc_image.proofs.Denoted.{nothing_new, is_there, passed_on, bad_image, is_defined, is_kept, kept_proper}
 use Rattle.rc_image.proofs.read_environment.define_entry.Goals as goal
 
-pub define-requires : goal.define-requires
-define-requires c = rw c.in_ok-shared.ensures.ok (read_script c.in-Some.image.now _ c.in_ok-body.ensures)
+pub define-requires-clause-image : goal.define-requires-clause-image
+define-requires-clause-image c = is_kept c.in_ok-kept.kept c.in-Some.image.now c.in_ok-kept.ensures c.in_ok-check_tree.ensures
+
+pub define-requires-clause-body : goal.define-requires-clause-body
+define-requires-clause-body c = kept_proper c.in_ok-kept.kept c.in-Some.image.now c.in_ok-kept.ensures c.in_ok-check_tree.ensures
 
 pub returns-in_default : goal.returns-in_default
 returns-in_default c = nothing_new (state_of c.args.state.now) c.args.entry.now c.in_default.ensures
 
-pub returns-then-is_some : goal.returns-then-is_some
-returns-then-is_some c =
-    is_there (state_of c.args.state.now) c.in-Some.name.now c.in-Some.image.now c.args.entry.now c.function.result c.in-Some.ensures c.function.ensures (search rules)
+pub returns-then-has_function : goal.returns-then-has_function
+returns-then-has_function c =
+    is_there (state_of c.args.state.now) c.in-Some.name.now c.in-Some.image.now c.args.entry.now c.has_function.result c.in-Some.ensures c.has_function.ensures (search rules)
 
-pub returns-in_err-body : goal.returns-in_err-body
-returns-in_err-body c =
-    passed_on _ c.from_residual.result c.in_err-body.field-0.0 _ c.from_residual.ensures.1
-    (bad_image (state_of c.args.state.now) c.in-Some.name.now c.in-Some.image.now c.args.entry.now c.function.result c.in_err-body.field-0.0
-    c.in-Some.ensures c.function.ensures (search rules) c.in_err-body.ensures)
+pub returns-in_err-check_tree : goal.returns-in_err-check_tree
+returns-in_err-check_tree c =
+    passed_on _ c.from_residual.result c.in_err-check_tree.field-0.0 _ c.from_residual.ensures.1
+    (bad_image (state_of c.args.state.now) c.in-Some.name.now c.in-Some.image.now c.args.entry.now c.has_function.result c.in_err-check_tree.field-0.0
+    c.in-Some.ensures c.has_function.ensures (search rules) c.in_err-check_tree.ensures)
 
 pub returns : goal.returns
 returns c =
-    is_defined (state_of c.args.state.now) (state_of c.keep_image.new.state) c.in-Some.name.now c.in-Some.image.now c.args.entry.now c.function.result _
-    c.in-Some.ensures c.function.ensures (search rules) c.in_ok-body.ensures
-    (c.keep_image.ensures ∙ (rw c.in_ok-shared.ensures.ok at c.in_ok-define.ensures))
-
-pub keep_image-requires : goal.keep_image-requires
-keep_image-requires c =
-    is_image (state_of c.args.state.now) (state_of c.define.new.state) c.in-Some.name.now c.in-Some.image.now c.args.entry.now _
-    c.in-Some.ensures c.in_ok-body.ensures (rw c.in_ok-shared.ensures.ok at c.in_ok-define.ensures)
+    is_defined (state_of c.args.state.now) (state_of c.define.new.state) c.in-Some.name.now c.in-Some.image.now c.args.entry.now c.has_function.result c.in_ok-kept.kept
+    c.in-Some.ensures c.has_function.ensures (search rules) c.in_ok-check_tree.ensures c.in_ok-kept.ensures c.in_ok-define.ensures

@@ -7,7 +7,7 @@ use Rattle.std.specs.declared.alloc.Global.{Global}
 use Rattle.std.specs.declared.string.String.{String}
 use Rattle.rc_model.specs.Handed.Image.{image}
 use Rattle.rc_model.specs.Syntax.Tree.{Node, cmd}
-use Rattle.rc_tree.specs.View.{cmd_tree}
+use Rattle.rc_scope.specs.FunctionBodies.{body_tree}
 use Rattle.rc_scope.specs.Bodies.{functions_of}
 use Rattle.rc_scope.specs.KeptEntries.{kept_text}
 use Rattle.rc_scope.specs.States.{state_of}
@@ -25,7 +25,7 @@ keep-requires c =
     let es = c.args.self.now.functions.entries in
     let found : lookup named es ≡ Some c.in-Some.function.now = search rules in
     subst (λ (o : Option (Node cmd)). IfSome o (λ body. kept_text c.args.kept ≡ image body))
-    (lookup_function q es ∙ ap (option_map (λ (f : Function). cmd_tree f)) found) c.requires
+    (lookup_function q es ∙ ap (option_map (λ (f : Function). body_tree f)) found) c.requires
 
 pub invariant_of-self-2 : goal.invariant_of-self-2
 invariant_of-self-2 c =

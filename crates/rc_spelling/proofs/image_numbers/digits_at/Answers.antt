@@ -1,6 +1,6 @@
 use Rattle.std.proofs.Common.{sym, ◌∙◌}
 use Rattle.rc_spelling.proofs.Digits.{count_same}
-use Rattle.rc_spelling.proofs.image_numbers.count_at.Goals as goal
+use Rattle.rc_spelling.proofs.image_numbers.digits_at.Goals as goal
 
 pub returns : goal.returns
 returns c =

@@ -3,7 +3,7 @@ use Rattle.std.specs.Str.{bytes_eq}
 use Rattle.rc_model.specs.Run.State.{is_name, status_name}
 use Rattle.rc_text.specs.Texts.{text_bytes}
 use Rattle.rc_scope.proofs.ProperStates.{by_result, nothing_set, value_set}
-use Rattle.rc_scope.proofs.state.State.set_one.Goals as goal
+use Rattle.rc_scope.proofs.state.State.set_known.Goals as goal
 
 pub invariant_of-self-2 : goal.invariant_of-self-2
 invariant_of-self-2 c =

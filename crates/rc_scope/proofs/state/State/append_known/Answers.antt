@@ -4,7 +4,7 @@ use Rattle.rc_model.specs.Run.State.{is_name, status_name, visible}
 use Rattle.rc_text.specs.Texts.{text_bytes}
 use Rattle.rc_scope.specs.Stacks.{stacks_of, stack_in}
 use Rattle.rc_scope.proofs.ProperStates.{by_result, nothing_set, value_set}
-use Rattle.rc_scope.proofs.state.State.append.Goals as goal
+use Rattle.rc_scope.proofs.state.State.append_known.Goals as goal
 
 pub invariant_of-self : goal.invariant_of-self
 invariant_of-self c =
