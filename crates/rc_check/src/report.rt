@@ -6,7 +6,7 @@ ghost use Rattle.rc_check.specs.Verdicts.{IsVerdictOn};
 use crate::faults::findings::{Finding, first_fault};
 use crate::positions::{Position, beginning, go_to, position_of};
 use crate::verdicts::Verdict;
-use rc_warnings::{Warning, WarningKind, push_escaped, warnings_of};
+use rc_warnings::{MOST_WARNINGS, Warning, WarningKind, push_escaped, warnings_of};
 use std::alloc::{AllocError, Global};
 
 /// The greatest number of bytes of a line that are shown on each side of a place.
@@ -74,10 +74,14 @@ fn show_warnings(
     script: &[u8],
 ) -> Result<(), AllocError> {
     let mut reached = beginning(script);
-    for warning in &warnings_of(alloc, script)? {
+    let warnings = warnings_of(alloc, script)?;
+    for warning in &warnings {
         reached = go_to(script, reached, warning.place.min(script.len()));
         show_place(out, name, reached.position)?;
         show_warning(alloc, out, script, *warning)?;
+    }
+    if warnings.len() >= MOST_WARNINGS {
+        write!(out, "{name}: only {MOST_WARNINGS} warnings are shown\n")?;
     }
     Ok(())
 }

@@ -1,4 +1,7 @@
 //! The lines that show the calls of a process.
+//!
+//! A line is written once the call was answered, with one write at the end of the file, so that those of several
+//! processes don't mix. One that can't be made or written is left out, and the shell goes on.
 
 ghost use Rattle.std.specs.Prelude.{◌≡◌, ◌++◌, IfOk, IsTrue, MatchResult, [], string_bytes};
 ghost use Rattle.std.specs.Io.KnownBytes.{Appends};

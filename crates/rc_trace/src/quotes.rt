@@ -1,4 +1,7 @@
 //! Texts that are shown, each on one line.
+//!
+//! What is read and the names in a directory have quotes; a path has them only if it would look like another part of
+//! its line without. Control characters and those that end a line or change its direction are escaped.
 
 ghost use Rattle.std.specs.Prelude.{◌≡◌, ◌++◌, IfOk, OnOk, map, option_map, string_bytes};
 ghost use Rattle.std.specs.List.{flat_map, list_any};

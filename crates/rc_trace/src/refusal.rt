@@ -1,4 +1,8 @@
 //! Which call is refused.
+//!
+//! Its fault is `Denied`, since which one it is changes nothing for a script. It is not passed on, except a close: the
+//! definitions take a file as closed whatever is answered, and a write end that stayed open would keep its readers
+//! waiting. Later calls are counted below 2^64; a further one is not made, as if memory was refused.
 
 ghost use Rattle.std.specs.Prelude.{◌≡◌, IfOk, IfErr, OnErr};
 ghost use Rattle.rc_model.specs.Run.Calls.{was_made};

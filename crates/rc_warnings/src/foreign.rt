@@ -1,10 +1,10 @@
 //! What other shells have and this one lacks, with what to write in its place. docs/faults.md shows the same table.
 
 /// The length of the longest word of the tables.
-const LONGEST_WORD: usize = 12;
+pub(crate) const LONGEST_WORD: usize = 14;
 
 /// Commands and keywords of other shells.
-pub(crate) const FOREIGN: [(&str, &str); 62] = [
+pub(crate) const FOREIGN: [(&str, &str); 97] = [
     ("else", "if not, on a line of its own or after a ;"),
     ("elif", "if not if(..), on a line of its own or after a ;"),
     ("elseif", "if not if(..), on a line of its own or after a ;"),
@@ -79,13 +79,48 @@ pub(crate) const FOREIGN: [(&str, &str); 62] = [
     ("[[", "test, or ~ $x pattern"),
     ("//", "# for a comment"),
     ("/*", "# for a comment"),
+    ("and", "&&, between the commands"),
+    ("or", "||, between the commands"),
+    ("begin", "{..}"),
+    ("math", "x=`{expr ..}"),
     ("bind", "mount --bind"),
     ("unmount", "umount"),
     ("rfork", "@{..} for a subshell"),
+    ("elsif", "if not if(..), on a line of its own or after a ;"),
+    ("repeat", "for(i in `{seq 3})"),
+    ("goto", "a loop, or a function"),
+    ("print", "echo"),
+    ("puts", "echo"),
+    ("string", "sed, or awk"),
+    ("onintr", "nothing: no signal calls a function"),
+    ("include", "a . and the file"),
+    ("rehash", "nothing: programs are looked for each time"),
+    ("whence", "whatis name"),
+    ("noglob", "quotes around each pattern"),
+    ("True", "true"),
+    ("False", "false"),
+    ("ifeq", "if(~ $x y)"),
+    ("ifneq", "if(! ~ $x y)"),
+    ("ifdef", "if(! ~ $#x 0)"),
+    ("ifndef", "if(~ $#x 0)"),
+    ("Write-Host", "echo"),
+    ("Write-Output", "echo"),
+    ("Get-ChildItem", "ls"),
+    ("Get-Content", "cat"),
+    ("Get-Date", "date"),
+    ("Set-Location", "cd"),
+    ("New-Item", "mkdir, or >file"),
+    ("Copy-Item", "cp"),
+    ("Move-Item", "mv"),
+    ("Remove-Item", "rm"),
+    ("Test-Path", "test -e"),
+    ("Start-Process", "a & after the command"),
+    ("ForEach-Object", "for(x in ..)"),
+    ("Where-Object", "grep, or an if in a loop"),
 ];
 
 /// Variables that other shells set.
-pub(crate) const VARIABLES: [(&str, &str); 21] = [
+pub(crate) const VARIABLES: [(&str, &str); 27] = [
     ("RANDOM", "`{shuf -i 0-32767 -n 1}"),
     ("SECONDS", "`{date +%s} before and after"),
     ("LINENO", "a name of your own for each place"),
@@ -116,6 +151,12 @@ pub(crate) const VARIABLES: [(&str, &str); 21] = [
     ("HOSTTYPE", "`{uname -m}"),
     ("argv", "$*"),
     ("bqstatus", "$status, which a backquote sets"),
+    ("true", "true, which is a command"),
+    ("false", "false, which is a command"),
+    ("null", "()"),
+    ("args", "$*"),
+    ("_", "a variable of your own"),
+    ("PSScriptRoot", "the directory of the script in a variable"),
 ];
 
 /// What to write in place of a command of other shells.

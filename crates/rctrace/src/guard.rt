@@ -1,4 +1,7 @@
 //! What becomes of runs and their files when this process is killed.
+//!
+//! A program in Rattle can't catch a signal. So `setpriv --pdeathsig` ends a run, and a shell that waits at a pipe,
+//! which this process alone holds, removes the files.
 
 use std::alloc::{AllocError, Global};
 use std::io;

@@ -5,7 +5,7 @@ mod environment;
 mod guard;
 mod options;
 mod paths;
-mod room;
+mod scratch;
 mod table;
 mod tracing;
 mod trials;

@@ -1,8 +1,11 @@
 //! The runs of a script with each call of its first process refused in turn, each in a fresh copy of a directory.
+//!
+//! Each run is a process of its own, `rctrace` once more, so that none can spoil what a script is tried on. `cp`,
+//! `sort`, `diff` and `timeout` do what is not a shell's matter.
 
 use crate::guard::{Guard, bound, bounded, can_bind};
 use crate::options::Asked;
-use crate::room::Room;
+use crate::scratch::Scratch;
 use crate::table::{LEGEND, Outcome, TITLES, only_in};
 use crate::tracing::FIRST;
 use anyhow::{Context, Result, bail};
@@ -26,7 +29,7 @@ struct Trials<'a> {
     asked: Asked<'a>,
     /// The path of this program.
     program: String,
-    room: Room,
+    scratch: Scratch,
     /// Whether the runs end when this process is gone.
     is_bound: bool,
     /// How many seconds a run may take.
@@ -37,20 +40,20 @@ struct Trials<'a> {
 /// different.
 pub(crate) fn try_all(rt: HostRuntime, asked: Asked<'_>) -> Result<()> {
     let program = own_path(rt.alloc(), env::current_exe(&rt), process::id(rt.process()))?;
-    let room = Room::new(rt)?;
-    let guard = Guard::over(&rt, room.path());
+    let scratch = Scratch::new(rt)?;
+    let guard = Guard::over(&rt, scratch.path());
     let is_bound = can_bind(&rt)?;
     let seconds = asked.seconds.unwrap_or(MOST_SECONDS);
     let trials = Trials {
         rt,
         asked,
         program,
-        room,
+        scratch,
         is_bound,
         seconds,
     };
     let tried = trials.refuse_each();
-    let removed = trials.room.remove();
+    let removed = trials.scratch.remove();
     if let Ok(guard) = guard {
         guard.end()?;
     }
@@ -76,7 +79,7 @@ impl Trials<'_> {
                 }
                 None => all_compared = false,
             }
-            self.room.remove_directory("refused")?;
+            self.scratch.remove_directory("refused")?;
         }
         bail!("too many calls")
     }
@@ -84,13 +87,13 @@ impl Trials<'_> {
     /// Runs the script in a fresh copy of the directory, with this call refused, and calls the directory of the run by
     /// this name then.
     fn run(&self, name: &str, refused: Option<usize>) -> Result<()> {
-        self.room.make_directory("run")?;
+        self.scratch.make_directory("run")?;
         self.copy_files()?;
         let status = self.run_to_files(&mut self.traced(refused)?)?;
-        self.room
+        self.scratch
             .write("run/status", &format!(in self.rt.alloc(); "{status}\n")?)?;
         self.sort_calls()?;
-        self.room.rename("run", name)
+        self.scratch.rename("run", name)
     }
 
     /// Copies the directory, with all that is in it.
@@ -102,7 +105,7 @@ impl Trials<'_> {
             .arg("-a")?
             .arg("--")?
             .arg(&from)?
-            .arg(&self.room.place("run/files")?)?;
+            .arg(&self.scratch.path_of("run/files")?)?;
         if !self.status(&mut command)?.success() {
             bail!("cannot copy {directory}");
         }
@@ -113,8 +116,8 @@ impl Trials<'_> {
     fn traced(&self, refused: Option<usize>) -> Result<Command> {
         let alloc = self.rt.alloc();
         let mut command = bounded(alloc, self.is_bound, self.seconds, &self.program)?;
-        command.arg("-o")?.arg(&self.room.place("run/calls")?)?;
-        command.arg("-d")?.arg(&self.room.place("run/files")?)?;
+        command.arg("-o")?.arg(&self.scratch.path_of("run/calls")?)?;
+        command.arg("-d")?.arg(&self.scratch.path_of("run/files")?)?;
         if self.asked.environment {
             command.arg("-E")?;
         }
@@ -135,8 +138,8 @@ impl Trials<'_> {
     fn run_to_files(&self, command: &mut Command) -> Result<String> {
         command
             .stdin(Stdio::null())
-            .stdout(self.room.create("run/output")?)
-            .stderr(self.room.create("run/errors")?);
+            .stdout(self.scratch.create("run/output")?)
+            .stderr(self.scratch.create("run/errors")?);
         let begun = Instant::now(&self.rt)?;
         let status = self.status(command)?;
         if begun.elapsed(&self.rt)? >= Duration::from_secs(u64::from(self.seconds)) {
@@ -161,7 +164,7 @@ impl Trials<'_> {
 
     /// Orders the calls of a run by process.
     fn sort_calls(&self) -> Result<()> {
-        let calls = self.room.place("run/calls")?;
+        let calls = self.scratch.path_of("run/calls")?;
         let mut command = self.command("sort")?;
         command
             .arg("-s")?
@@ -177,8 +180,8 @@ impl Trials<'_> {
     /// none: then the shell has said why on descriptor 2, unless the script needs none. It is one, too, if it took too
     /// long.
     fn show_plain(&self) -> Result<()> {
-        let calls = self.room.text("plain/calls")?;
-        let status = self.room.text("plain/status")?;
+        let calls = self.scratch.text("plain/calls")?;
+        let status = self.scratch.text("plain/status")?;
         let status = status.trim_end();
         let count = calls.lines().filter(|line| is_of_first(line)).count();
         println!(self.rt; "no call refused: {count} calls, status {status}")?;
@@ -186,7 +189,7 @@ impl Trials<'_> {
             bail!("the script was cut after {} seconds", self.seconds);
         }
         if count == 0 {
-            eprint!(self.rt; "{}", self.room.text("plain/errors")?)?;
+            eprint!(self.rt; "{}", self.scratch.text("plain/errors")?)?;
             bail!("there is no call to refuse");
         }
         Ok(())
@@ -194,7 +197,7 @@ impl Trials<'_> {
 
     /// The call that was refused, if one was.
     fn refused_call(&self, number: usize) -> Result<Option<String>> {
-        let calls = self.room.text("refused/calls")?;
+        let calls = self.scratch.text("refused/calls")?;
         let mut of_first = calls.lines().filter(|line| is_of_first(line));
         Ok(match of_first.nth(number.saturating_sub(1)) {
             Some(line) => Some(String::from_str(self.rt.alloc(), call_of(line))?),
@@ -211,12 +214,13 @@ impl Trials<'_> {
         if !are_kept {
             return Ok(None);
         }
-        let status = self.room.text("refused/status")?;
+        let status = self.scratch.text("refused/status")?;
         Ok(Some(Outcome {
             number,
             call,
             status: String::from_str(self.rt.alloc(), status.trim_end())?,
-            same_output: self.room.bytes("plain/output")? == self.room.bytes("refused/output")?,
+            same_output: self.scratch.bytes("plain/output")?
+                == self.scratch.bytes("refused/output")?,
             same_files,
             left,
         }))
@@ -229,14 +233,14 @@ impl Trials<'_> {
         command
             .args(["-rq", "plain/files", "refused/files"])?
             .env("LC_ALL", "C")?
-            .current_dir(self.room.path())?
-            .stdout(self.room.create("files")?);
+            .current_dir(self.scratch.path())?
+            .stdout(self.scratch.create("files")?);
         let code = self.status(&mut command)?.code();
         if !matches!(code, Some(0 | 1)) {
             return Ok(None);
         }
         let mut left = Vec::new(alloc);
-        let only = self.room.text("files")?;
+        let only = self.scratch.text("files")?;
         for line in only.lines() {
             if let Some((inside, name)) = only_in(line, "refused/files") {
                 let path = format!(in alloc; "{inside}/{name}")?;
@@ -250,14 +254,14 @@ impl Trials<'_> {
 
     /// Keeps what is different with a refusal, and returns whether all could be compared.
     fn keep_differences(&self, number: usize, call: &str) -> Result<bool> {
-        let mut kept = self.room.end_of("differences")?;
+        let mut kept = self.scratch.end_of("differences")?;
         let alloc = self.rt.alloc();
         let title = format!(in alloc; "call {number} refused: {call}\n")?;
         kept.write_all(title.as_bytes())?;
         let mut command = self.command("diff")?;
         command
             .args(["-r", "plain", "refused"])?
-            .current_dir(self.room.path())?
+            .current_dir(self.scratch.path())?
             .stdout(kept);
         Ok(matches!(self.status(&mut command)?.code(), Some(0 | 1)))
     }
@@ -270,7 +274,7 @@ impl Trials<'_> {
         println!(self.rt; "")?;
         self.rt
             .stdout()
-            .write_all(&self.room.bytes("differences")?)?;
+            .write_all(&self.scratch.bytes("differences")?)?;
         if !all_compared {
             bail!("some files could not be compared");
         }

@@ -41,8 +41,8 @@ fn add_values(out: &mut String, state: &State) -> Result<(), AllocError> {
 fn add_state(alloc: Global, out: &mut String, state: &State) -> Result<(), RowError> {
     add_values(out, state)?;
     for name in &state.functions()? {
-        if let Some(body) = state.function(name) {
-            add_tree(alloc, out, name, body)?;
+        if let Some(body) = state.function(name)? {
+            add_tree(alloc, out, name, &body)?;
         }
     }
     Ok(())

@@ -1,13 +1,16 @@
 //! The first fault of a script.
 
-ghost use Rattle.std.specs.Prelude.{◌≡◌, IfOk, Some};
+ghost use Rattle.std.specs.Prelude.{◌≡◌, IfErr, IfOk, Some};
+ghost use Rattle.rc_lexer.specs.Views.{tokens_of};
 ghost use Rattle.rc_model.specs.Mirrors.FirstFault as definitions;
-ghost use Rattle.rc_check.specs.Findings.{IsChecked, IsFoundIn};
+ghost use Rattle.rc_model.specs.Syntax.Accepted.{HasTokens};
+ghost use Rattle.rc_parser.specs.Faults.{Refuses};
+ghost use Rattle.rc_check.specs.Findings.{IsChecked, IsFoundIn, IsScript};
 
 use crate::faults::places::located;
 use crate::positions::on_line;
 use rc_model::SyntaxFault;
-use rc_parser::{InputError, parse};
+use rc_parser::{InputError, Items, Reader, ScriptError, Source};
 use rc_warnings::Advice;
 use std::alloc::{AllocError, Global};
 
@@ -25,11 +28,35 @@ pub struct Finding {
 pub fn first_fault(alloc: Global, script: &[u8]) -> Result<Option<Finding>, AllocError>
     ensures { IfOk result (λ found. IsChecked script.now found) }
 {
-    match parse(alloc, script) {
-        Ok(_) => Ok(None),
+    match read(alloc, script) {
+        Ok(()) => Ok(None),
         Err(InputError::Fault(fault)) => Ok(Some(found_fault(alloc, script, fault)?)),
         Err(InputError::NoMemory) => Err(AllocError),
     }
+}
+
+/// Reads a script, whose tree never stands in memory as a whole, or returns its first fault, as `parse` does.
+fn read(alloc: Global, script: &[u8]) -> Result<(), ScriptError>
+    ensures accepted { IfOk result (λ _. IsScript script.now) }
+    ensures refused { IfErr result (λ e. Refuses e script.now) }
+{
+    let mut reader = Reader::new(alloc);
+    reader.feed(script)?;
+    let lexed = reader.lexed()?;
+    read_items(alloc, &lexed.source())
+}
+
+/// Reads the items of a script with its tokens. Each is dropped before the next is parsed.
+fn read_items(alloc: Global, source: &Source<'_>) -> Result<(), ScriptError>
+    requires { HasTokens source.now.script.now (tokens_of source.now.script.now source.now.tokens.now) }
+    ensures accepted { IfOk result (λ _. IsScript source.now.script.now) }
+    ensures refused { IfErr result (λ e. Refuses e source.now.script.now) }
+{
+    let mut items = Items::new(alloc, source);
+    while let Some(item) = items.next()? {
+        drop(item);
+    }
+    Ok(())
 }
 
 /// The finding of a fault.

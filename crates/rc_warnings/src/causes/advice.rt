@@ -223,6 +223,18 @@ impl Advice {
         words: "write `{date} for a command between backquotes",
         line: None,
     };
+    /// A command between braces after two backquotes.
+    pub const LISTED_OUTPUT: Advice = Advice {
+        name: "ListedOutput",
+        words: "write ifs=: {x=`{command}} for x=`` (:) {command}",
+        line: None,
+    };
+    /// `((x > 3))`.
+    pub const COMPARISON: Advice = Advice {
+        name: "Comparison",
+        words: "write test $x -gt 3 for x > 3; parentheses hold a list of words",
+        line: None,
+    };
     /// The head of a control form without parentheses.
     pub const HEAD: Advice = Advice {
         name: "Head",

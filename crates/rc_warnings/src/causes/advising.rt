@@ -73,7 +73,7 @@ fn carriage_return(tokens: Tokens<'_>, at: usize) -> Option<Advice> {
 fn by_last(tokens: Tokens<'_>, at: usize) -> Option<Advice> {
     let before = at.wrapping_sub(1);
     match tokens.kind(before)? {
-        TokenKind::Backquote => Some(Advice::BACKQUOTE),
+        TokenKind::Backquote => Some(for_backquote(tokens, at)),
         TokenKind::Redirection(_, _) => after_redirection(tokens.kind(at)?),
         TokenKind::Equals if !tokens.is(at, TokenKind::Equals) => after_equals(tokens.kind(at)?),
         TokenKind::Bar(_) if tokens.is(at, TokenKind::Ampersand) => Some(Advice::BOTH_OUTPUTS),
@@ -81,6 +81,15 @@ fn by_last(tokens: Tokens<'_>, at: usize) -> Option<Advice> {
             tokens.begins_command(before).then_some(Advice::HEAD)
         }
         _ => None,
+    }
+}
+
+/// The advice for what follows a backquote in place of braces.
+fn for_backquote(tokens: Tokens<'_>, at: usize) -> Advice {
+    if tokens.is(at, TokenKind::Backquote) {
+        Advice::LISTED_OUTPUT
+    } else {
+        Advice::BACKQUOTE
     }
 }
 
@@ -117,9 +126,10 @@ fn for_kind(tokens: Tokens<'_>, at: usize, kind: TokenKind) -> Option<Advice> {
         TokenKind::AndAnd | TokenKind::OrOr | TokenKind::Bar(_) => {
             in_list(tokens, at).or(for_operator(tokens, at))
         }
-        TokenKind::Semicolon | TokenKind::Ampersand => {
-            in_list(tokens, at).or(without_operand(tokens, at))
-        }
+        TokenKind::Semicolon | TokenKind::Ampersand => in_list(tokens, at)
+            .or(in_loop(tokens, at))
+            .or(without_operand(tokens, at)),
+        TokenKind::Redirection(_, _) => in_comparison(tokens, at).or(without_operand(tokens, at)),
         _ => without_operand(tokens, at),
     }
 }
@@ -344,6 +354,20 @@ fn incomplete(tokens: Tokens<'_>, at: usize) -> Option<Advice> {
         return Some(Advice::SWITCH);
     }
     tokens.begins_command(at).then_some(Advice::NO_COMMAND)
+}
+
+/// The advice for a `;` in the head of a loop.
+fn in_loop(tokens: Tokens<'_>, at: usize) -> Option<Advice> {
+    let bracket = tokens.open_bracket(at)?;
+    tokens
+        .is_word(bracket.wrapping_sub(1), "for")
+        .then_some(Advice::FOR_IN)
+}
+
+/// The advice for a redirection in a list of words.
+fn in_comparison(tokens: Tokens<'_>, at: usize) -> Option<Advice> {
+    let bracket = tokens.open_bracket(at)?;
+    matches!(tokens.kind(bracket), Some(TokenKind::LeftParen)).then_some(Advice::COMPARISON)
 }
 
 /// The advice for the end of a command in a list of words that is in place of a command.

@@ -1,6 +1,9 @@
 //! Finding the command of a token. The search uses tokens alone, so that a newline inside a list of words counts as the
 //! end of a command.
 
+ghost use Rattle.std.specs.Prelude.{◌≡◌};
+ghost use Rattle.rc_warnings.specs.Warnings.{precedes_command};
+
 use crate::lexed::contexts::{BEGINNING, Context};
 use crate::lexed::script_tokens::Tokens;
 use rc_lexer::TokenKind;
@@ -22,6 +25,17 @@ fn separates(kind: TokenKind) -> bool {
     )
 }
 
+/// Whether a command begins after a word, by whether it begins one, and whether it follows an `if` that does: as an
+/// argument, `!` or `not` is a word like any other.
+fn precedes_command(word: &[u8], is_first: bool, follows_if: bool) -> bool
+    ensures { result ≡ precedes_command word.now is_first follows_if }
+{
+    if word == b"not".as_slice() {
+        return follows_if;
+    }
+    is_first && (word == b"!".as_slice() || word == b"@".as_slice())
+}
+
 impl Tokens<'_> {
     /// Whether a command begins at this index.
     pub(crate) fn begins_command(self, index: usize) -> bool {
@@ -30,9 +44,26 @@ impl Tokens<'_> {
             None => true,
             Some(TokenKind::LeftParen) => self.is_one_of(before.wrapping_sub(1), &["if", "while"]),
             Some(TokenKind::RightParen) => self.closes_head(before),
-            Some(TokenKind::Word) => self.is_one_of(before, &["!", "@", "not"]),
+            Some(TokenKind::Word) => {
+                precedes_command(
+                    self.text(before),
+                    self.is_first(before),
+                    self.follows_if(before),
+                )
+            }
             Some(kind) => separates(kind),
         }
+    }
+
+    /// Whether a command begins with the token at this index.
+    fn is_first(self, index: usize) -> bool {
+        self.command_start(index) == index
+    }
+
+    /// Whether an `if` that begins a command is before this index.
+    fn follows_if(self, index: usize) -> bool {
+        let before = index.wrapping_sub(1);
+        self.is_word(before, "if") && self.is_first(before)
     }
 
     /// Whether a command goes on after a newline that follows the token at this index.
@@ -63,12 +94,12 @@ impl Tokens<'_> {
 
     /// The index of the first token of the command that has the token at this index.
     pub(crate) fn command_start(self, index: usize) -> usize {
-        self.before(index).command
+        self.before(index).command.get().unwrap_or(0)
     }
 
     /// The index of the first token of the item that has the token at this index.
     pub(crate) fn item_start(self, index: usize) -> usize {
-        self.before(index).item
+        self.before(index).item.get().unwrap_or(0)
     }
 
     /// Whether the command of the token at this index begins with this word.
@@ -78,7 +109,7 @@ impl Tokens<'_> {
 
     /// The index of the last bracket that is opened and not closed before this index.
     pub(crate) fn open_bracket(self, index: usize) -> Option<usize> {
-        self.before(index).bracket
+        self.before(index).bracket.get()
     }
 
     /// Whether the token at this index is directly in the head of an `if` or a `while`.

@@ -16,10 +16,14 @@ pub(crate) fn assignment_warning(view: View<'_, '_>, at: usize) -> Option<Warnin
     if !is_name(tokens.text(at)) {
         return bad_name(tokens, at);
     }
-    upper_warning(view, at)
-        .or(assigned_condition(tokens, at))
-        .or(sum_warning(tokens, at))
-        .or(blank_warning(tokens, at))
+    first_of!(
+        upper_warning(view, at),
+        assigned_condition(tokens, at),
+        sum_warning(tokens, at),
+        operator_warning(tokens, at),
+        brackets_warning(tokens, at),
+        value_warning(tokens, at)
+    )
 }
 
 /// Whether a text can be the name of a variable.
@@ -125,6 +129,20 @@ fn sum_warning(tokens: Tokens<'_>, at: usize) -> Option<Warning> {
     )
 }
 
+/// The warning for an argument of `expr` that is a sum without blanks, as in `expr $x+1`, at its operator.
+pub(crate) fn sum_of_expr(tokens: Tokens<'_>, at: usize) -> Option<Warning> {
+    let value = at.wrapping_sub(3);
+    let is_sum = tokens.is_in_command(at, "expr")
+        && tokens.is(at.wrapping_sub(1), TokenKind::FreeCaret)
+        && tokens.is(value, TokenKind::Dollar)
+        && computes(tokens.text(at), true);
+    if !is_sum {
+        return None;
+    }
+    let repair = Repair::of("write blanks around each operator and number: `{expr $x + 1}");
+    tokens.warning(at, WarningKind::ARITHMETIC, repair)
+}
+
 /// Whether a text is a `+` and a number, or, after the variable that is assigned, any operator and a number.
 fn computes(text: &[u8], is_same: bool) -> bool {
     let Some((operator, number)) = text.split_at_checked(1) else {
@@ -154,19 +172,79 @@ fn constant_sum(tokens: Tokens<'_>, value: usize) -> Option<Warning> {
     tokens.warning(value, WarningKind::ARITHMETIC, repair)
 }
 
-/// The warning for `X= command word`, whose value is the command.
-fn blank_warning(tokens: Tokens<'_>, at: usize) -> Option<Warning> {
-    let equals = at.wrapping_add(1);
-    let value = equals.wrapping_add(1);
-    let is_apart = tokens.touches_next(at) && !tokens.touches_next(equals);
-    let has_command = matches!(
-        tokens.kind(value.wrapping_add(1)),
-        Some(TokenKind::Word | TokenKind::Quoted | TokenKind::Dollar)
-    );
-    if !is_apart || !has_command || !tokens.is(value, TokenKind::Word) {
+/// The first token after the value of the assignment to the word at this index, if that is one word or a variable.
+fn after_value(tokens: Tokens<'_>, at: usize) -> Option<usize> {
+    let value = at.wrapping_add(2);
+    match tokens.kind(value)? {
+        TokenKind::Word | TokenKind::Quoted => Some(value.wrapping_add(1)),
+        TokenKind::Dollar => Some(value.wrapping_add(2)),
+        _ => None,
+    }
+}
+
+/// The warning for `x=$x + 1`, whose operator is called.
+fn operator_warning(tokens: Tokens<'_>, at: usize) -> Option<Warning> {
+    let value = at.wrapping_add(2);
+    let operator = after_value(tokens, at)?;
+    if !tokens.is_one_of(operator, &["+", "-", "*", "/", "%"]) {
         return None;
     }
-    let command = tokens.span_to(value, tokens.command_end(value));
-    let repair = Repair::pair(["write ", "='' ", ""], tokens.span(at), command);
+    let left = tokens.span_to(value, operator.wrapping_sub(1));
+    let right = tokens.span_to(operator.wrapping_add(1), tokens.command_end(operator));
+    let repair = if tokens.is(value, TokenKind::Quoted) {
+        Repair::of("write a caret between two texts to join them")
+    } else if tokens.is_word(operator, "*") {
+        Repair::pair(["write `{expr ", " '*' ", "}"], left, right)
+    } else {
+        let words = ["write `{expr ", " ", " ", "}"];
+        Repair::new(words, [left, tokens.span(operator), right])
+    };
+    tokens.warning(operator, WarningKind::ARITHMETIC, repair)
+}
+
+/// The warning for `x=[a b]`.
+fn brackets_warning(tokens: Tokens<'_>, at: usize) -> Option<Warning> {
+    let value = at.wrapping_add(2);
+    let text = tokens.text(value);
+    let next = after_value(tokens, at)?;
+    if !text.starts_with(b"[") || text.contains(&b']') || tokens.ends_command(next) {
+        return None;
+    }
+    let end = tokens.command_end(value);
+    let closing = usize::from(tokens.text(end).ends_with(b"]"));
+    let found = tokens.span_to(value, end);
+    let inner = span(
+        (found.start as usize).saturating_add(1),
+        (found.stop as usize).saturating_sub(closing),
+    );
+    let repair = Repair::pair(["write ", "=(", ")"], tokens.span(at), inner);
+    tokens.warning(value, WarningKind::LIST, repair)
+}
+
+/// The warning for a value before a word that is called, if it is not meant for that command: after `x =`, in
+/// `X= command word`, whose value is the command, and in `x=$x word`, whose value changes nothing.
+fn value_warning(tokens: Tokens<'_>, at: usize) -> Option<Warning> {
+    let equals = at.wrapping_add(1);
+    let value = equals.wrapping_add(1);
+    let next = after_value(tokens, at)?;
+    let has_command = matches!(
+        tokens.kind(next),
+        Some(TokenKind::Word | TokenKind::Quoted | TokenKind::Dollar)
+    );
+    if !has_command {
+        return None;
+    }
+    let name = tokens.span(at);
+    let is_same = tokens.is(value, TokenKind::Dollar)
+        && tokens.text(value.wrapping_add(1)) == tokens.text(at);
+    let all = tokens.span_to(value, tokens.command_end(value));
+    if is_same || !tokens.touches_next(at) {
+        let repair = Repair::pair(["write ", "=(", ")"], name, all);
+        return tokens.warning(next, WarningKind::LIST, repair);
+    }
+    if tokens.touches_next(equals) || !tokens.is(value, TokenKind::Word) {
+        return None;
+    }
+    let repair = Repair::pair(["write ", "='' ", ""], name, all);
     tokens.warning(at, WarningKind::BLANK, repair)
 }

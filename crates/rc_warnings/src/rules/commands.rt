@@ -7,9 +7,9 @@ use crate::rules::assignments::assignment_warning;
 use crate::rules::conditions::{if_warning, tested_warning};
 use crate::rules::foreign_words::foreign_warning;
 use crate::rules::functions::{definition_warning, parameters_warning};
-use crate::rules::patterns::{match_warning, switch_warning};
+use crate::rules::patterns::{empty_case, match_warning, switch_warning};
 use crate::warnings::kind::WarningKind;
-use crate::warnings::repair::Repair;
+use crate::warnings::repair::{NOWHERE, Repair};
 use crate::warnings::warning::Warning;
 use rc_lexer::TokenKind;
 
@@ -20,15 +20,17 @@ pub(crate) fn command_warning(view: View<'_, '_>, at: usize) -> Option<Warning> 
         return assignment_warning(view, at);
     }
     if tokens.is_one_of(at, &["cd", ".", "eval"]) {
-        return dash_warning(tokens, at).or(unasked_warning(view, at));
+        return first_of!(dash_warning(tokens, at), unasked_warning(view, at));
     }
-    if tokens.is_one_of(at, &["if", "fn", "~", "switch"]) {
+    if tokens.is_one_of(at, &["if", "fn", "~", "switch", "case"]) {
         return form_warning(view, at);
     }
-    bang_warning(tokens, at)
-        .or(exec_warning(tokens, at))
-        .or(tested_warning(tokens, at))
-        .or(foreign_warning(view, at))
+    first_of!(
+        bang_warning(view, at),
+        exec_warning(tokens, at),
+        tested_warning(tokens, at),
+        foreign_warning(view, at)
+    )
 }
 
 /// The warning for a form that is not a simple command.
@@ -38,22 +40,56 @@ fn form_warning(view: View<'_, '_>, at: usize) -> Option<Warning> {
         return if_warning(tokens, at);
     }
     if tokens.is_word(at, "fn") {
-        return parameters_warning(tokens, at).or(definition_warning(tokens, at));
+        return first_of!(
+            parameters_warning(tokens, at),
+            definition_warning(tokens, at)
+        );
     }
     if tokens.is_word(at, "~") {
         return match_warning(view, at);
     }
+    if tokens.is_word(at, "case") {
+        return empty_case(tokens, at);
+    }
     switch_warning(view, at)
 }
 
-/// The warning for a command such as `!~` or `!grep`.
-fn bang_warning(tokens: Tokens<'_>, at: usize) -> Option<Warning> {
+/// The warning for a command such as `!grep`, or as a makefile has it: `@echo`, `-rm` or `all:`.
+fn bang_warning(view: View<'_, '_>, at: usize) -> Option<Warning> {
+    let tokens = view.tokens;
     let text = tokens.text(at);
-    if text.len() < 2 || !text.starts_with(b"!") {
+    if text.len() < 2 {
+        return joined_bang(tokens, at);
+    }
+    let mut inner = tokens.span(at);
+    if let Some(name) = text.strip_suffix(b":") {
+        inner.stop = inner.stop.saturating_sub(1);
+        let repair = match view.overview.foreign(name) {
+            Some(instead) => Repair::pair(["in place of ", ": ", instead], inner, NOWHERE),
+            None => Repair::around("write fn ", inner, " {..}"),
+        };
+        return tokens.warning(at, WarningKind::BANG, repair);
+    }
+    let words = match text.first() {
+        Some(b'!') => "write ! ",
+        Some(b'@') => "write @ ",
+        Some(b'-') if text.len() > 2 => "write ",
+        _ => return None,
+    };
+    inner.start = inner.start.saturating_add(1);
+    tokens.warning(at, WarningKind::BANG, Repair::around(words, inner, ""))
+}
+
+/// The warning for `!$x`, whose value belongs to the name of the command.
+fn joined_bang(tokens: Tokens<'_>, at: usize) -> Option<Warning> {
+    let value = at.wrapping_add(2);
+    let is_joined = tokens.is_word(at, "!")
+        && tokens.is(value.wrapping_sub(1), TokenKind::FreeCaret)
+        && tokens.is(value, TokenKind::Dollar);
+    if !is_joined {
         return None;
     }
-    let mut rest = tokens.span(at);
-    rest.start = rest.start.saturating_add(1);
+    let rest = tokens.span_to(value, tokens.command_end(value));
     tokens.warning(at, WarningKind::BANG, Repair::around("write ! ", rest, ""))
 }
 
@@ -103,13 +139,14 @@ fn exec_warning(tokens: Tokens<'_>, at: usize) -> Option<Warning> {
     tokens.warning(at, WarningKind::EXEC, repair)
 }
 
-/// The warning for a pattern of `find` that isn't quoted.
+/// The warning for a pattern of `find`, or a `*` of `expr`, that isn't quoted.
 pub(crate) fn glob_warning(tokens: Tokens<'_>, at: usize, text: &[u8]) -> Option<Warning> {
     let option = at.wrapping_sub(1);
     let is_pattern = has_any(text, b"*?[")
         && tokens.is_one_of(option, &["-name", "-iname", "-path"])
         && tokens.is_in_command(at, "find");
-    if !is_pattern {
+    let is_product = tokens.is_word(at, "*") && tokens.is_in_command(at, "expr");
+    if !is_pattern && !is_product {
         return None;
     }
     let repair = Repair::around("write '", tokens.span(at), "'");
@@ -131,7 +168,9 @@ pub(crate) fn end_warning(tokens: Tokens<'_>, at: usize) -> Option<Warning> {
     }
     for index in start..at {
         if tokens.is_one_of(index, &["-exec", "-ok", "-execdir"]) {
-            let command = tokens.span_to(start, before);
+            let is_quoted = tokens.text(before).ends_with(b"\\");
+            let last = before.wrapping_sub(usize::from(is_quoted));
+            let command = tokens.span_to(start, last);
             let repair = Repair::around("write ", command, " ';'");
             return tokens.warning(at, WarningKind::SEMICOLON, repair);
         }

@@ -13,6 +13,45 @@ use rc_lexer::TokenKind;
 /// The operators of `test` that compare numbers.
 pub(crate) const COMPARISONS: [&str; 8] = ["-eq", "-ne", "-lt", "-le", "-gt", "-ge", "-nt", "-ot"];
 
+/// Operators of other languages that stand between two values.
+const BETWEEN: [&str; 8] = ["~", "eq", "ne", "lt", "gt", "le", "ge", "is"];
+
+/// The warning for a condition that begins with a name, where its value is meant, at its parenthesis.
+pub(crate) fn condition_warning(view: View<'_, '_>, open: usize) -> Option<Warning> {
+    let tokens = view.tokens;
+    let name = open.wrapping_add(1);
+    let next = name.wrapping_add(1);
+    let is_head = tokens.is_one_of(open.wrapping_sub(1), &["if", "while"])
+        && tokens.begins_command(open.wrapping_sub(1));
+    if !is_head || !tokens.is(name, TokenKind::Word) {
+        return None;
+    }
+    let text = tokens.text(name);
+    if tokens.is(next, TokenKind::RightParen) {
+        let is_variable = view.overview.has_variable(text) && !view.overview.has_function(text);
+        let repair = Repair::around("write ~ $", tokens.span(name), " and a pattern");
+        let found = tokens.warning(name, WarningKind::CONSTANT, repair);
+        return if is_variable { found } else { None };
+    }
+    if !tokens.is_one_of(next, &COMPARISONS) || !is_plain(text, b"_") {
+        return None;
+    }
+    let rest = tokens.span_to(name, tokens.command_end(name));
+    let repair = Repair::around("write test $", rest, "");
+    tokens.warning(name, WarningKind::TEST, repair)
+}
+
+/// The warning for `test -n` with the output of a command, at its backquote.
+pub(crate) fn output_test(tokens: Tokens<'_>, at: usize) -> Option<Warning> {
+    let start = tokens.command_start(at);
+    let option = at.wrapping_sub(1);
+    if !tokens.is_one_of(start, &["test", "["]) || !tokens.is_one_of(option, &["-n", "-z"]) {
+        return None;
+    }
+    let repair = Repair::of("assign the output before, as in x=`{..}, and compare: ~ $\"x ''");
+    tokens.warning(at, WarningKind::UNQUOTED, repair)
+}
+
 /// The warning for an `if` that begins a command.
 pub(crate) fn if_warning(tokens: Tokens<'_>, at: usize) -> Option<Warning> {
     let not = at.wrapping_add(1);
@@ -43,7 +82,7 @@ fn is_changed(tokens: Tokens<'_>, at: usize) -> bool {
     match (tokens.kind(close), tokens.open_bracket(close)) {
         (Some(TokenKind::RightBrace), Some(open)) => {
             tokens.is_word(open.wrapping_sub(1), "not")
-                && matches!(tokens.before(close).condition, Some(condition) if condition > open)
+                && matches!(tokens.before(close).condition.get(), Some(condition) if condition > open)
         }
         _ => false,
     }
@@ -99,6 +138,14 @@ pub(crate) fn value_warning(view: View<'_, '_>, at: usize) -> Option<Warning> {
     if tokens.is(next, TokenKind::Equals) {
         return assigned_value(view, at);
     }
+    if is_status(tokens, at) {
+        return tokens.warning(at, WarningKind::STATUS, Repair::of("write ~ $status ''"));
+    }
+    if tokens.is_in_condition(at)
+        && let found @ Some(_) = condition_value(view, at)
+    {
+        return found;
+    }
     let is_count = tokens.is(at, TokenKind::DollarCount);
     if !is_count && !tokens.is_one_of(next, &COMPARISONS) {
         return None;
@@ -110,6 +157,34 @@ pub(crate) fn value_warning(view: View<'_, '_>, at: usize) -> Option<Warning> {
         ", with -gt or the like between numbers",
     );
     tokens.warning(at, WarningKind::TEST, repair)
+}
+
+/// The warning for a value in a condition that is a number, or before an operator of another language, at its `$`.
+fn condition_value(view: View<'_, '_>, at: usize) -> Option<Warning> {
+    let tokens = view.tokens;
+    let next = at.wrapping_add(2);
+    let value = tokens.span_to(at, at.wrapping_add(1));
+    let repair = if tokens.is_one_of(next, &["~", "eq", "is"]) {
+        let first = next.wrapping_add(1);
+        let rest = tokens.span_to(first, tokens.command_end(next));
+        Repair::pair(["write ~ ", " ", ""], value, rest)
+    } else if tokens.is_one_of(next, &["ne", "lt", "le", "gt", "ge"]) {
+        Repair::around("write test ", value, " -ne .., -lt .. or the like")
+    } else if tokens.ends_command(next)
+        && view.overview.has_number(tokens.text(at.wrapping_add(1)))
+    {
+        Repair::around("write ! ~ ", value, " 0")
+    } else {
+        return None;
+    };
+    tokens.warning(at, WarningKind::TEST, repair)
+}
+
+/// Whether the status at this index is all of a condition.
+fn is_status(tokens: Tokens<'_>, at: usize) -> bool {
+    tokens.is_in_condition(at)
+        && tokens.text(at.wrapping_add(1)) == b"status".as_slice()
+        && tokens.ends_command(at.wrapping_add(2))
 }
 
 /// The warning for `$x = a` in a condition, or with a variable that has no value.

@@ -2,6 +2,7 @@
 
 use crate::lexed::script_tokens::Tokens;
 use crate::rules::View;
+use crate::rules::patterns::after_newlines;
 use crate::warnings::kind::WarningKind;
 use crate::warnings::repair::Repair;
 use crate::warnings::warning::Warning;
@@ -11,7 +12,7 @@ use rc_lexer::TokenKind;
 const MOST_LEVELS: usize = 8;
 
 /// Functions that Plan 9's rc calls when a signal arrives.
-const SIGNALS: [&str; 11] = [
+pub(crate) const SIGNALS: [&str; 11] = [
     "sighup", "sigint", "sigquit", "sigalrm", "sigterm", "sigpipe", "sigchld", "sigusr1",
     "sigusr2", "sigfpe", "sigexit",
 ];
@@ -29,32 +30,43 @@ pub(crate) fn signal_warning(tokens: Tokens<'_>, at: usize) -> Option<Warning> {
     tokens.warning(at, WarningKind::SIGNAL, repair)
 }
 
-/// The warning for `fn f(x)`.
+/// The warning for `fn f(x)`, and for `fn f x {..}` whose body uses `$x`.
 pub(crate) fn parameters_warning(tokens: Tokens<'_>, at: usize) -> Option<Warning> {
     let name = at.wrapping_add(1);
     let open = name.wrapping_add(1);
     let is_list = tokens.is(open, TokenKind::LeftParen)
         && !tokens.is(open.wrapping_add(1), TokenKind::RightParen);
-    if !is_list {
+    let first = if is_list {
+        open.wrapping_add(1)
+    } else if is_parameter(tokens, open) {
+        open
+    } else {
         return None;
-    }
-    let first = tokens.span(open.wrapping_add(1));
-    let repair = Repair::pair(["write fn ", " {", "=$1 ..}"], tokens.span(name), first);
+    };
+    let words = ["write fn ", " {", "=$1 ..}"];
+    let repair = Repair::pair(words, tokens.span(name), tokens.span(first));
     tokens.warning(open, WarningKind::PARAMETERS, repair)
+}
+
+/// Whether the word at this index is another name of a function whose body uses it as a variable, soon after.
+fn is_parameter(tokens: Tokens<'_>, at: usize) -> bool {
+    let body = tokens.command_end(at).wrapping_add(1);
+    if !tokens.is(at, TokenKind::Word) || !tokens.is(body, TokenKind::LeftBrace) {
+        return false;
+    }
+    let end = tokens.closing(body).unwrap_or(body);
+    for index in body..end {
+        if tokens.is(index, TokenKind::Name) && tokens.text(index) == tokens.text(at) {
+            return true;
+        }
+    }
+    false
 }
 
 /// The warning for `fn f` whose braces follow on a later line, at the `fn`.
 pub(crate) fn definition_warning(tokens: Tokens<'_>, at: usize) -> Option<Warning> {
     let end = tokens.command_end(at);
-    let mut next = end.wrapping_add(1);
-    for _ in 0..4 {
-        if matches!(
-            tokens.kind(next),
-            Some(TokenKind::Newline | TokenKind::Semicolon)
-        ) {
-            next = next.wrapping_add(1);
-        }
-    }
+    let next = after_newlines(tokens, end.wrapping_add(1));
     let is_apart = end > at && next != end.wrapping_add(1) && tokens.is(next, TokenKind::LeftBrace);
     if !is_apart {
         return None;

@@ -12,11 +12,13 @@ use rc_lexer::TokenKind;
 /// The warning for the `&` at this index.
 pub(crate) fn job_warning(view: View<'_, '_>, at: usize) -> Option<Warning> {
     let tokens = view.tokens;
-    both_warning(tokens, at)
-        .or(address_warning(tokens, at))
-        .or(never_runs(tokens, at))
-        .or(inside_warning(tokens, at))
-        .or(unwaited_warning(view, at))
+    first_of!(
+        both_warning(tokens, at),
+        address_warning(tokens, at),
+        never_runs(tokens, at),
+        inside_warning(tokens, at),
+        unwaited_warning(view, at)
+    )
 }
 
 /// The warning for an `&` in the text of a URL.
@@ -68,12 +70,12 @@ fn redirects_inside(tokens: Tokens<'_>, close: usize) -> bool {
     if matches!(tokens.kind_before(open), Some(TokenKind::Backquote)) {
         return false;
     }
-    matches!(tokens.before(close).output, Some(output) if output > open)
+    matches!(tokens.before(close).output.get(), Some(output) if output > open)
 }
 
 /// Whether the last redirection of the job that ends at this index is that of a part of it, as after `@` or `&&`.
 fn redirects_part(tokens: Tokens<'_>, at: usize) -> bool {
-    let Some(output) = tokens.before(at).output else {
+    let Some(output) = tokens.before(at).output.get() else {
         return false;
     };
     let item = tokens.item_start(at);

@@ -7,7 +7,7 @@ use crate::warnings::repair::Repair;
 use crate::warnings::warning::Warning;
 
 /// Shells that read another language.
-const OTHERS: [&[u8]; 5] = [b"/sh", b"/bash", b"/dash", b"/zsh", b"/ksh"];
+const OTHERS: [&[u8]; 6] = [b"/sh", b"/bash", b"/dash", b"/zsh", b"/ksh", b"/fish"];
 
 /// The warning for carriage returns at the ends of lines, at the first of them.
 pub(crate) fn carriage_returns(script: &[u8]) -> Option<Warning> {
@@ -43,12 +43,14 @@ pub(crate) fn interpreter(script: &[u8]) -> Option<Warning> {
 
 /// What to write for this program with this word after it, and whether there are more.
 fn repair_of(program: &[u8], option: &[u8], has_more: bool) -> Option<Repair> {
+    let is_env = program.ends_with(b"/env");
     for other in &OTHERS {
-        if program.ends_with(*other) {
+        let is_named = is_env && other.strip_prefix(b"/") == Some(option);
+        if is_named || program.ends_with(*other) {
             return Some(Repair::of("write the path of this shell after the #!"));
         }
     }
-    if program.ends_with(b"/env") && has_more && !option.starts_with(b"-S") {
+    if is_env && has_more && !option.starts_with(b"-S") {
         return Some(Repair::of("write env -S, which takes several words"));
     }
     let is_wrong = program.ends_with(b"/rc") && option.starts_with(b"-") && option.len() != 2

@@ -1,5 +1,16 @@
 //! The rules of the warnings. They look only at tokens.
 
+/// The first of these warnings that there is: the rules after it are not tried.
+macro_rules! first_of {
+    ($rule:expr) => { $rule };
+    ($rule:expr, $($others:expr),+) => {
+        match $rule {
+            None => first_of!($($others),+),
+            found => found,
+        }
+    };
+}
+
 pub(crate) mod assignments;
 pub(crate) mod brackets;
 pub(crate) mod commands;
@@ -8,6 +19,7 @@ pub(crate) mod documents;
 pub(crate) mod foreign_words;
 pub(crate) mod functions;
 pub(crate) mod jobs;
+pub(crate) mod known_words;
 pub(crate) mod lines;
 pub(crate) mod patterns;
 pub(crate) mod redirections;
@@ -34,7 +46,10 @@ pub(crate) fn warning_at(view: View<'_, '_>, at: usize) -> Option<Warning> {
     match tokens.kind(at)? {
         TokenKind::Word => words::word_warning(view, at),
         TokenKind::Quoted => {
-            variables::quoted_name(tokens, at).or(patterns::quoted_warning(tokens, at))
+            first_of!(
+                variables::quoted_name(tokens, at),
+                patterns::quoted_warning(tokens, at)
+            )
         }
         TokenKind::Dollar | TokenKind::DollarCount => conditions::value_warning(view, at),
         TokenKind::Name => variables::name_warning(view, at),
@@ -49,7 +64,10 @@ pub(crate) fn warning_at(view: View<'_, '_>, at: usize) -> Option<Warning> {
 
 /// The warning for what ends at this index, or at the end of the script: its place is before, or in a here document.
 pub(crate) fn warning_before(view: View<'_, '_>, at: usize) -> Option<Warning> {
-    documents::document_warning(view.tokens, at).or(functions::last_warning(view, at))
+    first_of!(
+        documents::document_warning(view.tokens, at),
+        functions::last_warning(view, at)
+    )
 }
 
 impl Tokens<'_> {

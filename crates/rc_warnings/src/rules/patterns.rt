@@ -10,31 +10,93 @@ use crate::warnings::repair::Repair;
 use crate::warnings::warning::Warning;
 use rc_lexer::{Span, TokenKind};
 
-/// The warning for `~`: a subject that is the name of a variable.
+/// The warning for `~`: a subject that is the name of a variable, or that has no pattern.
 pub(crate) fn match_warning(view: View<'_, '_>, at: usize) -> Option<Warning> {
+    let tokens = view.tokens;
     let subject = at.wrapping_add(1);
-    let is_joined = matches!(
-        view.tokens.kind(subject.wrapping_add(1)),
-        Some(TokenKind::Caret | TokenKind::FreeCaret)
+    let is_variable = is_value(tokens.kind(subject));
+    let last = subject.wrapping_add(usize::from(is_variable));
+    let next = last.wrapping_add(1);
+    let is_text = matches!(
+        tokens.kind(subject),
+        Some(TokenKind::Word | TokenKind::Quoted)
     );
-    if is_joined {
+    if (is_variable || is_text) && tokens.ends_command(next) {
+        let repair = Repair::around("write ~ ", tokens.span_to(subject, last), " and a pattern");
+        return tokens.warning(at, WarningKind::NO_PATTERN, repair);
+    }
+    if is_caret(tokens.kind(next)) {
         return None;
     }
     constant_warning(view, subject)
 }
 
-/// The warning for `switch(x)`.
+/// Whether a token begins the value of a variable.
+fn is_value(kind: Option<TokenKind>) -> bool {
+    matches!(
+        kind,
+        Some(TokenKind::Dollar | TokenKind::DollarCount | TokenKind::DollarFlat)
+    )
+}
+
+/// The warning for `switch(x)`, and for a switch without a case.
 pub(crate) fn switch_warning(view: View<'_, '_>, at: usize) -> Option<Warning> {
     let tokens = view.tokens;
     let next = at.wrapping_add(1);
-    if !tokens.is(next, TokenKind::LeftParen) {
-        return constant_warning(view, next);
+    let is_list = tokens.is(next, TokenKind::LeftParen);
+    let subject = next.wrapping_add(usize::from(is_list));
+    let last = if is_list {
+        tokens.closing(next)?
+    } else {
+        tokens.command_end(at)
+    };
+    if is_empty_block(tokens, last.wrapping_add(1)) {
+        let repair = Repair::of("write case and patterns before the commands for them");
+        return tokens.warning(at, WarningKind::NO_CASE, repair);
     }
-    let subject = next.wrapping_add(1);
-    if !tokens.is(subject.wrapping_add(1), TokenKind::RightParen) {
+    if last != subject.wrapping_add(usize::from(is_list)) {
         return None;
     }
-    constant_warning(view, subject)
+    constant_subject(tokens, subject)
+}
+
+/// Whether braces without commands begin at this index, or on the next line.
+fn is_empty_block(tokens: Tokens<'_>, at: usize) -> bool {
+    let open = after_newlines(tokens, at);
+    let close = after_newlines(tokens, open.wrapping_add(1));
+    tokens.is(open, TokenKind::LeftBrace) && tokens.is(close, TokenKind::RightBrace)
+}
+
+/// The index after a few ends of commands that begin at this index.
+pub(crate) fn after_newlines(tokens: Tokens<'_>, at: usize) -> usize {
+    let mut next = at;
+    for _ in 0..4 {
+        if matches!(
+            tokens.kind(next),
+            Some(TokenKind::Newline | TokenKind::Semicolon)
+        ) {
+            next = next.wrapping_add(1);
+        }
+    }
+    next
+}
+
+/// The warning for a subject of `switch` that is a word, which is compared as it is.
+fn constant_subject(tokens: Tokens<'_>, at: usize) -> Option<Warning> {
+    if !tokens.is(at, TokenKind::Word) || !is_plain(tokens.text(at), b"_*") {
+        return None;
+    }
+    let repair = Repair::around("write $", tokens.span(at), "");
+    tokens.warning(at, WarningKind::CONSTANT, repair)
+}
+
+/// The warning for a `case` without a pattern.
+pub(crate) fn empty_case(tokens: Tokens<'_>, at: usize) -> Option<Warning> {
+    if !tokens.ends_command(at.wrapping_add(1)) {
+        return None;
+    }
+    let repair = Repair::of("write case and a pattern, and case * for all others");
+    tokens.warning(at, WarningKind::NO_PATTERN, repair)
 }
 
 /// The warning for a word at this index that is the name of a variable, where its value is meant.
@@ -117,13 +179,9 @@ pub(crate) fn pattern_warning(tokens: Tokens<'_>, at: usize, text: &[u8]) -> Opt
     case_warning(tokens, at, text)
 }
 
-/// The warning for a `:` at the end of a case line.
+/// The warning for a `:` at the end of a pattern of a case line.
 fn case_warning(tokens: Tokens<'_>, at: usize, text: &[u8]) -> Option<Warning> {
-    let is_last = matches!(
-        tokens.kind(at.wrapping_add(1)),
-        Some(TokenKind::Newline | TokenKind::Semicolon)
-    );
-    if !is_last || !tokens.is_in_command(at, "case") || !text.ends_with(b":") {
+    if !tokens.is_in_command(at, "case") || !text.ends_with(b":") {
         return None;
     }
     let repair = Repair::around("write case ", without_last(tokens.span(at)), "");
@@ -157,6 +215,22 @@ pub(crate) fn comma_warning(tokens: Tokens<'_>, at: usize) -> Option<Warning> {
     let words = ["write ", " ", ""];
     let next = tokens.span(at.wrapping_add(1));
     let repair = Repair::pair(words, without_last(tokens.span(at)), next);
+    tokens.warning(at, WarningKind::COMMA, repair)
+}
+
+/// The warning for a word with commas that is all of a list, as in `x=(a,b)`.
+pub(crate) fn commas_warning(tokens: Tokens<'_>, at: usize, text: &[u8]) -> Option<Warning> {
+    let before = at.wrapping_sub(1);
+    let is_assigned = tokens.is(before, TokenKind::LeftParen)
+        && tokens.is(before.wrapping_sub(1), TokenKind::Equals);
+    let is_loop = tokens.is_word(before, "in")
+        && tokens.is(before.wrapping_sub(2), TokenKind::LeftParen)
+        && tokens.is_word(before.wrapping_sub(3), "for");
+    let is_only = (is_assigned || is_loop) && tokens.is(at.wrapping_add(1), TokenKind::RightParen);
+    if !is_only || !text.contains(&b',') {
+        return None;
+    }
+    let repair = Repair::around("write ", tokens.span(at), " with blanks between its parts");
     tokens.warning(at, WarningKind::COMMA, repair)
 }
 

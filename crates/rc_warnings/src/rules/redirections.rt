@@ -14,6 +14,11 @@ pub(crate) fn redirection_warning(tokens: Tokens<'_>, at: usize) -> Option<Warni
     if tokens.is(next, TokenKind::LeftParen) && tokens.touches_next(at) {
         return process_warning(tokens, at);
     }
+    if tokens.is_word(next, "!") {
+        let file = tokens.span(next.wrapping_add(1));
+        let repair = Repair::pair(["write ", "", ""], tokens.span(at), file);
+        return tokens.warning(next, WarningKind::COMPARE, repair);
+    }
     if is_number_at(tokens, next) && !is_compared(tokens, at) {
         let repair = Repair::of("write >[1=2] for descriptor 2");
         return tokens.warning(next, WarningKind::COMPARE, repair);

@@ -1,6 +1,6 @@
 //! The rules for the names of variables.
 
-use crate::bytes::{find, has_any, is_number};
+use crate::bytes::{find, has_any, is_number, is_plain};
 use crate::lexed::script_tokens::{Tokens, part};
 use crate::rules::View;
 use crate::rules::conditions::test_warning;
@@ -9,21 +9,24 @@ use crate::rules::words::span;
 use crate::warnings::kind::WarningKind;
 use crate::warnings::repair::{NOWHERE, Repair};
 use crate::warnings::warning::Warning;
-use rc_lexer::TokenKind;
+use rc_lexer::{Span, TokenKind};
 
 /// The warning for the name of a variable that is used.
 pub(crate) fn name_warning(view: View<'_, '_>, at: usize) -> Option<Warning> {
     let tokens = view.tokens;
     let text = tokens.text(at);
     if text.contains(&b'*') {
-        return star_warning(view, at, text).or(subscript_warning(tokens, at));
+        return first_of!(star_warning(view, at, text), subscript_warning(tokens, at));
     }
-    zero_warning(tokens, at, text)
-        .or(apid_warning(tokens, at, text))
-        .or(variable_warning(view, at, text))
-        .or(subscript_warning(tokens, at))
-        .or(value_pattern(view, at))
-        .or(test_warning(tokens, at))
+    first_of!(
+        zero_warning(tokens, at, text),
+        apid_warning(tokens, at, text),
+        variable_warning(view, at, text),
+        subscript_warning(tokens, at),
+        modifier_warning(view, at),
+        value_pattern(view, at),
+        test_warning(tokens, at)
+    )
 }
 
 /// The warning for a quoted name with a backslash, as in `$'a\n'`.
@@ -98,23 +101,97 @@ fn subscript_warning(tokens: Tokens<'_>, at: usize) -> Option<Warning> {
         Repair::pair(["write $", "(", ")"], name, value)
     } else if text.starts_with(b"[*]") || text.starts_with(b"[@]") {
         Repair::around("write $", name, "")
-    } else if text.starts_with(b"[")
-        && text.ends_with(b"]")
-        && is_number(part(tokens.script, inner))
-    {
-        let words = ["write $", "(", "), where places begin with 1"];
-        Repair::pair(words, name, inner)
+    } else if text.starts_with(b"[") && text.ends_with(b"]") {
+        place_repair(tokens, name, inner)?
     } else {
         return None;
     };
     tokens.warning(open, WarningKind::SUBSCRIPT, repair)
 }
 
+/// What to write for a place in brackets after a name, if it seems to be one and no class of characters.
+fn place_repair(tokens: Tokens<'_>, name: Span, inner: Span) -> Option<Repair> {
+    let place = part(tokens.script, inner);
+    let is_letter = place.len() == 1 && is_plain(place, b"");
+    if is_number(place) || is_letter {
+        let words = ["write $", "(", "), where places begin with 1"];
+        return Some(Repair::pair(words, name, inner));
+    }
+    if let Some(b"1") = place.strip_prefix(b"-") {
+        return Some(Repair::pair(["write $", "($#", ")"], name, name));
+    }
+    let is_range = place.first().is_some_and(u8::is_ascii_digit) && is_places(place);
+    is_range.then_some(Repair::around(
+        "write $",
+        name,
+        "(1 2) for two places, and (1-3) for a range",
+    ))
+}
+
+/// Whether a text is of digits and of what separates places in other languages.
+fn is_places(text: &[u8]) -> bool {
+    for byte in text {
+        if !byte.is_ascii_digit() && !matches!(*byte, b',' | b':' | b'.') {
+            return false;
+        }
+    }
+    true
+}
+
+/// The warning for what follows a value where other languages change it, as in `$x:h`, `$x.length` and `$env:x`.
+fn modifier_warning(view: View<'_, '_>, at: usize) -> Option<Warning> {
+    let tokens = view.tokens;
+    let rest = at.wrapping_add(2);
+    let is_value = tokens.is(at.wrapping_sub(1), TokenKind::Dollar)
+        && tokens.is(at.wrapping_add(1), TokenKind::FreeCaret)
+        && tokens.is(rest, TokenKind::Word)
+        && !matches!(
+            tokens.kind(rest.wrapping_add(1)),
+            Some(TokenKind::FreeCaret | TokenKind::Caret)
+        );
+    if !is_value {
+        return None;
+    }
+    let name = tokens.span(at);
+    let text = tokens.text(rest);
+    let repair = if text == b":h".as_slice() {
+        Repair::around("write `{dirname $", name, "}")
+    } else if text == b":t".as_slice() {
+        Repair::around("write `{basename $", name, "}")
+    } else if text == b":r".as_slice() || text == b":e".as_slice() {
+        Repair::of("take the text apart by sed")
+    } else if text == b".length".as_slice() || text == b".Count".as_slice() {
+        Repair::around("write $#", name, "")
+    } else if tokens.text(at) == b"env".as_slice() && text.starts_with(b":") {
+        variable_after(view, rest)?
+    } else {
+        return None;
+    };
+    tokens.warning(rest, WarningKind::MODIFIER, repair)
+}
+
+/// What to write for `$env:x`, whose name is after the colon of this word, unless the script has a variable `env`.
+fn variable_after(view: View<'_, '_>, at: usize) -> Option<Repair> {
+    let found = view.tokens.span(at);
+    let name = Span {
+        start: found.start.saturating_add(1),
+        ..found
+    };
+    let is_own = view.overview.has_variable(b"env");
+    (!is_own).then_some(Repair::around("write $", name, ""))
+}
+
 /// The warning for a place of a list that selects nothing, at its bracket.
 pub(crate) fn place_warning(view: View<'_, '_>, open: usize) -> Option<Warning> {
     let tokens = view.tokens;
     let place = open.wrapping_add(1);
-    let is_alone = tokens.is(place.wrapping_add(1), TokenKind::RightParen);
+    let next = place.wrapping_add(1);
+    if tokens.is_word(next, "-") {
+        let last = tokens.span(next.wrapping_add(1));
+        let repair = Repair::pair(["write (", "-", ")"], tokens.span(place), last);
+        return tokens.warning(next, WarningKind::PLACE, repair);
+    }
+    let is_alone = tokens.is(next, TokenKind::RightParen);
     if !is_alone || !tokens.is(place, TokenKind::Word) {
         return None;
     }

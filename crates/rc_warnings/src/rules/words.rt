@@ -3,12 +3,12 @@
 use crate::bytes::{after, before, find, find_any, has, has_any, is_number, is_plain};
 use crate::lexed::script_tokens::{ORDER_MARK, Tokens};
 use crate::rules::View;
-use crate::rules::assignments::colon_warning;
+use crate::rules::assignments::{assignment_warning, colon_warning, sum_of_expr};
 use crate::rules::brackets::loop_warning;
 use crate::rules::commands::{command_warning, glob_warning};
 use crate::rules::foreign_words::inline_warning;
 use crate::rules::functions::signal_warning;
-use crate::rules::patterns::{comma_warning, pattern_warning};
+use crate::rules::patterns::{comma_warning, commas_warning, pattern_warning};
 use crate::rules::redirections::digit_warning;
 use crate::warnings::kind::WarningKind;
 use crate::warnings::repair::Repair;
@@ -28,13 +28,51 @@ pub(crate) fn word_warning(view: View<'_, '_>, at: usize) -> Option<Warning> {
         let repair = Repair::of("remove it, as with tail -c +4");
         return tokens.warning(at, WarningKind::ORDER_MARK, repair);
     }
-    spelling_warning(tokens, at)
-        .or(shape_warning(tokens, at))
-        .or(if tokens.begins_command(at) {
+    let text = tokens.text(at);
+    if is_plain_word(text) && !view.overview.may_name(text) {
+        return plain_warning(view, at);
+    }
+    first_of!(
+        spelling_warning(tokens, at),
+        shape_warning(tokens, at),
+        if tokens.begins_command(at) {
             command_warning(view, at)
         } else {
             argument_warning(view, at)
-        })
+        }
+    )
+}
+
+/// Whether no rule is about a word of this text for its bytes: none means more in other shells, and it looks like no
+/// number, operator or absolute path.
+fn is_plain_word(text: &[u8]) -> bool {
+    for byte in text {
+        if is_notable(*byte) {
+            return false;
+        }
+    }
+    match text {
+        [first, .., last] => first.is_ascii_alphabetic() && !matches!(*last, b'+' | b'-'),
+        [only] => only.is_ascii_alphabetic(),
+        [] => true,
+    }
+}
+
+/// Whether a byte means more in other shells, or is not of ASCII.
+fn is_notable(byte: u8) -> bool {
+    matches!(
+        byte,
+        b'"' | b'*' | b',' | b':' | b'?' | b'[' | b'\\' | b']' | b'~' | 128..=255
+    )
+}
+
+/// The warning for what is around a word that no rule is about for its text.
+fn plain_warning(view: View<'_, '_>, at: usize) -> Option<Warning> {
+    let tokens = view.tokens;
+    if tokens.is(at.wrapping_add(1), TokenKind::Equals) && tokens.begins_command(at) {
+        return assignment_warning(view, at);
+    }
+    hash_warning(tokens, at)
 }
 
 /// The warning for an argument.
@@ -42,18 +80,22 @@ fn argument_warning(view: View<'_, '_>, at: usize) -> Option<Warning> {
     let tokens = view.tokens;
     let text = tokens.text(at);
     if is_number(text) {
-        return digit_warning(tokens, at).or(pattern_warning(tokens, at, text));
+        return first_of!(digit_warning(tokens, at), pattern_warning(tokens, at, text));
     }
     if text.ends_with(b",") {
         return comma_warning(tokens, at);
     }
-    inline_warning(tokens, at)
-        .or(loop_warning(view, at))
-        .or(signal_warning(tokens, at))
-        .or(job_number(tokens, at, text))
-        .or(glob_warning(tokens, at, text))
-        .or(colon_warning(tokens, at, text))
-        .or(pattern_warning(tokens, at, text))
+    first_of!(
+        inline_warning(tokens, at),
+        loop_warning(view, at),
+        commas_warning(tokens, at, text),
+        sum_of_expr(tokens, at),
+        signal_warning(tokens, at),
+        job_number(tokens, at, text),
+        glob_warning(tokens, at, text),
+        colon_warning(tokens, at, text),
+        pattern_warning(tokens, at, text)
+    )
 }
 
 /// The warning for `kill %1` or `wait %1`.
@@ -89,7 +131,7 @@ fn print_warning(tokens: Tokens<'_>, at: usize, text: &[u8]) -> Option<Warning> 
 
 /// The warning for the first double quote of a command, which is at this offset of a word.
 fn double_warning(tokens: Tokens<'_>, at: usize, offset: usize) -> Option<Warning> {
-    if matches!(tokens.before(at).quote, Some(before) if before >= tokens.command_start(at)) {
+    if matches!(tokens.before(at).quote.get(), Some(before) if before >= tokens.command_start(at)) {
         return None;
     }
     let open = offset_in(tokens.span(at), offset).saturating_add(1);
@@ -152,12 +194,27 @@ fn backslash_warning(tokens: Tokens<'_>, at: usize, offset: usize) -> Option<War
         return None;
     }
     let start = tokens.span(at).start as usize;
+    let rest = before(after(tokens.script, place.saturating_add(1)), b"\n");
+    if is_blank(rest) {
+        let repair = Repair::of("remove the blanks at the end of the line");
+        return tokens.warning(at, WarningKind::BACKSLASH, repair);
+    }
     let repair = Repair::pair(
         ["write '", "", "'"],
         span(start, place),
         span(place.saturating_add(1), end_of_escaped(tokens, at, place)),
     );
     tokens.warning(at, WarningKind::BACKSLASH, repair)
+}
+
+/// Whether a text is of blanks alone.
+fn is_blank(text: &[u8]) -> bool {
+    for byte in text {
+        if !matches!(*byte, b' ' | b'\t') {
+            return false;
+        }
+    }
+    true
 }
 
 /// The end of the text that begins after a backslash at this place of a word: that of the word, or else of the next
@@ -177,14 +234,16 @@ fn end_of_escaped(tokens: Tokens<'_>, at: usize, place: usize) -> usize {
 fn shape_warning(tokens: Tokens<'_>, at: usize) -> Option<Warning> {
     let text = tokens.text(at);
     if text.starts_with(b"~") {
-        return tilde_warning(tokens, at, text).or(hash_warning(tokens, at));
+        return first_of!(tilde_warning(tokens, at, text), hash_warning(tokens, at));
     }
     if text.ends_with(b"[") {
         return class_warning(tokens, at);
     }
-    path_warning(tokens, at, text)
-        .or(star_or_class(tokens, at, text))
-        .or(hash_warning(tokens, at))
+    first_of!(
+        path_warning(tokens, at, text),
+        star_or_class(tokens, at, text),
+        hash_warning(tokens, at)
+    )
 }
 
 /// The warning for a word that begins with a tilde.
@@ -253,7 +312,7 @@ fn star_or_class(tokens: Tokens<'_>, at: usize, text: &[u8]) -> Option<Warning> 
         );
         return tokens.warning(at, WarningKind::PATTERN, repair);
     }
-    not_class(tokens, at, text).or(range_warning(tokens, at, text))
+    first_of!(not_class(tokens, at, text), range_warning(tokens, at, text))
 }
 
 /// The warning for `[!a]`.
@@ -304,17 +363,25 @@ pub(crate) fn hash_warning(tokens: Tokens<'_>, at: usize) -> Option<Warning> {
     tokens.warning(at, WarningKind::HASH, repair)
 }
 
-/// The warning for a caret that begins a word, or ends one.
+/// The warning for a caret that begins a word, or ends one, or that is between two words without quotes.
 pub(crate) fn caret_warning(tokens: Tokens<'_>, at: usize) -> Option<Warning> {
     let last = at.wrapping_sub(1);
     let next = at.wrapping_add(1);
     let is_first = tokens.touches_next(at);
-    if tokens.touches_next(last) == is_first
-        || !matches!(tokens.kind(next), Some(TokenKind::Word | TokenKind::Dollar))
-    {
+    let is_last = tokens.touches_next(last);
+    let is_between = is_first
+        && is_last
+        && tokens.is(last, TokenKind::Word)
+        && !tokens.text(last).ends_with(b"[")
+        && tokens.is(next, TokenKind::Word);
+    let is_beside = is_first != is_last
+        && matches!(tokens.kind(next), Some(TokenKind::Word | TokenKind::Dollar));
+    if !is_between && !is_beside {
         return None;
     }
-    let word = if is_first {
+    let word = if is_between {
+        tokens.span_to(last, next)
+    } else if is_first {
         tokens.span_to(at, next)
     } else {
         tokens.span_to(last, at)

@@ -59,6 +59,11 @@ impl WarningKind {
         name: "blank",
         words: "the next word is the value",
     };
+    /// `f(x)`.
+    pub const CALL: WarningKind = WarningKind {
+        name: "call",
+        words: "a command has its words without parentheses",
+    };
     /// A caret at the beginning of a word.
     pub const CARET: WarningKind = WarningKind {
         name: "caret",
@@ -68,6 +73,11 @@ impl WarningKind {
     pub const CASE: WarningKind = WarningKind {
         name: "case",
         words: "the `:` is a part of the pattern",
+    };
+    /// `switch(x) {}`.
+    pub const NO_CASE: WarningKind = WarningKind {
+        name: "case",
+        words: "a switch without a case runs nothing",
     };
     /// There is another `if` inside the branch before an `if not`.
     pub const CHANGED: WarningKind = WarningKind {
@@ -169,10 +179,20 @@ impl WarningKind {
         name: "last",
         words: "if the condition is false, its status is left, which is a failure",
     };
+    /// `x = a b`.
+    pub const LIST: WarningKind = WarningKind {
+        name: "list",
+        words: "only the first word is the value, and the next one is called",
+    };
     /// A quoted pattern.
     pub const LITERAL: WarningKind = WarningKind {
         name: "literal",
         words: "this is compared as a text, and is no pattern",
+    };
+    /// `$x:h`.
+    pub const MODIFIER: WarningKind = WarningKind {
+        name: "modifier",
+        words: "this joins the text to each member",
     };
     /// An assignment to what is no name.
     pub const NAME: WarningKind = WarningKind {
@@ -189,6 +209,11 @@ impl WarningKind {
         name: "never",
         words: "the command of an `if not` in the background never runs",
     };
+    /// `~ $x`.
+    pub const NO_PATTERN: WarningKind = WarningKind {
+        name: "never",
+        words: "without a pattern nothing matches",
+    };
     /// `if not(x)`.
     pub const NOT: WarningKind = WarningKind {
         name: "not",
@@ -199,6 +224,11 @@ impl WarningKind {
         name: "off",
         words: "there is no warning of this name, or no reason",
     };
+    /// `x=(date)`.
+    pub const OUTPUT: WarningKind = WarningKind {
+        name: "output",
+        words: "parentheses hold a list, and run nothing",
+    };
     /// `fn f(x)`.
     pub const PARAMETERS: WarningKind = WarningKind {
         name: "parameters",
@@ -208,6 +238,11 @@ impl WarningKind {
     pub const PARENTHESES: WarningKind = WarningKind {
         name: "parentheses",
         words: "parentheses hold a list, so this runs in the script itself",
+    };
+    /// `expr (1 + 2)`.
+    pub const GROUP: WarningKind = WarningKind {
+        name: "parentheses",
+        words: "parentheses hold a list, and are not handed to the command",
     };
     /// `**`, or a pattern as of regular expressions.
     pub const PATTERN: WarningKind = WarningKind {
@@ -317,7 +352,7 @@ impl WarningKind {
 }
 
 /// The names of all kinds.
-pub(crate) const NAMES: [&str; 60] = [
+pub(crate) const NAMES: [&str; 64] = [
     "alternative",
     "apid",
     "arithmetic",
@@ -327,6 +362,7 @@ pub(crate) const NAMES: [&str; 60] = [
     "blank",
     "bom",
     "both",
+    "call",
     "caret",
     "case",
     "changed",
@@ -349,11 +385,14 @@ pub(crate) const NAMES: [&str; 60] = [
     "interpreter",
     "job",
     "last",
+    "list",
     "literal",
+    "modifier",
     "name",
     "never",
     "not",
     "off",
+    "output",
     "parameters",
     "parentheses",
     "pattern",

@@ -1,8 +1,9 @@
 //! What the rules of the warnings ask of a script as a whole, found once.
 
-use crate::bytes::{before, has, has_any};
+use crate::bytes::{before, has, has_any, is_number};
 use crate::foreign::{foreign_form, foreign_variable};
 use crate::lexed::script_tokens::Tokens;
+use crate::rules::known_words::KnownWords;
 use rc_lexer::TokenKind;
 use std::alloc::{AllocError, Global};
 use std::collections::HashSet;
@@ -18,12 +19,16 @@ pub(crate) struct Overview<'a> {
     functions: HashSet<&'a [u8]>,
     /// Whether it changes its directory.
     has_cd: bool,
+    /// The names of variables that have a number.
+    numbers: HashSet<&'a [u8]>,
     /// The names of variables that have a text with a pattern in quotes.
     patterns: HashSet<&'a [u8]>,
     /// The names of its variables: those that are assigned, and those of loops.
     variables: HashSet<&'a [u8]>,
     /// Whether each token is in the last command before an `rm`, and nothing checks its status.
     before_rm: Vec<bool>,
+    /// The words that rules are about.
+    known_words: KnownWords,
 }
 
 impl<'a> Overview<'a> {
@@ -34,9 +39,11 @@ impl<'a> Overview<'a> {
             exits_on_failure: has_option(first_line(tokens.script)),
             functions: HashSet::new(alloc),
             has_cd: has_command(tokens, "cd"),
+            numbers: HashSet::new(alloc),
             patterns: HashSet::new(alloc),
             variables: HashSet::new(alloc),
             before_rm: before_rm(alloc, tokens)?,
+            known_words: KnownWords::new(),
         };
         overview.add_names(tokens)?;
         Ok(overview)
@@ -51,14 +58,29 @@ impl<'a> Overview<'a> {
             if is_defined(tokens, index) {
                 self.functions.insert(tokens.text(index))?;
             }
-            if has_pattern(tokens, index) {
-                self.patterns.insert(tokens.text(index))?;
-            }
             if is_assigned(tokens, index) {
-                self.variables.insert(tokens.text(index))?;
+                self.add_variable(tokens, index)?;
             }
         }
         Ok(())
+    }
+
+    /// Adds the variable at this index, which is assigned or that of a loop.
+    fn add_variable(&mut self, tokens: Tokens<'a>, index: usize) -> Result<(), AllocError> {
+        let name = tokens.text(index);
+        self.variables.insert(name)?;
+        if has_pattern(tokens, index) {
+            self.patterns.insert(name)?;
+        }
+        if has_number(tokens, index) {
+            self.numbers.insert(name)?;
+        }
+        Ok(())
+    }
+
+    /// Whether a word may be one that rules are about.
+    pub(crate) fn may_name(&self, word: &[u8]) -> bool {
+        self.known_words.may_have(word)
     }
 
     /// Whether the script has a function of this name.
@@ -69,6 +91,11 @@ impl<'a> Overview<'a> {
     /// Whether the script gives a value to the variable of this name.
     pub(crate) fn has_variable(&self, name: &[u8]) -> bool {
         self.variables.contains(&name)
+    }
+
+    /// Whether the script assigns a number to the variable of this name.
+    pub(crate) fn has_number(&self, name: &[u8]) -> bool {
+        self.numbers.contains(&name)
     }
 
     /// Whether the variable of this name has, or by its name seems to have, a text that is meant as a pattern.
@@ -139,6 +166,12 @@ fn has_pattern(tokens: Tokens<'_>, index: usize) -> bool {
     tokens.is(index.wrapping_add(1), TokenKind::Equals)
         && tokens.is(value, TokenKind::Quoted)
         && has_any(tokens.text(value), b"*?[")
+}
+
+/// Whether the value of the variable at this index is a number.
+fn has_number(tokens: Tokens<'_>, index: usize) -> bool {
+    tokens.is(index.wrapping_add(1), TokenKind::Equals)
+        && is_number(tokens.text(index.wrapping_add(2)))
 }
 
 /// Whether each token is in the last command before an `rm`, and nothing checks its status.

@@ -14,8 +14,12 @@ use crate::warnings::repair::Repair;
 use crate::warnings::warning::Warning;
 use std::alloc::{AllocError, Global};
 
-/// The warnings of a script: those of its comments and its lines, those of its tokens in their order, and those of what
-/// ends; none if it has no tokens.
+/// The greatest number of warnings of a script. A script with more has one for nearly each of its commands, so that
+/// nobody would read them all.
+pub const MOST_WARNINGS: usize = 1000;
+
+/// The first warnings of a script: those of its comments and its lines, those of its tokens in their order, and those
+/// of what ends; none if it has no tokens.
 pub fn warnings_of(alloc: Global, script: &[u8]) -> Result<Vec<Warning>, AllocError>
     ensures { IfOk result (λ warnings. AreIn script.now warnings.items) }
 {
@@ -98,7 +102,7 @@ fn off(place: usize) -> Warning {
     }
 }
 
-/// Adds a warning, if it is not turned off.
+/// Adds a warning, if it is not turned off, and there are not too many before it.
 fn push(
     warnings: &mut Vec<Warning>,
     script: &[u8],
@@ -111,7 +115,7 @@ fn push(
     let Some(warning) = found else {
         return Ok(());
     };
-    if !comments.turn_off(warning.kind, warning.line) {
+    if warnings.len() < MOST_WARNINGS && !comments.turn_off(warning.kind, warning.line) {
         let place = warning.place.min(script.len());
         warnings.push(Warning { place, ..warning })?;
     }

@@ -1,4 +1,4 @@
-//! The directory of the runs in which calls are refused.
+//! The scratch directory of the runs in which calls are refused.
 //!
 //! Each run is made in its directory `run`, so that all runs have the same paths: there are the files `calls`,
 //! `output`, `errors` and `status`, and the directory `files`, in which the script runs. That of the run without a
@@ -13,19 +13,19 @@ use std::os::unix::fs::DirBuilderExt;
 use std::random::RandomSource;
 use std::{env, fs};
 
-/// The mode of the room, which nobody but its owner may enter.
+/// The mode of the directory, which nobody but its owner may enter.
 const PRIVATE: u32 = 0o700;
 
-/// The directory of the runs.
+/// The scratch directory of the runs.
 #[derive(Drop)]
-pub(crate) struct Room {
+pub(crate) struct Scratch {
     rt: HostRuntime,
     path: String,
 }
 
-impl Room {
+impl Scratch {
     /// Makes a directory with a name that nobody can guess.
-    pub(crate) fn new(rt: HostRuntime) -> Result<Room> {
+    pub(crate) fn new(rt: HostRuntime) -> Result<Scratch> {
         let mut random = [0u8; 16];
         rt.fill_bytes(&mut random)?;
         let number = u128::from_le_bytes(random);
@@ -35,58 +35,58 @@ impl Room {
             .mode(PRIVATE)
             .create(&rt, path.as_str())
             .context(format_args!("cannot create {path}"))?;
-        Ok(Room { rt, path })
+        Ok(Scratch { rt, path })
     }
 
-    /// The path of the room.
+    /// The path of the directory.
     pub(crate) fn path(&self) -> &str {
         &self.path
     }
 
-    /// A path in the room.
-    pub(crate) fn place(&self, name: &str) -> Result<String, AllocError> {
-        let room = &self.path;
-        format!(in self.rt.alloc(); "{room}/{name}")
+    /// A path in it.
+    pub(crate) fn path_of(&self, name: &str) -> Result<String, AllocError> {
+        let parent = &self.path;
+        format!(in self.rt.alloc(); "{parent}/{name}")
     }
 
-    /// What a file in the room holds.
+    /// What a file in it holds.
     pub(crate) fn text(&self, name: &str) -> Result<String> {
-        fs::read_to_string(&self.rt, self.place(name)?.as_str()).context(format_args!(
+        fs::read_to_string(&self.rt, self.path_of(name)?.as_str()).context(format_args!(
             "cannot read {name}"
         ))
     }
 
-    /// The bytes of a file in the room.
+    /// The bytes of a file in it.
     pub(crate) fn bytes(&self, name: &str) -> Result<Vec<u8>> {
-        fs::read(&self.rt, self.place(name)?.as_str()).context(format_args!("cannot read {name}"))
+        fs::read(&self.rt, self.path_of(name)?.as_str()).context(format_args!("cannot read {name}"))
     }
 
-    /// Writes a file in the room.
+    /// Writes a file in it.
     pub(crate) fn write(&self, name: &str, text: &str) -> Result<()> {
-        fs::write(&self.rt, self.place(name)?.as_str(), text).context(format_args!(
+        fs::write(&self.rt, self.path_of(name)?.as_str(), text).context(format_args!(
             "cannot write {name}"
         ))
     }
 
-    /// A file in the room, which is made.
+    /// A file in it, which is made.
     pub(crate) fn create(&self, name: &str) -> Result<File> {
-        fs::create(&self.rt, self.place(name)?.as_str()).context(format_args!(
+        fs::create(&self.rt, self.path_of(name)?.as_str()).context(format_args!(
             "cannot create {name}"
         ))
     }
 
-    /// A file in the room, at whose end is written.
+    /// A file in it, at whose end is written.
     pub(crate) fn end_of(&self, name: &str) -> Result<File> {
         File::options()
             .append(true)
             .create(true)
-            .open(&self.rt, self.place(name)?.as_str())
+            .open(&self.rt, self.path_of(name)?.as_str())
             .context(format_args!("cannot open {name}"))
     }
 
-    /// Makes a directory in the room.
+    /// Makes a directory in it.
     pub(crate) fn make_directory(&self, name: &str) -> Result<()> {
-        fs::create_dir(&self.rt, self.place(name)?.as_str()).context(format_args!(
+        fs::create_dir(&self.rt, self.path_of(name)?.as_str()).context(format_args!(
             "cannot create {name}"
         ))
     }
@@ -95,22 +95,22 @@ impl Room {
     pub(crate) fn rename(&self, from: &str, to: &str) -> Result<()> {
         fs::rename(
             &self.rt,
-            self.place(from)?.as_str(),
-            self.place(to)?.as_str(),
+            self.path_of(from)?.as_str(),
+            self.path_of(to)?.as_str(),
         )
         .context(format_args!("cannot rename {from}"))
     }
 
-    /// Removes a directory in the room.
+    /// Removes a directory in it.
     pub(crate) fn remove_directory(&self, name: &str) -> Result<()> {
-        fs::remove_dir_all(&self.rt, self.place(name)?.as_str()).context(
+        fs::remove_dir_all(&self.rt, self.path_of(name)?.as_str()).context(
             "cannot remove the files of a run",
         )
     }
 
-    /// Removes the room.
+    /// Removes the directory.
     pub(crate) fn remove(&self) -> Result<()> {
-        let room = self.path();
-        fs::remove_dir_all(&self.rt, room).context(format_args!("cannot remove {room}"))
+        let path = self.path();
+        fs::remove_dir_all(&self.rt, path).context(format_args!("cannot remove {path}"))
     }
 }
