@@ -8,12 +8,18 @@ use Rattle.rc_model.specs.Syntax.Tree.{Node, Many, cmd, piece}
 use Rattle.rc_model.specs.declared.call.Slots.{Slots}
 use Rattle.rc_model.specs.declared.call.Mode.{Mode}
 use Rattle.rc_model.specs.declared.call.Mode.TheVariants.{Read}
-use Rattle.rc_model.specs.Run.Calls.{to_file, with_slot, Launch, open_file, here, make_pipe, close, read, write, start, wait, list_names, probe, as_file, as_pair, as_bytes, as_kind, as_child, as_names}
+use Rattle.rc_model.specs.Run.Calls.{to_file, with_slot, Launch, open_file, here, make_pipe, close, read, write, start, wait, list_names, probe}
+use Rattle.rc_model.specs.Run.Calls.{as_file, as_pair, as_bytes, as_kind, as_child, as_names}
 use Rattle.rc_model.specs.Run.Lists.{concatenated, list_words}
 use Rattle.rc_model.specs.Run.State.{State, dollar_value, is_name, is_readable, is_function_name, define}
 use Rattle.rc_model.specs.Run.Shell.{Shell, ◌>>=◌, pure, call, say, change, exits}
 use Rattle.rc_model.specs.Run.FileNames.{components, directory, fitting_names, each_name, if_there, listed, step, walk, paths_of, or_itself, names_of, expanded_word, expanded}
-use Rattle.rc_model.specs.Run.Acts.{set_status, report, runtime_error, fails, close_end, one_name, variable, value, value_words, count_words, flat_words, selected_words, joined_lists, concat_words, define_each, opened, open_one, here_text, open_here, is_path, candidates, is_program, first_program, find_program, waited, wait_each, Started, Child, NoChild, as_started, ask_start, start_shell, refuse, wait_started, run_found, run_program, wait_subshell, subshell, kept_child, background_with, background, Got, got_all, read_on, reading, read_all, longest_output, output_members, back_status, back_child, back_pipe, backquote, back_words}
+use Rattle.rc_model.specs.Run.Acts.{set_status, report, runtime_error, fails, close_end, one_name, variable, value, value_words, count_words}
+use Rattle.rc_model.specs.Run.Acts.{flat_words, selected_words, joined_lists, concat_words, define_each, opened, open_one, here_text, open_here}
+use Rattle.rc_model.specs.Run.Acts.{is_path, candidates, is_program, first_program, find_program, waited, wait_each, Started, Child, NoChild}
+use Rattle.rc_model.specs.Run.Acts.{as_started, ask_start, start_shell, refuse, wait_started, run_found, run_program, wait_subshell, subshell}
+use Rattle.rc_model.specs.Run.Acts.{kept_child, background_with, background, Got, got_all, read_on, reading, read_all, longest_output, output_members}
+use Rattle.rc_model.specs.Run.Acts.{back_status, back_child, back_pipe, backquote, back_words}
 use Rattle.rc_model.specs.Handed.Image.{is_fit, program_launch, shell_launch}
 use Rattle.rc_model.specs.declared.fault.ListFault.{ListFault}
 use Rattle.rc_model.specs.Run.Acts.{cannot_open, here_name, not_one_word}
@@ -71,13 +77,16 @@ module _ (P : ℕ → Type 0) (o : Bool) where
   pub keeps_start_shell : (slots : Slots) → AreAmong P slots → (body : Node cmd) → Keeps P o (start_shell slots body)
   keeps_start_shell slots w body = keeps_from _ (λ t. keeps_started (shell_launch slots body t) (is_fit (shell_launch slots body t)) w)
 
-  keeps_start_program : (slots : Slots) → AreAmong P slots → (path : List ℕ) (args : List (List ℕ)) (t : State) → Keeps P o (if is_fit (program_launch slots path args t) then ask_start (program_launch slots path args t) else pure (NoChild (codes "too large")))
+  keeps_start_program : (slots : Slots) → AreAmong P slots → (path : List ℕ) (args : List (List ℕ)) (t : State)
+      → Keeps P o (if is_fit (program_launch slots path args t) then ask_start (program_launch slots path args t) else pure (NoChild (codes "too large")))
   keeps_start_program slots w path args t = keeps_started (program_launch slots path args t) (is_fit (program_launch slots path args t)) w
 
   -- programs
   keeps_first_program : (paths : List (List ℕ)) → Keeps P o (first_program paths)
   keeps_first_program [] = keeps_pure None
-  keeps_first_program (p ∷ ps) = bind (call (probe p)) _ (keeps_call (probe p) tt) (λ a. keeps_if (is_program (as_kind a)) (pure (Some p)) (first_program ps) (keeps_pure (Some p)) (keeps_first_program ps))
+  keeps_first_program (p ∷ ps) =
+      bind (call (probe p)) _ (keeps_call (probe p) tt)
+      (λ a. keeps_if (is_program (as_kind a)) (pure (Some p)) (first_program ps) (keeps_pure (Some p)) (keeps_first_program ps))
 
   pub keeps_find : (name : List ℕ) → Keeps P o (find_program name)
   keeps_find name = keeps_if (is_path name) (pure (Some name)) _ (keeps_pure (Some name)) (keeps_at (λ s. first_program (candidates s name)) (λ t. keeps_first_program (candidates t name)))
@@ -98,13 +107,16 @@ module _ (P : ℕ → Type 0) (o : Bool) where
   pub keeps_background_with : (slots : Slots) → AreAmong P slots → (body : Node cmd) (h : Option ℕ) → Keeps P o (background_with slots body h)
   keeps_background_with slots w body None = keeps_status (codes "cannot open")
   keeps_background_with slots w body (Some h) =
-      bind (start_shell (with_slot slots 0 (to_file h)) body) _ (keeps_start_shell (with_slot slots 0 (to_file h)) (among_file slots w 0 h) body) (λ child. next (say (close h)) (kept_child child) (keeps_say (close h) tt) (keeps_kept_child child))
+      bind (start_shell (with_slot slots 0 (to_file h)) body) _ (keeps_start_shell (with_slot slots 0 (to_file h)) (among_file slots w 0 h) body)
+      (λ child. next (say (close h)) (kept_child child) (keeps_say (close h) tt) (keeps_kept_child child))
 
   -- reading
   keeps_read_on : (again : List ℕ → Shell Got) → ((text : List ℕ) → Keeps P o (again text)) → (most : ℕ) (text : List ℕ) (bytes : Option (List ℕ)) → Keeps P o (read_on again most text bytes)
   keeps_read_on again k most text None = keeps_pure (got_all text (Some (codes "cannot read")))
   keeps_read_on again k most text (Some []) = keeps_pure (got_all text None)
-  keeps_read_on again k most text (Some (b ∷ bs)) = keeps_if (nat_le (length (text ++ b ∷ bs)) most) (again (text ++ b ∷ bs)) _ (k (text ++ b ∷ bs)) (keeps_pure (got_all (text ++ b ∷ bs) (Some (codes "too large"))))
+  keeps_read_on again k most text (Some (b ∷ bs)) =
+      keeps_if (nat_le (length (text ++ b ∷ bs)) most) (again (text ++ b ∷ bs)) _ (k (text ++ b ∷ bs))
+      (keeps_pure (got_all (text ++ b ∷ bs) (Some (codes "too large"))))
 
   keeps_reading : (n most h : ℕ) (text : List ℕ) → Keeps P o (reading n most h text)
   keeps_reading zero most h text = keeps_pure (got_all text (Some (codes "too large")))
@@ -122,11 +134,14 @@ module _ (P : ℕ → Type 0) (o : Bool) where
       (bind (read_all longest_output r) _ (keeps_read_all longest_output r)
       (λ out. next (say (close r)) _ (keeps_say (close r) tt)
       (bind (waited n) _ (keeps_waited n)
-      (λ status. next (set_status (back_status out.why status)) _ (keeps_status (back_status out.why status)) (keeps_from (λ s. pure (output_members s out.text)) (λ t. keeps_pure (output_members t out.text)))))))
+      (λ status. next (set_status (back_status out.why status)) _ (keeps_status (back_status out.why status))
+      (keeps_from (λ s. pure (output_members s out.text)) (λ t. keeps_pure (output_members t out.text)))))))
 
   keeps_back_pipe : (slots : Slots) → AreAmong P slots → (body : Node cmd) (ends : Option (ℕ × ℕ)) → Keeps P o (back_pipe slots body ends)
   keeps_back_pipe slots v body None = next (set_status (codes "cannot pipe")) _ (keeps_status (codes "cannot pipe")) (keeps_pure [])
-  keeps_back_pipe slots v body (Some (r, w)) = bind (start_shell (with_slot slots 1 (to_file w)) body) (back_child r w) (keeps_start_shell (with_slot slots 1 (to_file w)) (among_file slots v 1 w) body) (keeps_back_child r w)
+  keeps_back_pipe slots v body (Some (r, w)) =
+      bind (start_shell (with_slot slots 1 (to_file w)) body) (back_child r w)
+      (keeps_start_shell (with_slot slots 1 (to_file w)) (among_file slots v 1 w) body) (keeps_back_child r w)
 
   keeps_backquote : (slots : Slots) → AreAmong P slots → (body : Node cmd) → Keeps P o (backquote slots body)
   keeps_backquote slots w body = bind (call make_pipe) _ (keeps_call make_pipe tt) (λ a. keeps_back_pipe slots w body (as_pair a))

@@ -11,10 +11,16 @@ use Rattle.rc_model.specs.Run.Numbers.{number_of}
 use Rattle.rc_model.specs.Run.Calls.{to_file, with_slot, open_file, make_pipe, close, write, change_dir, as_file, as_pair, as_done}
 use Rattle.rc_model.specs.Run.State.{value_of, set_value, with_status, function_of, drop_child}
 use Rattle.rc_model.specs.Run.Shell.{Shell, ◌>>=◌, pure, call, say, change, exits}
-use Rattle.rc_model.specs.Run.Acts.{set_status, close_end, candidates, run_program, waited, wait_each, read_all, longest_file, Started, Child, NoChild, start_shell, LaunchedStages, Launched, NotLaunched, Running, Refused, stages_status, no_stages, from_pipe, next_stage, stage_with, stages_from, launch_stages, settled, start_stages, end_stages, find_program}
+use Rattle.rc_model.specs.Run.Acts.{set_status, close_end, candidates, run_program, waited, wait_each, read_all, longest_file, Started, Child}
+use Rattle.rc_model.specs.Run.Acts.{NoChild, start_shell, LaunchedStages, Launched, NotLaunched, Running, Refused, stages_status, no_stages}
+use Rattle.rc_model.specs.Run.Acts.{from_pipe, next_stage, stage_with, stages_from, launch_stages, settled, start_stages, end_stages, find_program}
 use Rattle.rc_model.specs.declared.builtin.Builtin.{Builtin}
 use Rattle.rc_model.specs.declared.builtin.Builtin.TheVariants.{Dot, BuiltinWord, Cd, Eval, Exec, Exit as ExitWord, Shift, Wait, Whatis}
-use Rattle.rc_model.specs.Run.Builtins.{builtin_named, Called, Finished, Body, BodyWith, finished, usage, as_body, as_body_with, opened_or, open_first, whole_file, run_file, dot, first_dir, dirs_of, first_member, cd, exit_status, shifted, shift, wait_child, wait_all, wait_one, wait_numbered, wait_for, value_line, function_line, program_line, other_line, command_line, known_of, known_each, met, write_lines, whatis, exec, run_builtin, run_command, without_functions, run_named, run_words}
+use Rattle.rc_model.specs.Run.Builtins.{builtin_named, Called, Finished, Body, BodyWith, finished, usage, as_body, as_body_with, opened_or}
+use Rattle.rc_model.specs.Run.Builtins.{open_first, whole_file, run_file, dot, first_dir, dirs_of, first_member, cd, exit_status, shifted, shift}
+use Rattle.rc_model.specs.Run.Builtins.{wait_child, wait_all, wait_one, wait_numbered, wait_for, value_line, function_line, program_line, other_line}
+use Rattle.rc_model.specs.Run.Builtins.{command_line, known_of, known_each, met, write_lines, whatis, exec, run_builtin, run_command}
+use Rattle.rc_model.specs.Run.Builtins.{without_functions, run_named, run_words}
 use Rattle.law_descriptors.specs.Covering.{AreAmong}
 use Rattle.law_descriptors.proofs.Keeps.{Keeps, bind, next, keeps_pure, keeps_skip, keeps_exits, keeps_call, keeps_say, keeps_change, keeps_status, keeps_from, keeps_if, among_file, among_pipe}
 use Rattle.law_descriptors.proofs.Acts.{keeps_fails, keeps_close_end, keeps_waited, keeps_wait_each, keeps_start_shell, keeps_find, keeps_program, keeps_read_all}
@@ -24,16 +30,19 @@ module _ (P : ℕ → Type 0) where
   keeps_no_stages : (before : Option ℕ) (children : List ℕ) (why : List ℕ) → Keeps P true (no_stages before children why)
   keeps_no_stages before children why = next (close_end before) _ (keeps_close_end P true before) (keeps_pure (NotLaunched children why))
 
-  keeps_next_stage : (go : Option ℕ → List ℕ → Shell LaunchedStages) → ((h : Option ℕ) (children : List ℕ) → Keeps P true (go h children)) → (before : Option ℕ) (children : List ℕ) (r w : ℕ) (b : Started) → Keeps P true (next_stage go before children r w b)
+  keeps_next_stage : (go : Option ℕ → List ℕ → Shell LaunchedStages) → ((h : Option ℕ) (children : List ℕ) → Keeps P true (go h children))
+      → (before : Option ℕ) (children : List ℕ) (r w : ℕ) (b : Started) → Keeps P true (next_stage go before children r w b)
   keeps_next_stage go k before children r w (Child n) = next (say (close w)) _ (keeps_say (close w) tt) (next (close_end before) _ (keeps_close_end P true before) (k (Some r) (children ++ n ∷ [])))
   keeps_next_stage go k before children r w (NoChild why) = next (say (close w)) _ (keeps_say (close w) tt) (next (say (close r)) _ (keeps_say (close r) tt) (keeps_no_stages before children why))
 
-  keeps_stage_with : (go : Option ℕ → List ℕ → Shell LaunchedStages) → ((h : Option ℕ) (children : List ℕ) → Keeps P true (go h children)) → (slots : Slots) → AreAmong P slots → (body : Node cmd) (slot : ℕ) (before : Option ℕ) (children : List ℕ) (ends : Option (ℕ × ℕ))
+  keeps_stage_with : (go : Option ℕ → List ℕ → Shell LaunchedStages) → ((h : Option ℕ) (children : List ℕ) → Keeps P true (go h children))
+      → (slots : Slots) → AreAmong P slots → (body : Node cmd) (slot : ℕ) (before : Option ℕ) (children : List ℕ) (ends : Option (ℕ × ℕ))
       → Keeps P true (stage_with go slots body slot before children ends)
   keeps_stage_with go k slots v body slot before children None = keeps_no_stages before children (codes "cannot pipe")
   keeps_stage_with go k slots v body slot before children (Some (r, w)) =
       let among = among_file (from_pipe before slots) (among_pipe slots v before) slot w in
-      bind (start_shell (with_slot (from_pipe before slots) slot (to_file w)) body) _ (keeps_start_shell P true (with_slot (from_pipe before slots) slot (to_file w)) among body) (keeps_next_stage go k before children r w)
+      bind (start_shell (with_slot (from_pipe before slots) slot (to_file w)) body) _
+      (keeps_start_shell P true (with_slot (from_pipe before slots) slot (to_file w)) among body) (keeps_next_stage go k before children r w)
 
   keeps_stages : (slots : Slots) → AreAmong P slots → (stages : Many stage) (before : Option ℕ) (children : List ℕ) → Keeps P true (stages_from slots stages before children)
   keeps_stages slots w none before children = keeps_pure (Launched before children)
@@ -86,7 +95,9 @@ module _ (P : ℕ → Type 0) where
 
   keeps_run_file : (args : List (List ℕ)) (h : Option ℕ) → Keeps P true (run_file args h)
   keeps_run_file args None = keeps_ends (codes "cannot open")
-  keeps_run_file args (Some h) = bind (read_all longest_file h) _ (keeps_read_all P true longest_file h) (λ out. next (say (close h)) _ (keeps_say (close h) tt) (keeps_whole_file args out.text out.why))
+  keeps_run_file args (Some h) =
+      bind (read_all longest_file h) _ (keeps_read_all P true longest_file h)
+      (λ out. next (say (close h)) _ (keeps_say (close h) tt) (keeps_whole_file args out.text out.why))
 
   keeps_dot : (args : List (List ℕ)) → Keeps P true (dot args)
   keeps_dot [] = keeps_usage
@@ -126,7 +137,10 @@ module _ (P : ℕ → Type 0) where
 
   keeps_wait_numbered : (n : Option ℕ) → Keeps P true (wait_numbered n)
   keeps_wait_numbered None = keeps_usage
-  keeps_wait_numbered (Some n) = keeps_from (λ s. finished (wait_one n s)) (λ t. keeps_finished (wait_one n t) (keeps_if (list_any (λ m. m == n) t.background) (wait_child n) (set_status (codes "no such child")) (keeps_wait_child n) (keeps_status (codes "no such child"))))
+  keeps_wait_numbered (Some n) =
+      keeps_from (λ s. finished (wait_one n s))
+      (λ t. keeps_finished (wait_one n t)
+      (keeps_if (list_any (λ m. m == n) t.background) (wait_child n) (set_status (codes "no such child")) (keeps_wait_child n) (keeps_status (codes "no such child"))))
 
   keeps_wait_for : (args : List (List ℕ)) → Keeps P true (wait_for args)
   keeps_wait_for [] = next (set_status []) _ (keeps_status []) (keeps_from (λ s. finished (wait_all s.background)) (λ t. keeps_finished (wait_all t.background) (keeps_wait_all t.background)))

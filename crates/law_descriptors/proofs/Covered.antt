@@ -125,7 +125,8 @@ opened_one k P slots mode (name ∷ []) inner ki s = λ a. granted k P slots nam
 opened_one k P slots mode (name ∷ other ∷ others) inner ki s = λ a. tt
 
 -- an assignment
-bound_after : (k : ℕ) (P : ℕ → Type 0) (bare : Bool) (x : List ℕ) (v : List (List ℕ)) (rest : Runner) → ((s : State) → AfterOpens (suc k) (NamesOnly P) (rest s)) → (s : State) → AfterOpens (suc k) (NamesOnly P) (bound bare x v rest s)
+bound_after : (k : ℕ) (P : ℕ → Type 0) (bare : Bool) (x : List ℕ) (v : List (List ℕ)) (rest : Runner)
+    → ((s : State) → AfterOpens (suc k) (NamesOnly P) (rest s)) → (s : State) → AfterOpens (suc k) (NamesOnly P) (bound bare x v rest s)
 bound_after k P true x v rest kr s = kr (set_value s x v)
 bound_after k P false x v rest kr s = after_scope Any (suc k) (NamesOnly P) (rest (push_local s x v)) _ _ (kr (push_local s x v)) (λ y t. (tt, tt)) (λ t owed. (tt, tt))
 
@@ -135,7 +136,9 @@ module _ (call : Caller) (kc : (P : ℕ → Type 0) (slots : Slots) → AreAmong
   staying c g slots others l s =
       all_named (Stands others) true (cmd_means c g call n slots s) ((keeps_cmd (Stands others) call (kc (Stands others)) n c g slots (among slots others l)).by s)
 
-  pairs_after : (k : ℕ) (P : ℕ → Type 0) (pairs : Many pair) (bare : Bool) (body : Runner) (slots : Slots) → ((s : State) → AfterOpens (suc k) (NamesOnly P) (body s)) → (s : State) → AfterOpens (suc k) (NamesOnly P) (pairs_mean pairs bare body call n slots s)
+  pairs_after : (k : ℕ) (P : ℕ → Type 0) (pairs : Many pair) (bare : Bool) (body : Runner) (slots : Slots)
+      → ((s : State) → AfterOpens (suc k) (NamesOnly P) (body s)) → (s : State)
+      → AfterOpens (suc k) (NamesOnly P) (pairs_mean pairs bare body call n slots s)
   pairs_after k P none bare body slots kb s = kb s
   pairs_after k P (more (Pair name value) rest) bare body slots kb s =
       after_quiet Any k (NamesOnly P) (arg_means name call n slots s) _ leaves ((keeps_arg Any false call n slots (any slots) name).by s)
@@ -146,7 +149,8 @@ module _ (call : Caller) (kc : (P : ℕ → Type 0) (slots : Slots) → AreAmong
       (λ s owed. tt)) (λ s owed. tt)) (λ s owed. tt)) (λ s owed. tt)
 
   -- assignments around a command that opens this many files
-  assigned : (k : ℕ) (pairs : Many pair) (body : Node cmd) (g : Bool) (slots others : Slots) → AreAlike slots others → ((s : State) → AfterOpens k (NamesOnly (Stands (slots_after body others))) (cmd_means body g call n slots s)) → (s : State)
+  assigned : (k : ℕ) (pairs : Many pair) (body : Node cmd) (g : Bool) (slots others : Slots) → AreAlike slots others
+      → ((s : State) → AfterOpens k (NamesOnly (Stands (slots_after body others))) (cmd_means body g call n slots s)) → (s : State)
       → AfterOpens k (NamesOnly (Stands (if_opens k others (slots_after body others)))) (pairs_mean pairs (is_empty body) (cmd_means body g call n slots) call n slots s)
   assigned zero pairs body g slots others l kb s = staying (Assign pairs body) g slots others l s
   assigned (suc k) pairs body g slots others l kb s = pairs_after k (Stands (slots_after body others)) pairs (is_empty body) (cmd_means body g call n slots) slots kb s
@@ -165,7 +169,8 @@ module _ (call : Caller) (kc : (P : ℕ → Type 0) (slots : Slots) → AreAmong
       (λ h s. redirected rest body g kb (with_slot slots slot (to_file h)) (with_slot others slot (to_file 0)) (alike_with slots others l slot (to_file h) (to_file 0) tt) s) s)
       (λ s owed. tt)) (λ s owed. tt)
   redirected (more (Copy to from) rest) body g kb slots others l s =
-      redirected rest body g kb (with_slot slots to (slot_of slots from)) (with_slot others to (slot_of others from)) (alike_with slots others l to (slot_of slots from) (slot_of others from) (alike_slot slots others l from)) s
+      redirected rest body g kb (with_slot slots to (slot_of slots from)) (with_slot others to (slot_of others from))
+      (alike_with slots others l to (slot_of slots from) (slot_of others from) (alike_slot slots others l from)) s
   redirected (more (Here pieces) rest) body g kb slots others l s =
       λ a. granted (opens_in rest (opens_of body)) (Stands (slots_after body (slots_in rest (with_slot others 0 (to_file 0))))) slots here_name _
       (λ h s. redirected rest body g kb (with_slot slots 0 (to_file h)) (with_slot others 0 (to_file 0)) (alike_with slots others l 0 (to_file h) (to_file 0) tt) s) (as_file a) s
@@ -176,8 +181,12 @@ module _ (call : Caller) (kc : (P : ℕ → Type 0) (slots : Slots) → AreAmong
   covered c g slots others l s = staying c g slots others l s
 
 meant : (n : ℕ) (c : Node cmd) (s : State) → AfterOpens (opens_of c) (NamesOnly (Stands (slots_after c plain))) (meaning n plain c s)
-meant zero c s = covered (λ slots d. stops) (λ P slots w d. keeps_stops) zero c false plain plain (record { input = alike_self plain.input; output = alike_self plain.output; errors = alike_self plain.errors }) s
-meant (suc n) c s = covered (meaning n) (λ P slots w d. keeps_meaning P n slots w d) (suc n) c false plain plain (record { input = alike_self plain.input; output = alike_self plain.output; errors = alike_self plain.errors }) s
+meant zero c s =
+    covered (λ slots d. stops) (λ P slots w d. keeps_stops) zero c false plain plain
+    (record { input = alike_self plain.input; output = alike_self plain.output; errors = alike_self plain.errors }) s
+meant (suc n) c s =
+    covered (meaning n) (λ P slots w d. keeps_meaning P n slots w d) (suc n) c false plain plain
+    (record { input = alike_self plain.input; output = alike_self plain.output; errors = alike_self plain.errors }) s
 
 -- the waits at the end
 quiet_waits : (P Q : ℕ → Type 0) (s : State) (owed : List ℕ) → AllCalls (NamesOnly P) (waits s owed) × Safe Q false (waits s owed)
@@ -186,4 +195,5 @@ quiet_waits P Q s (n ∷ ns) = let rest = quiet_waits P Q s ns in ((tt, λ a. re
 
 pub no_covered_is_named : NoCoveredIsNamed
 no_covered_is_named n c s =
-    after_scope Any (opens_of c) (NamesOnly (Stands (slots_after c plain))) (meaning n plain c s) (λ a s. done_with s) waits (meant n c s) (λ a t. (tt, tt)) (quiet_waits (Stands (slots_after c plain)) Any)
+    after_scope Any (opens_of c) (NamesOnly (Stands (slots_after c plain))) (meaning n plain c s) (λ a s. done_with s) waits (meant n c s)
+    (λ a t. (tt, tt)) (quiet_waits (Stands (slots_after c plain)) Any)

@@ -83,7 +83,8 @@ keeps_choice {P} {o} test m f km kf = record { by = λ s. by_test s (test s) }
     by_test s false = kf.by s
 
 -- a scope, however its body ends
-pub keeps_scope : {P : ℕ → Type 0} {o : Bool} (m : Runner) (go : Unit {0} → Runner) (leave : State → List ℕ → Plan (ShellResult (Unit {0}))) → Keeps P o m → ((x : Unit {0}) → Keeps P o (go x)) → ((t : State) (owed : List ℕ) → Safe P o (leave t owed))
+pub keeps_scope : {P : ℕ → Type 0} {o : Bool} (m : Runner) (go : Unit {0} → Runner) (leave : State → List ℕ → Plan (ShellResult (Unit {0})))
+    → Keeps P o m → ((x : Unit {0}) → Keeps P o (go x)) → ((t : State) (owed : List ℕ) → Safe P o (leave t owed))
     → Keeps P o (λ s. under (m s) go leave)
 keeps_scope {P} {o} m go leave km kg kl = record { by = λ s. all_under (Meets P o) (m s) go leave (km.by s) (λ x t. (kg x).by t) kl }
 

@@ -3,7 +3,9 @@ use Rattle.std.proofs.Common.{refl, ◌∷◌, ◌≡◌, []}
 use Rattle.std.specs.Prelude.{codes, Some, false}
 use Rattle.rc_model.specs.declared.call.Mode.TheVariants.{Write}
 use Rattle.law_examples.specs.Shown.{ops}
-use Rattle.rc_model.specs.Code.Layout.{Nil, Word, Join, Concat, Value, Count, Select, Glob, Back, Run, Check, Subject, Drop, Case, Match, Jump, IfFalse, SetNull, Invert, If, WasTrue, IfNot, For, Next, Local, Unlocal, Define, Undefine, Open, Copy, Unredir, Stages, EndPipe, Subshell, Background, Return}
+use Rattle.rc_model.specs.Code.Layout.{Nil, Word, Join, Concat, Value, Count, Select, Glob, Back, Run, Check, Subject, Drop, Case, Match, Jump}
+use Rattle.rc_model.specs.Code.Layout.{IfFalse, SetNull, Invert, If, WasTrue, IfNot, For, Next, Local, Unlocal, Define, Undefine, Open, Copy, Unredir}
+use Rattle.rc_model.specs.Code.Layout.{Stages, EndPipe, Subshell, Background, Return}
 
 -- the right side stands after a jump; the left is guarded, and is not checked
 a_conditional_jumps_past_its_right_side :

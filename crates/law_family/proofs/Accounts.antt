@@ -2,12 +2,14 @@
 use Rattle.std.proofs.Common.{◌≡◌, inl, inr, ℕ, suc, ◌<◌, List, [], ◌∷◌, ◌++◌, Option, Some, None, refl, sym, ap, ◌∙◌, subst, arith}
 use Rattle.std.specs.Prelude.{if◌then◌else◌}
 use Rattle.std.proofs.lemmas.Bool.Decides.{eqb_tells}
-use Rattle.rc_model.specs.Run.Calls.{Call, Answer, Event, event, open_file, here, make_pipe, close, read, write, start, wait, list_names, probe, change_dir, refused, as_file, as_pair, as_child, is_halt, calls, answers}
+use Rattle.rc_model.specs.Run.Calls.{Call, Answer, Event, event, open_file, here, make_pipe, close, read, write, start, wait, list_names, probe}
+use Rattle.rc_model.specs.Run.Calls.{change_dir, refused, as_file, as_pair, as_child, is_halt, calls, answers}
 use Rattle.rc_model.specs.declared.call.Fault.TheVariants.{Halt}
 use Rattle.std.proofs.lemmas.List.{append-nil}
 use Rattle.rc_model.specs.Run.Plans.{play, calls_made}
 use Rattle.rc_model.specs.Run.Script.{whole, IsBegunAsMeant}
-use Rattle.rc_model.specs.Family.Accounts.{Settled, NothingLost, Due, free, made, used, passed, Account, put, next_due, with_call, add_file, add_pair, add_owed, past, after, Fresh, FreshFrom, Allowed, AllAllowed, account, at_start, IsFresh, OneWriteEnd}
+use Rattle.rc_model.specs.Family.Accounts.{Settled, NothingLost, Due, free, made, used, passed, Account, put, next_due, with_call, add_file, add_pair}
+use Rattle.rc_model.specs.Family.Accounts.{add_owed, past, after, Fresh, FreshFrom, Allowed, AllAllowed, account, at_start, IsFresh, OneWriteEnd}
 use Rattle.rc_model.specs.Family.Family.{Process, holding, IsPending, GoesAsMeant}
 use Rattle.law_traces.proofs.Keep.{put_self, put_other}
 use Rattle.law_traces.proofs.Cmds.{keeps_whole}
@@ -137,7 +139,8 @@ pending_allowed p c f w =
     let trace = p.trace ++ event c (refused Halt) ∷ [] in
     let fresh = fresh_halt p.trace (at_start p.state) c f.fresh in
     let made : calls_made (play (whole w.0 p.tree p.state) (answers (p.trace ++ event c (refused Halt) ∷ []))) ≡ calls (p.trace ++ event c (refused Halt) ∷ []) ++ [] =
-    ap (λ l. calls_made (play (whole w.0 p.tree p.state) l)) (no_halt p.trace c) ∙ (ap calls_made w.1 ∙ (sym (calls_on p.trace c) ∙ sym (append-nil (calls (p.trace ++ event c (refused Halt) ∷ []))))) in
+    ap (λ l. calls_made (play (whole w.0 p.tree p.state) l)) (no_halt p.trace c) ∙
+    (ap calls_made w.1 ∙ (sym (calls_on p.trace c) ∙ sym (append-nil (calls (p.trace ++ event c (refused Halt) ∷ []))))) in
     let k = kept_begun Settled (p.trace ++ event c (refused Halt) ∷ []) [] (whole w.0 p.tree p.state) (at_start p.state) fresh (keeps_whole w.0 p.tree p.state) made in
     let a = allowed_on (at_start p.state) p.trace (event c (refused Halt)) k in
     ((f.fresh, a.0), a.1)

@@ -61,7 +61,8 @@ after_event : (f : Family) (e : FamilyEvent) → Counted f → (o : Option (Laun
 after_event f e v o s k l = elim (eqb_tells e.at k) [
   | inl y ↦
       let t : ((with_trace f e).at k).trace ≡ (f.at k).trace ++ event e.call e.answer ∷ [] =
-      subst (λ i. (put f.at e.at (recorded (f.at e.at) e.call e.answer) i).trace ≡ (f.at i).trace ++ event e.call e.answer ∷ []) y.1 (ap (λ p. p.trace) (put_self f.at e.at (recorded (f.at e.at) e.call e.answer))) in
+      subst (λ i. (put f.at e.at (recorded (f.at e.at) e.call e.answer) i).trace ≡ (f.at i).trace ++ event e.call e.answer ∷ []) y.1
+      (ap (λ p. p.trace) (put_self f.at e.at (recorded (f.at e.at) e.call e.answer))) in
       let c = v.counts k l in
       let h = ap shells_started t in
       let d = shells_on (f.at k).trace (event e.call e.answer) in
@@ -89,7 +90,9 @@ module _ (reads : Launch → Node cmd × State) where
       Grown = with_child reads (with_trace f e) e.at (f.at e.at) (Some (l, n))
 
       new_at : (j : ℕ) → f.count ≡ j → Grown.at j ≡ child_process reads e.at (f.at e.at) l n
-      new_at j z = subst (λ i. put (with_trace f e).at f.count (child_process reads e.at (f.at e.at) l n) i ≡ child_process reads e.at (f.at e.at) l n) z (put_self (with_trace f e).at f.count (child_process reads e.at (f.at e.at) l n))
+      new_at j z =
+          subst (λ i. put (with_trace f e).at f.count (child_process reads e.at (f.at e.at) l n) i ≡ child_process reads e.at (f.at e.at) l n) z
+          (put_self (with_trace f e).at f.count (child_process reads e.at (f.at e.at) l n))
 
       old_at : (j : ℕ) → (f.count ≡ j → ⊥) → Grown.at j ≡ (with_trace f e).at j
       old_at j ne = put_other (with_trace f e).at f.count (child_process reads e.at (f.at e.at) l n) j ne

@@ -8,7 +8,10 @@ use Rattle.rc_model.specs.declared.call.Slots.{Slots}
 use Rattle.rc_model.specs.Syntax.Tree.{Node, cmd}
 use Rattle.rc_model.specs.Run.State.{State}
 use Rattle.rc_model.specs.Family.Accounts.{Thing, a_file, read_end, write_end, Due, free, made, used, passed, Account, HoldsSlot, HoldsSlots, InTurn, Allowed, at_start, IsDue}
-use Rattle.rc_model.specs.Family.Family.{writes_to, Process, Family, FamilyEvent, holding, IsPending, ArePossible, end_of, stood_for, shell_of, shell_started, child_process, recorded, with_trace, with_child, stepped, family, first, EachOf, Descends, itself, started_by, HoldsWrite, WritesTo, WasHanded, WriteEnds, WaitsBy, WaitsFor, WaitsLong, directly, through, NoRing}
+use Rattle.rc_model.specs.Family.Family.{writes_to, Process, Family, FamilyEvent, holding, IsPending, ArePossible, end_of, stood_for, shell_of}
+use Rattle.rc_model.specs.Family.Family.{shell_started, child_process, recorded, with_trace, with_child, stepped, family, first, EachOf, Descends}
+use Rattle.rc_model.specs.Family.Family.{itself, started_by, HoldsWrite, WritesTo, WasHanded, WriteEnds, WaitsBy, WaitsFor, WaitsLong, directly}
+use Rattle.rc_model.specs.Family.Family.{through, NoRing}
 use Rattle.law_traces.proofs.Keep.{put_self, put_other}
 use Rattle.law_family.proofs.Accounts.{allowed_on, fresh_on, newest, Good, Sound, sound_good}
 use Rattle.law_family.proofs.WriteEnds.{Inv, held_on_step, child_back, writes_back, writes_on, place_grows, inv_trace, Fits, inv_grown}
@@ -50,12 +53,18 @@ launch_is (start k) _ l n e = absurd cc
 launch_is _ x l n e = absurd cc
 
 module _ (reads : Launch → Node cmd × State) where
-  child_fits : (f : Family) (e : FamilyEvent) (l : Launch) (n : ℕ) → e.at < f.count → Inv f → Good (holding (f.at e.at)) → Allowed (holding (f.at e.at)) (start l) → Fits (with_trace f e) e.at n (child_process reads e.at (f.at e.at) l n)
+  child_fits : (f : Family) (e : FamilyEvent) (l : Launch) (n : ℕ) → e.at < f.count → Inv f → Good (holding (f.at e.at))
+      → Allowed (holding (f.at e.at)) (start l) → Fits (with_trace f e) e.at n (child_process reads e.at (f.at e.at) l n)
   child_fits f e l n r v g a = record {
     parent = r;
     origin = refl;
     came = λ m q w. elim (slot_writes e.at m q (f.at e.at) l (slot_of l.slots w.0) g a.in_turn (slot_held (holding (f.at e.at)) l.slots w.0 a.names) w.1) [
-      | inl y ↦ (subst (λ x. x < f.count) (sym y.0) r, subst (λ x. q < (holding ((with_trace f e).at x)).place) (sym y.0) (let b = g.below q y.1.0 y.1.1 in let s = place_grows f e e.at in omega arith), inl y.0)
+      | inl y ↦ (
+        subst (λ x. x < f.count) (sym y.0) r,
+        subst (λ x. q < (holding ((with_trace f e).at x)).place) (sym y.0)
+            (let b = g.below q y.1.0 y.1.1 in let s = place_grows f e e.at in omega arith),
+        inl y.0,
+      )
       | inr y ↦ let k = v.came e.at r m q y in let s = place_grows f e m in (omega (arith, k.below), omega (arith, k.was_made), inr (writes_on f e e.at m q y))
     ];
     spent = λ q w u d. let y = own q w in let b = g.below q y.0 y.1 in elim (held_on_step f e e.at) [
@@ -166,7 +175,9 @@ waits_up f v s a k j w = by_call w.call (a k w.waiter w.call w.pending) w.waits
   where
     by_call : (c : Call) → Allowed (holding (f.at k)) c → WaitsBy f k c j → k < j
     by_call (wait n) t u = v.parents j w.other k (n, u)
-    by_call (read h) t (q, r, inl y) = absurd (let g = sound_good (f.at k) (s k w.waiter) in let o = subst (λ i. HoldsWrite (f.at i) q) y.0 y.1 in reads_calm h (holding (f.at k)).due t.in_turn q o.0 (g.one.only o.0 q o.1 o.2))
+    by_call (read h) t (q, r, inl y) =
+        absurd
+        (let g = sound_good (f.at k) (s k w.waiter) in let o = subst (λ i. HoldsWrite (f.at i) q) y.0 y.1 in reads_calm h (holding (f.at k)).due t.in_turn q o.0 (g.one.only o.0 q o.1 o.2))
     by_call (read h) t (q, r, inr y) = (v.came j w.other k q y).below
     by_call (open_file p m) t u = absurd u
     by_call (here x) t u = absurd u

@@ -65,7 +65,8 @@ module _ (reads : Launch → Node cmd × State) (limit : ℕ) where
   known_trace f k given e m w = elim (eqb_tells e.at k) [
     | inl y ↦
         let t : ((with_trace f e).at k).trace ≡ (f.at k).trace ++ event e.call e.answer ∷ [] =
-        subst (λ i. (put f.at e.at (recorded (f.at e.at) e.call e.answer) i).trace ≡ (f.at i).trace ++ event e.call e.answer ∷ []) y.1 (ap (λ p. p.trace) (put_self f.at e.at (recorded (f.at e.at) e.call e.answer))) in
+        subst (λ i. (put f.at e.at (recorded (f.at e.at) e.call e.answer) i).trace ≡ (f.at i).trace ++ event e.call e.answer ∷ []) y.1
+        (ap (λ p. p.trace) (put_self f.at e.at (recorded (f.at e.at) e.call e.answer))) in
         record {
           no_halts = subst NoHalts (sym t) (halts_on (f.at k).trace (event e.call e.answer) w.no_halts m.answered.came);
           are = ap answers t ∙ (answers_with (f.at k).trace (event e.call e.answer) w.no_halts m.answered.came

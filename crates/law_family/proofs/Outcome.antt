@@ -29,6 +29,10 @@ last_same (x ∷ l) c d e = last_same l c d (let t : l ++ c ∷ [] ≡ l ++ d �
 
 pub one_pending : (p : Process) → GoesOn p → (c d : Call) → IsPending p c → IsPending p d → c ≡ d
 one_pending p g c d w v = elim (cases_lt w.0 v.0) [
-  | inl l ↦ let a = waits_on (script w.0 p.tree p.state (answers p.trace)) (script v.0 p.tree p.state (answers p.trace)) _ w.1 (g w.0 v.0 (omega arith)) in last_same (calls p.trace) c d (ap calls_made (sym a ∙ v.1))
-  | inr l ↦ let a = waits_on (script v.0 p.tree p.state (answers p.trace)) (script w.0 p.tree p.state (answers p.trace)) _ v.1 (g v.0 w.0 l) in sym (last_same (calls p.trace) d c (ap calls_made (sym a ∙ w.1)))
+  | inl l ↦ let a =
+      waits_on (script w.0 p.tree p.state (answers p.trace)) (script v.0 p.tree p.state (answers p.trace)) _ w.1
+      (g w.0 v.0 (omega arith)) in last_same (calls p.trace) c d (ap calls_made (sym a ∙ v.1))
+  | inr l ↦ let a =
+      waits_on (script v.0 p.tree p.state (answers p.trace)) (script w.0 p.tree p.state (answers p.trace)) _ v.1 (g v.0 w.0 l) in sym
+      (last_same (calls p.trace) d c (ap calls_made (sym a ∙ w.1)))
 ]

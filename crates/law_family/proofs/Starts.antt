@@ -112,7 +112,8 @@ shells_before [] x p c = omega (arith, c)
 shells_before (d ∷ a) x p c = omega (arith, shells_before a x p c)
 
 -- the process of this number was started by that start
-started_so : (reads : Launch → Node cmd × State) (f : Family) (c : Node cmd) (s : State) (j k i : ℕ) → (f.at j).origin ≡ Some (k, i) → ((f.at 0).origin ≡ None) → HandedSo reads c s f j → WasStarted reads f j k
+started_so : (reads : Launch → Node cmd × State) (f : Family) (c : Node cmd) (s : State) (j k i : ℕ) → (f.at j).origin ≡ Some (k, i)
+    → ((f.at 0).origin ≡ None) → HandedSo reads c s f j → WasStarted reads f j k
 started_so reads f c s zero k i e n h = absurd (let z : None ≡ Some (k, i) = sym n ∙ e in cc)
 started_so reads f c s (suc j) k i e n h = subst (WasStarted reads f (suc j)) (ap starter (sym h.1.origin ∙ e)) h.1
 
@@ -142,5 +143,6 @@ each_start_makes reads c s es p k before l t =
     child_there reads (family reads (first reads c s) es) k before t v l
     (started_so reads (family reads (first reads c s) es) c s g.at k g.number g.origin (first_origin reads c s es p) (handed_so reads c s es p g.at g.below))
   where
-    first_origin : (reads : Launch → Node cmd × State) (c : Node cmd) (s : State) (es : List FamilyEvent) → ArePossible reads (first reads c s) es → ((family reads (first reads c s) es).at 0).origin ≡ None
+    first_origin : (reads : Launch → Node cmd × State) (c : Node cmd) (s : State) (es : List FamilyEvent) → ArePossible reads (first reads c s) es
+        → ((family reads (first reads c s) es).at 0).origin ≡ None
     first_origin reads c s es p = (one_per_start reads c s es p).0

@@ -7,7 +7,8 @@ use Rattle.rc_model.specs.Run.Plans.{IsAnswered}
 use Rattle.rc_model.specs.Run.State.{State}
 use Rattle.rc_model.specs.Syntax.Tree.{Node, cmd}
 use Rattle.rc_model.specs.Family.Accounts.{put}
-use Rattle.rc_model.specs.Family.Family.{Process, Family, FamilyEvent, IsPending, GoesAsMeant, EachOf, shell_started, child_process, recorded, with_trace, with_child, stepped, family, first, ArePossible, IsPossible, AreFresh, Sane}
+use Rattle.rc_model.specs.Family.Family.{Process, Family, FamilyEvent, IsPending, GoesAsMeant, EachOf, shell_started, child_process, recorded}
+use Rattle.rc_model.specs.Family.Family.{with_trace, with_child, stepped, family, first, ArePossible, IsPossible, AreFresh, Sane}
 use Rattle.rc_model.specs.Family.Steps.{HitsLimit, IsInTime, IsCutShort, StepFault, NoProcess, AtEnd, WrongKind, AtLimit, AppendsSuch, IsStepRefused, IsMade, CanMake, AreMade, IsMadeBy, IsAsMade}
 use Rattle.law_family.specs.StepLaws.{OneBeginning}
 use Rattle.law_traces.proofs.Keep.{put_self, put_other}
@@ -40,7 +41,9 @@ module _ (P : Process → Type 0) (reads : Launch → Node cmd × State) where
 
   -- and back
   pub own_of : (f : Family) (e : FamilyEvent) → e.at < f.count → EachOf P (stepped reads f e) → P (recorded (f.at e.at) e.call e.answer)
-  own_of f e r t = subst P (stays reads f e e.at r ∙ put_self f.at e.at (recorded (f.at e.at) e.call e.answer)) (subst (λ n. P ((stepped reads f e).at n)) refl (t e.at (in_stepped (shell_started e.call e.answer))))
+  own_of f e r t =
+      subst P (stays reads f e e.at r ∙ put_self f.at e.at (recorded (f.at e.at) e.call e.answer))
+      (subst (λ n. P ((stepped reads f e).at n)) refl (t e.at (in_stepped (shell_started e.call e.answer))))
     where
       in_stepped : (o : Option (Launch × ℕ)) → e.at < (with_child reads (with_trace f e) e.at (f.at e.at) o).count
       in_stepped None = r
@@ -102,9 +105,13 @@ module _ (reads : Launch → Node cmd × State) (limit : ℕ) where
   no_child k p None t h = h
   no_child k p (Some (l, n)) t h = not_hit limit (child_process reads k p l n) t h
 
-  in_time_not_at_limit : (f : Family) (e : FamilyEvent) → IsMade reads limit f e → HitsLimit limit (recorded (f.at e.at) e.call e.answer) ⊎ AppendsSuch reads (HitsLimit limit) e.at (f.at e.at) (shell_started e.call e.answer) → ⊥
+  in_time_not_at_limit : (f : Family) (e : FamilyEvent) → IsMade reads limit f e
+      → HitsLimit limit (recorded (f.at e.at) e.call e.answer) ⊎ AppendsSuch reads (HitsLimit limit) e.at (f.at e.at) (shell_started e.call e.answer)
+      → ⊥
   in_time_not_at_limit f e m (inl h) = not_hit limit (recorded (f.at e.at) e.call e.answer) (own_of (IsInTime limit) reads f e m.in_family m.in_time) h
-  in_time_not_at_limit f e m (inr h) = no_child e.at (f.at e.at) (shell_started e.call e.answer) (child_of (IsInTime limit) reads (with_trace f e) e.at (f.at e.at) (shell_started e.call e.answer) m.in_time) h
+  in_time_not_at_limit f e m (inr h) =
+      no_child e.at (f.at e.at) (shell_started e.call e.answer)
+      (child_of (IsInTime limit) reads (with_trace f e) e.at (f.at e.at) (shell_started e.call e.answer) m.in_time) h
 
   pub never_both : (f : Family) (k : ℕ) (x : Answer) (a : StepFault) → IsStepRefused reads limit f k x a → CanMake reads limit f k x → ⊥
   never_both f k x NoProcess r m = let l = m.made.in_family in absurd (omega arith)

@@ -19,7 +19,8 @@ pub record Inv (f : Family) : Type 0 where
   pub spent : (j : ℕ) → j < f.count → (m q : ℕ) → WasHanded f j m q → (w : ℕ) → (holding (f.at m)).due ≡ made q w → ⊥
   pub once : (m q i j : ℕ) → i < f.count → j < f.count → WasHanded f i m q → WasHanded f j m q → i ≡ j
 
-pub held_on_step : (f : Family) (e : FamilyEvent) (m : ℕ) → ((e.at ≡ m) × (holding ((with_trace f e).at m) ≡ after (holding (f.at m)) e.call e.answer)) ⊎ ((e.at ≡ m → ⊥) × ((with_trace f e).at m ≡ f.at m))
+pub held_on_step : (f : Family) (e : FamilyEvent) (m : ℕ)
+    → ((e.at ≡ m) × (holding ((with_trace f e).at m) ≡ after (holding (f.at m)) e.call e.answer)) ⊎ ((e.at ≡ m → ⊥) × ((with_trace f e).at m ≡ f.at m))
 held_on_step f e m = elim (eqb_tells e.at m) [
   | inl y ↦ inl (
     y.1,

@@ -9,19 +9,26 @@ use Rattle.rc_model.specs.Syntax.Tree.{Node, Many, cmd, piece}
 use Rattle.rc_model.specs.declared.call.Slots.{Slots}
 use Rattle.rc_model.specs.declared.call.Mode.{Mode}
 use Rattle.rc_model.specs.declared.call.Mode.TheVariants.{Read}
-use Rattle.rc_model.specs.Run.Calls.{to_file, with_slot, Launch, open_file, here, make_pipe, close, read, write, start, wait, list_names, probe, as_file, as_pair, as_bytes, as_kind, as_child, as_names}
+use Rattle.rc_model.specs.Run.Calls.{to_file, with_slot, Launch, open_file, here, make_pipe, close, read, write, start, wait, list_names, probe}
+use Rattle.rc_model.specs.Run.Calls.{as_file, as_pair, as_bytes, as_kind, as_child, as_names}
 use Rattle.rc_model.specs.Run.Lists.{concatenated, list_words}
 use Rattle.rc_model.specs.Run.State.{State, dollar_value, is_name, is_readable, is_function_name, define, add_child}
 use Rattle.rc_model.specs.Run.Plans.{Plan}
 use Rattle.rc_model.specs.Run.Shell.{Shell, ShellResult, under, leaves, ◌>>=◌, pure, call, say, change, exits}
 use Rattle.rc_model.specs.Run.FileNames.{components, directory, fitting_names, each_name, if_there, listed, step, walk, paths_of, or_itself, names_of, expanded_word, expanded}
-use Rattle.rc_model.specs.Run.Acts.{set_status, report, runtime_error, fails, close_end, one_name, variable, value, value_words, count_words, flat_words, selected_words, joined_lists, concat_words, define_each, opened, open_one, here_text, open_here, is_path, candidates, is_program, first_program, find_program, waited, wait_each, Started, Child, NoChild, as_started, ask_start, start_shell, refuse, wait_started, run_found, run_program, wait_subshell, subshell, kept_child, background_with, background, Got, got_all, read_on, reading, read_all, longest_output, output_members, back_status, back_child, back_pipe, backquote, back_words}
+use Rattle.rc_model.specs.Run.Acts.{set_status, report, runtime_error, fails, close_end, one_name, variable, value, value_words, count_words}
+use Rattle.rc_model.specs.Run.Acts.{flat_words, selected_words, joined_lists, concat_words, define_each, opened, open_one, here_text, open_here}
+use Rattle.rc_model.specs.Run.Acts.{is_path, candidates, is_program, first_program, find_program, waited, wait_each, Started, Child, NoChild}
+use Rattle.rc_model.specs.Run.Acts.{as_started, ask_start, start_shell, refuse, wait_started, run_found, run_program, wait_subshell, subshell}
+use Rattle.rc_model.specs.Run.Acts.{kept_child, background_with, background, Got, got_all, read_on, reading, read_all, longest_output, output_members}
+use Rattle.rc_model.specs.Run.Acts.{back_status, back_child, back_pipe, backquote, back_words}
 use Rattle.rc_model.specs.Handed.Image.{is_fit, program_launch, shell_launch}
 use Rattle.rc_model.specs.Handed.Proper.{IsProperTree, IsProper}
 use Rattle.rc_model.specs.Handed.Started.{Starts, a_subshell, a_job, a_backquote}
 use Rattle.law_image.proofs.Proper.{proper_set, proper_define, proper_same}
 use Rattle.law_image.proofs.Handed.{launch_reads_back}
-use Rattle.law_handed.proofs.Safe.{Safe, EndsSo, StartsNoShell, alone, Gives, Keeps, bind_so, bind, next, gives_pure, keeps_pure, keeps_skip, gives_exits, keeps_call, keeps_say, keeps_change, keeps_status, gives_from, gives_at, gives_if}
+use Rattle.law_handed.proofs.Safe.{Safe, EndsSo, StartsNoShell, alone, Gives, Keeps, bind_so, bind, next, gives_pure, keeps_pure, keeps_skip}
+use Rattle.law_handed.proofs.Safe.{gives_exits, keeps_call, keeps_say, keeps_change, keeps_status, gives_from, gives_at, gives_if}
 use Rattle.rc_model.specs.declared.fault.ListFault.{ListFault}
 use Rattle.rc_model.specs.Run.Acts.{cannot_open, here_name, not_one_word}
 
@@ -54,7 +61,9 @@ gives_variable slots x = gives_one_name slots is_name (word_texts x)
 
 -- values
 keeps_value : (slots : Slots) (x : List Word) → Keeps (value slots x)
-keeps_value slots x = bind_so (one_name slots is_readable (word_texts x)) _ (gives_one_name slots is_readable (word_texts x)) (λ y h. gives_from (λ s. pure (dollar_value s y)) (λ t p. keeps_pure (dollar_value t y)))
+keeps_value slots x =
+    bind_so (one_name slots is_readable (word_texts x)) _ (gives_one_name slots is_readable (word_texts x))
+    (λ y h. gives_from (λ s. pure (dollar_value s y)) (λ t p. keeps_pure (dollar_value t y)))
 
 pub keeps_value_words : (slots : Slots) (x : List Word) → Keeps (value_words slots x)
 keeps_value_words slots x = bind (value slots x) _ (keeps_value slots x) (λ v. keeps_pure (plain_words v))
@@ -142,7 +151,8 @@ keeps_started l false h = keeps_pure (NoChild (codes "too large"))
 abbrev with_child : {A : Type 0} → Launch → (Started → Shell A) → State → Bool → Plan (ShellResult A)
 with_child l f s t = under ((if t then ask_start l else pure (NoChild (codes "too large"))) s) f leaves
 
-started_by : {A : Type 0} {Q : A → Type 0} (slots : Slots) (body : Node cmd) (f : Started → Shell A) (s : State) (t : Bool) → is_fit (shell_launch slots body s) ≡ t → IsProperTree body → IsProper s → ((x : Started) → Gives Q (f x))
+started_by : {A : Type 0} {Q : A → Type 0} (slots : Slots) (body : Node cmd) (f : Started → Shell A) (s : State) (t : Bool)
+    → is_fit (shell_launch slots body s) ≡ t → IsProperTree body → IsProper s → ((x : Started) → Gives Q (f x))
     → Starts (ShellResult A) (with_child (shell_launch slots body s) f s (is_fit (shell_launch slots body s))) slots body s → Safe (with_child (shell_launch slots body s) f s t) (EndsSo Q)
 started_by {A = A} slots body f s true e b p kf at = (
   record {
@@ -166,7 +176,9 @@ gives_shell slots body f b kf at = record { by = λ s p. started_by slots body f
 -- programs
 keeps_first_program : (paths : List (List ℕ)) → Keeps (first_program paths)
 keeps_first_program [] = keeps_pure None
-keeps_first_program (p ∷ ps) = bind (call (probe p)) _ (keeps_call (probe p) tt) (λ a. gives_if (is_program (as_kind a)) (pure (Some p)) (first_program ps) (keeps_pure (Some p)) (keeps_first_program ps))
+keeps_first_program (p ∷ ps) =
+    bind (call (probe p)) _ (keeps_call (probe p) tt)
+    (λ a. gives_if (is_program (as_kind a)) (pure (Some p)) (first_program ps) (keeps_pure (Some p)) (keeps_first_program ps))
 
 pub keeps_find : (name : List ℕ) → Keeps (find_program name)
 keeps_find name = gives_if (is_path name) (pure (Some name)) _ (keeps_pure (Some name)) (gives_at (λ s. first_program (candidates s name)) (λ t p. keeps_first_program (candidates t name)))
@@ -212,7 +224,9 @@ keeps_background slots body b = bind (call (open_file (codes "/dev/null") Read))
 keeps_read_on : (again : List ℕ → Shell Got) → ((text : List ℕ) → Keeps (again text)) → (most : ℕ) (text : List ℕ) (o : Option (List ℕ)) → Keeps (read_on again most text o)
 keeps_read_on again k most text None = keeps_pure (got_all text (Some (codes "cannot read")))
 keeps_read_on again k most text (Some []) = keeps_pure (got_all text None)
-keeps_read_on again k most text (Some (b ∷ bs)) = gives_if (nat_le (length (text ++ b ∷ bs)) most) (again (text ++ b ∷ bs)) _ (k (text ++ b ∷ bs)) (keeps_pure (got_all (text ++ b ∷ bs) (Some (codes "too large"))))
+keeps_read_on again k most text (Some (b ∷ bs)) =
+    gives_if (nat_le (length (text ++ b ∷ bs)) most) (again (text ++ b ∷ bs)) _ (k (text ++ b ∷ bs))
+    (keeps_pure (got_all (text ++ b ∷ bs) (Some (codes "too large"))))
 
 keeps_reading : (n most h : ℕ) (text : List ℕ) → Keeps (reading n most h text)
 keeps_reading zero most h text = keeps_pure (got_all text (Some (codes "too large")))
@@ -230,7 +244,8 @@ keeps_back_child r w (Child n) =
     (bind (read_all longest_output r) _ (keeps_read_all longest_output r)
     (λ out. next (say (close r)) _ (keeps_say (close r) tt)
     (bind (waited n) _ (keeps_waited n)
-    (λ status. next (set_status (back_status out.why status)) _ (keeps_status (back_status out.why status)) (gives_from (λ s. pure (output_members s out.text)) (λ t p. keeps_pure (output_members t out.text)))))))
+    (λ status. next (set_status (back_status out.why status)) _ (keeps_status (back_status out.why status))
+    (gives_from (λ s. pure (output_members s out.text)) (λ t p. keeps_pure (output_members t out.text)))))))
 
 keeps_back_pipe : (slots : Slots) (body : Node cmd) → IsProperTree body → (o : Option (ℕ × ℕ)) → Keeps (back_pipe slots body o)
 keeps_back_pipe slots body b None = next (set_status (codes "cannot pipe")) _ (keeps_status (codes "cannot pipe")) (keeps_pure [])

@@ -14,28 +14,37 @@ use Rattle.rc_model.specs.Run.Numbers.{number_of}
 use Rattle.rc_model.specs.Run.Calls.{to_file, with_slot, open_file, make_pipe, close, write, change_dir, as_file, as_pair, as_done}
 use Rattle.rc_model.specs.Run.State.{State, value_of, set_value, with_status, function_of, drop_child}
 use Rattle.rc_model.specs.Run.Shell.{Shell, leaves, ◌>>=◌, pure, call, say, change, exits}
-use Rattle.rc_model.specs.Run.Acts.{set_status, close_end, candidates, run_program, waited, wait_each, read_all, longest_file, Started, Child, NoChild, LaunchedStages, Launched, NotLaunched, Running, Refused, stages_status, no_stages, from_pipe, next_stage, stage_with, stages_from, launch_stages, settled, start_stages, end_stages, find_program}
+use Rattle.rc_model.specs.Run.Acts.{set_status, close_end, candidates, run_program, waited, wait_each, read_all, longest_file, Started, Child}
+use Rattle.rc_model.specs.Run.Acts.{NoChild, LaunchedStages, Launched, NotLaunched, Running, Refused, stages_status, no_stages, from_pipe, next_stage}
+use Rattle.rc_model.specs.Run.Acts.{stage_with, stages_from, launch_stages, settled, start_stages, end_stages, find_program}
 use Rattle.rc_model.specs.declared.builtin.Builtin.{Builtin}
 use Rattle.rc_model.specs.declared.builtin.Builtin.TheVariants.{Dot, BuiltinWord, Cd, Eval, Exec, Exit as ExitWord, Shift, Wait, Whatis}
-use Rattle.rc_model.specs.Run.Builtins.{builtin_named, Called, Finished, Body, BodyWith, finished, usage, as_body, as_body_with, opened_or, open_first, whole_file, run_file, dot, first_dir, dirs_of, first_member, cd, exit_status, shifted, shift, wait_child, wait_all, wait_one, wait_numbered, wait_for, Known, value_line, function_line, program_line, other_line, command_line, known_of, known_each, met, write_lines, whatis, exec, run_builtin, run_command, without_functions, run_named, run_words}
+use Rattle.rc_model.specs.Run.Builtins.{builtin_named, Called, Finished, Body, BodyWith, finished, usage, as_body, as_body_with, opened_or}
+use Rattle.rc_model.specs.Run.Builtins.{open_first, whole_file, run_file, dot, first_dir, dirs_of, first_member, cd, exit_status, shifted, shift}
+use Rattle.rc_model.specs.Run.Builtins.{wait_child, wait_all, wait_one, wait_numbered, wait_for, Known, value_line, function_line, program_line}
+use Rattle.rc_model.specs.Run.Builtins.{other_line, command_line, known_of, known_each, met, write_lines, whatis, exec, run_builtin, run_command}
+use Rattle.rc_model.specs.Run.Builtins.{without_functions, run_named, run_words}
 use Rattle.rc_model.specs.Handed.Proper.{IsProperTree, AllProperTrees}
 use Rattle.law_image.proofs.Proper.{proper_set, proper_same}
 use Rattle.law_syntax.proofs.Found.{finds_the_tree}
 use Rattle.law_handed.proofs.Characters.{accepted_are_scripts}
 use Rattle.law_handed.proofs.Parts.{AreParts, without_first, one_many, script_of}
 use Rattle.rc_model.specs.Handed.Started.{a_stage}
-use Rattle.law_handed.proofs.Safe.{alone, Gives, Keeps, bind, next, gives_pure, keeps_pure, keeps_skip, gives_exits, keeps_call, keeps_say, keeps_change, keeps_other, keeps_status, gives_from, gives_if}
+use Rattle.law_handed.proofs.Safe.{alone, Gives, Keeps, bind, next, gives_pure, keeps_pure, keeps_skip, gives_exits, keeps_call, keeps_say}
+use Rattle.law_handed.proofs.Safe.{keeps_change, keeps_other, keeps_status, gives_from, gives_if}
 use Rattle.law_handed.proofs.Acts.{gives_fails, keeps_close_end, keeps_waited, keeps_wait_each, gives_shell, keeps_find, keeps_program, keeps_read_all}
 
 -- the stages of a pipeline
 keeps_no_stages : (before : Option ℕ) (children : List ℕ) (why : List ℕ) → Keeps (no_stages before children why)
 keeps_no_stages before children why = next (close_end before) _ (keeps_close_end before) (keeps_pure (NotLaunched children why))
 
-keeps_next_stage : (go : Option ℕ → List ℕ → Shell LaunchedStages) → ((h : Option ℕ) (children : List ℕ) → Keeps (go h children)) → (before : Option ℕ) (children : List ℕ) (r w : ℕ) (b : Started) → Keeps (next_stage go before children r w b)
+keeps_next_stage : (go : Option ℕ → List ℕ → Shell LaunchedStages) → ((h : Option ℕ) (children : List ℕ) → Keeps (go h children))
+    → (before : Option ℕ) (children : List ℕ) (r w : ℕ) (b : Started) → Keeps (next_stage go before children r w b)
 keeps_next_stage go k before children r w (Child n) = next (say (close w)) _ (keeps_say (close w) tt) (next (close_end before) _ (keeps_close_end before) (k (Some r) (children ++ n ∷ [])))
 keeps_next_stage go k before children r w (NoChild why) = next (say (close w)) _ (keeps_say (close w) tt) (next (say (close r)) _ (keeps_say (close r) tt) (keeps_no_stages before children why))
 
-keeps_stage_with : (slots : Slots) (others : Many stage) → ((h : Option ℕ) (children : List ℕ) → Keeps (stages_from slots others h children)) → (body : Node cmd) → IsProperTree body → (slot : ℕ) (before : Option ℕ) (children : List ℕ) (o : Option (ℕ × ℕ))
+keeps_stage_with : (slots : Slots) (others : Many stage) → ((h : Option ℕ) (children : List ℕ) → Keeps (stages_from slots others h children))
+    → (body : Node cmd) → IsProperTree body → (slot : ℕ) (before : Option ℕ) (children : List ℕ) (o : Option (ℕ × ℕ))
     → Keeps (stage_with (stages_from slots others) slots body slot before children o)
 keeps_stage_with slots others k body b slot before children None = keeps_no_stages before children (codes "cannot pipe")
 keeps_stage_with slots others k body b slot before children (Some (r, w)) =
@@ -46,7 +55,8 @@ keeps_stages : (slots : Slots) (stages : Many stage) → AreParts stages → (be
 keeps_stages slots none p before children = keeps_pure (Launched before children)
 keeps_stages slots (more (Stage body slot) rest) p before children =
     let k = one_many (Stage body slot) rest p in
-    bind (call make_pipe) _ (keeps_call make_pipe tt) (λ a. keeps_stage_with slots rest (keeps_stages slots rest k.1) body (script_of (without_first (is_output slot) k.0)) slot before children (as_pair a))
+    bind (call make_pipe) _ (keeps_call make_pipe tt)
+    (λ a. keeps_stage_with slots rest (keeps_stages slots rest k.1) body (script_of (without_first (is_output slot) k.0)) slot before children (as_pair a))
 
 keeps_settled : (l : LaunchedStages) → Keeps (settled l)
 keeps_settled (Launched h children) = keeps_pure (Running h children)
@@ -145,7 +155,10 @@ keeps_wait_all (n ∷ ns) = next (wait_child n) _ (keeps_wait_child n) (keeps_wa
 
 gives_wait_numbered : (o : Option ℕ) → Gives CallsScript (wait_numbered o)
 gives_wait_numbered None = gives_usage
-gives_wait_numbered (Some n) = gives_from (λ s. finished (wait_one n s)) (λ t p. gives_finished (wait_one n t) (gives_if (list_any (λ m. m == n) t.background) (wait_child n) (set_status (codes "no such child")) (keeps_wait_child n) (keeps_status (codes "no such child"))))
+gives_wait_numbered (Some n) =
+    gives_from (λ s. finished (wait_one n s))
+    (λ t p. gives_finished (wait_one n t)
+    (gives_if (list_any (λ m. m == n) t.background) (wait_child n) (set_status (codes "no such child")) (keeps_wait_child n) (keeps_status (codes "no such child"))))
 
 gives_wait_for : (args : List (List ℕ)) → Gives CallsScript (wait_for args)
 gives_wait_for [] = next (set_status []) _ (keeps_status []) (gives_from (λ s. finished (wait_all s.background)) (λ t p. gives_finished (wait_all t.background) (keeps_wait_all t.background)))
@@ -208,7 +221,9 @@ gives_without slots [] = gives_usage
 gives_without slots (name ∷ args) = gives_command slots (without_functions slots args) (gives_without slots args) name args (builtin_named name)
 
 -- the body of a function
-body_if : (f : List ℕ × Node cmd) (fs : List (List ℕ × Node cmd)) (name : List ℕ) (c : Node cmd) → IsProperTree f.1 → (lookup (bytes_eq name) fs ≡ Some c → IsProperTree c) → (t : Bool) → (if t then Some f.1 else lookup (bytes_eq name) fs) ≡ Some c → IsProperTree c
+body_if : (f : List ℕ × Node cmd) (fs : List (List ℕ × Node cmd)) (name : List ℕ) (c : Node cmd) → IsProperTree f.1
+    → (lookup (bytes_eq name) fs ≡ Some c → IsProperTree c) → (t : Bool) → (if t then Some f.1 else lookup (bytes_eq name) fs) ≡ Some c
+    → IsProperTree c
 body_if f fs name c b h true e = let same : f.1 ≡ c = cc in subst IsProperTree same b
 body_if f fs name c b h false e = h e
 
@@ -222,4 +237,6 @@ gives_named slots name args None h = gives_without slots (name ∷ args)
 
 pub gives_words : (slots : Slots) (words : List (List ℕ)) → Gives CallsScript (run_words slots words)
 gives_words slots [] = gives_fails slots (codes "empty argument list")
-gives_words slots (name ∷ args) = gives_from (λ s. run_named slots name args (function_of s name)) (λ t p. gives_named slots name args (function_of t name) (λ c e. body_is_script t.functions name c p.bodies e))
+gives_words slots (name ∷ args) =
+    gives_from (λ s. run_named slots name args (function_of s name))
+    (λ t p. gives_named slots name args (function_of t name) (λ c e. body_is_script t.functions name c p.bodies e))

@@ -2,7 +2,9 @@
 use Rattle.std.proofs.Common.{◌≡◌, ℕ, zero, suc, List, [], ◌∷◌, ◌++◌, Option, Some, None, Bool, true, false, refl}
 use Rattle.std.specs.Prelude.{codes, not, ◌&&◌}
 use Rattle.rc_model.specs.Syntax.Words.{Word, written, word_texts, subject}
-use Rattle.rc_model.specs.Syntax.Tree.{guards, is_empty, has_no_items, Node, Many, cmd, arg, item, pair, redir, link, branch, none, more, Empty, Seq, Simple, Assign, Redirect, Pipeline, AndOr, Not, Subshell, If, IfNot, While, ForAll, For, Switch, Match, Define, Undefine, Brace, Lit, Concat, Paren, Var, Count, Flat, Sub, Back, Item, Pair, Open, Copy, Here, Link, Branch}
+use Rattle.rc_model.specs.Syntax.Tree.{guards, is_empty, has_no_items, Node, Many, cmd, arg, item, pair, redir, link, branch, none, more, Empty, Seq}
+use Rattle.rc_model.specs.Syntax.Tree.{Simple, Assign, Redirect, Pipeline, AndOr, Not, Subshell, If, IfNot, While, ForAll, For, Switch, Match, Define}
+use Rattle.rc_model.specs.Syntax.Tree.{Undefine, Brace, Lit, Concat, Paren, Var, Count, Flat, Sub, Back, Item, Pair, Open, Copy, Here, Link, Branch}
 use Rattle.rc_model.specs.Syntax.WellFormed.{has_some, has_several, has_stages, opens}
 use Rattle.rc_model.specs.declared.syntax.Logic.{Logic}
 use Rattle.rc_model.specs.declared.syntax.Logic.TheVariants.{And, Or}
@@ -15,13 +17,17 @@ use Rattle.rc_model.specs.Run.Shell.{Shell, Exit, under, leaves, skip, exits, ch
 use Rattle.rc_model.specs.Run.FileNames.{expanded}
 use Rattle.rc_model.specs.Run.Acts.{check, value_words, concat_words, match_status, open_one, open_here, variable, background, StartedStages, Running, Refused, start_stages, from_pipe, closing}
 use Rattle.rc_model.specs.Run.Builtins.{Called, Finished, Body, BodyWith, run_words}
-use Rattle.rc_model.specs.Run.Meaning.{checked, Runner, Caller, local_end, file_end, pipe_end, piped, called_means, if_true, linked, if_means, if_not_means, condition, turns, each_more, each, bound, if_so, cmd_means, arg_means, args_mean, parts_mean, more_parts_mean, items_mean, pairs_mean, redirs_mean, links_mean, branches_mean, meaning}
+use Rattle.rc_model.specs.Run.Meaning.{checked, Runner, Caller, local_end, file_end, pipe_end, piped, called_means, if_true, linked, if_means}
+use Rattle.rc_model.specs.Run.Meaning.{if_not_means, condition, turns, each_more, each, bound, if_so, cmd_means, arg_means, args_mean, parts_mean}
+use Rattle.rc_model.specs.Run.Meaning.{more_parts_mean, items_mean, pairs_mean, redirs_mean, links_mean, branches_mean, meaning}
 use Rattle.rc_model.specs.Run.Script.{waits, whole}
 use Rattle.rc_model.specs.Handed.Proper.{IsProperTree, IsProper}
 use Rattle.law_image.proofs.Proper.{proper_set, proper_push, proper_pop, proper_undefine}
 use Rattle.law_handed.proofs.Parts.{IsPart, AreParts, without_first, down, two, one_many, many_one, three, script_of, part_of}
-use Rattle.law_handed.proofs.Safe.{Safe, safe_under, EndsSo, Anything, Keeps, bind_so, bind, next, keeps_pure, keeps_skip, gives_exits, gives_stops, keeps_say, keeps_change, keeps_other, keeps_status, gives_choice, keeps_scope}
-use Rattle.law_handed.proofs.Acts.{gives_variable, keeps_value_words, keeps_count_words, keeps_flat_words, keeps_selected_words, keeps_concat, keeps_define, keeps_open_one, keeps_open_here, keeps_expanded, keeps_subshell, keeps_background, keeps_back}
+use Rattle.law_handed.proofs.Safe.{Safe, safe_under, EndsSo, Anything, Keeps, bind_so, bind, next, keeps_pure, keeps_skip, gives_exits, gives_stops}
+use Rattle.law_handed.proofs.Safe.{keeps_say, keeps_change, keeps_other, keeps_status, gives_choice, keeps_scope}
+use Rattle.law_handed.proofs.Acts.{gives_variable, keeps_value_words, keeps_count_words, keeps_flat_words, keeps_selected_words, keeps_concat}
+use Rattle.law_handed.proofs.Acts.{keeps_define, keeps_open_one, keeps_open_here, keeps_expanded, keeps_subshell, keeps_background, keeps_back}
 use Rattle.law_handed.proofs.Builtins.{keeps_start_stages, keeps_end_stages, CallsScript, gives_words}
 
 -- locals
@@ -89,11 +95,13 @@ keeps_if_so true m o km ko = km
 keeps_if_so false m o km ko = ko
 
 -- a file that is opened, and what is within
-keeps_within : (m : Shell ℕ) (slots : Slots) (slot : ℕ) (body : Slots → Runner) → Keeps m → ((slots : Slots) → Keeps (body slots)) → Keeps (λ s. under (m s) (λ h. file_end h (body (with_slot slots slot (to_file h)))) leaves)
+keeps_within : (m : Shell ℕ) (slots : Slots) (slot : ℕ) (body : Slots → Runner) → Keeps m → ((slots : Slots) → Keeps (body slots))
+    → Keeps (λ s. under (m s) (λ h. file_end h (body (with_slot slots slot (to_file h)))) leaves)
 keeps_within m slots slot body km kb = bind m _ km (λ h. keeps_file h (body (with_slot slots slot (to_file h))) (kb (with_slot slots slot (to_file h))))
 
 -- the turns of a `for`, whose name is taken last
-keeps_named : (slots : Slots) (name : Shell (List Word)) (vs : List (List ℕ)) (body : Runner) → Keeps name → Keeps body → Keeps (λ s. under (name s) (λ x. λ s. under (variable slots x s) (λ y. each y vs body) leaves) leaves)
+keeps_named : (slots : Slots) (name : Shell (List Word)) (vs : List (List ℕ)) (body : Runner) → Keeps name → Keeps body
+    → Keeps (λ s. under (name s) (λ x. λ s. under (variable slots x s) (λ y. each y vs body) leaves) leaves)
 keeps_named slots name vs body kn kb = bind name _ kn (λ x. bind_so (variable slots x) _ (gives_variable slots x) (λ y h. keeps_each y vs body h kb))
 
 -- a command, and where it is not guarded its check
@@ -116,7 +124,8 @@ module _ (call : Caller) (kc : (slots : Slots) (c : Node cmd) → IsProperTree c
     keeps_cmd (Seq items) g slots p = keeps_items items g slots (down p)
     keeps_cmd (Simple words) g slots p =
         bind (args_mean words call n slots []) _ (keeps_args words slots [] (without_first (has_some words) (down p)))
-        (λ v. bind (expanded v) _ (keeps_expanded v) (λ w. keeps_checked g _ (bind_so (run_words slots (word_texts w)) (called_means call slots) (gives_words slots (word_texts w)) (keeps_called slots))))
+        (λ v. bind (expanded v) _ (keeps_expanded v)
+        (λ w. keeps_checked g _ (bind_so (run_words slots (word_texts w)) (called_means call slots) (gives_words slots (word_texts w)) (keeps_called slots))))
     keeps_cmd (Assign pairs body) g slots p =
         let k = many_one pairs body (without_first (has_some pairs) (down p)) in
         keeps_pairs pairs (is_empty body) (cmd_means body g call n slots) slots k.0 (keeps_cmd body g slots k.1)
@@ -125,7 +134,8 @@ module _ (call : Caller) (kc : (slots : Slots) (c : Node cmd) → IsProperTree c
         keeps_redirs redirs (cmd_means body g call n) k.0 (λ slots. keeps_cmd body g slots k.1) slots
     keeps_cmd (Pipeline stages last) g slots p =
         let k = many_one stages last (without_first (has_stages stages) (down p)) in
-        bind (start_stages slots stages) (piped slots (cmd_means last g call n)) (keeps_start_stages slots stages k.0) (keeps_piped slots (cmd_means last g call n) (λ slots. keeps_cmd last g slots k.1))
+        bind (start_stages slots stages) (piped slots (cmd_means last g call n)) (keeps_start_stages slots stages k.0)
+        (keeps_piped slots (cmd_means last g call n) (λ slots. keeps_cmd last g slots k.1))
     keeps_cmd (AndOr first links) g slots p =
         let k = one_many first links (without_first (has_some links) (down p)) in
         next (cmd_means first (guards links g) call n slots) _ (keeps_cmd first (guards links g) slots k.0) (keeps_links links g slots k.1)
@@ -137,7 +147,8 @@ module _ (call : Caller) (kc : (slots : Slots) (c : Node cmd) → IsProperTree c
     keeps_cmd (IfNot body) g slots p = keeps_if_not (cmd_means body g call n slots) (keeps_cmd body g slots (down p))
     keeps_cmd (While test body) g slots p =
         let k = two test body (down p) in
-        keeps_turns n (condition (has_no_items test) (cmd_means test true call n slots)) (cmd_means body g call n slots) (keeps_condition (has_no_items test) (cmd_means test true call n slots) (keeps_cmd test true slots k.0)) (keeps_cmd body g slots k.1)
+        keeps_turns n (condition (has_no_items test) (cmd_means test true call n slots)) (cmd_means body g call n slots)
+        (keeps_condition (has_no_items test) (cmd_means test true call n slots) (keeps_cmd test true slots k.0)) (keeps_cmd body g slots k.1)
     keeps_cmd (ForAll name body) g slots p =
         let k = two name body (down p) in
         bind (value_words slots (written (codes "*") false ∷ [])) _ (keeps_value_words slots (written (codes "*") false ∷ []))
@@ -145,17 +156,21 @@ module _ (call : Caller) (kc : (slots : Slots) (c : Node cmd) → IsProperTree c
     keeps_cmd (For name words body) g slots p =
         let k = three name words body (down p) in
         bind (args_mean words call n slots []) _ (keeps_args words slots [] k.1)
-        (λ v. bind (expanded v) _ (keeps_expanded v) (λ w. keeps_named slots (arg_means name call n slots) (word_texts w) (cmd_means body g call n slots) (keeps_arg name slots k.0) (keeps_cmd body g slots k.2)))
+        (λ v. bind (expanded v) _ (keeps_expanded v)
+        (λ w. keeps_named slots (arg_means name call n slots) (word_texts w) (cmd_means body g call n slots) (keeps_arg name slots k.0) (keeps_cmd body g slots k.2)))
     keeps_cmd (Switch word branches) g slots p =
         let k = one_many word branches (down p) in
         bind (arg_means word call n slots) _ (keeps_arg word slots k.0) (λ v. keeps_branches branches g (subject v) slots k.1)
     keeps_cmd (Match word patterns) g slots p =
         let k = one_many word patterns (down p) in
-        bind (arg_means word call n slots) _ (keeps_arg word slots k.0) (λ v. bind (args_mean patterns call n slots []) _ (keeps_args patterns slots [] k.1) (λ ps. keeps_status (match_status (subject v) ps)))
+        bind (arg_means word call n slots) _ (keeps_arg word slots k.0)
+        (λ v. bind (args_mean patterns call n slots []) _ (keeps_args patterns slots [] k.1) (λ ps. keeps_status (match_status (subject v) ps)))
     keeps_cmd (Define names body) g slots p =
         let k = many_one names body (without_first (has_some names) (down p)) in
         bind (args_mean names call n slots []) _ (keeps_args names slots [] k.0) (λ v. keeps_define slots (word_texts v) body (script_of k.1))
-    keeps_cmd (Undefine names) g slots p = bind (args_mean names call n slots []) _ (keeps_args names slots [] (without_first (has_some names) (down p))) (λ v. keeps_change (λ s. undefine s (word_texts v)) (λ s q. proper_undefine s (word_texts v) q))
+    keeps_cmd (Undefine names) g slots p =
+        bind (args_mean names call n slots []) _ (keeps_args names slots [] (without_first (has_some names) (down p)))
+        (λ v. keeps_change (λ s. undefine s (word_texts v)) (λ s q. proper_undefine s (word_texts v) q))
     keeps_cmd (Brace body) g slots p = keeps_cmd body g slots (down p)
 
     keeps_arg : (w : Node arg) (slots : Slots) → IsPart w → Keeps (arg_means w call n slots)
@@ -204,15 +219,19 @@ module _ (call : Caller) (kc : (slots : Slots) (c : Node cmd) → IsProperTree c
     keeps_redirs (more (Open mode slot path) rest) body p kb slots =
         let k = one_many (Open mode slot path) rest p in
         bind (arg_means path call n slots) _ (keeps_arg path slots (without_first (opens mode slot) k.0))
-        (λ v. bind (expanded v) _ (keeps_expanded v) (λ w. keeps_within (open_one slots mode (word_texts w)) slots slot (redirs_mean rest body call n) (keeps_open_one slots mode (word_texts w)) (keeps_redirs rest body k.1 kb)))
+        (λ v. bind (expanded v) _ (keeps_expanded v)
+        (λ w. keeps_within (open_one slots mode (word_texts w)) slots slot (redirs_mean rest body call n) (keeps_open_one slots mode (word_texts w)) (keeps_redirs rest body k.1 kb)))
     keeps_redirs (more (Copy to from) rest) body p kb slots = keeps_redirs rest body (one_many (Copy to from) rest p).1 kb (with_slot slots to (slot_of slots from))
-    keeps_redirs (more (Here pieces) rest) body p kb slots = keeps_within (open_here slots pieces) slots 0 (redirs_mean rest body call n) (keeps_open_here slots pieces) (keeps_redirs rest body (one_many (Here pieces) rest p).1 kb)
+    keeps_redirs (more (Here pieces) rest) body p kb slots =
+        keeps_within (open_here slots pieces) slots 0 (redirs_mean rest body call n) (keeps_open_here slots pieces)
+        (keeps_redirs rest body (one_many (Here pieces) rest p).1 kb)
 
     keeps_links : (l : Many link) (g : Bool) (slots : Slots) → AreParts l → Keeps (links_mean l g call n slots)
     keeps_links none g slots p = keeps_skip
     keeps_links (more (Link logic c) rest) g slots p =
         let k = one_many (Link logic c) rest p in
-        next (linked logic (cmd_means c (guards rest g) call n slots)) _ (keeps_linked logic (cmd_means c (guards rest g) call n slots) (keeps_cmd c (guards rest g) slots k.0)) (keeps_links rest g slots k.1)
+        next (linked logic (cmd_means c (guards rest g) call n slots)) _
+        (keeps_linked logic (cmd_means c (guards rest g) call n slots) (keeps_cmd c (guards rest g) slots k.0)) (keeps_links rest g slots k.1)
 
     keeps_branches : (l : Many branch) (g : Bool) (word : List Word) (slots : Slots) → AreParts l → Keeps (branches_mean l g word call n slots)
     keeps_branches none g word slots p = keeps_skip

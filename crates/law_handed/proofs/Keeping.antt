@@ -1,9 +1,14 @@
 -- The trees that the code of a tree keeps are trees that a shell holds, if that tree is one.
 use Rattle.std.proofs.Common.{◌≡◌, ℕ, List, [], ◌∷◌, ◌++◌, Bool, true, false}
-use Rattle.rc_model.specs.Syntax.Tree.{guards, is_empty, has_no_items, count, Node, Many, cmd, arg, item, pair, redir, link, branch, none, more, Empty, Seq, Simple, Assign, Redirect, Pipeline, AndOr, Not, Subshell, If, IfNot, While, ForAll, For, Switch, Match, Define, Undefine, Brace, Lit, Concat, Paren, Var, Count, Flat, Sub, Back, Item, Pair, Open, Copy, Here, Link, Branch}
+use Rattle.rc_model.specs.Syntax.Tree.{guards, is_empty, has_no_items, count, Node, Many, cmd, arg, item, pair, redir, link, branch, none, more}
+use Rattle.rc_model.specs.Syntax.Tree.{Empty, Seq, Simple, Assign, Redirect, Pipeline, AndOr, Not, Subshell, If, IfNot, While, ForAll, For, Switch}
+use Rattle.rc_model.specs.Syntax.Tree.{Match, Define, Undefine, Brace, Lit, Concat, Paren, Var, Count, Flat, Sub, Back, Item, Pair, Open, Copy, Here}
+use Rattle.rc_model.specs.Syntax.Tree.{Link, Branch}
 use Rattle.rc_model.specs.Syntax.WellFormed.{has_some, has_several, has_stages, opens}
 use Rattle.rc_model.specs.Code.Layout as l
-use Rattle.rc_model.specs.Code.Layout.{Op, Kept, KeptTree, Part, Nothing, Do, Keep, ◌⨾◌, Past, Loop, Either, kept_of, condition_code, unlocal, run_code, cmd_code, arg_code, args_code, parts_code, more_parts_code, items_code, pairs_code, redirs_code, links_code, branches_code}
+use Rattle.rc_model.specs.Code.Layout.{Op, Kept, KeptTree, Part, Nothing, Do, Keep, ◌⨾◌, Past, Loop, Either, kept_of, condition_code, unlocal}
+use Rattle.rc_model.specs.Code.Layout.{run_code, cmd_code, arg_code, args_code, parts_code, more_parts_code, items_code, pairs_code, redirs_code}
+use Rattle.rc_model.specs.Code.Layout.{links_code, branches_code}
 use Rattle.rc_model.specs.Handed.Proper.{IsProperTree}
 use Rattle.law_handed.specs.Kept.{AllKeptProper, CodeKeepsProper}
 use Rattle.law_handed.proofs.Parts.{IsPart, AreParts, without_first, down, two, one_many, many_one, three, script_of, part_of}

@@ -44,7 +44,8 @@ one_many x ys r = parted (is_sound x) (are_sound ys) (has_characters x) (all_hav
 pub many_one : {s u : Sort} (xs : Many s) (y : Node u) → Right (are_sound xs && is_sound y) (all_have xs && has_characters y) (max (depths xs) (depth y)) → AreParts xs × IsPart y
 many_one xs y r = parted (are_sound xs) (is_sound y) (all_have xs) (has_characters y) (depths xs) (depth y) r
 
-pub three : {s u v : Sort} (x : Node s) (ys : Many u) (z : Node v) → Right (is_sound x && (are_sound ys && is_sound z)) (has_characters x && (all_have ys && has_characters z)) (max (depth x) (max (depths ys) (depth z)))
+pub three : {s u v : Sort} (x : Node s) (ys : Many u) (z : Node v)
+    → Right (is_sound x && (are_sound ys && is_sound z)) (has_characters x && (all_have ys && has_characters z)) (max (depth x) (max (depths ys) (depth z)))
     → IsPart x × AreParts ys × IsPart z
 three x ys z r =
     let k = parted (is_sound x) (are_sound ys && is_sound z) (has_characters x) (all_have ys && has_characters z) (depth x) (max (depths ys) (depth z)) r in

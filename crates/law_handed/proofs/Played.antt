@@ -92,7 +92,8 @@ next_by c go b e before later rest false h ih k =
     let tail : calls_made r ≡ calls (before ++ e ∷ later) ++ rest = cc in
     ih tail
 
-next_call : {X : Type 0} (p : Plan X) (before later : List Event) (e : Event) (rest : List Call) → calls_made (play p (answers (before ++ e ∷ later))) ≡ calls (before ++ e ∷ later) ++ rest → Next_ (plan_after p (answers before)) e.call
+next_call : {X : Type 0} (p : Plan X) (before later : List Event) (e : Event) (rest : List Call)
+    → calls_made (play p (answers (before ++ e ∷ later))) ≡ calls (before ++ e ∷ later) ++ rest → Next_ (plan_after p (answers before)) e.call
 next_call (done_with x) before later e rest k = absurd (more_to_come before later e rest k)
 next_call cut before later e rest k = absurd (more_to_come before later e rest k)
 next_call (ask c go) [] later e rest k =

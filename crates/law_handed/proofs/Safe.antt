@@ -30,7 +30,8 @@ alone (ask c more) = λ i. ask c (λ x. alone (more x) i)
 alone cut = refl
 
 -- what is at the start of a shell is so with what follows it, too
-starts_under : {A X : Type 0} (q : Plan (ShellResult A)) (go : A → State → Plan X) (leave : State → List ℕ → Plan X) (slots : Slots) (body : Node cmd) (s : State) → Starts (ShellResult A) q slots body s → Starts X (under q go leave) slots body s
+starts_under : {A X : Type 0} (q : Plan (ShellResult A)) (go : A → State → Plan X) (leave : State → List ℕ → Plan X) (slots : Slots) (body : Node cmd) (s : State)
+    → Starts (ShellResult A) q slots body s → Starts X (under q go leave) slots body s
 starts_under q go leave slots body s (a_stage outer slot others before children r w f l is at) =
     a_stage outer slot others before children r w (λ a t. under (f a t) go leave) (λ t owed. under (l t owed) go leave)
     (ap (λ z. under z go leave) is ∙ under_under (stage_with (stages_from outer others) outer body slot before children (Some (r, w)) s) f l go leave) at
@@ -41,7 +42,8 @@ starts_under q go leave slots body s (a_job outer file f l is at) =
 starts_under q go leave slots body s (a_backquote outer r w f l is at) =
     a_backquote outer r w (λ a t. under (f a t) go leave) (λ t owed. under (l t owed) go leave) (ap (λ z. under z go leave) is ∙ under_under (back_pipe outer body (Some (r, w)) s) f l go leave) at
 
-launched_under : {A X : Type 0} (q : Plan (ShellResult A)) (go : A → State → Plan X) (leave : State → List ℕ → Plan X) (l : Launch) (o : Option (List ℕ)) → LaunchedByRule (ShellResult A) q l o → LaunchedByRule X (under q go leave) l o
+launched_under : {A X : Type 0} (q : Plan (ShellResult A)) (go : A → State → Plan X) (leave : State → List ℕ → Plan X) (l : Launch) (o : Option (List ℕ))
+    → LaunchedByRule (ShellResult A) q l o → LaunchedByRule X (under q go leave) l o
 launched_under q go leave l None h = record {
   body = h.body;
   state = h.state;
@@ -164,6 +166,7 @@ gives_choice {Q = Q} test m o km ko = record { by = λ s p. by_test s p (test s)
     by_test s p false = ko.by s p
 
 -- a scope, however its body ends
-pub keeps_scope : (m : Runner) (go : Unit {0} → Runner) (leave : State → List ℕ → Plan (ShellResult (Unit {0}))) → Keeps m → ((x : Unit {0}) → Keeps (go x)) → ((t : State) (owed : List ℕ) → IsProper t → Safe (leave t owed) (EndsSo Anything))
+pub keeps_scope : (m : Runner) (go : Unit {0} → Runner) (leave : State → List ℕ → Plan (ShellResult (Unit {0}))) → Keeps m
+    → ((x : Unit {0}) → Keeps (go x)) → ((t : State) (owed : List ℕ) → IsProper t → Safe (leave t owed) (EndsSo Anything))
     → Keeps (λ s. under (m s) go leave)
 keeps_scope m go leave km kg kl = record { by = λ s p. safe_under (m s) go leave (EndsSo Anything) (EndsSo Anything) (km.by s p) (λ x t h. (kg x).by t h.1) kl }

@@ -93,7 +93,9 @@ longest_is limit text u =
 -- the first piece of a text is the longest
 piece_is : (limit : ℕ) (text piece rest : List ℕ) → IsUtf8 text → text ≡ piece ++ rest → IsLongest limit text piece → (piece ≡ first_piece limit text) × (rest ≡ past_piece limit text)
 piece_is limit text piece rest u cut l =
-    let n : length piece ≡ last_cut limit text = same_last limit text (length piece) (last_cut limit text) (record { within = l.short; between = l.between; last = l.longest }) (last_is limit text u) in (
+    let n : length piece ≡ last_cut limit text =
+    same_last limit text (length piece) (last_cut limit text) (record { within = l.short; between = l.between; last = l.longest })
+    (last_is limit text u) in (
       sym (take-append_seam piece rest) ∙ ap (take (length piece)) (sym cut) ∙ ap (λ n. take n text) n,
       sym (drop-append_seam piece rest) ∙ ap (drop (length piece)) (sym cut) ∙ ap (λ n. drop n text) n,
     )
@@ -117,10 +119,15 @@ found_pieces zero limit (b ∷ bs) words u h = absurd (cc)
 found_pieces (suc most) limit (b ∷ bs) words u h =
     let m = mapped_back (λ rest. first_piece limit (b ∷ bs) ∷ rest) (pieces most limit (past_piece limit (b ∷ bs))) words h in
     let more = found_pieces most limit (past_piece limit (b ∷ bs)) m.0 (rest_utf8 limit (b ∷ bs) u) m.1 in
-    subst (λ w. ArePieces limit (b ∷ bs) w × (length w ≤ suc most)) m.2
-    (next (b ∷ bs) (first_piece limit (b ∷ bs)) (past_piece limit (b ∷ bs)) m.0 (not_empty b bs) (sym (take-append-drop (last_cut limit (b ∷ bs)) (b ∷ bs))) (longest_is limit (b ∷ bs) u) more.0, omega (arith, more.1))
+    subst (λ w. ArePieces limit (b ∷ bs) w × (length w ≤ suc most)) m.2 (
+      next (b ∷ bs) (first_piece limit (b ∷ bs)) (past_piece limit (b ∷ bs)) m.0 (not_empty b bs)
+          (sym (take-append-drop (last_cut limit (b ∷ bs)) (b ∷ bs))) (longest_is limit (b ∷ bs) u) more.0,
+      omega (arith, more.1),
+    )
 
-one_more : (most limit : ℕ) (text piece rest : List ℕ) (words : List (List ℕ)) → (text ≡ [] → ⊥) → (piece ≡ first_piece limit text) × (rest ≡ past_piece limit text) → pieces most limit rest ≡ Some words → pieces (suc most) limit text ≡ Some (piece ∷ words)
+one_more : (most limit : ℕ) (text piece rest : List ℕ) (words : List (List ℕ)) → (text ≡ [] → ⊥)
+    → (piece ≡ first_piece limit text) × (rest ≡ past_piece limit text) → pieces most limit rest ≡ Some words
+    → pieces (suc most) limit text ≡ Some (piece ∷ words)
 unfolding pieces
 one_more most limit [] piece rest words ne p h = absurd (ne refl)
 one_more most limit (b ∷ bs) piece rest words ne p h =

@@ -11,9 +11,12 @@ use Rattle.rc_model.specs.Syntax.Tree.{Node, cmd}
 use Rattle.rc_model.specs.Run.State.{State, status_name, is_function_name}
 use Rattle.rc_model.specs.Handed.Image.{stays_behind}
 use Rattle.rc_model.specs.Handed.TreeReading.{read_tree}
-use Rattle.rc_model.specs.Handed.Environment.{Bindings, Variables, Functions, unescaped, entry_members, cut_entry, with_first, with_cut, bindings, is_variable, variables_in, status_in, with_args, own_functions, own_status, fresh_state, read_state}
+use Rattle.rc_model.specs.Handed.Environment.{Bindings, Variables, Functions, unescaped, entry_members, cut_entry, with_first, with_cut, bindings}
+use Rattle.rc_model.specs.Handed.Environment.{is_variable, variables_in, status_in, with_args, own_functions, own_status, fresh_state, read_state}
 use Rattle.rc_model.specs.Handed.Proper.{IsProper}
-use Rattle.rc_model.specs.Handed.Denoted.{IsEntryOf, FirstOf, here, later, begins_letter, IsWritten, nothing, one, two, alone, itself, is_part, AreWritten, last, next, HasMembers, from_args, from_entry, HasBody, HasStatus, handed, null, Denotes, ReadsWhatIsDenoted}
+use Rattle.rc_model.specs.Handed.Denoted.{IsEntryOf, FirstOf, here, later, begins_letter, IsWritten, nothing, one, two, alone, itself, is_part}
+use Rattle.rc_model.specs.Handed.Denoted.{AreWritten, last, next, HasMembers, from_args, from_entry, HasBody, HasStatus, handed, null, Denotes}
+use Rattle.rc_model.specs.Handed.Denoted.{ReadsWhatIsDenoted}
 use Rattle.law_image.proofs.Exact.{ok_inj, bind_back, bind_on}
 use Rattle.law_image.proofs.Trees.{reads_spellings}
 use Rattle.law_image.proofs.Members.{is_one, past_other, split_last, split_first, cut_back}
@@ -32,7 +35,8 @@ Pair = List ℕ × List ℕ
 abbrev Same : Pair → Pair → Type 0
 Same p q = p ≡ q
 
-cut_more : (b : ℕ) (bs name text : List ℕ) (o : Option (List ℕ × List ℕ)) → ((n t : List ℕ) → o ≡ Some (n, t) → IsEntryOf n t bs) → (b == 61) ≡ false → with_first b o ≡ Some (name, text) → IsEntryOf name text (b ∷ bs)
+cut_more : (b : ℕ) (bs name text : List ℕ) (o : Option (List ℕ × List ℕ)) → ((n t : List ℕ) → o ≡ Some (n, t) → IsEntryOf n t bs) → (b == 61) ≡ false
+    → with_first b o ≡ Some (name, text) → IsEntryOf name text (b ∷ bs)
 cut_more b bs name text None f h g = absurd cc
 cut_more b bs name text (Some x) f h g =
     let k = f x.0 x.1 refl in
@@ -44,7 +48,8 @@ cut_more b bs name text (Some x) f h g =
       whole = subst (λ z. list_all (λ b. not (b == 61)) z ≡ true) front (and_from (not (b == 61)) (list_all (λ b. not (b == 61)) x.0) (not_from_false (b == 61) h) k.whole);
     }
 
-cut_by : (b : ℕ) (bs name text : List ℕ) (t : Bool) → (b == 61) ≡ t → ((n u : List ℕ) → cut_entry bs ≡ Some (n, u) → IsEntryOf n u bs) → (if t then Some ([], bs) else with_first b (cut_entry bs)) ≡ Some (name, text) → IsEntryOf name text (b ∷ bs)
+cut_by : (b : ℕ) (bs name text : List ℕ) (t : Bool) → (b == 61) ≡ t → ((n u : List ℕ) → cut_entry bs ≡ Some (n, u) → IsEntryOf n u bs)
+    → (if t then Some ([], bs) else with_first b (cut_entry bs)) ≡ Some (name, text) → IsEntryOf name text (b ∷ bs)
 cut_by b bs name text true h f g =
     let pair : Same ([], bs) (name, text) = cc in
     let front : [] ≡ name = ap (λ z. z.0) pair in
@@ -82,7 +87,8 @@ found_head name text e es b false c h f g =
     let pair : Same (name, other) b = cc in
     false≢true (sym h ∙ (bytes_eq-Decides name b.0).1 (ap (λ z. z.0) pair))) (f g)
 
-found_by : (name text e : List ℕ) (es : List (List ℕ)) (o : Option (List ℕ × List ℕ)) → cut_entry e ≡ o → (find name (bindings es) ≡ Some text → FirstOf name text es) → find name (with_cut o (bindings es)) ≡ Some text → FirstOf name text (e ∷ es)
+found_by : (name text e : List ℕ) (es : List (List ℕ)) (o : Option (List ℕ × List ℕ)) → cut_entry e ≡ o
+    → (find name (bindings es) ≡ Some text → FirstOf name text es) → find name (with_cut o (bindings es)) ≡ Some text → FirstOf name text (e ∷ es)
 found_by name text e es None h f g = later e es (λ other i. let q = cut_of e name other i in absurd cc) (f g)
 found_by name text e es (Some b) h f g = found_head name text e es b (bytes_eq name b.0) h refl f g
 
@@ -107,9 +113,15 @@ unescaped_is m bytes (itself b n bs h k) = past_other b bs h ∙ ap (λ z. b ∷
 
 written_by : (b c : ℕ) (rest : List ℕ) (t u v : Bool) → (b == 2) ≡ t → (c == 65) ≡ u → (c == 66) ≡ v → IsWritten (unescaped rest) rest → IsWritten (unescaped (c ∷ rest)) (c ∷ rest)
     → IsWritten (if t then (if u then 1 ∷ unescaped rest else (if v then 2 ∷ unescaped rest else 2 ∷ unescaped (c ∷ rest))) else b ∷ unescaped (c ∷ rest)) (b ∷ c ∷ rest)
-written_by b c rest true true v h k l far near = subst (λ z. IsWritten (1 ∷ unescaped rest) (z ∷ c ∷ rest)) (sym (eqb-true b 2 h)) (subst (λ z. IsWritten (1 ∷ unescaped rest) (2 ∷ z ∷ rest)) (sym (eqb-true c 65 k)) (one (unescaped rest) rest far))
-written_by b c rest true false true h k l far near = subst (λ z. IsWritten (2 ∷ unescaped rest) (z ∷ c ∷ rest)) (sym (eqb-true b 2 h)) (subst (λ z. IsWritten (2 ∷ unescaped rest) (2 ∷ z ∷ rest)) (sym (eqb-true c 66 l)) (two (unescaped rest) rest far))
-written_by b c rest true false false h k l far near = subst (λ z. IsWritten (2 ∷ unescaped (c ∷ rest)) (z ∷ c ∷ rest)) (sym (eqb-true b 2 h)) (alone (unescaped (c ∷ rest)) (c ∷ rest) (or_from (c == 65) (c == 66) k l) near)
+written_by b c rest true true v h k l far near =
+    subst (λ z. IsWritten (1 ∷ unescaped rest) (z ∷ c ∷ rest)) (sym (eqb-true b 2 h))
+    (subst (λ z. IsWritten (1 ∷ unescaped rest) (2 ∷ z ∷ rest)) (sym (eqb-true c 65 k)) (one (unescaped rest) rest far))
+written_by b c rest true false true h k l far near =
+    subst (λ z. IsWritten (2 ∷ unescaped rest) (z ∷ c ∷ rest)) (sym (eqb-true b 2 h))
+    (subst (λ z. IsWritten (2 ∷ unescaped rest) (2 ∷ z ∷ rest)) (sym (eqb-true c 66 l)) (two (unescaped rest) rest far))
+written_by b c rest true false false h k l far near =
+    subst (λ z. IsWritten (2 ∷ unescaped (c ∷ rest)) (z ∷ c ∷ rest)) (sym (eqb-true b 2 h))
+    (alone (unescaped (c ∷ rest)) (c ∷ rest) (or_from (c == 65) (c == 66) k l) near)
 written_by b c rest false u v h k l far near = itself b (unescaped (c ∷ rest)) (c ∷ rest) h near
 
 last_byte : (b : ℕ) (t : Bool) → (b == 2) ≡ t → IsWritten (b ∷ []) (b ∷ [])
@@ -135,7 +147,8 @@ onto : (b : ℕ) (parts : List (List ℕ)) (text : List ℕ) → (b == 1) ≡ fa
 onto b parts text h (last_part part p) = last_part (b ∷ part) (and_from (not (b == 1)) (is_part part) (not_from_false (b == 1) h) p)
 onto b parts text h (next_part part more rest text' is p k) = next_part (b ∷ part) more rest (b ∷ text') (ap (λ z. b ∷ z) is) (and_from (not (b == 1)) (is_part part) (not_from_false (b == 1) h) p) k
 
-parts_by : (b : ℕ) (text : List ℕ) (t : Bool) → (b == 1) ≡ t → Parts (slice_split is_one text) text → Parts (if t then [] ∷ slice_split is_one text else onto_first b (slice_split is_one text)) (b ∷ text)
+parts_by : (b : ℕ) (text : List ℕ) (t : Bool) → (b == 1) ≡ t → Parts (slice_split is_one text) text
+    → Parts (if t then [] ∷ slice_split is_one text else onto_first b (slice_split is_one text)) (b ∷ text)
 parts_by b text true h k = next_part [] (slice_split is_one text) text (b ∷ text) (ap (λ z. z ∷ text) (eqb-true b 1 h)) refl k
 parts_by b text false h k = onto b (slice_split is_one text) text h k
 
@@ -177,7 +190,8 @@ variable_found (b ∷ bs) q = variable_step b bs q (is_variable b.0) (bytes_eq q
 abbrev Valued : (args entries : List (List ℕ)) → List ℕ → List (List (List ℕ)) → Type 0
 Valued args entries name values = (members : List (List ℕ)) × (values ≡ members ∷ []) × HasMembers args entries name members
 
-valued_by : (args entries : List (List ℕ)) (name : List ℕ) (values : List (List (List ℕ))) (t : Bool) (o : Option (List ℕ)) → is_variable name ≡ t → find name (bindings entries) ≡ o → value_in t o ≡ Some values → Valued args entries name values
+valued_by : (args entries : List (List ℕ)) (name : List ℕ) (values : List (List (List ℕ))) (t : Bool) (o : Option (List ℕ)) → is_variable name ≡ t
+    → find name (bindings entries) ≡ o → value_in t o ≡ Some values → Valued args entries name values
 valued_by args entries name values true None h k g = absurd cc
 valued_by args entries name values true (Some text) h k g =
     let is : values ≡ entry_members text ∷ [] = cc in
@@ -194,7 +208,8 @@ valued_args_by a args entries name values true h g =
     (a ∷ args, is, from_args ((bytes_eq-Decides name (codes "*")).0 h) refl (λ e. absurd cc))
 valued_args_by a args entries name values false h g = valued (a ∷ args) entries name values g
 
-valued_args : (args entries : List (List ℕ)) (name : List ℕ) (values : List (List (List ℕ))) → find name (with_args args (variables_in (bindings entries))) ≡ Some values → Valued args entries name values
+valued_args : (args entries : List (List ℕ)) (name : List ℕ) (values : List (List (List ℕ)))
+    → find name (with_args args (variables_in (bindings entries))) ≡ Some values → Valued args entries name values
 valued_args [] entries name values g = valued [] entries name values g
 valued_args (a ∷ args) entries name values g =
     valued_args_by a args entries name values (bytes_eq name (codes "*")) refl (sym (find_insert name (variables_in (bindings entries)) (codes "*") ((a ∷ args) ∷ [])) ∙ g)
@@ -209,14 +224,16 @@ past_args (a ∷ args) vs name h =
     let kept : (bytes_eq name (codes "*") || bytes_eq name status_name) ≡ false = not-true _ (and_parts _ (not (stays_behind name)) h).1 in
     find_insert name vs (codes "*") ((a ∷ args) ∷ []) ∙ ap (λ t. if t then Some ((a ∷ args) ∷ []) else find name vs) (or_parts (bytes_eq name (codes "*")) (bytes_eq name status_name) kept).0
 
-has_members : (args entries : List (List ℕ)) (name : List ℕ) (members : List (List ℕ)) → HasMembers args entries name members → find name (with_args args (variables_in (bindings entries))) ≡ Some (members ∷ [])
+has_members : (args entries : List (List ℕ)) (name : List ℕ) (members : List (List ℕ)) → HasMembers args entries name members
+    → find name (with_args args (variables_in (bindings entries))) ≡ Some (members ∷ [])
 has_members args entries name members (from_args at is some) =
     ap (λ z. find z (with_args args (variables_in (bindings entries)))) at ∙ star_found args (variables_in (bindings entries)) some ∙ ap (λ z. Some (z ∷ [])) (sym is)
 has_members args entries name members (from_entry text h f w) =
     past_args args (variables_in (bindings entries)) name h ∙ variable_found (bindings entries) name
     ∙ ap (λ z. value_in z (find name (bindings entries))) h ∙ ap (value_in true) (first_found name text entries f) ∙ ap (λ z. Some (z ∷ [])) (members_are members text w)
 
-variables_so : (args entries : List (List ℕ)) (name : List ℕ) (values : List (List (List ℕ))) → (find name (with_args args (variables_in (bindings entries))) ≡ Some values) ↔ Valued args entries name values
+variables_so : (args entries : List (List ℕ)) (name : List ℕ) (values : List (List (List ℕ)))
+    → (find name (with_args args (variables_in (bindings entries))) ≡ Some values) ↔ Valued args entries name values
 variables_so args entries name values = (valued_args args entries name values, λ v. has_members args entries name v.0 v.2 ∙ ap Some (sym v.1))
 
 -- ** the status
@@ -229,13 +246,16 @@ other_way : (a b : List ℕ) (t : Bool) → bytes_eq b a ≡ t → bytes_eq a b 
 other_way a b true h = (bytes_eq-Decides a b).1 (sym ((bytes_eq-Decides b a).0 h))
 other_way a b false h = turned b a h
 
-status_step : (b : List ℕ × List ℕ) (bs : Bindings) (t : Bool) → status_in bs ≡ status_by (find status_name bs) → (if t then spaced (entry_members b.1) else status_in bs) ≡ status_by (if t then Some b.1 else find status_name bs)
+status_step : (b : List ℕ × List ℕ) (bs : Bindings) (t : Bool) → status_in bs ≡ status_by (find status_name bs)
+    → (if t then spaced (entry_members b.1) else status_in bs) ≡ status_by (if t then Some b.1 else find status_name bs)
 status_step b bs true f = refl
 status_step b bs false f = f
 
 status_found : (bs : Bindings) → status_in bs ≡ status_by (find status_name bs)
 status_found [] = refl
-status_found (b ∷ bs) = ap (λ t. if t then spaced (entry_members b.1) else status_in bs) (other_way b.0 status_name (bytes_eq status_name b.0) refl) ∙ status_step b bs (bytes_eq status_name b.0) (status_found bs)
+status_found (b ∷ bs) =
+    ap (λ t. if t then spaced (entry_members b.1) else status_in bs) (other_way b.0 status_name (bytes_eq status_name b.0) refl) ∙ status_step b bs
+    (bytes_eq status_name b.0) (status_found bs)
 
 status_has_by : (entries : List (List ℕ)) (o : Option (List ℕ)) → find status_name (bindings entries) ≡ o → HasStatus true entries (status_in (bindings entries))
 status_has_by entries None h = null (λ e text f. let there = first_found status_name text entries f in absurd cc) (status_found (bindings entries) ∙ ap status_by h)
@@ -250,7 +270,8 @@ no_status entries n None h = refl
 no_status entries n (Some text) h = absurd (n text (found_first status_name text entries h))
 
 status_is : (own : Bool) (entries : List (List ℕ)) (status : List ℕ) → HasStatus own entries status → status ≡ own_status own (bindings entries)
-status_is true entries status (handed text members o f w is) = is ∙ ap spaced (sym (members_are members text w)) ∙ sym (status_found (bindings entries) ∙ ap status_by (first_found status_name text entries f))
+status_is true entries status (handed text members o f w is) =
+    is ∙ ap spaced (sym (members_are members text w)) ∙ sym (status_found (bindings entries) ∙ ap status_by (first_found status_name text entries f))
 status_is true entries status (null n is) = is ∙ sym (status_found (bindings entries) ∙ no_status entries (n refl) (find status_name (bindings entries)) refl)
 status_is false entries status (handed text members o f w is) = absurd (false≢true o)
 status_is false entries status (null n is) = is
@@ -266,7 +287,8 @@ from_body : (entries : List (List ℕ)) (q : List ℕ) (body : Node cmd) → Has
 from_body entries q body k =
     record { named = k.named; unseen = refl; text = k.text; found = first_found (fn_name q) k.text entries k.first; read = (reads_spellings k.text body).1 (k.spelled, k.sound) }
 
-functions_so : (own : Bool) (entries : List (List ℕ)) (fs : Functions) → own_functions own (bindings entries) ≡ Ok fs → (q : List ℕ) (body : Node cmd) → (find q fs ≡ Some body) ↔ HasBody own entries q body
+functions_so : (own : Bool) (entries : List (List ℕ)) (fs : Functions) → own_functions own (bindings entries) ≡ Ok fs → (q : List ℕ) (body : Node cmd)
+    → (find q fs ≡ Some body) ↔ HasBody own entries q body
 functions_so true entries fs h q body =
     let f = functions_found [] (bindings entries) fs h q body in
     (λ g. to_body entries q body (f.0 g), λ k. f.1 (from_body entries q body k))
@@ -274,7 +296,8 @@ functions_so false entries fs h q body =
     let none : [] ≡ fs = ok_inj [] fs h in
     (λ g. let no : find q fs ≡ None = ap (find q) (sym none) in absurd cc, λ k. absurd (false≢true k.from_shell))
 
-bodies_so : (own : Bool) (entries : List (List ℕ)) (fs : Functions) → own_functions own (bindings entries) ≡ Ok fs → (q text : List ℕ) → own ≡ true → is_function_name q ≡ true → FirstOf (codes "fn#" ++ q) text entries → (body : Node cmd) × HasBody own entries q body
+bodies_so : (own : Bool) (entries : List (List ℕ)) (fs : Functions) → own_functions own (bindings entries) ≡ Ok fs → (q text : List ℕ) → own ≡ true
+    → is_function_name q ≡ true → FirstOf (codes "fn#" ++ q) text entries → (body : Node cmd) × HasBody own entries q body
 bodies_so true entries fs h q text o n f =
     let there = first_found (fn_name q) text entries f in
     let k = reads_each [] (bindings entries) fs q text n refl h there in
@@ -286,7 +309,8 @@ bodies_so false entries fs h q text o n f = absurd (false≢true o)
 abbrev made : Bool → (args entries : List (List ℕ)) → Functions → State
 made own args entries fs = fresh_state (with_args args (variables_in (bindings entries))) fs (own_status own (bindings entries))
 
-denotes_made : (own : Bool) (args entries : List (List ℕ)) (fs : Functions) → own_functions own (bindings entries) ≡ Ok fs → IsProper (made own args entries fs) → Denotes own args entries (made own args entries fs)
+denotes_made : (own : Bool) (args entries : List (List ℕ)) (fs : Functions) → own_functions own (bindings entries) ≡ Ok fs
+    → IsProper (made own args entries fs) → Denotes own args entries (made own args entries fs)
 denotes_made own args entries fs h p = record {
   variables = variables_so args entries;
   ordered = p.ordered;
@@ -306,8 +330,12 @@ what_is_read own args entries s h =
 -- two states that are denoted are the same
 one_state : (own : Bool) (args entries : List (List ℕ)) (s t : State) → Denotes own args entries s → Denotes own args entries t → s ≡ t
 one_state own args entries s t d e =
-    let variables : s.variables ≡ t.variables = same_maps s.variables t.variables d.ordered e.ordered (λ q v. (λ g. (e.variables q v).1 ((d.variables q v).0 g), λ g. (d.variables q v).1 ((e.variables q v).0 g))) in
-    let functions : s.functions ≡ t.functions = same_maps s.functions t.functions d.functions_ordered e.functions_ordered (λ q v. (λ g. (e.functions q v).1 ((d.functions q v).0 g), λ g. (d.functions q v).1 ((e.functions q v).0 g))) in
+    let variables : s.variables ≡ t.variables =
+    same_maps s.variables t.variables d.ordered e.ordered
+    (λ q v. (λ g. (e.variables q v).1 ((d.variables q v).0 g), λ g. (d.variables q v).1 ((e.variables q v).0 g))) in
+    let functions : s.functions ≡ t.functions =
+    same_maps s.functions t.functions d.functions_ordered e.functions_ordered
+    (λ q v. (λ g. (e.functions q v).1 ((d.functions q v).0 g), λ g. (d.functions q v).1 ((e.functions q v).0 g))) in
     let status : s.status ≡ t.status = status_is own entries s.status d.status ∙ sym (status_is own entries t.status e.status) in
     d.fresh ∙ ap (λ z. fresh_state z s.functions s.status) variables ∙ ap (λ z. fresh_state t.variables z s.status) functions ∙ ap (λ z. fresh_state t.variables t.functions z) status ∙ sym e.fresh
 
@@ -323,7 +351,8 @@ some_functions false args entries s d = ([], refl)
 is_read : (own : Bool) (args entries : List (List ℕ)) (s : State) → Denotes own args entries s → read_state own args entries ≡ Ok s
 is_read own args entries s d =
     let f = some_functions own args entries s d in
-    let r : read_state own args entries ≡ Ok (made own args entries f.0) = bind_on (own_functions own (bindings entries)) (λ fs. Ok (made own args entries fs)) f.0 (Ok (made own args entries f.0)) f.1 refl in
+    let r : read_state own args entries ≡ Ok (made own args entries f.0) =
+    bind_on (own_functions own (bindings entries)) (λ fs. Ok (made own args entries fs)) f.0 (Ok (made own args entries f.0)) f.1 refl in
     r ∙ ap Ok (one_state own args entries (made own args entries f.0) s (what_is_read own args entries (made own args entries f.0) r) d)
 
 pub reads_what_is_denoted : ReadsWhatIsDenoted

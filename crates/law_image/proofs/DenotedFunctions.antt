@@ -45,10 +45,24 @@ nearer : (b : List ℕ × List ℕ) (bs : Bindings) (seen : List (List ℕ)) (q 
 nearer b bs seen q body h k = record { named = k.named; unseen = k.unseen; text = k.text; found = sym (ap (λ t. if t then Some b.1 else find (fn_name q) bs) h) ∙ k.found; read = k.read }
 
 forget : (name : List ℕ) (bs : Bindings) (seen : List (List ℕ)) (q : List ℕ) (body : Node cmd) → HasBodyIn (name ∷ seen) bs q body → HasBodyIn seen bs q body
-forget name bs seen q body k = record { named = k.named; unseen = (or_parts (bytes_eq (fn_name q) name) (list_any (bytes_eq (fn_name q)) seen) k.unseen).1; text = k.text; found = k.found; read = k.read }
+forget name bs seen q body k = record {
+  named = k.named;
+  unseen =
+      (or_parts (bytes_eq (fn_name q) name) (list_any (bytes_eq (fn_name q)) seen) k.unseen).1;
+  text = k.text;
+  found = k.found;
+  read = k.read;
+}
 
 remember : (name : List ℕ) (bs : Bindings) (seen : List (List ℕ)) (q : List ℕ) (body : Node cmd) → bytes_eq (fn_name q) name ≡ false → HasBodyIn seen bs q body → HasBodyIn (name ∷ seen) bs q body
-remember name bs seen q body h k = record { named = k.named; unseen = or_from (bytes_eq (fn_name q) name) (list_any (bytes_eq (fn_name q)) seen) h k.unseen; text = k.text; found = k.found; read = k.read }
+remember name bs seen q body h k = record {
+  named = k.named;
+  unseen = or_from (bytes_eq (fn_name q) name)
+      (list_any (bytes_eq (fn_name q)) seen) h k.unseen;
+  text = k.text;
+  found = k.found;
+  read = k.read;
+}
 
 abbrev Counts : List (List ℕ) → List ℕ → Bool
 Counts seen name = is_function name && not (list_any (bytes_eq name) seen)
@@ -62,9 +76,12 @@ no_clash seen name q n u c = false_from_ne_true (bytes_eq (fn_name q) name) (λ 
 
 -- another name than that of the first
 other_name : (name q : List ℕ) → bytes_eq q (drop 3 name) ≡ false → bytes_eq (fn_name q) name ≡ false
-other_name name q h = false_from_ne_true (bytes_eq (fn_name q) name) (λ e. let at : fn_name q ≡ name = (bytes_eq-Decides (fn_name q) name).0 e in false≢true (sym h ∙ (bytes_eq-Decides q (drop 3 name)).1 (ap (drop 3) at)))
+other_name name q h =
+    false_from_ne_true (bytes_eq (fn_name q) name)
+    (λ e. let at : fn_name q ≡ name = (bytes_eq-Decides (fn_name q) name).0 e in false≢true (sym h ∙ (bytes_eq-Decides q (drop 3 name)).1 (ap (drop 3) at)))
 
-first_by : (b : List ℕ × List ℕ) (bs : Bindings) (seen : List (List ℕ)) (c : Node cmd) (gs : Functions) → Counts seen b.0 ≡ true → read_tree b.1 ≡ Ok c → FoundSo (b.0 ∷ seen) bs gs → (q : List ℕ) (body : Node cmd) (v : Bool) → bytes_eq q (drop 3 b.0) ≡ v
+first_by : (b : List ℕ × List ℕ) (bs : Bindings) (seen : List (List ℕ)) (c : Node cmd) (gs : Functions) → Counts seen b.0 ≡ true
+    → read_tree b.1 ≡ Ok c → FoundSo (b.0 ∷ seen) bs gs → (q : List ℕ) (body : Node cmd) (v : Bool) → bytes_eq q (drop 3 b.0) ≡ v
     → (find q (insert_entry text_cmp gs (drop 3 b.0) c) ≡ Some body) ↔ HasBodyIn seen (b ∷ bs) q body
 first_by b bs seen c gs n r f q body true h =
     let parts = and_parts (is_function b.0) (not (list_any (bytes_eq b.0) seen)) n in
@@ -74,7 +91,14 @@ first_by b bs seen c gs n r f q body true h =
     let there : find q (insert_entry text_cmp gs (drop 3 b.0) c) ≡ Some c = find_insert q gs (drop 3 b.0) c ∙ ap (λ t. if t then Some c else find q gs) h in
     let text : find (fn_name q) (b ∷ bs) ≡ Some b.1 = ap (λ t. if t then Some b.1 else find (fn_name q) bs) ((bytes_eq-Decides (fn_name q) b.0).1 same) in (
       λ g. let is : c ≡ body = cc in
-          record { named = ap is_function_name at ∙ named.1; unseen = ap (λ z. list_any (bytes_eq z) seen) same ∙ not_seen (list_any (bytes_eq b.0) seen) parts.1; text = b.1; found = text; read = r ∙ ap Ok is },
+          record {
+            named = ap is_function_name at ∙ named.1;
+            unseen = ap (λ z. list_any (bytes_eq z) seen) same ∙ not_seen
+                (list_any (bytes_eq b.0) seen) parts.1;
+            text = b.1;
+            found = text;
+            read = r ∙ ap Ok is;
+          },
       λ k. let same_text : b.1 ≡ k.text = cc in
           there ∙ ap Some (ok_inj c body (sym r ∙ ap read_tree same_text ∙ k.read)),
     )
@@ -109,7 +133,8 @@ read_both b others fs h =
     let rest = bind_back others (λ gs. Ok (insert_entry text_cmp gs (drop 3 b.0) body.0)) fs body.2 in
     record { body = body.0; rest = rest.0; read = body.1; more = rest.1; is = ok_inj (insert_entry text_cmp rest.0 (drop 3 b.0) body.0) fs rest.2 }
 
-found_by : (b : List ℕ × List ℕ) (bs : Bindings) (seen : List (List ℕ)) (fs : Functions) (t : Bool) → Counts seen b.0 ≡ t → ((gs : Functions) → functions_in (b.0 ∷ seen) bs ≡ Ok gs → FoundSo (b.0 ∷ seen) bs gs) → (functions_in seen bs ≡ Ok fs → FoundSo seen bs fs)
+found_by : (b : List ℕ × List ℕ) (bs : Bindings) (seen : List (List ℕ)) (fs : Functions) (t : Bool) → Counts seen b.0 ≡ t
+    → ((gs : Functions) → functions_in (b.0 ∷ seen) bs ≡ Ok gs → FoundSo (b.0 ∷ seen) bs gs) → (functions_in seen bs ≡ Ok fs → FoundSo seen bs fs)
     → (if t then with_function b.0 (read_tree b.1) (functions_in (b.0 ∷ seen) bs) else functions_in seen bs) ≡ Ok fs → FoundSo seen (b ∷ bs) fs
 found_by b bs seen fs true n f g h =
     let r = read_both b (functions_in (b.0 ∷ seen) bs) fs h in
@@ -124,8 +149,10 @@ functions_found seen [] fs h = subst (FoundSo seen []) (ok_inj [] fs h) (no_func
 functions_found seen (b ∷ bs) fs h = found_by b bs seen fs (Counts seen b.0) refl (λ gs e. functions_found (b.0 ∷ seen) bs gs e) (λ e. functions_found seen bs fs e) h
 
 -- where all are read, each that counts reads as a body
-reads_by : (b : List ℕ × List ℕ) (bs : Bindings) (seen : List (List ℕ)) (fs : Functions) (q text : List ℕ) (t v : Bool) → is_function_name q ≡ true → list_any (bytes_eq (fn_name q)) seen ≡ false → Counts seen b.0 ≡ t → bytes_eq (fn_name q) b.0 ≡ v
-    → ((gs : Functions) → list_any (bytes_eq (fn_name q)) (b.0 ∷ seen) ≡ false → functions_in (b.0 ∷ seen) bs ≡ Ok gs → find (fn_name q) bs ≡ Some text → (body : Node cmd) × (read_tree text ≡ Ok body))
+reads_by : (b : List ℕ × List ℕ) (bs : Bindings) (seen : List (List ℕ)) (fs : Functions) (q text : List ℕ) (t v : Bool) → is_function_name q ≡ true
+    → list_any (bytes_eq (fn_name q)) seen ≡ false → Counts seen b.0 ≡ t → bytes_eq (fn_name q) b.0 ≡ v
+    → ((gs : Functions) → list_any (bytes_eq (fn_name q)) (b.0 ∷ seen) ≡ false → functions_in (b.0 ∷ seen) bs ≡ Ok gs → find
+    (fn_name q) bs ≡ Some text → (body : Node cmd) × (read_tree text ≡ Ok body))
     → (functions_in seen bs ≡ Ok fs → find (fn_name q) bs ≡ Some text → (body : Node cmd) × (read_tree text ≡ Ok body))
     → (if t then with_function b.0 (read_tree b.1) (functions_in (b.0 ∷ seen) bs) else functions_in seen bs) ≡ Ok fs
     → (if v then Some b.1 else find (fn_name q) bs) ≡ Some text → (body : Node cmd) × (read_tree text ≡ Ok body)
@@ -139,7 +166,8 @@ reads_by b bs seen fs q text true false n u c w f g h e =
 reads_by b bs seen fs q text false true n u c w f g h e = absurd (false≢true (sym (no_clash seen b.0 q n u c) ∙ w))
 reads_by b bs seen fs q text false false n u c w f g h e = g h e
 
-pub reads_each : (seen : List (List ℕ)) (bs : Bindings) (fs : Functions) (q text : List ℕ) → is_function_name q ≡ true → list_any (bytes_eq (fn_name q)) seen ≡ false → functions_in seen bs ≡ Ok fs → find (fn_name q) bs ≡ Some text
+pub reads_each : (seen : List (List ℕ)) (bs : Bindings) (fs : Functions) (q text : List ℕ) → is_function_name q ≡ true
+    → list_any (bytes_eq (fn_name q)) seen ≡ false → functions_in seen bs ≡ Ok fs → find (fn_name q) bs ≡ Some text
     → (body : Node cmd) × (read_tree text ≡ Ok body)
 reads_each seen [] fs q text n u h e = absurd cc
 reads_each seen (b ∷ bs) fs q text n u h e =
@@ -167,14 +195,20 @@ all_by b bs seen true c f more others =
     let unseen : list_any (bytes_eq (fn_name (drop 3 b.0))) seen ≡ false = ap (λ z. list_any (bytes_eq z) seen) at ∙ not_true (list_any (bytes_eq b.0) seen) parts.1 in
     let here : find (fn_name (drop 3 b.0)) (b ∷ bs) ≡ Some b.1 = ap (λ t. if t then Some b.1 else find (fn_name (drop 3 b.0)) bs) ((bytes_eq-Decides (fn_name (drop 3 b.0)) b.0).1 at) in
     let body = f (drop 3 b.0) b.1 named.1 unseen here in
-    let rest = more (each_after b bs seen f) in
-    (insert_entry text_cmp rest.0 (drop 3 b.0) body.0, bind_on (read_tree b.1) (λ d. functions_in (b.0 ∷ seen) bs >>= λ gs. Ok (insert_entry text_cmp gs (drop 3 b.0) d)) body.0 _ body.1 (bind_on (functions_in (b.0 ∷ seen) bs) (λ gs. Ok (insert_entry text_cmp gs (drop 3 b.0) body.0)) rest.0 _ rest.1 refl))
+    let rest = more (each_after b bs seen f) in (
+      insert_entry text_cmp rest.0 (drop 3 b.0) body.0,
+      bind_on (read_tree b.1)
+          (λ d. functions_in (b.0 ∷ seen) bs >>= λ gs. Ok (insert_entry text_cmp gs (drop 3 b.0) d)) body.0 _ body.1
+          (bind_on (functions_in (b.0 ∷ seen) bs) (λ gs. Ok (insert_entry text_cmp gs (drop 3 b.0) body.0)) rest.0 _ rest.1 refl),
+    )
   where
     not_true : (u : Bool) → not u ≡ true → u ≡ false
     not_true true e = sym e
     not_true false e = refl
 all_by b bs seen false c f more others = others (each_past b bs seen c f)
 
-pub all_read : (seen : List (List ℕ)) (bs : Bindings) → ((q text : List ℕ) → is_function_name q ≡ true → list_any (bytes_eq (fn_name q)) seen ≡ false → find (fn_name q) bs ≡ Some text → (body : Node cmd) × (read_tree text ≡ Ok body)) → (fs : Functions) × (functions_in seen bs ≡ Ok fs)
+pub all_read : (seen : List (List ℕ)) (bs : Bindings)
+    → ((q text : List ℕ) → is_function_name q ≡ true → list_any (bytes_eq (fn_name q)) seen ≡ false → find (fn_name q) bs ≡ Some text → (body : Node cmd) × (read_tree text ≡ Ok body))
+    → (fs : Functions) × (functions_in seen bs ≡ Ok fs)
 all_read seen [] f = ([], refl)
 all_read seen (b ∷ bs) f = all_by b bs seen (Counts seen b.0) refl f (λ g. all_read (b.0 ∷ seen) bs g) (λ g. all_read seen bs g)

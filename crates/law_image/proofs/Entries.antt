@@ -47,7 +47,8 @@ put_first [] k v h = refl
 put_first (e ∷ es) k v h = ap (λ o. match_ordering o ((k, v) ∷ e ∷ es) ((e.0, v) ∷ es) (e ∷ insert_entry text_cmp es k v)) h.0
 
 -- what holds of all keys holds of one more
-pub keys_hold : (P : List ℕ → Bool) {X : Type 0} (es : List (List ℕ × X)) (k : List ℕ) (v : X) → IsTrue (list_all (λ e. P e.0) es) → IsTrue (P k) → IsTrue (list_all (λ e. P e.0) (insert_entry text_cmp es k v))
+pub keys_hold : (P : List ℕ → Bool) {X : Type 0} (es : List (List ℕ × X)) (k : List ℕ) (v : X) → IsTrue (list_all (λ e. P e.0) es) → IsTrue (P k)
+    → IsTrue (list_all (λ e. P e.0) (insert_entry text_cmp es k v))
 keys_hold P [] k v h p = and_from (P k) true p refl
 keys_hold P {X = X} (e ∷ es) k v h p =
     let q = and_parts (P e.0) (list_all (λ e. P e.0) es) h in
@@ -107,7 +108,8 @@ above_flat : (k : List ℕ) (bs : List (List ℕ × List (List (List ℕ)))) →
 above_flat k [] h = h
 above_flat k (b ∷ bs) h = above_plain k b.0 (visible b.1) (plain_flat bs) h.0 (above_flat k bs h.1)
 
-read_if : (name : List ℕ) (m : List ℕ) (ms : List (List ℕ)) (t : Bool) → stays_behind name ≡ t → IsTrue (is_name name) → (es : List (List ℕ × List ℕ)) (vs : List (List ℕ × List (List (List ℕ)))) → Above name vs → variables_in es ≡ vs
+read_if : (name : List ℕ) (m : List ℕ) (ms : List (List ℕ)) (t : Bool) → stays_behind name ≡ t → IsTrue (is_name name)
+    → (es : List (List ℕ × List ℕ)) (vs : List (List ℕ × List (List (List ℕ)))) → Above name vs → variables_in es ≡ vs
     → variables_in (if t then es else (name, value_text (m ∷ ms)) ∷ es) ≡ (if t then vs else (name, (m ∷ ms) ∷ []) ∷ vs)
 read_if name m ms true e n es vs a h = h
 read_if name m ms false e n es vs a h =
@@ -151,7 +153,8 @@ abbrev star_value : List (List ℕ × List (List (List ℕ))) → List (List ℕ
 star_value bs = visible (unwrap_or (lookup (bytes_eq star) bs) [])
 
 -- a name in front of those among which `*` has a value
-star_by : (k m : List ℕ) (ms : List (List ℕ)) (b : List ℕ × List (List (List ℕ))) (bs : List (List ℕ × List (List (List ℕ)))) → text_cmp k b.0 ≡ Less → (star_value bs ≡ m ∷ ms → text_cmp k star ≡ Less)
+star_by : (k m : List ℕ) (ms : List (List ℕ)) (b : List ℕ × List (List (List ℕ))) (bs : List (List ℕ × List (List (List ℕ)))) → text_cmp k b.0 ≡ Less
+    → (star_value bs ≡ m ∷ ms → text_cmp k star ≡ Less)
     → (t : Bool) → bytes_eq star b.0 ≡ t → visible (unwrap_or (if t then Some b.1 else lookup (bytes_eq star) bs) []) ≡ m ∷ ms → text_cmp k star ≡ Less
 star_by k m ms b bs a f true e g = ap (text_cmp k) ((bytes_eq-Decides star b.0).0 e) ∙ a
 star_by k m ms b bs a f false e g = f g
@@ -160,14 +163,16 @@ before_star : (k m : List ℕ) (ms : List (List ℕ)) (bs : List (List ℕ × Li
 before_star k m ms [] a h = absurd (cc)
 before_star k m ms (b ∷ bs) a h = star_by k m ms b bs a.0 (λ g. before_star k m ms bs a.1 g) (bytes_eq star b.0) refl h
 
-star_here : (name : List ℕ) (value : List (List ℕ)) (es fs : List (List ℕ × List (List (List ℕ)))) → star ≡ name → Above star es → es ≡ fs → with_args value (with_plain name value es) ≡ with_top name value fs
+star_here : (name : List ℕ) (value : List (List ℕ)) (es fs : List (List ℕ × List (List (List ℕ)))) → star ≡ name → Above star es → es ≡ fs
+    → with_args value (with_plain name value es) ≡ with_top name value fs
 star_here name [] es fs e a h = h
 star_here name (m ∷ ms) es fs e a h =
     let kept : stays_behind name ≡ true = ap (λ t. t || bytes_eq name status_name) ((bytes_eq-Decides name star).1 (sym e)) in
     ap (λ t. insert_entry text_cmp (if t then es else (name, (m ∷ ms) ∷ []) ∷ es) star ((m ∷ ms) ∷ [])) kept
     ∙ put_first es star ((m ∷ ms) ∷ []) a ∙ ap (λ z. (z, (m ∷ ms) ∷ []) ∷ es) e ∙ ap (λ z. (name, (m ∷ ms) ∷ []) ∷ z) h
 
-star_past : (name : List ℕ) (value : List (List ℕ)) (es fs : List (List ℕ × List (List (List ℕ)))) (v : List (List (List ℕ))) → stays_behind name ≡ false → text_cmp name star ≡ Less → insert_entry text_cmp es star v ≡ fs
+star_past : (name : List ℕ) (value : List (List ℕ)) (es fs : List (List ℕ × List (List (List ℕ)))) (v : List (List (List ℕ)))
+    → stays_behind name ≡ false → text_cmp name star ≡ Less → insert_entry text_cmp es star v ≡ fs
     → insert_entry text_cmp (with_plain name value es) star v ≡ with_top name value fs
 star_past name [] es fs v k l h = h
 star_past name (m ∷ ms) es fs v k l h =
@@ -175,12 +180,14 @@ star_past name (m ∷ ms) es fs v k l h =
     ∙ ap (λ o. match_ordering o ((star, v) ∷ (name, (m ∷ ms) ∷ []) ∷ es) ((name, v) ∷ es) ((name, (m ∷ ms) ∷ []) ∷ insert_entry text_cmp es star v)) (greater_of name star l)
     ∙ ap (λ z. (name, (m ∷ ms) ∷ []) ∷ z) h
 
-star_other : (b : List ℕ × List (List (List ℕ))) (bs : List (List ℕ × List (List (List ℕ)))) (value : List (List ℕ)) → stays_behind b.0 ≡ false → Above b.0 bs → star_value bs ≡ value → with_args value (plain_flat bs) ≡ flat bs
+star_other : (b : List ℕ × List (List (List ℕ))) (bs : List (List ℕ × List (List (List ℕ)))) (value : List (List ℕ)) → stays_behind b.0 ≡ false
+    → Above b.0 bs → star_value bs ≡ value → with_args value (plain_flat bs) ≡ flat bs
     → with_args value (plain_flat (b ∷ bs)) ≡ flat (b ∷ bs)
 star_other b bs [] k a h ih = same_top b.0 (visible b.1) (plain_flat bs) (flat bs) k ih
 star_other b bs (m ∷ ms) k a h ih = star_past b.0 (visible b.1) (plain_flat bs) (flat bs) ((m ∷ ms) ∷ []) k (before_star b.0 m ms bs a h) ih
 
-star_case : (b : List ℕ × List (List (List ℕ))) (bs : List (List ℕ × List (List (List ℕ)))) (value : List (List ℕ)) → IsTrue (is_own_name b.0) → IsTrue (list_all (λ b. is_own_name b.0) bs) → Above b.0 bs
+star_case : (b : List ℕ × List (List (List ℕ))) (bs : List (List ℕ × List (List (List ℕ)))) (value : List (List ℕ)) → IsTrue (is_own_name b.0)
+    → IsTrue (list_all (λ b. is_own_name b.0) bs) → Above b.0 bs
     → (star_value bs ≡ value → with_args value (plain_flat bs) ≡ flat bs) → (t : Bool) → bytes_eq star b.0 ≡ t → visible (unwrap_or (if t then Some b.1 else lookup (bytes_eq star) bs) []) ≡ value
     → with_args value (plain_flat (b ∷ bs)) ≡ flat (b ∷ bs)
 star_case b bs value n ns a ih true e h =
@@ -189,7 +196,8 @@ star_case b bs value n ns a ih true e h =
     subst (λ v. with_args v (plain_flat (b ∷ bs)) ≡ flat (b ∷ bs)) h (star_here b.0 (visible b.1) (plain_flat bs) (flat bs) q (above_flat star bs above) (none_of bs ns above))
 star_case b bs value n ns a ih false e h = star_other b bs value (not_kept b.0 n e) a h (ih h)
 
-pub star_back : (bs : List (List ℕ × List (List (List ℕ)))) (value : List (List ℕ)) → IsTrue (list_all (λ b. is_own_name b.0) bs) → Ordered bs → star_value bs ≡ value → with_args value (plain_flat bs) ≡ flat bs
+pub star_back : (bs : List (List ℕ × List (List (List ℕ)))) (value : List (List ℕ)) → IsTrue (list_all (λ b. is_own_name b.0) bs) → Ordered bs
+    → star_value bs ≡ value → with_args value (plain_flat bs) ≡ flat bs
 star_back [] value n o h = ap (λ v. with_args v []) (sym h)
 star_back (b ∷ bs) value n o h =
     let k = and_parts (is_own_name b.0) (list_all (λ b. is_own_name b.0) bs) n in

@@ -127,7 +127,14 @@ module _ (mark : ℕ) (not_digit : is_digit mark ≡ false) where
       record {
         text = digit_run bytes ++ (mark ∷ []);
         cut = run_and_past bytes ∙ ap (λ z. digit_run bytes ++ z) m.0 ∙ sym (append_assoc (digit_run bytes) (mark ∷ []) rest);
-        spelled = record { front = digit_run bytes; back = mark ∷ []; cut = refl; first = subst (λ v. Number v (digit_run bytes)) m.1 (number_at (digit_run bytes) (run_digits bytes) k.0); second = refl };
+        spelled = record {
+          front = digit_run bytes;
+          back = mark ∷ [];
+          cut = refl;
+          first = subst (λ v. Number v (digit_run bytes)) m.1
+              (number_at (digit_run bytes) (run_digits bytes) k.0);
+          second = refl;
+        };
         fine = refl;
       }
 
@@ -143,7 +150,8 @@ bytes_accept x rest h =
 text_accepts : (x text rest : List ℕ) → Texted x text → true ≡ true → text_at (text ++ rest) ≡ Ok (x, rest)
 text_accepts x text rest t h =
     let j = t.spelled in
-    let one : count_at 58 (text ++ rest) ≡ Ok (length x, j.back ++ rest) = ap (count_at 58) (seam j.front j.back text rest j.cut) ∙ (count_exact 58 refl).accepts (length x) j.front (j.back ++ rest) j.first refl in
+    let one : count_at 58 (text ++ rest) ≡ Ok (length x, j.back ++ rest) =
+    ap (count_at 58) (seam j.front j.back text rest j.cut) ∙ (count_exact 58 refl).accepts (length x) j.front (j.back ++ rest) j.first refl in
     bind_on (count_at 58 (text ++ rest)) _ (length x, j.back ++ rest) _ one (ap (λ z. bytes_at (length x) (z ++ rest)) j.second ∙ bytes_accept x rest t.characters)
 
 text_found : (bytes : List ℕ) (n : ℕ) (tail : List ℕ) → Found (λ n. Number n ⨾ Is (codes ":")) (λ n. true) bytes n tail → IsTrue (nat_le n (length tail) && is_text (take n tail))
@@ -183,12 +191,15 @@ module _ {s : Sort} (d : ℕ) {r : Reader (Node s)} (R : Good d r) where
   nodes_accept none text rest e h = ap (λ z. Ok (none, z ++ rest)) e
   nodes_accept (more n ns) text rest j h =
       let f = and_parts (fits n d) (all_fit ns d) h in
-      bind_on (r (text ++ rest)) _ (n, j.back ++ rest) _ (ap r (seam j.front j.back text rest j.cut) ∙ R.accepts n j.front (j.back ++ rest) j.first f.0) (bind_on (nodes_at r (count ns) (j.back ++ rest)) _ (ns, rest) _ (nodes_accept ns j.back rest j.second f.1) refl)
+      bind_on (r (text ++ rest)) _ (n, j.back ++ rest) _
+      (ap r (seam j.front j.back text rest j.cut) ∙ R.accepts n j.front (j.back ++ rest) j.first f.0)
+      (bind_on (nodes_at r (count ns) (j.back ++ rest)) _ (ns, rest) _ (nodes_accept ns j.back rest j.second f.1) refl)
 
   abbrev CountedAs : ℕ → Many s → List ℕ → Type 0
   CountedAs n ns text = SpellsAll ns text × (count ns ≡ n)
 
-  more_found : (n : ℕ) (bytes : List ℕ) (x : Node s) (middle : List ℕ) (ns : Many s) (rest : List ℕ) → Found (λ x. Spells x) (λ x. fits x d) bytes x middle → Found (CountedAs n) (λ ns. all_fit ns d) middle ns rest
+  more_found : (n : ℕ) (bytes : List ℕ) (x : Node s) (middle : List ℕ) (ns : Many s) (rest : List ℕ)
+      → Found (λ x. Spells x) (λ x. fits x d) bytes x middle → Found (CountedAs n) (λ ns. all_fit ns d) middle ns rest
       → Found (CountedAs (suc n)) (λ ns. all_fit ns d) bytes (more x ns) rest
   more_found n bytes x middle ns rest f g = record {
     text = f.text ++ g.text;
@@ -198,7 +209,9 @@ module _ {s : Sort} (d : ℕ) {r : Reader (Node s)} (R : Good d r) where
   }
 
   nodes_only : (n : ℕ) (bytes : List ℕ) (ns : Many s) (rest : List ℕ) → nodes_at r n bytes ≡ Ok (ns, rest) → Found (CountedAs n) (λ ns. all_fit ns d) bytes ns rest
-  nodes_only zero bytes ns rest h = subst (λ (z : Many s × List ℕ). Found (CountedAs 0) (λ ns. all_fit ns d) bytes z.0 z.1) (ok_inj _ _ h) (record { text = []; cut = refl; spelled = (refl, refl); fine = refl })
+  nodes_only zero bytes ns rest h =
+      subst (λ (z : Many s × List ℕ). Found (CountedAs 0) (λ ns. all_fit ns d) bytes z.0 z.1) (ok_inj _ _ h)
+      (record { text = []; cut = refl; spelled = (refl, refl); fine = refl })
   nodes_only (suc n) bytes ns rest h =
       let u = bind_back (r bytes) _ _ h in
       let v = bind_back (nodes_at r n u.0.1) _ _ u.2 in
@@ -216,7 +229,8 @@ module _ {s : Sort} (d : ℕ) {r : Reader (Node s)} (R : Good d r) where
         ap (tested test (count_at 44)) (seam j.front j.back text rest j.cut) ∙ counted.accepts (count ns) j.front (j.back ++ rest) j.first (and_from (test (count ns)) true f.0 refl) in
         bind_on (tested test (count_at 44) (text ++ rest)) _ (count ns, j.back ++ rest) _ one (nodes_accept ns j.back rest j.second f.1)
 
-    listed_found : (bytes : List ℕ) (n : ℕ) (middle : List ℕ) (ns : Many s) (rest : List ℕ) → Found (λ n. Number n ⨾ Is (codes ",")) (λ n. test n && true) bytes n middle → Found (CountedAs n) (λ ns. all_fit ns d) middle ns rest
+    listed_found : (bytes : List ℕ) (n : ℕ) (middle : List ℕ) (ns : Many s) (rest : List ℕ)
+        → Found (λ n. Number n ⨾ Is (codes ",")) (λ n. test n && true) bytes n middle → Found (CountedAs n) (λ ns. all_fit ns d) middle ns rest
         → Found Nodes (λ ns. test (count ns) && all_fit ns d) bytes ns rest
     listed_found bytes n middle ns rest f g = record {
       text = f.text ++ g.text;
@@ -260,7 +274,8 @@ module _ {Y : Type 0} (T : Y → List ℕ → Type 0) (good : Y → Bool) where
   tagged_only rows u (b ∷ bytes) y rest h = chosen_only rows u b bytes y rest h
 
   module _ {X : Type 0} {r : Reader X} {S : X → List ℕ → Type 0} {ok : X → Bool} where
-    pub row_only : Exact r S ok → (tag : ℕ) (f : X → Y) → ((x : X) (text : List ℕ) → (Is (tag ∷ []) ⨾ S x) text → T (f x) text) → ((x : X) → IsTrue (ok x) → IsTrue (good (f x))) → RowOnly (tag, made f r)
+    pub row_only : Exact r S ok → (tag : ℕ) (f : X → Y) → ((x : X) (text : List ℕ) → (Is (tag ∷ []) ⨾ S x) text → T (f x) text)
+        → ((x : X) → IsTrue (ok x) → IsTrue (good (f x))) → RowOnly (tag, made f r)
     row_only R tag f same fine bytes y rest h =
         let u = bind_back (r bytes) _ _ h in
         let g = R.only bytes u.0.0 u.0.1 u.1 in
@@ -276,7 +291,9 @@ module _ {Y : Type 0} (T : Y → List ℕ → Type 0) (good : Y → Bool) where
   given_only tag x s g bytes y rest h =
       subst (λ (z : Y × List ℕ). Found T good (tag ∷ bytes) z.0 z.1) (ok_inj _ _ h) (record { text = tag ∷ []; cut = refl; spelled = s; fine = g })
 
-pub row_accepts : {X Y : Type 0} {r : Reader X} {S : X → List ℕ → Type 0} {ok : X → Bool} → Exact r S ok → (tag : ℕ) (f : X → Y) (rows : List (ℕ × Reader Y)) → ((bytes : List ℕ) → chosen rows tag bytes ≡ made f r bytes) → (x : X) (text rest : List ℕ) → (Is (tag ∷ []) ⨾ S x) text → IsTrue (ok x)
+pub row_accepts : {X Y : Type 0} {r : Reader X} {S : X → List ℕ → Type 0} {ok : X → Bool} → Exact r S ok
+    → (tag : ℕ) (f : X → Y) (rows : List (ℕ × Reader Y)) → ((bytes : List ℕ) → chosen rows tag bytes ≡ made f r bytes) → (x : X) (text rest : List ℕ)
+    → (Is (tag ∷ []) ⨾ S x) text → IsTrue (ok x)
     → tagged rows (text ++ rest) ≡ Ok (f x, rest)
 row_accepts {r = r} R tag f rows at x text rest j h =
     ap (tagged rows) (after_mark tag text rest j) ∙ at (j.back ++ rest) ∙ bind_on (r (j.back ++ rest)) _ (x, rest) _ (R.accepts x j.back rest j.second h) refl

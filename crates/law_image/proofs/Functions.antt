@@ -47,8 +47,11 @@ abbrev pub fns : List (List ℕ × List ℕ) → List (List ℕ × List ℕ)
 fns bs = filter (λ b. is_function b.0) bs
 
 -- no other bindings matter
-same_case : (seen : List (List ℕ)) (b : List ℕ × List ℕ) (bs : List (List ℕ × List ℕ)) → functions_in (b.0 ∷ seen) bs ≡ functions_in (b.0 ∷ seen) (fns bs) → functions_in seen bs ≡ functions_in seen (fns bs) → (t : Bool) → is_function b.0 ≡ t
-    → (if t && not (list_any (bytes_eq b.0) seen) then with_function b.0 (read_tree b.1) (functions_in (b.0 ∷ seen) bs) else functions_in seen bs) ≡ functions_in seen (if t then b ∷ fns bs else fns bs)
+same_case : (seen : List (List ℕ)) (b : List ℕ × List ℕ) (bs : List (List ℕ × List ℕ))
+    → functions_in (b.0 ∷ seen) bs ≡ functions_in (b.0 ∷ seen) (fns bs) → functions_in seen bs ≡ functions_in seen (fns bs) → (t : Bool)
+    → is_function b.0 ≡ t
+    → (if t && not (list_any (bytes_eq b.0) seen) then with_function b.0 (read_tree b.1) (functions_in (b.0 ∷ seen) bs) else functions_in seen bs) ≡ functions_in seen
+    (if t then b ∷ fns bs else fns bs)
 same_case seen b bs f g true e =
     ap (λ z. if not (list_any (bytes_eq b.0) seen) then with_function b.0 (read_tree b.1) z else functions_in seen bs) f
     ∙ ap (λ z. if not (list_any (bytes_eq b.0) seen) then with_function b.0 (read_tree b.1) (functions_in (b.0 ∷ seen) (fns bs)) else z) g
@@ -83,7 +86,8 @@ above_fns : (k : List ℕ) (fs : List (List ℕ × Node cmd)) → Above k fs →
 above_fns k [] h = tt
 above_fns k (f ∷ fs) h = (h.0, above_fns k fs h.1)
 
-pub fns_of : (fs : List (List ℕ × Node cmd)) (others : List (List ℕ × List ℕ)) → IsTrue (list_all (λ f. is_function_name f.0) fs) → Ordered fs → fns others ≡ [] → fns (with_functions fs others) ≡ map fn_binding fs
+pub fns_of : (fs : List (List ℕ × Node cmd)) (others : List (List ℕ × List ℕ)) → IsTrue (list_all (λ f. is_function_name f.0) fs) → Ordered fs
+    → fns others ≡ [] → fns (with_functions fs others) ≡ map fn_binding fs
 fns_of [] others n o h = h
 fns_of (f ∷ fs) others n o h =
     let k = and_parts (is_function_name f.0) (list_all (λ f. is_function_name f.0) fs) n in
@@ -103,7 +107,8 @@ pub unseen_none : (fs : List (List ℕ × Node cmd)) → Unseen [] fs
 unseen_none [] = tt
 unseen_none (f ∷ fs) = (refl, unseen_none fs)
 
-pub functions_back : (seen : List (List ℕ)) (fs : List (List ℕ × Node cmd)) → IsTrue (list_all (λ f. is_function_name f.0) fs) → Ordered fs → AllWritable fs → Unseen seen fs → functions_in seen (map fn_binding fs) ≡ Ok fs
+pub functions_back : (seen : List (List ℕ)) (fs : List (List ℕ × Node cmd)) → IsTrue (list_all (λ f. is_function_name f.0) fs) → Ordered fs
+    → AllWritable fs → Unseen seen fs → functions_in seen (map fn_binding fs) ≡ Ok fs
 functions_back seen [] n o w u = refl
 functions_back seen (f ∷ fs) n o w u =
     let k = and_parts (is_function_name f.0) (list_all (λ f. is_function_name f.0) fs) n in
@@ -144,7 +149,9 @@ function_no_equals name h = any_no_equals name (not-true _ (and_parts (not (leng
 pub name_no_function : (name : List ℕ) → IsTrue (list_all is_name_char name) → is_function name ≡ false
 name_no_function [] h = refl
 name_no_function (a ∷ []) h = false_from_ne_true _ (λ e. false≢true ((and_parts (102 == a) false (and_parts (begins_with (codes "fn#") (a ∷ [])) _ e).0).1))
-name_no_function (a ∷ b ∷ []) h = false_from_ne_true _ (λ e. false≢true ((and_parts (110 == b) false (and_parts (102 == a) ((110 == b) && false) (and_parts (begins_with (codes "fn#") (a ∷ b ∷ [])) _ e).0).1).1))
+name_no_function (a ∷ b ∷ []) h =
+    false_from_ne_true _
+    (λ e. false≢true ((and_parts (110 == b) false (and_parts (102 == a) ((110 == b) && false) (and_parts (begins_with (codes "fn#") (a ∷ b ∷ [])) _ e).0).1).1))
 name_no_function (a ∷ b ∷ c ∷ name) h = false_from_ne_true _ (λ e.
     let u = and_parts (102 == a) ((110 == b) && ((35 == c) && true)) (and_parts (begins_with (codes "fn#") (a ∷ b ∷ c ∷ name)) _ e).0 in
     let v = and_parts (110 == b) ((35 == c) && true) u.1 in
@@ -162,21 +169,25 @@ fns_none (e ∷ es) h =
     ap (λ t. if t then e ∷ fns es else fns es) (not-true _ k.0) ∙ fns_none es k.1
 
 -- what holds of the names of variables holds of what is handed over
-names_if : (P : List ℕ → Bool) (name v : List ℕ) (t : Bool) (es : List (List ℕ × List ℕ)) → IsTrue (P name) → IsTrue (list_all (λ e. P e.0) es) → IsTrue (list_all (λ e. P e.0) (if t then es else (name, v) ∷ es))
+names_if : (P : List ℕ → Bool) (name v : List ℕ) (t : Bool) (es : List (List ℕ × List ℕ)) → IsTrue (P name) → IsTrue (list_all (λ e. P e.0) es)
+    → IsTrue (list_all (λ e. P e.0) (if t then es else (name, v) ∷ es))
 names_if P name v true es p h = h
 names_if P name v false es p h = and_from (P name) _ p h
 
-names_one : (P : List ℕ → Bool) (name : List ℕ) (value : List (List ℕ)) (es : List (List ℕ × List ℕ)) → IsTrue (P name) → IsTrue (list_all (λ e. P e.0) es) → IsTrue (list_all (λ e. P e.0) (with_binding name value es))
+names_one : (P : List ℕ → Bool) (name : List ℕ) (value : List (List ℕ)) (es : List (List ℕ × List ℕ)) → IsTrue (P name)
+    → IsTrue (list_all (λ e. P e.0) es) → IsTrue (list_all (λ e. P e.0) (with_binding name value es))
 names_one P name [] es p h = h
 names_one P name (m ∷ ms) es p h = names_if P name (value_text (m ∷ ms)) (stays_behind name) es p h
 
-pub names_handed : (P : List ℕ → Bool) → ((name : List ℕ) → IsTrue (is_own_name name) → IsTrue (P name)) → (bs : List (List ℕ × List (List (List ℕ)))) → IsTrue (list_all (λ b. is_own_name b.0) bs) → IsTrue (list_all (λ e. P e.0) (handed_values bs))
+pub names_handed : (P : List ℕ → Bool) → ((name : List ℕ) → IsTrue (is_own_name name) → IsTrue (P name)) → (bs : List (List ℕ × List (List (List ℕ))))
+    → IsTrue (list_all (λ b. is_own_name b.0) bs) → IsTrue (list_all (λ e. P e.0) (handed_values bs))
 names_handed P f [] h = refl
 names_handed P f (b ∷ bs) h =
     let k = and_parts (is_own_name b.0) (list_all (λ b. is_own_name b.0) bs) h in
     names_one P b.0 (visible b.1) (handed_values bs) (f b.0 k.0) (names_handed P f bs k.1)
 
-pub names_functions : (fs : List (List ℕ × Node cmd)) (others : List (List ℕ × List ℕ)) → IsTrue (list_all (λ f. is_function_name f.0) fs) → IsTrue (list_all (λ e. no_equals e.0) others) → IsTrue (list_all (λ e. no_equals e.0) (with_functions fs others))
+pub names_functions : (fs : List (List ℕ × Node cmd)) (others : List (List ℕ × List ℕ)) → IsTrue (list_all (λ f. is_function_name f.0) fs)
+    → IsTrue (list_all (λ e. no_equals e.0) others) → IsTrue (list_all (λ e. no_equals e.0) (with_functions fs others))
 names_functions [] others n h = h
 names_functions (f ∷ fs) others n h =
     let k = and_parts (is_function_name f.0) (list_all (λ f. is_function_name f.0) fs) n in

@@ -20,7 +20,8 @@ use Rattle.rc_model.specs.Handed.HandedLaws.{HandedReadsBack}
 use Rattle.law_image.proofs.Words.{words_read_back}
 use Rattle.law_image.proofs.Members.{bindings_back, no_equals, members_back}
 use Rattle.law_image.proofs.Entries.{keys_hold, variables_skip, variables_back, status_put, star_back, plain_flat}
-use Rattle.law_image.proofs.Functions.{fns, fns_of, fns_none, functions_same, functions_back, unseen_none, variables_past, status_past, name_no_equals, name_no_function, names_handed, names_functions, fn_binding, AllWritable, handed_writable}
+use Rattle.law_image.proofs.Functions.{fns, fns_of, fns_none, functions_same, functions_back, unseen_none, variables_past, status_past}
+use Rattle.law_image.proofs.Functions.{name_no_equals, name_no_function, names_handed, names_functions, fn_binding, AllWritable, handed_writable}
 use Rattle.rc_model.specs.declared.fault.ImageFault.{ImageFault}
 
 -- what is handed over beside the functions
@@ -77,7 +78,8 @@ image_back : (c : Node cmd) (s : State) (words : List (List ℕ)) → IsProperTr
     → read_image s.strict (words ++ value_of s (codes "*")) (entries s) ≡ Ok (c, entry_state s)
 image_back c s words t e p w =
     let args = value_of s (codes "*") in
-    ap (λ z. z >>= λ image. read_state true (drop image.1 (words ++ value_of s (codes "*"))) (entries s) >>= λ r. Ok (image.0, record r { strict = s.strict })) (words_read_back c words (value_of s (codes "*")) t e)
+    ap (λ z. z >>= λ image. read_state true (drop image.1 (words ++ value_of s (codes "*"))) (entries s) >>= λ r. Ok (image.0, record r { strict = s.strict }))
+    (words_read_back c words (value_of s (codes "*")) t e)
     ∙ ap (λ z. read_state true z (entries s) >>= λ r. Ok (c, record r { strict = s.strict })) (drop-append_seam words (value_of s (codes "*")))
     ∙ ap (λ z. z >>= λ r. Ok (c, record r { strict = s.strict })) (state_back s p w)
 

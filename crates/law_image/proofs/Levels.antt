@@ -11,7 +11,9 @@ use Rattle.rc_model.specs.declared.syntax.Logic.TheVariants.{And, Or}
 use Rattle.rc_model.specs.Syntax.Tree as t
 use Rattle.rc_model.specs.Syntax.WellFormed.{is_output, copies, has_text}
 use Rattle.rc_model.specs.Handed.TreeSpelling.{◌⨾◌, Is, Output, Crossing, Plainly, Spells}
-use Rattle.rc_model.specs.Handed.TreeReading.{Reader, made, tagged, given, output_at, crossing_at, any, some, several, few, output_rows, crossing_rows, item_rows, link_rows, piece_rows, redir_rows, item_at, pair_at, stage_at, link_at, branch_at, piece_at, redir_at, cmd_rows, arg_rows, cmd_at, arg_at}
+use Rattle.rc_model.specs.Handed.TreeReading.{Reader, made, tagged, given, output_at, crossing_at, any, some, several, few, output_rows}
+use Rattle.rc_model.specs.Handed.TreeReading.{crossing_rows, item_rows, link_rows, piece_rows, redir_rows, item_at, pair_at, stage_at, link_at}
+use Rattle.rc_model.specs.Handed.TreeReading.{branch_at, piece_at, redir_at, cmd_rows, arg_rows, cmd_at, arg_at}
 use Rattle.law_image.proofs.Fits.{fits}
 use Rattle.law_image.proofs.Exact.{Found, Exact, ok_inj, bind_back, bind_on, both_exact, tested_exact, text_exact, Good, listed_exact, RowOnly, ◌▹◌, tagged_only, row_only, row_accepts, given_only}
 use Rattle.rc_model.specs.declared.fault.ImageFault.TheVariants.{TooDeep}
@@ -32,7 +34,8 @@ made_exact {Y = Y} {r = r} {T = T} {good = good} f same fine R accepts = record 
       (record { text = g.text; cut = g.cut; spelled = same u.0.0 g.text g.spelled; fine = fine u.0.0 g.fine });
 }
 
-made_accepts : {X Y : Type 0} {r : Reader X} {S : X → List ℕ → Type 0} {ok : X → Bool} → Exact r S ok → (f : X → Y) (x : X) (text rest : List ℕ) → S x text → IsTrue (ok x) → made f r (text ++ rest) ≡ Ok (f x, rest)
+made_accepts : {X Y : Type 0} {r : Reader X} {S : X → List ℕ → Type 0} {ok : X → Bool} → Exact r S ok → (f : X → Y) (x : X) (text rest : List ℕ)
+    → S x text → IsTrue (ok x) → made f r (text ++ rest) ≡ Ok (f x, rest)
 made_accepts {r = r} R f x text rest s h = bind_on (r (text ++ rest)) _ (x, rest) _ (R.accepts x text rest s h) refl
 
 -- digits
@@ -51,7 +54,9 @@ output_text n text rest h = ⊎_elim
 pub output_exact : Exact output_at Output always
 output_exact = record {
   accepts = λ n text rest h g. output_text n text rest h;
-  only = tagged_only Output always output_rows (given_only Output always 49 1 (record { number = refl; digit = refl }) refl ▹ given_only Output always 50 2 (record { number = refl; digit = refl }) refl ▹ tt);
+  only =
+      tagged_only Output always output_rows
+      (given_only Output always 49 1 (record { number = refl; digit = refl }) refl ▹ given_only Output always 50 2 (record { number = refl; digit = refl }) refl ▹ tt);
 }
 
 abbrev pub Cross : ℕ × ℕ → List ℕ → Type 0
@@ -60,7 +65,8 @@ Cross p = Crossing p.0 p.1
 crossing_cases : (to from : ℕ) → IsTrue (copies to from) → ((to ≡ 1) × (from ≡ 2)) ⊎ ((to ≡ 2) × (from ≡ 1))
 crossing_cases to from h = grind (arith, nat_tests)
 
-crossing_by : (to from to' from' : ℕ) (text rest : List ℕ) → Crossing to from text → (to ≡ to') × (from ≡ from') → crossing_at ((48 + to') ∷ (48 + from') ∷ rest) ≡ Ok ((to', from'), rest) → crossing_at (text ++ rest) ≡ Ok ((to, from), rest)
+crossing_by : (to from to' from' : ℕ) (text rest : List ℕ) → Crossing to from text → (to ≡ to') × (from ≡ from')
+    → crossing_at ((48 + to') ∷ (48 + from') ∷ rest) ≡ Ok ((to', from'), rest) → crossing_at (text ++ rest) ≡ Ok ((to, from), rest)
 crossing_by to from to' from' text rest h e k =
     ap (λ z. crossing_at (z ++ rest)) (h.digits ∙ ap (λ m. (48 + m) ∷ (48 + from) ∷ []) e.0 ∙ ap (λ m. (48 + to') ∷ (48 + m) ∷ []) e.1) ∙ k
     ∙ ap (λ m. Ok ((m, from'), rest)) (sym e.0) ∙ ap (λ m. Ok ((to, m), rest)) (sym e.1)
@@ -140,7 +146,9 @@ module _ (d : ℕ) {c : Reader (Node cmd)} {a : Reader (Node arg)} (C : Good d c
   reread path text j = record { front = j.front; back = j.back; cut = j.cut; first = j.first; second = record { input = refl; rest = j.second } }
 
   redir_accepts : (x : Node redir) (text rest : List ℕ) → Spells x text → IsTrue (fits x d) → redir_at a (text ++ rest) ≡ Ok (x, rest)
-  redir_accepts (t.Open Read n x) text rest j h = row_accepts A 60 (t.Open Read 0) (redir_rows a) (λ bytes. refl) x text rest (unread n x text j) h ∙ ap (λ m. Ok (t.Open Read m x, rest)) (sym j.second.input)
+  redir_accepts (t.Open Read n x) text rest j h =
+      row_accepts A 60 (t.Open Read 0) (redir_rows a) (λ bytes. refl) x text rest (unread n x text j) h ∙ ap (λ m. Ok (t.Open Read m x, rest))
+      (sym j.second.input)
   redir_accepts (t.Open Write n x) text rest j h = row_accepts (both_exact output_exact A) 62 (λ x. t.Open Write x.0 x.1) (redir_rows a) (λ bytes. refl) (n, x) text rest j h
   redir_accepts (t.Open Append n x) text rest j h = row_accepts (both_exact output_exact A) 43 (λ x. t.Open Append x.0 x.1) (redir_rows a) (λ bytes. refl) (n, x) text rest j h
   redir_accepts (t.Copy n m) text rest j h = row_accepts crossing_exact 61 (λ x. t.Copy x.0 x.1) (redir_rows a) (λ bytes. refl) (n, m) text rest j refl

@@ -67,7 +67,8 @@ past_first : {X : Type 0} (q : List ℕ) (e : List ℕ × X) (es : List (List �
 past_first q e es h = ap (λ b. if b then Some e.1 else find q es) h
 
 -- what is found past the first entry of one map is found past that of the other
-found_past_first : {X : Type 0} (e f : List ℕ × X) (es fs : List (List ℕ × X)) → e.0 ≡ f.0 → Above e.0 es → Above f.0 fs → SameFound (e ∷ es) (f ∷ fs) → (q : List ℕ) (v : X) → (b : Bool) → bytes_eq q e.0 ≡ b → find q es ≡ Some v → find q fs ≡ Some v
+found_past_first : {X : Type 0} (e f : List ℕ × X) (es fs : List (List ℕ × X)) → e.0 ≡ f.0 → Above e.0 es → Above f.0 fs → SameFound (e ∷ es) (f ∷ fs)
+    → (q : List ℕ) (v : X) → (b : Bool) → bytes_eq q e.0 ≡ b → find q es ≡ Some v → find q fs ≡ Some v
 found_past_first e f es fs same a b s q v true h g =
     let at : q ≡ e.0 = (bytes_eq-Decides q e.0).0 h in
     let gone : find q es ≡ None = ap (λ z. find z es) at ∙ find_above e.0 es a in
@@ -78,7 +79,8 @@ found_past_first e f es fs same a b s q v false h g =
 other_way : {X : Type 0} (es fs : List (List ℕ × X)) → SameFound es fs → SameFound fs es
 other_way es fs s q v = ((s q v).1, (s q v).0)
 
-maps_by : {X : Type 0} (e f : List ℕ × X) (es fs : List (List ℕ × X)) → Ordered (e ∷ es) → Ordered (f ∷ fs) → SameFound (e ∷ es) (f ∷ fs) → (SameFound es fs → es ≡ fs) → (c : Ordering) → text_cmp e.0 f.0 ≡ c → e ∷ es ≡ f ∷ fs
+maps_by : {X : Type 0} (e f : List ℕ × X) (es fs : List (List ℕ × X)) → Ordered (e ∷ es) → Ordered (f ∷ fs) → SameFound (e ∷ es) (f ∷ fs)
+    → (SameFound es fs → es ≡ fs) → (c : Ordering) → text_cmp e.0 f.0 ≡ c → e ∷ es ≡ f ∷ fs
 maps_by e f es fs o p s ih Less l = absurd (no_first e f es fs l (above_after e.0 f.0 fs l p.0) s)
 maps_by e f es fs o p s ih Greater g =
     let l : text_cmp f.0 e.0 ≡ Less = nat_list_cmp_total.antisymm f.0 e.0 ∙ ap ordering_reverse g in

@@ -113,7 +113,9 @@ mutual
   agree (t.IfNot x) (t.IfNot x') a b u v j k e = form t.IfNot (marked 110 (alone x (agree x))) x' a b u v j k e
   agree (t.While x y) (t.While x' y') a b u v j k e = form (λ p. t.While p.0 p.1) (marked 119 (both (alone x (agree x)) (alone y (agree y)))) (x', y') a b u v j k e
   agree (t.ForAll x y) (t.ForAll x' y') a b u v j k e = form (λ p. t.ForAll p.0 p.1) (marked 102 (both (alone x (agree x)) (alone y (agree y)))) (x', y') a b u v j k e
-  agree (t.For x y z) (t.For x' y' z') a b u v j k e = form (λ p. t.For p.0 p.1.0 p.1.1) (marked 70 (both (alone x (agree x)) (both (listed y (all_agree y)) (alone z (agree z))))) (x', (y', z')) a b u v j k e
+  agree (t.For x y z) (t.For x' y' z') a b u v j k e =
+      form (λ p. t.For p.0 p.1.0 p.1.1) (marked 70 (both (alone x (agree x)) (both (listed y (all_agree y)) (alone z (agree z)))))
+      (x', (y', z')) a b u v j k e
   agree (t.Switch x y) (t.Switch x' y') a b u v j k e = form (λ p. t.Switch p.0 p.1) (marked 83 (both (alone x (agree x)) (listed y (all_agree y)))) (x', y') a b u v j k e
   agree (t.Match x y) (t.Match x' y') a b u v j k e = form (λ p. t.Match p.0 p.1) (marked 126 (both (alone x (agree x)) (listed y (all_agree y)))) (x', y') a b u v j k e
   agree (t.Define x y) (t.Define x' y') a b u v j k e = form (λ p. t.Define p.0 p.1) (marked 100 (both (listed x (all_agree x)) (alone y (agree y)))) (x', y') a b u v j k e

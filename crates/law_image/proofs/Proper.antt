@@ -62,7 +62,8 @@ values_put vs name [] p n = record { names = keys_remove is_own_name (bytes_eq n
 values_put vs name (v ∷ value) p n = record { names = keys_hold is_own_name vs name (v ∷ value) p.names n; ordered = ordered_insert vs name (v ∷ value) p.ordered }
 
 -- a name that has values is one of a variable
-held_if : (name : List ℕ) (e : List ℕ × List (List (List ℕ))) (es : Variables) (x : List (List (List ℕ))) → IsTrue (is_own_name e.0) → (lookup (bytes_eq name) es ≡ Some x → IsTrue (is_own_name name)) → (t : Bool) → bytes_eq name e.0 ≡ t
+held_if : (name : List ℕ) (e : List ℕ × List (List (List ℕ))) (es : Variables) (x : List (List (List ℕ))) → IsTrue (is_own_name e.0)
+    → (lookup (bytes_eq name) es ≡ Some x → IsTrue (is_own_name name)) → (t : Bool) → bytes_eq name e.0 ≡ t
     → (if t then Some e.1 else lookup (bytes_eq name) es) ≡ Some x → IsTrue (is_own_name name)
 held_if name e es x n f true h g = ap is_own_name ((bytes_eq-Decides name e.0).0 h) ∙ n
 held_if name e es x n f false h g = f g
@@ -121,7 +122,9 @@ proper_pop s p = proper_end s s.locals p
 
 pub scripts_insert : (fs : List (List ℕ × Node cmd)) (name : List ℕ) (body : Node cmd) → IsProperTree body → AllProperTrees fs → AllProperTrees (insert_entry text_cmp fs name body)
 scripts_insert [] name body b h = (b, tt)
-scripts_insert (f ∷ fs) name body b h = by_order (λ (z : List (List ℕ × Node cmd)). AllProperTrees z) (text_cmp name f.0) _ _ _ (λ o. (b, h)) (λ o. (b, h.1)) (λ o. (h.0, scripts_insert fs name body b h.1))
+scripts_insert (f ∷ fs) name body b h =
+    by_order (λ (z : List (List ℕ × Node cmd)). AllProperTrees z) (text_cmp name f.0) _ _ _ (λ o. (b, h)) (λ o. (b, h.1))
+    (λ o. (h.0, scripts_insert fs name body b h.1))
 
 scripts_remove : (test : List ℕ → Bool) (fs : List (List ℕ × Node cmd)) → AllProperTrees fs → AllProperTrees (remove_entry test fs)
 scripts_remove test [] h = tt

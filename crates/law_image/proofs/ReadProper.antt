@@ -10,7 +10,8 @@ use Rattle.rc_model.specs.Syntax.Tree.{Node, cmd}
 use Rattle.rc_model.specs.Run.State.{State, status_name, is_name, is_function_name}
 use Rattle.rc_model.specs.Handed.TreeReading.{◌>>=◌, read_tree}
 use Rattle.rc_model.specs.Handed.WordsReading.{read_pieces}
-use Rattle.rc_model.specs.Handed.Environment.{Bindings, Variables, Functions, bindings, entry_members, is_variable, variables_in, is_function, with_function, functions_in, with_args, own_functions, own_status, fresh_state, read_state}
+use Rattle.rc_model.specs.Handed.Environment.{Bindings, Variables, Functions, bindings, entry_members, is_variable, variables_in, is_function}
+use Rattle.rc_model.specs.Handed.Environment.{with_function, functions_in, with_args, own_functions, own_status, fresh_state, read_state}
 use Rattle.rc_model.specs.Handed.Proper.{Ordered, IsProperTree, AllProperTrees, is_own_name, IsProper}
 use Rattle.rc_model.specs.Handed.HandedLaws.{ReadsProper, ReadsScripts}
 use Rattle.law_image.proofs.Exact.{ok_inj, bind_back}
@@ -98,7 +99,8 @@ reads_proper own args entries s h =
     let bs = bindings entries in
     let f = bind_back (own_functions own (bindings entries)) (λ fs. Ok (fresh_state (with_args args (variables_in (bindings entries))) fs (own_status own (bindings entries)))) s h in
     subst IsProper (ok_inj (fresh_state (with_args args (variables_in (bindings entries))) f.0 (own_status own (bindings entries))) s f.2)
-    (fresh_proper (with_args args (variables_in (bindings entries))) f.0 (own_status own (bindings entries)) (args_proper args (variables_in (bindings entries)) (variables_proper (bindings entries))) (own_proper own (bindings entries) f.0 f.1))
+    (fresh_proper (with_args args (variables_in (bindings entries))) f.0 (own_status own (bindings entries))
+    (args_proper args (variables_in (bindings entries)) (variables_proper (bindings entries))) (own_proper own (bindings entries) f.0 f.1))
 
 read_words_script : (words : List (List ℕ)) (c : Node cmd) (n : ℕ) → read_pieces words ≡ Ok (c, n) → IsProperTree c
 read_words_script words c n h = let r = (reads_words words c n).0 h in record { sound = r.2; characters = (text_of c r.1.text r.1.spelled).characters }

@@ -88,38 +88,148 @@ mutual
   within_of (t.Copy to from) n h = refl
   within_of (t.Text text) n h = le-leb (length text) n (listing (length text) 58 text n (right (codes "t") (text_image text) n h))
   within_of (t.Name text) n h = le-leb (length text) n (listing (length text) 58 text n (right (codes "v") (text_image text) n h))
-  within_of (t.Seq items) n h = and_from _ _ (count_le items n (listing (count items) 44 (many_image items) n (right (codes "s") ((list_image (count items) (many_image items))) n h))) (all_within items n (listing (count items) 44 (many_image items) n (right (codes "s") ((list_image (count items) (many_image items))) n h)))
-  within_of (t.Simple words) n h = and_from _ _ (count_le words n (listing (count words) 44 (many_image words) n (right (codes "c") ((list_image (count words) (many_image words))) n h))) (all_within words n (listing (count words) 44 (many_image words) n (right (codes "c") ((list_image (count words) (many_image words))) n h)))
-  within_of (t.Assign pairs body) n h = and_from _ _ (and_from _ _ (count_le pairs n (listing (count pairs) 44 (many_image pairs) n (left (list_image (count pairs) (many_image pairs)) ((node_image body)) n (right (codes "=") ((list_image (count pairs) (many_image pairs)) ++ (node_image body)) n h)))) (all_within pairs n (listing (count pairs) 44 (many_image pairs) n (left (list_image (count pairs) (many_image pairs)) ((node_image body)) n (right (codes "=") ((list_image (count pairs) (many_image pairs)) ++ (node_image body)) n h))))) (within_of body n (right (list_image (count pairs) (many_image pairs)) ((node_image body)) n (right (codes "=") ((list_image (count pairs) (many_image pairs)) ++ (node_image body)) n h)))
-  within_of (t.Redirect redirs body) n h = and_from _ _ (and_from _ _ (count_le redirs n (listing (count redirs) 44 (many_image redirs) n (left (list_image (count redirs) (many_image redirs)) ((node_image body)) n (right (codes "r") ((list_image (count redirs) (many_image redirs)) ++ (node_image body)) n h)))) (all_within redirs n (listing (count redirs) 44 (many_image redirs) n (left (list_image (count redirs) (many_image redirs)) ((node_image body)) n (right (codes "r") ((list_image (count redirs) (many_image redirs)) ++ (node_image body)) n h))))) (within_of body n (right (list_image (count redirs) (many_image redirs)) ((node_image body)) n (right (codes "r") ((list_image (count redirs) (many_image redirs)) ++ (node_image body)) n h)))
-  within_of (t.Pipeline stages last) n h = and_from _ _ (and_from _ _ (count_le stages n (listing (count stages) 44 (many_image stages) n (left (list_image (count stages) (many_image stages)) ((node_image last)) n (right (codes "p") ((list_image (count stages) (many_image stages)) ++ (node_image last)) n h)))) (all_within stages n (listing (count stages) 44 (many_image stages) n (left (list_image (count stages) (many_image stages)) ((node_image last)) n (right (codes "p") ((list_image (count stages) (many_image stages)) ++ (node_image last)) n h))))) (within_of last n (right (list_image (count stages) (many_image stages)) ((node_image last)) n (right (codes "p") ((list_image (count stages) (many_image stages)) ++ (node_image last)) n h)))
-  within_of (t.AndOr first links) n h = and_from _ _ (within_of first n (left (node_image first) ((list_image (count links) (many_image links))) n (right (codes "a") ((node_image first) ++ (list_image (count links) (many_image links))) n h))) (and_from _ _ (count_le links n (listing (count links) 44 (many_image links) n (right (node_image first) ((list_image (count links) (many_image links))) n (right (codes "a") ((node_image first) ++ (list_image (count links) (many_image links))) n h)))) (all_within links n (listing (count links) 44 (many_image links) n (right (node_image first) ((list_image (count links) (many_image links))) n (right (codes "a") ((node_image first) ++ (list_image (count links) (many_image links))) n h)))))
+  within_of (t.Seq items) n h =
+      and_from _ _
+      (count_le items n (listing (count items) 44 (many_image items) n (right (codes "s") ((list_image (count items) (many_image items))) n h)))
+      (all_within items n (listing (count items) 44 (many_image items) n (right (codes "s") ((list_image (count items) (many_image items))) n h)))
+  within_of (t.Simple words) n h =
+      and_from _ _
+      (count_le words n (listing (count words) 44 (many_image words) n (right (codes "c") ((list_image (count words) (many_image words))) n h)))
+      (all_within words n (listing (count words) 44 (many_image words) n (right (codes "c") ((list_image (count words) (many_image words))) n h)))
+  within_of (t.Assign pairs body) n h =
+      and_from _ _
+      (and_from _ _ (count_le pairs n
+      (listing (count pairs) 44 (many_image pairs) n
+      (left (list_image (count pairs) (many_image pairs)) ((node_image body)) n (right (codes "=") ((list_image (count pairs) (many_image pairs)) ++ (node_image body)) n h))))
+      (all_within pairs n (listing (count pairs) 44 (many_image pairs) n
+      (left (list_image (count pairs) (many_image pairs)) ((node_image body)) n (right (codes "=") ((list_image (count pairs) (many_image pairs)) ++ (node_image body)) n h)))))
+      (within_of body n (right (list_image (count pairs) (many_image pairs)) ((node_image body)) n (right (codes "=") ((list_image (count pairs) (many_image pairs)) ++ (node_image body)) n h)))
+  within_of (t.Redirect redirs body) n h =
+      and_from _ _
+      (and_from _ _ (count_le redirs n
+      (listing (count redirs) 44 (many_image redirs) n
+      (left (list_image (count redirs) (many_image redirs)) ((node_image body)) n (right (codes "r") ((list_image (count redirs) (many_image redirs)) ++ (node_image body)) n h))))
+      (all_within redirs n (listing (count redirs) 44 (many_image redirs) n
+      (left (list_image (count redirs) (many_image redirs)) ((node_image body)) n (right (codes "r") ((list_image (count redirs) (many_image redirs)) ++ (node_image body)) n h)))))
+      (within_of body n (right (list_image (count redirs) (many_image redirs)) ((node_image body)) n (right (codes "r") ((list_image (count redirs) (many_image redirs)) ++ (node_image body)) n h)))
+  within_of (t.Pipeline stages last) n h =
+      and_from _ _
+      (and_from _ _ (count_le stages n
+      (listing (count stages) 44 (many_image stages) n
+      (left (list_image (count stages) (many_image stages)) ((node_image last)) n (right (codes "p") ((list_image (count stages) (many_image stages)) ++ (node_image last)) n h))))
+      (all_within stages n (listing (count stages) 44 (many_image stages) n
+      (left (list_image (count stages) (many_image stages)) ((node_image last)) n (right (codes "p") ((list_image (count stages) (many_image stages)) ++ (node_image last)) n h)))))
+      (within_of last n (right (list_image (count stages) (many_image stages)) ((node_image last)) n (right (codes "p") ((list_image (count stages) (many_image stages)) ++ (node_image last)) n h)))
+  within_of (t.AndOr first links) n h =
+      and_from _ _
+      (within_of first n (left (node_image first) ((list_image (count links) (many_image links))) n (right (codes "a") ((node_image first) ++ (list_image (count links) (many_image links))) n h)))
+      (and_from _ _ (count_le links n
+      (listing (count links) 44 (many_image links) n
+      (right (node_image first) ((list_image (count links) (many_image links))) n (right (codes "a") ((node_image first) ++ (list_image (count links) (many_image links))) n h))))
+      (all_within links n (listing (count links) 44 (many_image links) n
+      (right (node_image first) ((list_image (count links) (many_image links))) n (right (codes "a") ((node_image first) ++ (list_image (count links) (many_image links))) n h)))))
   within_of (t.Not body) n h = within_of body n (right (codes "!") ((node_image body)) n h)
   within_of (t.Subshell body) n h = within_of body n (right (codes "@") ((node_image body)) n h)
-  within_of (t.If condition body) n h = and_from _ _ (within_of condition n (left (node_image condition) ((node_image body)) n (right (codes "i") ((node_image condition) ++ (node_image body)) n h))) (within_of body n (right (node_image condition) ((node_image body)) n (right (codes "i") ((node_image condition) ++ (node_image body)) n h)))
+  within_of (t.If condition body) n h =
+      and_from _ _
+      (within_of condition n (left (node_image condition) ((node_image body)) n (right (codes "i") ((node_image condition) ++ (node_image body)) n h)))
+      (within_of body n (right (node_image condition) ((node_image body)) n (right (codes "i") ((node_image condition) ++ (node_image body)) n h)))
   within_of (t.IfNot body) n h = within_of body n (right (codes "n") ((node_image body)) n h)
-  within_of (t.While condition body) n h = and_from _ _ (within_of condition n (left (node_image condition) ((node_image body)) n (right (codes "w") ((node_image condition) ++ (node_image body)) n h))) (within_of body n (right (node_image condition) ((node_image body)) n (right (codes "w") ((node_image condition) ++ (node_image body)) n h)))
-  within_of (t.ForAll name body) n h = and_from _ _ (within_of name n (left (node_image name) ((node_image body)) n (right (codes "f") ((node_image name) ++ (node_image body)) n h))) (within_of body n (right (node_image name) ((node_image body)) n (right (codes "f") ((node_image name) ++ (node_image body)) n h)))
-  within_of (t.For name words body) n h = and_from _ _ (within_of name n (left (node_image name) ((list_image (count words) (many_image words)) ++ (node_image body)) n (right (codes "F") ((node_image name) ++ ((list_image (count words) (many_image words)) ++ (node_image body))) n h))) (and_from _ _ (and_from _ _ (count_le words n (listing (count words) 44 (many_image words) n (left (list_image (count words) (many_image words)) ((node_image body)) n (right (node_image name) ((list_image (count words) (many_image words)) ++ (node_image body)) n (right (codes "F") ((node_image name) ++ ((list_image (count words) (many_image words)) ++ (node_image body))) n h))))) (all_within words n (listing (count words) 44 (many_image words) n (left (list_image (count words) (many_image words)) ((node_image body)) n (right (node_image name) ((list_image (count words) (many_image words)) ++ (node_image body)) n (right (codes "F") ((node_image name) ++ ((list_image (count words) (many_image words)) ++ (node_image body))) n h)))))) (within_of body n (right (list_image (count words) (many_image words)) ((node_image body)) n (right (node_image name) ((list_image (count words) (many_image words)) ++ (node_image body)) n (right (codes "F") ((node_image name) ++ ((list_image (count words) (many_image words)) ++ (node_image body))) n h)))))
-  within_of (t.Switch subject branches) n h = and_from _ _ (within_of subject n (left (node_image subject) ((list_image (count branches) (many_image branches))) n (right (codes "S") ((node_image subject) ++ (list_image (count branches) (many_image branches))) n h))) (and_from _ _ (count_le branches n (listing (count branches) 44 (many_image branches) n (right (node_image subject) ((list_image (count branches) (many_image branches))) n (right (codes "S") ((node_image subject) ++ (list_image (count branches) (many_image branches))) n h)))) (all_within branches n (listing (count branches) 44 (many_image branches) n (right (node_image subject) ((list_image (count branches) (many_image branches))) n (right (codes "S") ((node_image subject) ++ (list_image (count branches) (many_image branches))) n h)))))
-  within_of (t.Match subject patterns) n h = and_from _ _ (within_of subject n (left (node_image subject) ((list_image (count patterns) (many_image patterns))) n (right (codes "~") ((node_image subject) ++ (list_image (count patterns) (many_image patterns))) n h))) (and_from _ _ (count_le patterns n (listing (count patterns) 44 (many_image patterns) n (right (node_image subject) ((list_image (count patterns) (many_image patterns))) n (right (codes "~") ((node_image subject) ++ (list_image (count patterns) (many_image patterns))) n h)))) (all_within patterns n (listing (count patterns) 44 (many_image patterns) n (right (node_image subject) ((list_image (count patterns) (many_image patterns))) n (right (codes "~") ((node_image subject) ++ (list_image (count patterns) (many_image patterns))) n h)))))
-  within_of (t.Define names body) n h = and_from _ _ (and_from _ _ (count_le names n (listing (count names) 44 (many_image names) n (left (list_image (count names) (many_image names)) ((node_image body)) n (right (codes "d") ((list_image (count names) (many_image names)) ++ (node_image body)) n h)))) (all_within names n (listing (count names) 44 (many_image names) n (left (list_image (count names) (many_image names)) ((node_image body)) n (right (codes "d") ((list_image (count names) (many_image names)) ++ (node_image body)) n h))))) (within_of body n (right (list_image (count names) (many_image names)) ((node_image body)) n (right (codes "d") ((list_image (count names) (many_image names)) ++ (node_image body)) n h)))
-  within_of (t.Undefine names) n h = and_from _ _ (count_le names n (listing (count names) 44 (many_image names) n (right (codes "u") ((list_image (count names) (many_image names))) n h))) (all_within names n (listing (count names) 44 (many_image names) n (right (codes "u") ((list_image (count names) (many_image names))) n h)))
+  within_of (t.While condition body) n h =
+      and_from _ _
+      (within_of condition n (left (node_image condition) ((node_image body)) n (right (codes "w") ((node_image condition) ++ (node_image body)) n h)))
+      (within_of body n (right (node_image condition) ((node_image body)) n (right (codes "w") ((node_image condition) ++ (node_image body)) n h)))
+  within_of (t.ForAll name body) n h =
+      and_from _ _ (within_of name n (left (node_image name) ((node_image body)) n (right (codes "f") ((node_image name) ++ (node_image body)) n h)))
+      (within_of body n (right (node_image name) ((node_image body)) n (right (codes "f") ((node_image name) ++ (node_image body)) n h)))
+  within_of (t.For name words body) n h =
+      and_from _ _
+      (within_of name n (left (node_image name) ((list_image (count words) (many_image words)) ++ (node_image body)) n
+      (right (codes "F") ((node_image name) ++ ((list_image (count words) (many_image words)) ++ (node_image body))) n h)))
+      (and_from _ _ (and_from _ _
+      (count_le words n (listing (count words) 44 (many_image words) n
+      (left (list_image (count words) (many_image words)) ((node_image body)) n
+      (right (node_image name) ((list_image (count words) (many_image words)) ++ (node_image body)) n
+      (right (codes "F") ((node_image name) ++ ((list_image (count words) (many_image words)) ++ (node_image body))) n h)))))
+      (all_within words n (listing (count words) 44 (many_image words) n
+      (left (list_image (count words) (many_image words)) ((node_image body)) n
+      (right (node_image name) ((list_image (count words) (many_image words)) ++ (node_image body)) n
+      (right (codes "F") ((node_image name) ++ ((list_image (count words) (many_image words)) ++ (node_image body))) n h))))))
+      (within_of body n (right (list_image (count words) (many_image words)) ((node_image body)) n
+      (right (node_image name) ((list_image (count words) (many_image words)) ++ (node_image body)) n
+      (right (codes "F") ((node_image name) ++ ((list_image (count words) (many_image words)) ++ (node_image body))) n h)))))
+  within_of (t.Switch subject branches) n h =
+      and_from _ _
+      (within_of subject n (left (node_image subject) ((list_image (count branches) (many_image branches))) n
+      (right (codes "S") ((node_image subject) ++ (list_image (count branches) (many_image branches))) n h)))
+      (and_from _ _ (count_le branches n
+      (listing (count branches) 44 (many_image branches) n
+      (right (node_image subject) ((list_image (count branches) (many_image branches))) n
+      (right (codes "S") ((node_image subject) ++ (list_image (count branches) (many_image branches))) n h))))
+      (all_within branches n (listing (count branches) 44 (many_image branches) n
+      (right (node_image subject) ((list_image (count branches) (many_image branches))) n
+      (right (codes "S") ((node_image subject) ++ (list_image (count branches) (many_image branches))) n h)))))
+  within_of (t.Match subject patterns) n h =
+      and_from _ _
+      (within_of subject n (left (node_image subject) ((list_image (count patterns) (many_image patterns))) n
+      (right (codes "~") ((node_image subject) ++ (list_image (count patterns) (many_image patterns))) n h)))
+      (and_from _ _ (count_le patterns n
+      (listing (count patterns) 44 (many_image patterns) n
+      (right (node_image subject) ((list_image (count patterns) (many_image patterns))) n
+      (right (codes "~") ((node_image subject) ++ (list_image (count patterns) (many_image patterns))) n h))))
+      (all_within patterns n (listing (count patterns) 44 (many_image patterns) n
+      (right (node_image subject) ((list_image (count patterns) (many_image patterns))) n
+      (right (codes "~") ((node_image subject) ++ (list_image (count patterns) (many_image patterns))) n h)))))
+  within_of (t.Define names body) n h =
+      and_from _ _
+      (and_from _ _ (count_le names n
+      (listing (count names) 44 (many_image names) n
+      (left (list_image (count names) (many_image names)) ((node_image body)) n (right (codes "d") ((list_image (count names) (many_image names)) ++ (node_image body)) n h))))
+      (all_within names n (listing (count names) 44 (many_image names) n
+      (left (list_image (count names) (many_image names)) ((node_image body)) n (right (codes "d") ((list_image (count names) (many_image names)) ++ (node_image body)) n h)))))
+      (within_of body n (right (list_image (count names) (many_image names)) ((node_image body)) n (right (codes "d") ((list_image (count names) (many_image names)) ++ (node_image body)) n h)))
+  within_of (t.Undefine names) n h =
+      and_from _ _
+      (count_le names n (listing (count names) 44 (many_image names) n (right (codes "u") ((list_image (count names) (many_image names))) n h)))
+      (all_within names n (listing (count names) 44 (many_image names) n (right (codes "u") ((list_image (count names) (many_image names))) n h)))
   within_of (t.Brace body) n h = within_of body n (right (codes "b") ((node_image body)) n h)
-  within_of (t.Concat parts) n h = and_from _ _ (count_le parts n (listing (count parts) 44 (many_image parts) n (right (codes "^") ((list_image (count parts) (many_image parts))) n h))) (all_within parts n (listing (count parts) 44 (many_image parts) n (right (codes "^") ((list_image (count parts) (many_image parts))) n h)))
-  within_of (t.Paren words) n h = and_from _ _ (count_le words n (listing (count words) 44 (many_image words) n (right (codes "(") ((list_image (count words) (many_image words))) n h))) (all_within words n (listing (count words) 44 (many_image words) n (right (codes "(") ((list_image (count words) (many_image words))) n h)))
+  within_of (t.Concat parts) n h =
+      and_from _ _
+      (count_le parts n (listing (count parts) 44 (many_image parts) n (right (codes "^") ((list_image (count parts) (many_image parts))) n h)))
+      (all_within parts n (listing (count parts) 44 (many_image parts) n (right (codes "^") ((list_image (count parts) (many_image parts))) n h)))
+  within_of (t.Paren words) n h =
+      and_from _ _
+      (count_le words n (listing (count words) 44 (many_image words) n (right (codes "(") ((list_image (count words) (many_image words))) n h)))
+      (all_within words n (listing (count words) 44 (many_image words) n (right (codes "(") ((list_image (count words) (many_image words))) n h)))
   within_of (t.Var name) n h = within_of name n (right (codes "$") ((node_image name)) n h)
   within_of (t.Count name) n h = within_of name n (right (codes "#") ((node_image name)) n h)
   within_of (t.Flat name) n h = within_of name n (right (codes "\"") ((node_image name)) n h)
-  within_of (t.Sub name subscripts) n h = and_from _ _ (within_of name n (left (node_image name) ((list_image (count subscripts) (many_image subscripts))) n (right (codes "[") ((node_image name) ++ (list_image (count subscripts) (many_image subscripts))) n h))) (and_from _ _ (count_le subscripts n (listing (count subscripts) 44 (many_image subscripts) n (right (node_image name) ((list_image (count subscripts) (many_image subscripts))) n (right (codes "[") ((node_image name) ++ (list_image (count subscripts) (many_image subscripts))) n h)))) (all_within subscripts n (listing (count subscripts) 44 (many_image subscripts) n (right (node_image name) ((list_image (count subscripts) (many_image subscripts))) n (right (codes "[") ((node_image name) ++ (list_image (count subscripts) (many_image subscripts))) n h)))))
+  within_of (t.Sub name subscripts) n h =
+      and_from _ _
+      (within_of name n (left (node_image name) ((list_image (count subscripts) (many_image subscripts))) n
+      (right (codes "[") ((node_image name) ++ (list_image (count subscripts) (many_image subscripts))) n h)))
+      (and_from _ _ (count_le subscripts n
+      (listing (count subscripts) 44 (many_image subscripts) n
+      (right (node_image name) ((list_image (count subscripts) (many_image subscripts))) n
+      (right (codes "[") ((node_image name) ++ (list_image (count subscripts) (many_image subscripts))) n h))))
+      (all_within subscripts n (listing (count subscripts) 44 (many_image subscripts) n
+      (right (node_image name) ((list_image (count subscripts) (many_image subscripts))) n
+      (right (codes "[") ((node_image name) ++ (list_image (count subscripts) (many_image subscripts))) n h)))))
   within_of (t.Back body) n h = within_of body n (right (codes "`") ((node_image body)) n h)
   within_of (t.Item body background) n h = within_of body n (right (item_mark background) ((node_image body)) n h)
   within_of (t.Pair name value) n h = and_from _ _ (within_of name n (left (node_image name) ((node_image value)) n h)) (within_of value n (right (node_image name) ((node_image value)) n h))
   within_of (t.Stage body slot) n h = within_of body n (right (decimal slot) ((node_image body)) n h)
   within_of (t.Link logic body) n h = within_of body n (right (logic_mark logic) ((node_image body)) n h)
-  within_of (t.Branch patterns body) n h = and_from _ _ (and_from _ _ (count_le patterns n (listing (count patterns) 44 (many_image patterns) n (left (list_image (count patterns) (many_image patterns)) ((node_image body)) n h))) (all_within patterns n (listing (count patterns) 44 (many_image patterns) n (left (list_image (count patterns) (many_image patterns)) ((node_image body)) n h)))) (within_of body n (right (list_image (count patterns) (many_image patterns)) ((node_image body)) n h))
+  within_of (t.Branch patterns body) n h =
+      and_from _ _
+      (and_from _ _ (count_le patterns n (listing (count patterns) 44 (many_image patterns) n (left (list_image (count patterns) (many_image patterns)) ((node_image body)) n h)))
+      (all_within patterns n (listing (count patterns) 44 (many_image patterns) n (left (list_image (count patterns) (many_image patterns)) ((node_image body)) n h))))
+      (within_of body n (right (list_image (count patterns) (many_image patterns)) ((node_image body)) n h))
   within_of (t.Open mode slot path) n h = within_of path n (right (opening_mark mode slot) ((node_image path)) n h)
-  within_of (t.Here pieces) n h = and_from _ _ (count_le pieces n (listing (count pieces) 44 (many_image pieces) n (right (codes "h") ((list_image (count pieces) (many_image pieces))) n h))) (all_within pieces n (listing (count pieces) 44 (many_image pieces) n (right (codes "h") ((list_image (count pieces) (many_image pieces))) n h)))
+  within_of (t.Here pieces) n h =
+      and_from _ _
+      (count_le pieces n (listing (count pieces) 44 (many_image pieces) n (right (codes "h") ((list_image (count pieces) (many_image pieces))) n h)))
+      (all_within pieces n (listing (count pieces) 44 (many_image pieces) n (right (codes "h") ((list_image (count pieces) (many_image pieces))) n h)))
 
   all_within : {s : Sort} (ns : Many s) (n : ℕ) → length (many_image ns) ≤ n → IsTrue (all_in_many (λ text. nat_le (length text) n) (λ m. nat_le m n) ns)
   all_within none n h = refl

@@ -100,20 +100,57 @@ mutual
   text_of t.Empty text e = record { utf8 = mark (codes "e") text refl e; characters = refl }
   text_of (t.Seq items) text j = let a = texts_of items j.second.back j.second.second in record { utf8 = marked j refl (listed (count items) j.second a.utf8); characters = a.characters }
   text_of (t.Simple words) text j = let a = texts_of words j.second.back j.second.second in record { utf8 = marked j refl (listed (count words) j.second a.utf8); characters = a.characters }
-  text_of (t.Assign pairs body) text j = let a = texts_of pairs j.second.first.back j.second.first.second in let b = text_of body j.second.back j.second.second in record { utf8 = marked j refl (joined j.second (listed (count pairs) j.second.first a.utf8) (b.utf8)); characters = and_from _ _ a.characters b.characters }
-  text_of (t.Redirect redirs body) text j = let a = texts_of redirs j.second.first.back j.second.first.second in let b = text_of body j.second.back j.second.second in record { utf8 = marked j refl (joined j.second (listed (count redirs) j.second.first a.utf8) (b.utf8)); characters = and_from _ _ a.characters b.characters }
-  text_of (t.Pipeline stages last) text j = let a = texts_of stages j.second.first.back j.second.first.second in let b = text_of last j.second.back j.second.second in record { utf8 = marked j refl (joined j.second (listed (count stages) j.second.first a.utf8) (b.utf8)); characters = and_from _ _ a.characters b.characters }
-  text_of (t.AndOr first links) text j = let a = text_of first j.second.front j.second.first in let b = texts_of links j.second.second.back j.second.second.second in record { utf8 = marked j refl (joined j.second (a.utf8) (listed (count links) j.second.second b.utf8)); characters = and_from _ _ a.characters b.characters }
+  text_of (t.Assign pairs body) text j =
+      let a = texts_of pairs j.second.first.back j.second.first.second in
+      let b = text_of body j.second.back j.second.second in
+      record { utf8 = marked j refl (joined j.second (listed (count pairs) j.second.first a.utf8) (b.utf8)); characters = and_from _ _ a.characters b.characters }
+  text_of (t.Redirect redirs body) text j =
+      let a = texts_of redirs j.second.first.back j.second.first.second in
+      let b = text_of body j.second.back j.second.second in
+      record { utf8 = marked j refl (joined j.second (listed (count redirs) j.second.first a.utf8) (b.utf8)); characters = and_from _ _ a.characters b.characters }
+  text_of (t.Pipeline stages last) text j =
+      let a = texts_of stages j.second.first.back j.second.first.second in
+      let b = text_of last j.second.back j.second.second in
+      record { utf8 = marked j refl (joined j.second (listed (count stages) j.second.first a.utf8) (b.utf8)); characters = and_from _ _ a.characters b.characters }
+  text_of (t.AndOr first links) text j =
+      let a = text_of first j.second.front j.second.first in
+      let b = texts_of links j.second.second.back j.second.second.second in
+      record { utf8 = marked j refl (joined j.second (a.utf8) (listed (count links) j.second.second b.utf8)); characters = and_from _ _ a.characters b.characters }
   text_of (t.Not body) text j = let a = text_of body j.back j.second in record { utf8 = marked j refl (a.utf8); characters = a.characters }
   text_of (t.Subshell body) text j = let a = text_of body j.back j.second in record { utf8 = marked j refl (a.utf8); characters = a.characters }
-  text_of (t.If condition body) text j = let a = text_of condition j.second.front j.second.first in let b = text_of body j.second.back j.second.second in record { utf8 = marked j refl (joined j.second (a.utf8) (b.utf8)); characters = and_from _ _ a.characters b.characters }
+  text_of (t.If condition body) text j =
+      let a = text_of condition j.second.front j.second.first in
+      let b = text_of body j.second.back j.second.second in
+      record { utf8 = marked j refl (joined j.second (a.utf8) (b.utf8)); characters = and_from _ _ a.characters b.characters }
   text_of (t.IfNot body) text j = let a = text_of body j.back j.second in record { utf8 = marked j refl (a.utf8); characters = a.characters }
-  text_of (t.While condition body) text j = let a = text_of condition j.second.front j.second.first in let b = text_of body j.second.back j.second.second in record { utf8 = marked j refl (joined j.second (a.utf8) (b.utf8)); characters = and_from _ _ a.characters b.characters }
-  text_of (t.ForAll name body) text j = let a = text_of name j.second.front j.second.first in let b = text_of body j.second.back j.second.second in record { utf8 = marked j refl (joined j.second (a.utf8) (b.utf8)); characters = and_from _ _ a.characters b.characters }
-  text_of (t.For name words body) text j = let a = text_of name j.second.front j.second.first in let b = texts_of words j.second.second.first.back j.second.second.first.second in let c = text_of body j.second.second.back j.second.second.second in record { utf8 = marked j refl (joined j.second (a.utf8) (joined j.second.second (listed (count words) j.second.second.first b.utf8) (c.utf8))); characters = and_from _ _ a.characters (and_from _ _ b.characters c.characters) }
-  text_of (t.Switch subject branches) text j = let a = text_of subject j.second.front j.second.first in let b = texts_of branches j.second.second.back j.second.second.second in record { utf8 = marked j refl (joined j.second (a.utf8) (listed (count branches) j.second.second b.utf8)); characters = and_from _ _ a.characters b.characters }
-  text_of (t.Match subject patterns) text j = let a = text_of subject j.second.front j.second.first in let b = texts_of patterns j.second.second.back j.second.second.second in record { utf8 = marked j refl (joined j.second (a.utf8) (listed (count patterns) j.second.second b.utf8)); characters = and_from _ _ a.characters b.characters }
-  text_of (t.Define names body) text j = let a = texts_of names j.second.first.back j.second.first.second in let b = text_of body j.second.back j.second.second in record { utf8 = marked j refl (joined j.second (listed (count names) j.second.first a.utf8) (b.utf8)); characters = and_from _ _ a.characters b.characters }
+  text_of (t.While condition body) text j =
+      let a = text_of condition j.second.front j.second.first in
+      let b = text_of body j.second.back j.second.second in
+      record { utf8 = marked j refl (joined j.second (a.utf8) (b.utf8)); characters = and_from _ _ a.characters b.characters }
+  text_of (t.ForAll name body) text j =
+      let a = text_of name j.second.front j.second.first in
+      let b = text_of body j.second.back j.second.second in
+      record { utf8 = marked j refl (joined j.second (a.utf8) (b.utf8)); characters = and_from _ _ a.characters b.characters }
+  text_of (t.For name words body) text j =
+      let a = text_of name j.second.front j.second.first in
+      let b = texts_of words j.second.second.first.back j.second.second.first.second in
+      let c = text_of body j.second.second.back j.second.second.second in
+      record {
+        utf8 = marked j refl (joined j.second (a.utf8) (joined j.second.second (listed (count words) j.second.second.first b.utf8) (c.utf8)));
+        characters = and_from _ _ a.characters (and_from _ _ b.characters c.characters);
+      }
+  text_of (t.Switch subject branches) text j =
+      let a = text_of subject j.second.front j.second.first in
+      let b = texts_of branches j.second.second.back j.second.second.second in
+      record { utf8 = marked j refl (joined j.second (a.utf8) (listed (count branches) j.second.second b.utf8)); characters = and_from _ _ a.characters b.characters }
+  text_of (t.Match subject patterns) text j =
+      let a = text_of subject j.second.front j.second.first in
+      let b = texts_of patterns j.second.second.back j.second.second.second in
+      record { utf8 = marked j refl (joined j.second (a.utf8) (listed (count patterns) j.second.second b.utf8)); characters = and_from _ _ a.characters b.characters }
+  text_of (t.Define names body) text j =
+      let a = texts_of names j.second.first.back j.second.first.second in
+      let b = text_of body j.second.back j.second.second in
+      record { utf8 = marked j refl (joined j.second (listed (count names) j.second.first a.utf8) (b.utf8)); characters = and_from _ _ a.characters b.characters }
   text_of (t.Undefine names) text j = let a = texts_of names j.second.back j.second.second in record { utf8 = marked j refl (listed (count names) j.second a.utf8); characters = a.characters }
   text_of (t.Brace body) text j = let a = text_of body j.back j.second in record { utf8 = marked j refl (a.utf8); characters = a.characters }
   text_of (t.Lit x quoted) text j = let w = texted x j.back j.second in record { utf8 = marked j (word_mark quoted) w.1; characters = w.0 }
@@ -122,7 +159,10 @@ mutual
   text_of (t.Var name) text j = let a = text_of name j.back j.second in record { utf8 = marked j refl (a.utf8); characters = a.characters }
   text_of (t.Count name) text j = let a = text_of name j.back j.second in record { utf8 = marked j refl (a.utf8); characters = a.characters }
   text_of (t.Flat name) text j = let a = text_of name j.back j.second in record { utf8 = marked j refl (a.utf8); characters = a.characters }
-  text_of (t.Sub name subscripts) text j = let a = text_of name j.second.front j.second.first in let b = texts_of subscripts j.second.second.back j.second.second.second in record { utf8 = marked j refl (joined j.second (a.utf8) (listed (count subscripts) j.second.second b.utf8)); characters = and_from _ _ a.characters b.characters }
+  text_of (t.Sub name subscripts) text j =
+      let a = text_of name j.second.front j.second.first in
+      let b = texts_of subscripts j.second.second.back j.second.second.second in
+      record { utf8 = marked j refl (joined j.second (a.utf8) (listed (count subscripts) j.second.second b.utf8)); characters = and_from _ _ a.characters b.characters }
   text_of (t.Back body) text j = let a = text_of body j.back j.second in record { utf8 = marked j refl (a.utf8); characters = a.characters }
   text_of (t.Item body background) text j = let a = text_of body j.back j.second in record { utf8 = marked j (background_mark background) a.utf8; characters = a.characters }
   text_of (t.Pair name value) text j =
@@ -130,7 +170,9 @@ mutual
   text_of (t.Stage body slot) text j = let a = text_of body j.back j.second in record { utf8 = joined j (output slot j.front j.first) a.utf8; characters = a.characters }
   text_of (t.Link logic body) text j = let a = text_of body j.back j.second in record { utf8 = marked j (link_mark logic) a.utf8; characters = a.characters }
   text_of (t.Branch patterns body) text j =
-      let a = texts_of patterns j.first.back j.first.second in let b = text_of body j.back j.second in record { utf8 = joined j (listed (count patterns) j.first a.utf8) b.utf8; characters = and_from _ _ a.characters b.characters }
+      let a =
+      texts_of patterns j.first.back j.first.second in let b = text_of body j.back j.second in record
+      { utf8 = joined j (listed (count patterns) j.first a.utf8) b.utf8; characters = and_from _ _ a.characters b.characters }
   text_of (t.Open mode slot path) text j = let o = opened mode slot {path = Spells path} text j in let a = text_of path o.0 o.1 in record { utf8 = o.2 a.utf8; characters = a.characters }
   text_of (t.Copy to from) text j = record { utf8 = marked j refl (crossing to from j.back j.second); characters = refl }
   text_of (t.Here pieces) text j = let a = texts_of pieces j.second.back j.second.second in record { utf8 = marked j refl (listed (count pieces) j.second a.utf8); characters = a.characters }

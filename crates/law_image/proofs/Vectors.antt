@@ -108,6 +108,7 @@ one_word_cut : read_prefixes (codes "rc1;c1,w1:a") ≡ times 5 BadTag ++ times 2
 unfolding prefixes read_prefixes times
 one_word_cut = refl
 
-braces_cut : read_prefixes (codes "rc1;bs1,;c2,w4:echo$w1:x") ≡ times 6 BadTag ++ times 2 BadLength ++ times 2 BadTag ++ times 2 BadLength ++ times 1 BadTag ++ times 6 BadLength ++ times 2 BadTag ++ times 3 BadLength
+braces_cut : read_prefixes
+    (codes "rc1;bs1,;c2,w4:echo$w1:x") ≡ times 6 BadTag ++ times 2 BadLength ++ times 2 BadTag ++ times 2 BadLength ++ times 1 BadTag ++ times 6 BadLength ++ times 2 BadTag ++ times 3 BadLength
 unfolding prefixes read_prefixes times
 braces_cut = refl

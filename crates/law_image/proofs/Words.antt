@@ -147,7 +147,8 @@ number_back n h = digits_value-decimal own n (omega arith)
 spelling_counted : (c : Node cmd) (text : List ℕ) (n : ℕ) → Spells c text → IsTrue (well_formed c) → counted n (read_spelling text) ≡ Ok (c, n)
 spelling_counted c text n s f = ap (counted n) (spelling_read text c s f)
 
-pub read_again : (c : Node cmd) (text : List ℕ) (words rest : List (List ℕ)) → Spells c text → IsTrue (well_formed c) → AreWords longest_word text words → read_pieces (words ++ rest) ≡ Ok (c, length words)
+pub read_again : (c : Node cmd) (text : List ℕ) (words rest : List (List ℕ)) → Spells c text → IsTrue (well_formed c)
+    → AreWords longest_word text words → read_pieces (words ++ rest) ≡ Ok (c, length words)
 read_again c text words rest s f (in_one h) =
     if_is (nat_le (length (codes "rc1;" ++ text)) longest_word) _ _ (le-leb (length (codes "rc1;" ++ text)) longest_word h) ∙ spelling_counted c text 1 s f
 read_again c text words rest s f (in_pieces ps h p l) =

@@ -14,14 +14,20 @@ use Rattle.rc_model.specs.Syntax.Tree.{Node, cmd}
 use Rattle.rc_model.specs.Run.State.{State, value_of, set_value, function_of, without_child, drop_child}
 use Rattle.rc_model.specs.Run.Shell.{Shell, ShellResult, Next, Exit, ◌>>◌, pure, call, say, exits}
 use Rattle.rc_model.specs.Handed.Image.{is_fit, program_launch}
-use Rattle.rc_model.specs.Run.Acts.{set_status, report, refuse, is_path, candidates, is_program, first_program, find_program, Started, Child, NoChild, start_if_fit, wait_started, run_found, run_program, read_all, longest_file}
+use Rattle.rc_model.specs.Run.Acts.{set_status, report, refuse, is_path, candidates, is_program, first_program, find_program, Started, Child, NoChild}
+use Rattle.rc_model.specs.Run.Acts.{start_if_fit, wait_started, run_found, run_program, read_all, longest_file}
 use Rattle.rc_model.specs.declared.builtin.Builtin.{Builtin}
 use Rattle.rc_model.specs.declared.builtin.Builtin.TheVariants.{Dot, BuiltinWord, Cd, Eval, Exec, Exit as ExitWord, Shift, Wait, Whatis}
-use Rattle.rc_model.specs.Run.Builtins.{builtin_named, Called, Finished, Body, BodyWith, finished, usage, as_body, as_body_with, opened_or, open_first, whole_file, run_file, dot, first_dir, dirs_of, first_member, cd, exit_status, shifted, shift, wait_child, wait_all, wait_one, wait_numbered, wait_for, value_line, function_line, program_line, other_line, command_line, known_of, known_each, met, write_lines, whatis, exec, run_builtin, run_command, without_functions, run_named, run_words}
+use Rattle.rc_model.specs.Run.Builtins.{builtin_named, Called, Finished, Body, BodyWith, finished, usage, as_body, as_body_with, opened_or}
+use Rattle.rc_model.specs.Run.Builtins.{open_first, whole_file, run_file, dot, first_dir, dirs_of, first_member, cd, exit_status, shifted, shift}
+use Rattle.rc_model.specs.Run.Builtins.{wait_child, wait_all, wait_one, wait_numbered, wait_for, value_line, function_line, program_line, other_line}
+use Rattle.rc_model.specs.Run.Builtins.{command_line, known_of, known_each, met, write_lines, whatis, exec, run_builtin, run_command}
+use Rattle.rc_model.specs.Run.Builtins.{without_functions, run_named, run_words}
 use Rattle.rc_model.specs.Family.Accounts.{a_file, Account, one, counts, with_call, past, after}
 use Rattle.law_traces.proofs.Keep.{Keeps, keeps_mono, one_self, Held, held, alone, Kid, kid_of, Rest}
 use Rattle.law_traces.proofs.Steps.{one_other, may_call, may_close, rest_close, rest_wait, may_wait_alone}
-use Rattle.law_traces.proofs.Does.{Ends, keeps_bind, Covers, Clean, clean_bind, clean_pure, clean_skip, clean_exits, clean_probe, clean_report, clean_fails, clean_status, clean_change, neat_state, Opened, opened_so}
+use Rattle.law_traces.proofs.Does.{Ends, keeps_bind, Covers, Clean, clean_bind, clean_pure, clean_skip, clean_exits, clean_probe, clean_report}
+use Rattle.law_traces.proofs.Does.{clean_fails, clean_status, clean_change, neat_state, Opened, opened_so}
 use Rattle.law_traces.proofs.Children.{BegunSo, keeps_start, keeps_reading, set_keeps}
 use Rattle.law_traces.proofs.Forms.{clean_dir, clean_output, clean_if, clean_at, clean_then, clean_from}
 
@@ -36,7 +42,8 @@ clean_find name = clean_if (is_path name) (pure (Some name)) _ (clean_pure (Some
 clean_refuse : {slots : Slots} (name why : List ℕ) → Clean slots (refuse slots name why)
 clean_refuse {slots = slots} name why = clean_then (report slots (name ++ codes ": " ++ why)) _ (clean_report (name ++ codes ": " ++ why)) (clean_status why)
 
-keeps_wait_started : (F : List Held) (O : List Kid) (slots : Slots) (name : List ℕ) (b : Started) (a : Account) (s : State) → Covers F slots → BegunSo F O b a s → Keeps a (wait_started slots name b s) (Ends F O (λ x. Rest F O))
+keeps_wait_started : (F : List Held) (O : List Kid) (slots : Slots) (name : List ℕ) (b : Started) (a : Account) (s : State) → Covers F slots
+    → BegunSo F O b a s → Keeps a (wait_started slots name b s) (Ends F O (λ x. Rest F O))
 keeps_wait_started F O slots name (NoChild why) a s c n = (clean_refuse name why).by F O a s c n
 keeps_wait_started F O slots name (Child k) a s c n = (may_wait_alone n, λ x f. neat_state _ refl (rest_wait n))
 
@@ -44,7 +51,8 @@ clean_found : {slots : Slots} (name : List ℕ) (args : List (List ℕ)) (o : Op
 clean_found name args None = clean_refuse name (codes "not found")
 clean_found {slots = slots} name args (Some path) = record {
   by = λ F O a s c n.
-      keeps_bind F O {Q = BegunSo F O} (λ x. Rest F O) a (start_if_fit (program_launch slots path args s) s) (wait_started slots name) (keeps_start F F O O (program_launch slots path args s) (is_fit (program_launch slots path args s)) (λ e. tt) a s c n)
+      keeps_bind F O {Q = BegunSo F O} (λ x. Rest F O) a (start_if_fit (program_launch slots path args s) s) (wait_started slots name)
+      (keeps_start F F O O (program_launch slots path args s) (is_fit (program_launch slots path args s)) (λ e. tt) a s c n)
       (λ b a2 s2 q. keeps_wait_started F O slots name b a2 s2 c q);
 }
 
@@ -70,19 +78,26 @@ clean_body_with args (Some c) = clean_pure (BodyWith args c)
 clean_body_with args None = clean_ends (codes "syntax error")
 
 -- `.`
-keeps_or_open : (F : List Held) (O : List Kid) (ps : List (List ℕ)) {s : State} → ((b : Account) → Rest F O b s → Keeps b (open_first ps s) (Ends F O (Opened F O))) → (o : Option ℕ) (b : Account) → Opened F O o b s → Keeps b (opened_or (open_first ps) o s) (Ends F O (Opened F O))
+keeps_or_open : (F : List Held) (O : List Kid) (ps : List (List ℕ)) {s : State}
+    → ((b : Account) → Rest F O b s → Keeps b (open_first ps s) (Ends F O (Opened F O))) → (o : Option ℕ) (b : Account) → Opened F O o b s
+    → Keeps b (opened_or (open_first ps) o s) (Ends F O (Opened F O))
 keeps_or_open F O ps k (Some h) b q = q
 keeps_or_open F O ps k None b q = k b q
 
 keeps_open_first : (F : List Held) (O : List Kid) (ps : List (List ℕ)) (a : Account) (s : State) → Rest F O a s → Keeps a (open_first ps s) (Ends F O (Opened F O))
 keeps_open_first F O [] a s n = n
-keeps_open_first F O (p ∷ ps) a s n = (may_call (open_file p Read) n tt tt tt, λ x f. keeps_or_open F O ps (λ b q. keeps_open_first F O ps b s q) (as_file x) (after a (open_file p Read) x) (opened_so (open_file p Read) (as_file x) f n))
+keeps_open_first F O (p ∷ ps) a s n = (
+  may_call (open_file p Read) n tt tt tt,
+  λ x f. keeps_or_open F O ps (λ b q. keeps_open_first F O ps b s q) (as_file x)
+      (after a (open_file p Read) x) (opened_so (open_file p Read) (as_file x) f n),
+)
 
 clean_whole_file : {slots : Slots} (args : List (List ℕ)) (text : List ℕ) (why : Option (List ℕ)) → Clean slots (whole_file args text why)
 clean_whole_file args text None = clean_body_with args (tree_of text)
 clean_whole_file args text (Some why) = clean_ends why
 
-keeps_run_file : (F : List Held) (O : List Kid) (slots : Slots) (args : List (List ℕ)) (o : Option ℕ) (a : Account) (s : State) → Covers F slots → Opened F O o a s → Keeps a (run_file args o s) (Ends F O (λ x. Rest F O))
+keeps_run_file : (F : List Held) (O : List Kid) (slots : Slots) (args : List (List ℕ)) (o : Option ℕ) (a : Account) (s : State) → Covers F slots
+    → Opened F O o a s → Keeps a (run_file args o s) (Ends F O (λ x. Rest F O))
 keeps_run_file F O slots args None a s c n = neat_state _ refl n
 keeps_run_file F O slots args (Some h) a s c n =
     keeps_bind F O {Q = λ t. Rest (held h a_file 0 ∷ F) O} (λ x. Rest F O) a (read_all longest_file h s) (λ out. say (close h) >> whole_file args out.text out.why)
@@ -92,7 +107,8 @@ keeps_run_file F O slots args (Some h) a s c n =
 clean_dot : {slots : Slots} (args : List (List ℕ)) → Clean slots (dot args)
 clean_dot [] = clean_usage
 clean_dot {slots = slots} (file ∷ args) = record {
-  by = λ F O a s c n. keeps_bind F O {Q = Opened F O} (λ x. Rest F O) a (open_first (candidates s file) s) (run_file args) (keeps_open_first F O (candidates s file) a s n) (λ o b t q. keeps_run_file F O slots args o b t c q);
+  by = λ F O a s c n. keeps_bind F O {Q = Opened F O} (λ x. Rest F O) a (open_first (candidates s file) s) (run_file args)
+      (keeps_open_first F O (candidates s file) a s n) (λ o b t q. keeps_run_file F O slots args o b t c q);
 }
 
 -- `cd`
@@ -112,7 +128,9 @@ clean_exit_status (w ∷ ws) = clean_status (spaced (w ∷ ws))
 
 clean_shifted : {slots : Slots} (o : Option ℕ) → Clean slots (shifted o)
 clean_shifted None = clean_usage
-clean_shifted (Some n) = clean_finished _ (clean_change (λ s. record (set_value s (codes "*") (drop n (value_of s (codes "*")))) { status = [] }) (λ s. set_keeps (codes "*") (drop n (value_of s (codes "*"))) s))
+clean_shifted (Some n) =
+    clean_finished _
+    (clean_change (λ s. record (set_value s (codes "*") (drop n (value_of s (codes "*")))) { status = [] }) (λ s. set_keeps (codes "*") (drop n (value_of s (codes "*"))) s))
 
 clean_shift : {slots : Slots} (args : List (List ℕ)) → Clean slots (shift args)
 clean_shift [] = clean_shifted (Some 1)
@@ -122,9 +140,16 @@ clean_shift (n ∷ m ∷ ms) = clean_usage
 -- waits for the background
 dropped : (k : ℕ) (l : List ℕ) → 1 ≤ counts l k → (i : ℕ) → counts (without_child k l) i + one k i ≡ counts l i
 dropped k [] h i = absurd (omega arith)
-dropped k (x ∷ xs) h i = elim (eqb_tells x k) [ inl e ↦ rw e.0 (subst (λ j. counts xs i + one j i ≡ one x i + counts xs i) e.1 (omega arith)) | inr e ↦ rw e.0 (let z = one_other x k e.1 in omega (arith, dropped k xs (omega arith) i)) ]
+dropped k (x ∷ xs) h i =
+    elim
+    (eqb_tells x k) [
+      | inl e ↦ rw e.0 (subst (λ j. counts xs i + one j i ≡ one x i + counts xs i) e.1 (omega arith))
+      | inr e ↦ rw e.0
+          (let z = one_other x k e.1 in omega (arith, dropped k xs (omega arith) i))
+    ]
 
-keeps_wait_child : (F : List Held) (O : List Kid) (k : ℕ) (a : Account) (s : State) → 1 ≤ counts s.background k → Rest F O a s → Keeps a (wait_child k s) (Ends F O (λ x b t. Rest F O b t × (t.background ≡ without_child k s.background)))
+keeps_wait_child : (F : List Held) (O : List Kid) (k : ℕ) (a : Account) (s : State) → 1 ≤ counts s.background k → Rest F O a s
+    → Keeps a (wait_child k s) (Ends F O (λ x b t. Rest F O b t × (t.background ≡ without_child k s.background)))
 keeps_wait_child F O k a s h n =
     let m : Rest F (kid_of k alone ∷ O) a (drop_child s k) = record {
       due = n.due;
@@ -139,12 +164,15 @@ keeps_wait_child F O k a s h n =
 keeps_wait_all : (F : List Held) (O : List Kid) (ks : List ℕ) (a : Account) (s : State) → s.background ≡ ks → Rest F O a s → Keeps a (wait_all ks s) (Ends F O (λ x. Rest F O))
 keeps_wait_all F O [] a s e n = n
 keeps_wait_all F O (k ∷ ks) a s e n =
-    keeps_bind F O {Q = λ x b t. Rest F O b t × (t.background ≡ without_child k s.background)} (λ x. Rest F O) a (wait_child k s) (λ x. wait_all ks) (keeps_wait_child F O k a s (subst (λ l. 1 ≤ counts l k) (sym e) (omega (arith, one_self k))) n)
+    keeps_bind F O {Q = λ x b t. Rest F O b t × (t.background ≡ without_child k s.background)} (λ x. Rest F O) a (wait_child k s) (λ x. wait_all ks)
+    (keeps_wait_child F O k a s (subst (λ l. 1 ≤ counts l k) (sym e) (omega (arith, one_self k))) n)
     (λ x b t q. keeps_wait_all F O ks b t (q.1 ∙ (ap (without_child k) e ∙ rw (eq-eqb k k refl))) q.0)
 
 is_in : (k : ℕ) (l : List ℕ) → list_any (λ m. m == k) l ≡ true → 1 ≤ counts l k
 is_in k [] e = absurd cc
-is_in k (x ∷ xs) e = elim (eqb_tells x k) [ inl t ↦ subst (λ j. 1 ≤ one x j + counts xs j) t.1 (omega (arith, one_self x)) | inr t ↦ let m : list_any (λ m. m == k) xs ≡ true = rw t.0 at e in omega (arith, is_in k xs m) ]
+is_in k (x ∷ xs) e =
+    elim
+    (eqb_tells x k) [ inl t ↦ subst (λ j. 1 ≤ one x j + counts xs j) t.1 (omega (arith, one_self x)) | inr t ↦ let m : list_any (λ m. m == k) xs ≡ true = rw t.0 at e in omega (arith, is_in k xs m) ]
 
 forget : (F : List Held) (O : List Kid) (l : List ℕ) (a : Account) (r : ShellResult (Unit {0})) → Ends F O (λ x b t. Rest F O b t × (t.background ≡ l)) a r → Ends F O (λ x. Rest F O) a r
 forget F O l a (Next x s) q = q.0
@@ -178,7 +206,10 @@ clean_command_line name shown None (Some b) = clean_pure _
 clean_command_line name shown None None = clean_other_line name shown
 
 clean_known : {slots : Slots} (name : List ℕ) → Clean slots (known_of name)
-clean_known name = clean_from _ (λ t. clean_bind (command_line name (value_line name (value_of t name)) (function_of t name) (builtin_named name)) _ (clean_command_line name (value_line name (value_of t name)) (function_of t name) (builtin_named name)) (λ k. clean_pure _))
+clean_known name =
+    clean_from _
+    (λ t. clean_bind (command_line name (value_line name (value_of t name)) (function_of t name) (builtin_named name)) _
+    (clean_command_line name (value_line name (value_of t name)) (function_of t name) (builtin_named name)) (λ k. clean_pure _))
 
 clean_known_each : {slots : Slots} (names : List (List ℕ)) → Clean slots (known_each names)
 clean_known_each [] = clean_pure ([], None)

@@ -101,14 +101,17 @@ pub clean_report : {slots : Slots} (text : List ℕ) → Clean slots (report slo
 clean_report text = clean_write _
 
 pub clean_fails : {A : Type 0} {slots : Slots} (text : List ℕ) → Clean {A = A} slots (fails slots text)
-clean_fails {slots = slots} text = clean_bind (runtime_error slots text) (λ x. exits) (clean_bind (report slots text) (λ x. set_status (codes "error")) (clean_report text) (λ x. clean_status (codes "error"))) (λ x. clean_exits)
+clean_fails {slots = slots} text =
+    clean_bind (runtime_error slots text) (λ x. exits)
+    (clean_bind (report slots text) (λ x. set_status (codes "error")) (clean_report text) (λ x. clean_status (codes "error"))) (λ x. clean_exits)
 
 -- a file that was opened_so, or not
 abbrev pub Opened : List Held → List Kid → Option ℕ → Account → State → Type 0
 Opened F O (Some h) a s = Rest (held h a_file 0 ∷ F) O a s
 Opened F O None a s = Rest F O a s
 
-pub opened_so : {F : List Held} {O : List Kid} {a : Account} {s : State} (c : Call) (o : Option ℕ) → NewFile o a → Rest F O a s → Opened F O o (past (add_file o (record a { due = next_due a.due c }))) s
+pub opened_so : {F : List Held} {O : List Kid} {a : Account} {s : State} (c : Call) (o : Option ℕ) → NewFile o a → Rest F O a s
+    → Opened F O o (past (add_file o (record a { due = next_due a.due c }))) s
 opened_so c (Some h) f n = rest_file c h f n
 opened_so c None f n = rest_on c n
 
@@ -122,7 +125,8 @@ taken l (Some k) f n = rest_child l k f n
 taken l None f n = rest_on (start l) n
 
 -- the same children in another order, or with less known of them
-pub rekid : {P : Due → Type 0} {F : List Held} {O : List Kid} {a : Account} {s : State} (O' : List Kid) → ((k : ℕ) → child_counts O k ≡ child_counts O' k) → AllKnown a O' → Neat P F O a s → Neat P F O' a s
+pub rekid : {P : Due → Type 0} {F : List Held} {O : List Kid} {a : Account} {s : State} (O' : List Kid)
+    → ((k : ℕ) → child_counts O k ≡ child_counts O' k) → AllKnown a O' → Neat P F O a s → Neat P F O' a s
 rekid O' e known n = record { due = n.due; files = n.files; owed = λ k. omega (arith, n.owed k, e k); all_held = n.all_held; all_known = known; background = n.background }
 
 pub child_counts-append : (xs ys : List Kid) (k : ℕ) → child_counts (xs ++ ys) k ≡ child_counts xs k + child_counts ys k

@@ -80,7 +80,16 @@ not_started k = omega (arith, k.owed 1)
 -- `a | b` of a family: the child's descriptor 1 stands for the write end of the pipe that process 0 made at place 0
 module _ (reads : Launch → Node cmd × State) (c : Node cmd) where
   abbrev pipeline_steps : List FamilyEvent
-  pipeline_steps = record { at = 0; call = make_pipe; answer = pair 3 4 } ∷ record { at = 0; call = start (shell (record { input = Own 0; output = to_file 4; errors = Own 2 })); answer = child 1 } ∷ record { at = 0; call = close 4; answer = done } ∷ []
+  pipeline_steps = record { at = 0; call = make_pipe; answer = pair 3 4 } ∷ record {
+    at = 0;
+    call = start
+        (shell (record { input = Own 0; output = to_file 4; errors = Own 2 }));
+    answer = child 1;
+  } ∷ record {
+    at = 0;
+    call = close 4;
+    answer = done;
+  } ∷ []
 
   two_processes : (family reads (first reads c new_state) pipeline_steps).count ≡ 2
   two_processes = refl

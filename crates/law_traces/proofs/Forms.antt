@@ -50,8 +50,12 @@ pub clean_from : {B : Type 0} {slots : Slots} (f : State → Shell B) → ((t : 
 clean_from f k = clean_bind get f clean_get k
 
 -- a scope that changes the state after its body, however that ends
-pub clean_scope : {slots : Slots} (f : State → State) → ((s : State) → (f s).background ≡ s.background) → (m : Runner) → Clean slots m → Clean slots (λ s. under (m s) (λ a. change f) (λ t owed. done_with (Exit (f t) owed)))
-clean_scope f e m k = record { by = λ F O a s c n. keeps_under a (m s) _ _ (Ends F O (λ x. Rest F O)) (Ends F O (λ x. Rest F O)) (k.by F O a s c n) (λ b x t q. neat_state (f t) (e t) q) (λ b t owed q. neat_state (f t) (e t) q) }
+pub clean_scope : {slots : Slots} (f : State → State) → ((s : State) → (f s).background ≡ s.background) → (m : Runner) → Clean slots m
+    → Clean slots (λ s. under (m s) (λ a. change f) (λ t owed. done_with (Exit (f t) owed)))
+clean_scope f e m k = record {
+  by = λ F O a s c n. keeps_under a (m s) _ _ (Ends F O (λ x. Rest F O)) (Ends F O (λ x. Rest F O)) (k.by F O a s c n)
+      (λ b x t q. neat_state (f t) (e t) q) (λ b t owed q. neat_state (f t) (e t) q);
+}
 
 -- names and values
 pub clean_one_name : {slots : Slots} (fits : List ℕ → Bool) (xs : List (List ℕ)) → Clean slots (one_name slots fits xs)
@@ -63,7 +67,9 @@ pub clean_variable : {slots : Slots} (x : List Word) → Clean slots (variable s
 clean_variable x = clean_one_name is_name (word_texts x)
 
 clean_value : {slots : Slots} (x : List Word) → Clean slots (value slots x)
-clean_value {slots = slots} x = clean_bind (one_name slots is_readable (word_texts x)) _ (clean_one_name is_readable (word_texts x)) (λ y. clean_from (λ s. pure (dollar_value s y)) (λ t. clean_pure (dollar_value t y)))
+clean_value {slots = slots} x =
+    clean_bind (one_name slots is_readable (word_texts x)) _ (clean_one_name is_readable (word_texts x))
+    (λ y. clean_from (λ s. pure (dollar_value s y)) (λ t. clean_pure (dollar_value t y)))
 
 pub clean_value_words : {slots : Slots} (x : List Word) → Clean slots (value_words slots x)
 clean_value_words {slots = slots} x = clean_bind (value slots x) _ (clean_value x) (λ v. clean_pure (plain_words v))
@@ -86,12 +92,16 @@ clean_concat a b = clean_joined (concatenated a b)
 
 pub clean_define : {slots : Slots} (xs : List (List ℕ)) (body : _) → Clean slots (define_each slots xs body)
 clean_define [] body = clean_skip
-clean_define {slots = slots} (x ∷ xs) body = clean_bind (one_name slots is_function_name (x ∷ [])) _ (clean_one_name is_function_name (x ∷ [])) (λ y. clean_then (change (λ s. define s y body)) _ (clean_change (λ s. define s y body) (λ s. refl)) (clean_define xs body))
+clean_define {slots = slots} (x ∷ xs) body =
+    clean_bind (one_name slots is_function_name (x ∷ [])) _ (clean_one_name is_function_name (x ∷ []))
+    (λ y. clean_then (change (λ s. define s y body)) _ (clean_change (λ s. define s y body) (λ s. refl)) (clean_define xs body))
 
 -- file names
 clean_each_name : {slots : Slots} (go : List ℕ → Shell (List (List ℕ))) → ((path : List ℕ) → Clean slots (go path)) → (path : List ℕ) (ns : List (List ℕ)) → Clean slots (each_name go path ns)
 clean_each_name go k path [] = clean_pure []
-clean_each_name go k path (n ∷ ns) = clean_bind (go (path ++ n)) _ (k (path ++ n)) (λ first. clean_bind (each_name go path ns) _ (clean_each_name go k path ns) (λ others. clean_pure (first ++ others)))
+clean_each_name go k path (n ∷ ns) =
+    clean_bind (go (path ++ n)) _ (k (path ++ n))
+    (λ first. clean_bind (each_name go path ns) _ (clean_each_name go k path ns) (λ others. clean_pure (first ++ others)))
 
 clean_step : {slots : Slots} (c : Word) (go : List ℕ → Shell (List (List ℕ))) → ((path : List ℕ) → Clean slots (go path)) → (path : List ℕ) → Clean slots (step c go path)
 clean_step c go k path = clean_if (has_pattern c) (listed c go path) (go (path ++ word_text c))
@@ -107,7 +117,9 @@ clean_paths [] = clean_pure []
 clean_paths (c ∷ cs) = clean_step c (walk cs) (clean_walk cs) []
 
 clean_expanded_word : {slots : Slots} (w : Word) → Clean slots (expanded_word w)
-clean_expanded_word w = clean_if (has_pattern w) (names_of w) (pure (w ∷ [])) (clean_bind (paths_of (components w)) _ (clean_paths (components w)) (λ p. clean_pure (or_itself w p))) (clean_pure (w ∷ []))
+clean_expanded_word w =
+    clean_if (has_pattern w) (names_of w) (pure (w ∷ []))
+    (clean_bind (paths_of (components w)) _ (clean_paths (components w)) (λ p. clean_pure (or_itself w p))) (clean_pure (w ∷ []))
 
 pub clean_expanded : {slots : Slots} (ws : List Word) → Clean slots (expanded ws)
 clean_expanded [] = clean_pure []

@@ -162,7 +162,8 @@ kids_below_place a (e ∷ es) h = (one_below e.known h.0, kids_below_place a es 
 pub later_line : (a b : Account) (p l q : ℕ) → q < p → ((r : ℕ) → r < p → b.pipeline r ≡ a.pipeline r) → a.place ≤ b.place → InLine a q l → InLine b q l
 later_line a b p l q lt same le i = record { is = same q lt ∙ i.is; past = omega (arith, i.past); old = omega (arith, i.old) }
 
-pub later_held : (a b : Account) (p : ℕ) (es : List Held) → ((k : ℕ) → 1 ≤ held_counts es k → b.things k ≡ a.things k) → ((r : ℕ) → r < p → b.pipeline r ≡ a.pipeline r) → a.place ≤ b.place → AllBelow p es → AllHeld a es → AllHeld b es
+pub later_held : (a b : Account) (p : ℕ) (es : List Held) → ((k : ℕ) → 1 ≤ held_counts es k → b.things k ≡ a.things k)
+    → ((r : ℕ) → r < p → b.pipeline r ≡ a.pipeline r) → a.place ≤ b.place → AllBelow p es → AllHeld a es → AllHeld b es
 later_held a b p [] st sl le w h = tt
 later_held a b p (e ∷ es) st sl le w h = (
   record { is = st e.number (omega (arith, one_self e.number)) ∙ h.0.is; in_line = later e.thing e.pipeline w.0 h.0.in_line },
@@ -174,7 +175,8 @@ later_held a b p (e ∷ es) st sl le w h = (
     later (read_end q) l lt i = later_line a b p l q lt sl le i
     later (write_end q) l lt i = later_line a b p l q lt sl le i
 
-pub later_known : (a b : Account) (p : ℕ) (es : List Kid) → ((k : ℕ) → 1 ≤ child_counts es k → b.feeds k ≡ a.feeds k) → ((r : ℕ) → r < p → b.pipeline r ≡ a.pipeline r) → a.place ≤ b.place → KidsBelow p es → AllKnown a es → AllKnown b es
+pub later_known : (a b : Account) (p : ℕ) (es : List Kid) → ((k : ℕ) → 1 ≤ child_counts es k → b.feeds k ≡ a.feeds k)
+    → ((r : ℕ) → r < p → b.pipeline r ≡ a.pipeline r) → a.place ≤ b.place → KidsBelow p es → AllKnown a es → AllKnown b es
 later_known a b p [] st sl le w h = tt
 later_known a b p (e ∷ es) st sl le w h =
     (later e.known w.0 h.0, later_known a b p es (λ k c. st k (omega arith)) sl le w.1 h.1)

@@ -63,7 +63,10 @@ program path slots = start (record { program = Some path; args = []; entries = c
 
 -- `{a | {exit 3}} >f`
 abbrev exits : Node cmd
-exits = alone (Redirect (more (Open Write 1 (Lit (codes "f") false)) none) (Brace (alone (Pipeline (more (Stage (word (codes "a")) 1) none) (Brace (alone (Simple (more (Lit (codes "exit") false) (more (Lit (codes "3") false) none)))))))))
+exits =
+    alone
+    (Redirect (more (Open Write 1 (Lit (codes "f") false)) none)
+    (Brace (alone (Pipeline (more (Stage (word (codes "a")) 1) none) (Brace (alone (Simple (more (Lit (codes "exit") false) (more (Lit (codes "3") false) none)))))))))
 
 abbrev exits_trace : List Event
 exits_trace = event (open_file (codes "f") Write) (file 5) ∷ event make_pipe (pair 3 4) ∷ event (stage (codes "rc1;c1,w1:a") (record plain { output = to_file 4 })) (child 1)

@@ -2,14 +2,19 @@
 use Rattle.std.proofs.Common.{◌≡◌, inl, inr, ℕ, ◌-◌, ◌≤◌, List, [], ◌∷◌, ◌++◌, Option, Some, None, Bool, true, false, refl, sym, ap, ◌∙◌, subst, arith}
 use Rattle.std.specs.Prelude.{if◌then◌else◌}
 use Rattle.std.proofs.lemmas.Bool.Decides.{eqb_tells}
-use Rattle.rc_model.specs.Run.Calls.{Call, Answer, Event, Launch, open_file, here, make_pipe, close, read, write, start, wait, list_names, probe, change_dir, refused, as_file, as_pair, as_child, taken_as, WantsFile, WantsPair, WantsChild, fitting, is_halt, calls, answers}
+use Rattle.rc_model.specs.Run.Calls.{Call, Answer, Event, Launch, open_file, here, make_pipe, close, read, write, start, wait, list_names, probe}
+use Rattle.rc_model.specs.Run.Calls.{change_dir, refused, as_file, as_pair, as_child, taken_as, WantsFile, WantsPair, WantsChild, fitting, is_halt}
+use Rattle.rc_model.specs.Run.Calls.{calls, answers}
 use Rattle.rc_model.specs.declared.call.Fault.{Fault}
 use Rattle.rc_model.specs.declared.call.Fault.TheVariants.{NoMemory}
 use Rattle.rc_model.specs.Run.Plans.{Plan, done_with, ask, cut, Played, Ends, Waits, Cut, play, after_call, calls_made}
 use Rattle.rc_model.specs.Syntax.Tree.{Node, cmd}
 use Rattle.rc_model.specs.Run.State.{State}
 use Rattle.rc_model.specs.Run.Script.{whole, EndsAsMeant, IsBegunAsMeant}
-use Rattle.rc_model.specs.Family.Accounts.{Thing, a_file, read_end, write_end, Due, free, made, used, passed, Account, one, put, next_due, with_call, add_file, add_pair, add_owed, past, after, NewFile, NewPair, NewChild, Fresh, FreshFrom, InTurn, Allowed, AllAllowed, at_start, account, IsFresh, Settled, IsDue, OneWriteEnd, AllOneWriteEnd, NothingLost, NothingLeft}
+use Rattle.rc_model.specs.Family.Accounts.{Thing, a_file, read_end, write_end, Due, free, made, used, passed, Account, one, put, next_due, with_call}
+use Rattle.rc_model.specs.Family.Accounts.{add_file, add_pair, add_owed, past, after, NewFile, NewPair, NewChild, Fresh, FreshFrom, InTurn, Allowed}
+use Rattle.rc_model.specs.Family.Accounts.{AllAllowed, at_start, account, IsFresh, Settled, IsDue, OneWriteEnd, AllOneWriteEnd, NothingLost}
+use Rattle.rc_model.specs.Family.Accounts.{NothingLeft}
 use Rattle.law_traces.proofs.Keep.{Keeps, one_self, put_self, put_other}
 use Rattle.law_traces.proofs.Steps.{one_other}
 use Rattle.law_traces.proofs.Cmds.{keeps_whole}
@@ -76,12 +81,14 @@ begun_more a c go Q d x vs rest ih f k e =
 
 begun_by : {X : Type 0} (a : Account) (c : Call) (go : Answer → Plan X) (Q : Account → X → Type 0) (d : Call) (x : Answer) (vs : List Event) (rest : List Call)
     → ((p : Plan X) (b : Account) → FreshFrom b vs → Keeps b p Q → calls_made (play p (answers vs)) ≡ calls vs ++ rest → AllAllowed b vs)
-    → Fresh a d x × FreshFrom (after a d x) vs → Keeps a (ask c go) Q → (b : Bool) → is_halt x ≡ b → calls_made (play (ask c go) (if b then [] else x ∷ answers vs)) ≡ d ∷ (calls vs ++ rest) → Allowed a d × AllAllowed (after a d x) vs
+    → Fresh a d x × FreshFrom (after a d x) vs → Keeps a (ask c go) Q → (b : Bool) → is_halt x ≡ b → calls_made
+    (play (ask c go) (if b then [] else x ∷ answers vs)) ≡ d ∷ (calls vs ++ rest) → Allowed a d × AllAllowed (after a d x) vs
 begun_by a c go Q d x vs rest ih f k true h e = allowed_first a c d vs rest e k.0 (after a d x)
 begun_by a c go Q d x vs rest ih f k false h e =
     begun_more a c go Q d x vs rest ih f k (sym (made_after c (play (go (fitting c x)) (answers vs))) ∙ (rw h at e))
 
-pub kept_begun : {X : Type 0} (Q : Account → X → Type 0) (trace : List Event) (rest : List Call) (p : Plan X) (a : Account) → FreshFrom a trace → Keeps a p Q → calls_made (play p (answers trace)) ≡ calls trace ++ rest → AllAllowed a trace
+pub kept_begun : {X : Type 0} (Q : Account → X → Type 0) (trace : List Event) (rest : List Call) (p : Plan X) (a : Account) → FreshFrom a trace
+    → Keeps a p Q → calls_made (play p (answers trace)) ≡ calls trace ++ rest → AllAllowed a trace
 kept_begun Q [] rest p a f k e = tt
 kept_begun Q (v ∷ vs) rest (done_with x) a f k e = absurd cc
 kept_begun Q (v ∷ vs) rest cut a f k e = absurd cc
@@ -95,7 +102,8 @@ ends_inv c cs x (Cut calls) e = absurd cc
 
 ended_by : {X : Type 0} (a : Account) (c : Call) (go : Answer → Plan X) (Q : Account → X → Type 0) (d : Call) (x : Answer) (vs : List Event) (t : X)
     → ((p : Plan X) (b : Account) → FreshFrom b vs → Keeps b p Q → play p (answers vs) ≡ Ends (calls vs) t [] → Q (account b vs) t)
-    → Fresh a d x × FreshFrom (after a d x) vs → Keeps a (ask c go) Q → (b : Bool) → is_halt x ≡ b → play (ask c go) (if b then [] else x ∷ answers vs) ≡ Ends (d ∷ calls vs) t [] → Q (account (after a d x) vs) t
+    → Fresh a d x × FreshFrom (after a d x) vs → Keeps a (ask c go) Q → (b : Bool) → is_halt x ≡ b → play (ask c go)
+    (if b then [] else x ∷ answers vs) ≡ Ends (d ∷ calls vs) t [] → Q (account (after a d x) vs) t
 ended_by a c go Q d x vs t ih f k true h e = absurd cc
 ended_by a c go Q d x vs t ih f k false h e =
     let r = play (go (fitting c x)) (answers vs) in
@@ -108,7 +116,8 @@ ended_by a c go Q d x vs t ih f k false h e =
     subst (λ y. Q (account (after a y x) vs) t) same
     (ih (go (fitting c x)) (after a c x) g.1 (subst (λ b. Keeps b (go (fitting c x)) Q) (after_fits a c x) kept) (w.2 ∙ ap (λ l. Ends l t []) tail))
 
-pub kept_ended : {X : Type 0} (Q : Account → X → Type 0) (trace : List Event) (t : X) (p : Plan X) (a : Account) → FreshFrom a trace → Keeps a p Q → play p (answers trace) ≡ Ends (calls trace) t [] → Q (account a trace) t
+pub kept_ended : {X : Type 0} (Q : Account → X → Type 0) (trace : List Event) (t : X) (p : Plan X) (a : Account) → FreshFrom a trace → Keeps a p Q
+    → play p (answers trace) ≡ Ends (calls trace) t [] → Q (account a trace) t
 kept_ended Q [] t (done_with x) a f k e = let same : x ≡ t = cc in subst (Q a) same k
 kept_ended Q [] t (ask c go) a f k e = absurd cc
 kept_ended Q [] t cut a f k e = absurd cc
@@ -139,7 +148,8 @@ one_quiet a b c n t f th o = record {
   once = λ h. omega (arith, f h, o.once h);
 }
 
-one_close : (a : Account) (h : ℕ) → InTurn a.due (close h) → 1 ≤ a.files h → (d : Due) → ((k p : ℕ) → 1 ≤ a.files k → a.things k ≡ write_end p → IsDue p k a.due) → OneWriteEnd a → OneWriteEnd (past (with_call (close h) a))
+one_close : (a : Account) (h : ℕ) → InTurn a.due (close h) → 1 ≤ a.files h → (d : Due)
+    → ((k p : ℕ) → 1 ≤ a.files k → a.things k ≡ write_end p → IsDue p k a.due) → OneWriteEnd a → OneWriteEnd (past (with_call (close h) a))
 one_close a h t m d only o = record {
   only = λ k p n e. absurd (gone a.due t k p (o.only k p (omega arith) e) n);
   once = λ k. omega (arith, o.once k);
@@ -190,7 +200,9 @@ one_pair a (Some (r, w)) t f v = record {
     | inl y ↦ (same p (sym (subst (λ j. put (put a.things r (read_end a.place)) w (write_end a.place) j ≡ write_end a.place) y.1 (put_self _ w (write_end a.place))) ∙ e), y.1)
     | inr y ↦ absurd (elim (eqb_tells r k) [
       | inl z ↦ not_read p (subst (λ j. put a.things r (read_end a.place) j ≡ read_end a.place) z.1 (put_self a.things r (read_end a.place))) (sym (put_other _ w _ k y.1) ∙ e)
-      | inr z ↦ let m2 = one_other w k y.1 in let m3 = one_other r k z.1 in quiet a.due make_pipe tt t p k (v.only k p (omega arith) (sym (put_other a.things r _ k z.1) ∙ (sym (put_other _ w _ k y.1) ∙ e)))
+      | inr z ↦ let m2 =
+          one_other w k y.1 in let m3 = one_other r k z.1 in quiet a.due make_pipe tt t p k
+          (v.only k p (omega arith) (sym (put_other a.things r _ k z.1) ∙ (sym (put_other _ w _ k y.1) ∙ e)))
     ])
   ];
   once = λ k. elim (eqb_tells w k) [
