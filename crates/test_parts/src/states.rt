@@ -109,7 +109,7 @@ fn out_of_memory_opens_no_local_of_the_status(rt: HostRuntime) -> Result<(), Fai
 fn out_of_memory_defines_nothing(rt: HostRuntime) -> Result<(), Fail> {
     let mut state = State::new(rt.alloc());
     let defined = state.define("f", empty());
-    assert_eq!(rt; state.function("f").is_some(), defined.is_ok());
+    assert_eq!(rt; state.has_function("f"), defined.is_ok());
     defined?;
     Ok(())
 }
@@ -120,7 +120,7 @@ fn out_of_memory_shares_no_body(rt: HostRuntime) -> Result<(), Fail> {
     let mut state = State::new(alloc);
     let body = Rc::new(alloc, empty())?;
     let defined = state.define_shared("f", &body);
-    assert_eq!(rt; state.function("f").is_some(), defined.is_ok());
+    assert_eq!(rt; state.has_function("f"), defined.is_ok());
     defined?;
     Ok(())
 }
@@ -149,7 +149,7 @@ fn a_copy_is_a_state_of_its_own(rt: HostRuntime) -> Result<(), Fail> {
     state.set_if_not(false);
     state.clear_children();
     assert_eq!(rt; copy.value("x").len(), 2);
-    assert!(rt; copy.function("f").is_some());
+    assert!(rt; copy.has_function("f"));
     assert!(rt; copy.if_not() && !copy.strict());
     assert_eq!(rt; copy.children().len(), 1);
     copy.pop_local();
