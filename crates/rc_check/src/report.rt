@@ -3,10 +3,11 @@
 ghost use Rattle.std.specs.Prelude.{IfOk};
 ghost use Rattle.rc_check.specs.Verdicts.{IsVerdictOn};
 
-use crate::faults::findings::{Finding, first_fault};
+use crate::faults::findings::{Finding, found_fault, read};
 use crate::positions::{Position, beginning, go_to, position_of};
 use crate::verdicts::Verdict;
-use rc_warnings::{MOST_WARNINGS, Warning, WarningKind, push_escaped, warnings_of};
+use rc_parser::{InputError, Source};
+use rc_warnings::{MOST_WARNINGS, Warning, WarningKind, push_escaped, warnings_in};
 use std::alloc::{AllocError, Global};
 
 /// The greatest number of bytes of a line that are shown on each side of a place.
@@ -26,19 +27,21 @@ pub fn report_of(alloc: Global, name: &str, script: &[u8]) -> Result<Report, All
     ensures { IfOk result (λ report. IsVerdictOn script.now report.verdict) }
 {
     let mut text = String::new(alloc);
-    let verdict = match first_fault(alloc, script)? {
-        Some(finding) => {
-            show_finding(alloc, &mut text, name, script, finding)?;
-            Verdict::Failed
-        }
-        None => {
-            show_warnings(alloc, &mut text, name, script)?;
+    let verdict = match read(alloc, script) {
+        Ok(lexed) => {
+            show_warnings(alloc, &mut text, name, &lexed.source())?;
             if text.is_empty() {
                 Verdict::Well
             } else {
                 Verdict::Warned
             }
         }
+        Err(InputError::Fault(fault)) => {
+            let finding = found_fault(alloc, script, fault)?;
+            show_finding(alloc, &mut text, name, script, finding)?;
+            Verdict::Failed
+        }
+        Err(InputError::NoMemory) => return Err(AllocError),
     };
     Ok(Report { text, verdict })
 }
@@ -66,15 +69,16 @@ fn show_finding(
     Ok(())
 }
 
-/// Writes the warnings of a script.
+/// Writes the warnings of a script with its tokens.
 fn show_warnings(
     alloc: Global,
     out: &mut String,
     name: &str,
-    script: &[u8],
+    source: &Source<'_>,
 ) -> Result<(), AllocError> {
+    let script = source.script;
     let mut reached = beginning(script);
-    let warnings = warnings_of(alloc, script)?;
+    let warnings = warnings_in(alloc, script, source.tokens)?;
     for warning in &warnings {
         reached = go_to(script, reached, warning.place.min(script.len()));
         show_place(out, name, reached.position)?;

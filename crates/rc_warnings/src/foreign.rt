@@ -4,7 +4,7 @@
 pub(crate) const LONGEST_WORD: usize = 14;
 
 /// Commands and keywords of other shells.
-pub(crate) const FOREIGN: [(&str, &str); 97] = [
+pub(crate) const FOREIGN: [(&str, &str); 131] = [
     ("else", "if not, on a line of its own or after a ;"),
     ("elif", "if not if(..), on a line of its own or after a ;"),
     ("elseif", "if not if(..), on a line of its own or after a ;"),
@@ -117,10 +117,44 @@ pub(crate) const FOREIGN: [(&str, &str); 97] = [
     ("Start-Process", "a & after the command"),
     ("ForEach-Object", "for(x in ..)"),
     ("Where-Object", "grep, or an if in a loop"),
+    ("setx", "x=value"),
+    ("coproc", "command &, with files in place of its pipes"),
+    ("autoload", "a . and the file"),
+    ("contains", "~ $list x"),
+    ("count", "$#x"),
+    ("set_color", "tput setaf 1, or another number"),
+    ("logout", "exit"),
+    ("limit", "prlimit"),
+    ("fork", "@{..}"),
+    ("newpgrp", "setsid, before a command"),
+    ("def", "fn f {..}"),
+    ("sub", "fn f {..}"),
+    ("proc", "fn f {..}"),
+    ("param", "x=$1, and so on"),
+    ("len", "$#x"),
+    ("try", "{..} || a command for its failure"),
+    ("catch", "|| after the command that can fail"),
+    ("except", "|| after the command that can fail"),
+    ("throw", "exit and a text, which is the status"),
+    ("raise", "exit and a text, which is the status"),
+    ("require", "a . and the file"),
+    ("cls", "clear"),
+    ("copy", "cp"),
+    ("move", "mv"),
+    ("del", "rm"),
+    ("ren", "mv"),
+    ("REM", "# for a comment"),
+    ("ECHO", "echo"),
+    ("echo.", "echo"),
+    ("pause", "sed -u 1q >/dev/null"),
+    ("call", "the command itself"),
+    ("findstr", "grep"),
+    ("where", "whatis name"),
+    ("setlocal", "@{..}"),
 ];
 
 /// Variables that other shells set.
-pub(crate) const VARIABLES: [(&str, &str); 27] = [
+pub(crate) const VARIABLES: [(&str, &str); 35] = [
     ("RANDOM", "`{shuf -i 0-32767 -n 1}"),
     ("SECONDS", "`{date +%s} before and after"),
     ("LINENO", "a name of your own for each place"),
@@ -157,6 +191,17 @@ pub(crate) const VARIABLES: [(&str, &str); 27] = [
     ("args", "$*"),
     ("_", "a variable of your own"),
     ("PSScriptRoot", "the directory of the script in a variable"),
+    ("pid", "a process that writes its number: sh -c 'echo $$'"),
+    (
+        "pipestatus",
+        "$status, which has the statuses of all stages, with | between them",
+    ),
+    ("EPOCHSECONDS", "`{date +%s}"),
+    ("cwd", "`{pwd}"),
+    ("LASTEXITCODE", "$status"),
+    ("argc", "$#*"),
+    ("sysname", "`{hostname}"),
+    ("objtype", "`{uname -m}"),
 ];
 
 /// What to write in place of a command of other shells.

@@ -14,5 +14,5 @@ pub use causes::advising::advice_at;
 pub use shown::escaped::push_escaped;
 pub use warnings::kind::WarningKind;
 pub use warnings::repair::Repair;
-pub use warnings::walk::{MOST_WARNINGS, warnings_of};
+pub use warnings::walk::{MOST_WARNINGS, warnings_in, warnings_of};
 pub use warnings::warning::Warning;

@@ -10,7 +10,7 @@ ghost use Rattle.rc_check.specs.Findings.{IsChecked, IsFoundIn, IsScript};
 use crate::faults::places::located;
 use crate::positions::on_line;
 use rc_model::SyntaxFault;
-use rc_parser::{InputError, Items, Reader, ScriptError, Source};
+use rc_parser::{InputError, Items, LexedScript, Reader, ScriptError, Source};
 use rc_warnings::Advice;
 use std::alloc::{AllocError, Global};
 
@@ -29,21 +29,24 @@ pub fn first_fault(alloc: Global, script: &[u8]) -> Result<Option<Finding>, Allo
     ensures { IfOk result (λ found. IsChecked script.now found) }
 {
     match read(alloc, script) {
-        Ok(()) => Ok(None),
+        Ok(_) => Ok(None),
         Err(InputError::Fault(fault)) => Ok(Some(found_fault(alloc, script, fault)?)),
         Err(InputError::NoMemory) => Err(AllocError),
     }
 }
 
-/// Reads a script, whose tree never stands in memory as a whole, or returns its first fault, as `parse` does.
-fn read(alloc: Global, script: &[u8]) -> Result<(), ScriptError>
+/// Reads a script, whose tree never stands in memory as a whole, and returns it with its tokens, or its first fault, as
+/// `parse` does.
+pub(crate) fn read(alloc: Global, script: &[u8]) -> Result<LexedScript, ScriptError>
+    ensures text { IfOk result (λ lexed. lexed ≡ script.now) }
     ensures accepted { IfOk result (λ _. IsScript script.now) }
     ensures refused { IfErr result (λ e. Refuses e script.now) }
 {
     let mut reader = Reader::new(alloc);
     reader.feed(script)?;
     let lexed = reader.lexed()?;
-    read_items(alloc, &lexed.source())
+    read_items(alloc, &lexed.source())?;
+    Ok(lexed)
 }
 
 /// Reads the items of a script with its tokens. Each is dropped before the next is parsed.
@@ -60,7 +63,11 @@ fn read_items(alloc: Global, source: &Source<'_>) -> Result<(), ScriptError>
 }
 
 /// The finding of a fault.
-fn found_fault(alloc: Global, script: &[u8], fault: SyntaxFault) -> Result<Finding, AllocError>
+pub(crate) fn found_fault(
+    alloc: Global,
+    script: &[u8],
+    fault: SyntaxFault,
+) -> Result<Finding, AllocError>
     requires { definitions.first_fault script.now ≡ Some fault }
     ensures { IfOk result (λ f. IsFoundIn script.now f) }
 {

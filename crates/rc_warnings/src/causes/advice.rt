@@ -1,5 +1,6 @@
 //! Advice for known mistakes: what was probably meant.
 
+use crate::bytes::after;
 use std::fmt;
 
 /// What was probably meant. It is shown as a line of advice.
@@ -97,6 +98,18 @@ impl Advice {
         words: "write x=value for x := value",
         line: None,
     };
+    /// `x += y`.
+    pub const PLUS_EQUALS: Advice = Advice {
+        name: "PlusEquals",
+        words: "write x=($x y) for x += y with a list, and x=`{expr $x + 1} for x += 1",
+        line: None,
+    };
+    /// `x ?= y`.
+    pub const UNLESS_SET: Advice = Advice {
+        name: "UnlessSet",
+        words: "write if(~ $#x 0) x=value for x ?= value",
+        line: None,
+    };
     /// `x(1)=y`.
     pub const PLACE_EQUALS: Advice = Advice {
         name: "PlaceEquals",
@@ -163,6 +176,30 @@ impl Advice {
         words: "write if(~ $#x 0) x=value before, for ${x:-value}",
         line: None,
     };
+    /// `${x:1:2}`.
+    pub const PART: Advice = Advice {
+        name: "Part",
+        words: "write $x(2-) for a part of a list, and `{echo $x | cut -c 2-3} for one of a text",
+        line: None,
+    };
+    /// `${!x}`.
+    pub const INDIRECT: Advice = Advice {
+        name: "Indirect",
+        words: "write $$x for the variable that $x names, for ${!x}",
+        line: None,
+    };
+    /// `${x^^}`.
+    pub const LETTERS: Advice = Advice {
+        name: "Letters",
+        words: "write `{echo $x | tr a-z A-Z} for ${x^^}",
+        line: None,
+    };
+    /// `$<`.
+    pub const LINE_READ: Advice = Advice {
+        name: "LineRead",
+        words: "write `{sed -u 1q} for a line that is read, and the name of the file in a recipe, for $<",
+        line: None,
+    };
     /// `${#x}`.
     pub const LENGTH: Advice = Advice {
         name: "Length",
@@ -223,10 +260,16 @@ impl Advice {
         words: "write `{date} for a command between backquotes",
         line: None,
     };
-    /// A command between braces after two backquotes.
+    /// A backquote at the end of a line.
+    pub const CONTINUATION: Advice = Advice {
+        name: "Continuation",
+        words: "write a backslash at the end of a line that goes on in the next one",
+        line: None,
+    };
+    /// A command between braces after a backquote and a text.
     pub const LISTED_OUTPUT: Advice = Advice {
         name: "ListedOutput",
-        words: "write ifs=: {x=`{command}} for x=`` (:) {command}",
+        words: "write ifs=: {x=`{command}} for x=`` (:) {command} and x=`:{command}",
         line: None,
     };
     /// `((x > 3))`.
@@ -247,10 +290,22 @@ impl Advice {
         words: "write switch(x) { case a; .. } for case x in a) .. esac",
         line: None,
     };
-    /// `case a | b`.
+    /// `case a | b` or `~ $x (a|b)`.
     pub const PATTERNS: Advice = Advice {
         name: "Patterns",
-        words: "write case a b for case a | b",
+        words: "write patterns one after the other, as in case a b and ~ $x a b",
+        line: None,
+    };
+    /// `(ls | wc)` as an argument.
+    pub const LISTED_COMMAND: Advice = Advice {
+        name: "ListedCommand",
+        words: "write `{a | b} for the output of commands; parentheses hold a list of words",
+        line: None,
+    };
+    /// A word directly after braces.
+    pub const AFTER_BRACES: Advice = Advice {
+        name: "AfterBraces",
+        words: "a command ends with its braces; write ; or a newline before the next one",
         line: None,
     };
     /// A command in the braces of a `switch`, before the first `case`.
@@ -409,12 +464,23 @@ impl Advice {
         let text = text.unwrap_or(b"");
         if text.starts_with(b"<<-") {
             Advice::HERE_DASH
-        } else if text.starts_with(b"<<\"") || text.starts_with(b"<<\\") {
+        } else if is_quoted_mark(text) {
             Advice::HERE_QUOTED
         } else {
             Advice::HERE_MARK
         }
     }
+}
+
+/// Whether a text begins with `<<` and a mark that is quoted as in other shells.
+fn is_quoted_mark(text: &[u8]) -> bool {
+    for byte in after(text, 2) {
+        match *byte {
+            b' ' | b'\t' => {}
+            found => return matches!(found, b'"' | b'\\'),
+        }
+    }
+    false
 }
 
 impl fmt::Display for Advice {

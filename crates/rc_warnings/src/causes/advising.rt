@@ -9,8 +9,9 @@ use rc_lexer::{Token, TokenKind};
 use std::alloc::{AllocError, Global};
 
 /// The words that declare a variable in other shells.
-const DECLARATIONS: [&str; 7] = [
-    "export", "local", "readonly", "declare", "typeset", "set", "setenv",
+const DECLARATIONS: [&str; 14] = [
+    "export", "local", "readonly", "declare", "typeset", "set", "setenv", "const", "float", "int",
+    "integer", "my", "our", "var",
 ];
 
 /// The advice for the token at this index of a script with these tokens, which no script can have there; past the last
@@ -86,8 +87,12 @@ fn by_last(tokens: Tokens<'_>, at: usize) -> Option<Advice> {
 
 /// The advice for what follows a backquote in place of braces.
 fn for_backquote(tokens: Tokens<'_>, at: usize) -> Advice {
-    if tokens.is(at, TokenKind::Backquote) {
+    let is_text = matches!(tokens.kind(at), Some(TokenKind::Word | TokenKind::Quoted));
+    let has_braces = tokens.is(at.wrapping_add(1), TokenKind::LeftBrace);
+    if tokens.is(at, TokenKind::Backquote) || is_text && has_braces {
         Advice::LISTED_OUTPUT
+    } else if tokens.is(at, TokenKind::Newline) {
+        Advice::CONTINUATION
     } else {
         Advice::BACKQUOTE
     }
@@ -167,6 +172,10 @@ fn around_equals(tokens: Tokens<'_>, at: usize, start: usize) -> Advice {
         Advice::EQUAL
     } else if text.ends_with(b":") {
         Advice::COLON_EQUALS
+    } else if tokens.is_one_of(before, &["+", "-"]) {
+        Advice::PLUS_EQUALS
+    } else if tokens.is_word(before, "?") {
+        Advice::UNLESS_SET
     } else if tokens.text(next).starts_with(b"~") {
         Advice::MATCH_OPERATOR
     } else if tokens.is_one_of(start, &["test", "["]) {
@@ -205,12 +214,22 @@ fn for_braced(tokens: Tokens<'_>, brace: usize) -> Advice {
     if inner.starts_with(b"#") {
         return Advice::LENGTH;
     }
-    let Some(place) = find_any(inner, b":%#/[") else {
-        return Advice::BRACED_NAME;
-    };
-    match inner.get(place) {
-        Some(b':') => Advice::DEFAULT,
-        Some(b'[') => Advice::MEMBER,
+    if inner.starts_with(b"!") {
+        return Advice::INDIRECT;
+    }
+    match find_any(inner, b":%#/[^,-+?=") {
+        Some(place) => after_name(after(inner, place)),
+        None => Advice::BRACED_NAME,
+    }
+}
+
+/// The advice for what follows a name in braces.
+fn after_name(rest: &[u8]) -> Advice {
+    match rest {
+        [b':', b'0'..=b'9' | b' ', ..] => Advice::PART,
+        [b':' | b'-' | b'+' | b'?' | b'=', ..] => Advice::DEFAULT,
+        [b'[', ..] => Advice::MEMBER,
+        [b'^' | b',', ..] => Advice::LETTERS,
         _ => Advice::TRIMMED,
     }
 }
@@ -235,6 +254,10 @@ fn for_parameter(tokens: Tokens<'_>, at: usize) -> Option<Advice> {
         Advice::PROCESS_NUMBER
     } else if text.starts_with(b"^") {
         Advice::FLAT
+    } else if text.starts_with(b"[") {
+        Advice::ARITHMETIC
+    } else if text.starts_with(b"<") {
+        Advice::LINE_READ
     } else {
         Advice::LONE_DOLLAR
     })
@@ -300,8 +323,8 @@ fn for_closing(tokens: Tokens<'_>, at: usize) -> Option<Advice> {
 /// The advice for an argument.
 fn for_word(tokens: Tokens<'_>, at: usize) -> Option<Advice> {
     let before = at.wrapping_sub(1);
-    if tokens.is(before, TokenKind::RightBrace) && tokens.is_one_of(at, &["else", "elif", "if"]) {
-        return Some(Advice::ELSE);
+    if tokens.is(before, TokenKind::RightBrace) {
+        return Some(after_braces(tokens, at));
     }
     let open = tokens.open_bracket(at)?;
     if tokens.is_word(open.wrapping_sub(1), "for") {
@@ -312,13 +335,35 @@ fn for_word(tokens: Tokens<'_>, at: usize) -> Option<Advice> {
     is_switch.then_some(Advice::NO_CASE)
 }
 
-/// The advice for an operator at the beginning of a line, or in a case line.
+/// The advice for a word directly after braces.
+fn after_braces(tokens: Tokens<'_>, at: usize) -> Advice {
+    if tokens.is_one_of(at, &["else", "elif", "if"]) {
+        return Advice::ELSE;
+    }
+    match foreign_form(tokens.text(at)) {
+        Some(instead) => Advice::foreign(instead),
+        None => Advice::AFTER_BRACES,
+    }
+}
+
+/// The advice for an operator at the beginning of a line, in a case line or among words.
 fn for_operator(tokens: Tokens<'_>, at: usize) -> Option<Advice> {
     match tokens.kind_before(at) {
         None | Some(TokenKind::Newline) => Some(Advice::LINE_END),
         _ if tokens.is_in_command(at, "case") => Some(Advice::PATTERNS),
-        _ => without_operand(tokens, at),
+        _ => among_words(tokens, at).or(without_operand(tokens, at)),
     }
+}
+
+/// The advice for an operator in a list of words.
+fn among_words(tokens: Tokens<'_>, at: usize) -> Option<Advice> {
+    let bracket = tokens.open_bracket(at)?;
+    let is_list = tokens.is(bracket, TokenKind::LeftParen) && !tokens.is_in_condition(at);
+    is_list.then_some(if tokens.is_in_command(bracket, "~") {
+        Advice::PATTERNS
+    } else {
+        Advice::LISTED_COMMAND
+    })
 }
 
 /// The advice for what follows an operator in place of a command.

@@ -1,6 +1,6 @@
 //! The rules for assignments.
 
-use crate::bytes::{find, has_any, is_number, is_plain};
+use crate::bytes::{find, find_any, has, has_any, is_number, is_plain};
 use crate::lexed::script_tokens::Tokens;
 use crate::rules::View;
 use crate::rules::conditions::assigned_condition;
@@ -19,9 +19,12 @@ pub(crate) fn assignment_warning(view: View<'_, '_>, at: usize) -> Option<Warnin
     first_of!(
         upper_warning(view, at),
         assigned_condition(tokens, at),
-        sum_warning(tokens, at),
+        sum_warning(view, at),
+        value_sum(tokens, at),
         operator_warning(tokens, at),
         brackets_warning(tokens, at),
+        escape_warning(tokens, at),
+        lost_warning(tokens, at),
         value_warning(tokens, at)
     )
 }
@@ -100,10 +103,11 @@ pub(crate) fn colon_warning(tokens: Tokens<'_>, at: usize, text: &[u8]) -> Optio
 }
 
 /// The warning for `x=$x+1` and `x=1+2`, at the value.
-fn sum_warning(tokens: Tokens<'_>, at: usize) -> Option<Warning> {
+fn sum_warning(view: View<'_, '_>, at: usize) -> Option<Warning> {
+    let tokens = view.tokens;
     let value = at.wrapping_add(2);
     if tokens.is(value, TokenKind::Word) {
-        return constant_sum(tokens, value);
+        return constant_sum(view, value);
     }
     let name = value.wrapping_add(1);
     let rest = name.wrapping_add(2);
@@ -129,14 +133,69 @@ fn sum_warning(tokens: Tokens<'_>, at: usize) -> Option<Warning> {
     )
 }
 
-/// The warning for an argument of `expr` that is a sum without blanks, as in `expr $x+1`, at its operator.
+/// The warning for `x=$x++` and `x=$a+$b`, at the value.
+fn value_sum(tokens: Tokens<'_>, at: usize) -> Option<Warning> {
+    let value = at.wrapping_add(2);
+    let rest = value.wrapping_add(3);
+    let is_joined = tokens.is(value, TokenKind::Dollar)
+        && tokens.is(rest.wrapping_sub(2), TokenKind::Name)
+        && tokens.is(rest.wrapping_sub(1), TokenKind::FreeCaret);
+    if !is_joined {
+        return None;
+    }
+    let right = rest.wrapping_add(2);
+    let adds = tokens.is_word(rest, "+")
+        && tokens.is(right.wrapping_sub(1), TokenKind::FreeCaret)
+        && tokens.is(right, TokenKind::Dollar);
+    let left = tokens.span_to(value, value.wrapping_add(1));
+    let repair = if adds {
+        let right = tokens.span_to(right, right.wrapping_add(1));
+        Repair::pair(["write `{expr ", " + ", "}"], left, right)
+    } else if tokens.is_word(rest, "++") {
+        Repair::around("write `{expr ", left, " + 1}")
+    } else if tokens.is_word(rest, "--") {
+        Repair::around("write `{expr ", left, " - 1}")
+    } else {
+        return None;
+    };
+    tokens.warning(value, WarningKind::ARITHMETIC, repair)
+}
+
+/// The warning for `ifs='\n'` and `newline='\n'`.
+fn escape_warning(tokens: Tokens<'_>, at: usize) -> Option<Warning> {
+    let value = at.wrapping_add(2);
+    let text = tokens.text(value);
+    let is_escape = tokens.is(value, TokenKind::Quoted)
+        && tokens.is_one_of(at, &["ifs", "newline", "nl", "tab"])
+        && (has(text, b"\\n") || has(text, b"\\t"));
+    if !is_escape {
+        return None;
+    }
+    let repair = Repair::of("write a newline or a tab itself, in quotes");
+    tokens.warning(value, WarningKind::BACKSLASH, repair)
+}
+
+/// The warning for `@ x = a`, as another shell computes.
+fn lost_warning(tokens: Tokens<'_>, at: usize) -> Option<Warning> {
+    let next = after_value(tokens, at)?;
+    if !tokens.is_word(at.wrapping_sub(1), "@") || !tokens.ends_command(next) {
+        return None;
+    }
+    let value = tokens.span_to(at.wrapping_add(2), next.wrapping_sub(1));
+    let repair = Repair::pair(["write ", "=", ""], tokens.span(at), value);
+    tokens.warning(at, WarningKind::LOST, repair)
+}
+
+/// The warning for an argument of `expr` that is a sum without blanks, as in `expr $x+1` or `expr 1+2`, at its
+/// operator or its text.
 pub(crate) fn sum_of_expr(tokens: Tokens<'_>, at: usize) -> Option<Warning> {
-    let value = at.wrapping_sub(3);
-    let is_sum = tokens.is_in_command(at, "expr")
-        && tokens.is(at.wrapping_sub(1), TokenKind::FreeCaret)
-        && tokens.is(value, TokenKind::Dollar)
-        && computes(tokens.text(at), true);
-    if !is_sum {
+    if !tokens.is_in_command(at, "expr") {
+        return None;
+    }
+    let is_joined = tokens.is(at.wrapping_sub(1), TokenKind::FreeCaret)
+        && tokens.is(at.wrapping_sub(3), TokenKind::Dollar);
+    let text = tokens.text(at);
+    if !is_sum_of_numbers(text) && !(is_joined && computes(text, true)) {
         return None;
     }
     let repair = Repair::of("write blanks around each operator and number: `{expr $x + 1}");
@@ -152,18 +211,35 @@ fn computes(text: &[u8], is_same: bool) -> bool {
     is_operator && is_number(number)
 }
 
-/// The warning for a value such as `1+2`.
-fn constant_sum(tokens: Tokens<'_>, value: usize) -> Option<Warning> {
+/// Whether a text is two numbers with an operator between them.
+fn is_sum_of_numbers(text: &[u8]) -> bool {
+    let place = find_any(text, b"+-*/%").unwrap_or(0);
+    let (low, rest) = text.split_at(place.min(text.len()));
+    is_number(low) && computes(rest, true)
+}
+
+/// The warning for a value such as `1+2` or `2*3`, or `i+1` with a variable `i`.
+fn constant_sum(view: View<'_, '_>, value: usize) -> Option<Warning> {
+    let tokens = view.tokens;
     let text = tokens.text(value);
-    let plus = find(text, b"+")?;
-    let (low, rest) = text.split_at(plus.min(text.len()));
-    let high = rest.get(1..)?;
-    if !is_number(low) || !is_number(high) {
+    let place = find_any(text, b"+*")?;
+    let (low, rest) = text.split_at(place.min(text.len()));
+    let is_product = rest.starts_with(b"*");
+    let is_name = view.overview.has_variable(low) && !is_product;
+    if !is_name && !is_number(low) || !computes(rest, true) {
         return None;
     }
     let found = tokens.span(value);
-    let middle = (found.start as usize).saturating_add(plus);
-    let words = ["write `{expr ", " + ", "}"];
+    let middle = (found.start as usize).saturating_add(place);
+    let words = [
+        if is_name {
+            "write `{expr $"
+        } else {
+            "write `{expr "
+        },
+        if is_product { " '*' " } else { " + " },
+        "}",
+    ];
     let repair = Repair::pair(
         words,
         span(found.start as usize, middle),

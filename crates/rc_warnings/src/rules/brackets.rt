@@ -4,7 +4,7 @@ use crate::bytes::is_number;
 use crate::lexed::script_tokens::Tokens;
 use crate::rules::View;
 use crate::rules::conditions::{condition_warning, output_test};
-use crate::rules::patterns::{constant_warning, list_warning};
+use crate::rules::patterns::{constant_warning, is_only_item, list_warning};
 use crate::rules::variables::place_warning;
 use crate::warnings::kind::WarningKind;
 use crate::warnings::repair::Repair;
@@ -55,8 +55,8 @@ fn parentheses_warning(tokens: Tokens<'_>, open: usize) -> Option<Warning> {
 }
 
 /// Words after which parentheses are no argument of a command of this name.
-const BEFORE_LISTS: [&str; 11] = [
-    "in", "not", "for", "if", "while", "switch", "case", "fn", "~", "!", "@",
+const BEFORE_LISTS: [&str; 9] = [
+    "in", "not", "for", "if", "while", "switch", "case", "fn", "~",
 ];
 
 /// Commands whose output other shells put in place of parentheses.
@@ -68,6 +68,9 @@ const WRITERS: [&str; 10] = [
 fn called_warning(view: View<'_, '_>, open: usize) -> Option<Warning> {
     let tokens = view.tokens;
     let word = open.wrapping_sub(1);
+    if tokens.is_one_of(word, &["!", "@"]) {
+        return excluding_warning(tokens, word);
+    }
     let is_word = tokens.is(word, TokenKind::Word)
         && tokens.touches_next(word)
         && !tokens.is_one_of(word, &BEFORE_LISTS)
@@ -79,6 +82,17 @@ fn called_warning(view: View<'_, '_>, open: usize) -> Option<Warning> {
         return call_warning(view, word, open);
     }
     tokens.touching(word, tokens.span(word), open)
+}
+
+/// The warning for `!(*.c)` as an argument, which leaves files out in other shells, at its first character.
+fn excluding_warning(tokens: Tokens<'_>, at: usize) -> Option<Warning> {
+    let start = tokens.command_start(at);
+    let is_argument = start < at && !tokens.begins_command(at.wrapping_add(1));
+    if !is_argument || !tokens.touches_next(at) || tokens.is_one_of(start, &["find", "test", "["]) {
+        return None;
+    }
+    let repair = Repair::of("write a loop that leaves files out: for(f in *) if(! ~ $f *.c)");
+    tokens.warning(at, WarningKind::PATTERN, repair)
 }
 
 /// The warning for `f(x)`, unless there is one for its `f`.
@@ -197,14 +211,11 @@ fn touching_output(tokens: Tokens<'_>, close: usize) -> Option<Warning> {
 /// The warning for the name of a variable that is all that a loop is for, at its `in`.
 pub(crate) fn loop_warning(view: View<'_, '_>, at: usize) -> Option<Warning> {
     let tokens = view.tokens;
-    let is_head = tokens.is_word(at, "in")
-        && tokens.is(at.wrapping_sub(2), TokenKind::LeftParen)
-        && tokens.is_word(at.wrapping_sub(3), "for")
-        && tokens.is(at.wrapping_add(2), TokenKind::RightParen);
-    if !is_head {
+    let item = at.wrapping_add(1);
+    if !is_only_item(tokens, item, item) {
         return None;
     }
-    constant_warning(view, at.wrapping_add(1))
+    constant_warning(view, item)
 }
 
 impl Tokens<'_> {

@@ -28,9 +28,33 @@ pub(crate) fn command_warning(view: View<'_, '_>, at: usize) -> Option<Warning> 
     first_of!(
         bang_warning(view, at),
         exec_warning(tokens, at),
+        called_function(view, at),
         tested_warning(tokens, at),
         foreign_warning(view, at)
     )
+}
+
+/// The warning for a function that a program is to start, as in `sudo f`, at that program or at its option.
+pub(crate) fn called_function(view: View<'_, '_>, at: usize) -> Option<Warning> {
+    let tokens = view.tokens;
+    let next = at.wrapping_add(1);
+    let is_caller = if tokens.begins_command(at) {
+        tokens.is_one_of(at, &["sudo", "nohup", "xargs"])
+    } else {
+        tokens.is_one_of(at, &["-exec", "-ok", "-execdir"]) && tokens.is_in_command(at, "find")
+    };
+    if !is_caller
+        || !tokens.is(next, TokenKind::Word)
+        || !view.overview.has_function(tokens.text(next))
+    {
+        return None;
+    }
+    let repair = Repair::around(
+        "write a script for ",
+        tokens.span(next),
+        ", or a loop that calls it",
+    );
+    tokens.warning(next, WarningKind::PROGRAM, repair)
 }
 
 /// The warning for a form that is not a simple command.
@@ -70,10 +94,15 @@ fn bang_warning(view: View<'_, '_>, at: usize) -> Option<Warning> {
         };
         return tokens.warning(at, WarningKind::BANG, repair);
     }
+    if tokens.is_word(at, "-not") {
+        let rest = tokens.span_to(at.wrapping_add(1), tokens.command_end(at));
+        return tokens.warning(at, WarningKind::BANG, Repair::around("write ! ", rest, ""));
+    }
+    let is_alternative = matches!(tokens.kind_before(at), Some(TokenKind::OrOr));
     let words = match text.first() {
         Some(b'!') => "write ! ",
         Some(b'@') => "write @ ",
-        Some(b'-') if text.len() > 2 => "write ",
+        Some(b'-') if text.len() > 2 && !is_alternative => "write ",
         _ => return None,
     };
     inner.start = inner.start.saturating_add(1);

@@ -3,18 +3,22 @@
 use crate::bytes::{is_number, is_plain};
 use crate::lexed::script_tokens::Tokens;
 use crate::rules::View;
+use crate::rules::commands::is_number_at;
 use crate::rules::functions::last_before;
 use crate::rules::words::hash_warning;
 use crate::warnings::kind::WarningKind;
 use crate::warnings::repair::Repair;
 use crate::warnings::warning::Warning;
-use rc_lexer::TokenKind;
+use rc_lexer::{Span, TokenKind};
 
 /// The operators of `test` that compare numbers.
 pub(crate) const COMPARISONS: [&str; 8] = ["-eq", "-ne", "-lt", "-le", "-gt", "-ge", "-nt", "-ot"];
 
-/// Operators of other languages that stand between two values.
-const BETWEEN: [&str; 8] = ["~", "eq", "ne", "lt", "gt", "le", "ge", "is"];
+/// Operators of other languages that match a value with another, or with a pattern.
+const MATCHES: [&str; 8] = ["~", "eq", "is", "in", "-like", "-match", "-contains", "-in"];
+
+/// Words that join conditions in other languages, or the arguments of one `test`.
+const JOINING: [&str; 6] = ["and", "or", "-a", "-o", "-and", "-or"];
 
 /// The warning for a condition that begins with a name, where its value is meant, at its parenthesis.
 pub(crate) fn condition_warning(view: View<'_, '_>, open: usize) -> Option<Warning> {
@@ -94,11 +98,53 @@ pub(crate) fn tested_warning(tokens: Tokens<'_>, at: usize) -> Option<Warning> {
     if text.ends_with(b"++") || text.ends_with(b"--") && text.len() > 2 {
         return step_warning(tokens, at);
     }
+    if is_number(text)
+        && let found @ Some(_) = called_sum(tokens, at, at)
+    {
+        return found;
+    }
     if is_number(text) && tokens.is_in_condition(at) {
         let repair = Repair::of("write true or false, and while() for a loop without an end");
         return tokens.warning(at, WarningKind::TEST, repair);
     }
     called_test(tokens, at, text)
+}
+
+/// Whether the word at this index joins conditions elsewhere, and the next one begins another condition.
+pub(crate) fn joins_commands(tokens: Tokens<'_>, at: usize) -> bool {
+    tokens.is_one_of(at, &JOINING)
+        && tokens.is_one_of(at.wrapping_add(1), &["test", "[", "~"])
+        && tokens.is_one_of(tokens.command_start(at), &["test", "[", "~"])
+}
+
+/// The warning for `test -f a and test -f b`, at the word between.
+pub(crate) fn joined_warning(tokens: Tokens<'_>, at: usize) -> Option<Warning> {
+    if !joins_commands(tokens, at) {
+        return None;
+    }
+    let left = tokens.span_to(tokens.command_start(at), at.wrapping_sub(1));
+    let right = tokens.span_to(at.wrapping_add(1), tokens.command_end(at));
+    let is_or = tokens.is_one_of(at, &["or", "-o", "-or"]);
+    let words = ["write ", if is_or { " || " } else { " && " }, ""];
+    tokens.warning(at, WarningKind::JOINED, Repair::pair(words, left, right))
+}
+
+/// The warning for `[ -f x]`, whose last bracket belongs to the word before it.
+fn unclosed_test(tokens: Tokens<'_>, at: usize) -> Option<Warning> {
+    let last = tokens.command_end(at);
+    let is_joined = tokens.text(last).len() > 1
+        || matches!(tokens.kind_before(last), Some(TokenKind::FreeCaret));
+    let ends = tokens.is(last, TokenKind::Word) && tokens.text(last).ends_with(b"]");
+    if !ends || !is_joined || !tokens.is_word(at, "[") {
+        return None;
+    }
+    let mut rest = tokens.span_to(at.wrapping_add(1), last);
+    rest.stop = rest.stop.saturating_sub(1);
+    tokens.warning(
+        last,
+        WarningKind::NO_BRACKET,
+        Repair::around("write [ ", rest, " ]"),
+    )
 }
 
 /// The warning for an option or a bracket of `test` that is called as a command.
@@ -109,7 +155,7 @@ fn called_test(tokens: Tokens<'_>, at: usize, text: &[u8]) -> Option<Warning> {
         return tokens.warning(at, WarningKind::TEST, repair);
     }
     if !text.starts_with(b"[") || tokens.is_one_of(at, &["[", "[["]) {
-        return None;
+        return unclosed_test(tokens, at);
     }
     rest.start = rest.start.saturating_add(1);
     tokens.warning(at, WarningKind::TEST, Repair::around("write [ ", rest, ""))
@@ -119,13 +165,11 @@ fn called_test(tokens: Tokens<'_>, at: usize, text: &[u8]) -> Option<Warning> {
 fn step_warning(tokens: Tokens<'_>, at: usize) -> Option<Warning> {
     let mut name = tokens.span(at);
     name.stop = name.stop.saturating_sub(2);
-    let last = if tokens.text(at).ends_with(b"+") {
-        " + 1}"
-    } else {
-        " - 1}"
-    };
-    let repair = Repair::pair(["write ", "=`{expr $", last], name, name);
-    tokens.warning(at, WarningKind::ARITHMETIC, repair)
+    tokens.warning(
+        at,
+        WarningKind::ARITHMETIC,
+        step_repair(name, tokens.text(at)),
+    )
 }
 
 /// The warning for a command that begins with a value, at its `$`.
@@ -148,7 +192,10 @@ pub(crate) fn value_warning(view: View<'_, '_>, at: usize) -> Option<Warning> {
     }
     let is_count = tokens.is(at, TokenKind::DollarCount);
     if !is_count && !tokens.is_one_of(next, &COMPARISONS) {
-        return None;
+        return first_of!(
+            called_sum(tokens, at, at.wrapping_add(1)),
+            stepped_value(tokens, at)
+        );
     }
     let command = tokens.span_to(at, tokens.command_end(at));
     let repair = Repair::around(
@@ -159,15 +206,65 @@ pub(crate) fn value_warning(view: View<'_, '_>, at: usize) -> Option<Warning> {
     tokens.warning(at, WarningKind::TEST, repair)
 }
 
+/// The warning for `$x + 1` or `2 * 3` as a command, whose first number has its last token at the second index.
+fn called_sum(tokens: Tokens<'_>, at: usize, last: usize) -> Option<Warning> {
+    let operator = last.wrapping_add(1);
+    let number = operator.wrapping_add(1);
+    let is_sum = tokens.is_one_of(operator, &["+", "-", "*", "/", "%"])
+        && is_number_at(tokens, number)
+        && tokens.ends_command(number.wrapping_add(1));
+    if !is_sum {
+        return None;
+    }
+    let left = tokens.span_to(at, last);
+    let right = tokens.span(number);
+    let repair = if tokens.is_word(operator, "*") {
+        Repair::pair(["write expr ", " '*' ", ""], left, right)
+    } else {
+        Repair::new(
+            ["write expr ", " ", " ", ""],
+            [left, tokens.span(operator), right],
+        )
+    };
+    tokens.warning(operator, WarningKind::ARITHMETIC, repair)
+}
+
+/// The warning for `$x++` as a command.
+fn stepped_value(tokens: Tokens<'_>, at: usize) -> Option<Warning> {
+    let step = at.wrapping_add(3);
+    let is_step = tokens.is(step.wrapping_sub(1), TokenKind::FreeCaret)
+        && tokens.is_one_of(step, &["++", "--"]);
+    if !is_step {
+        return None;
+    }
+    let name = tokens.span(at.wrapping_add(1));
+    tokens.warning(
+        at,
+        WarningKind::ARITHMETIC,
+        step_repair(name, tokens.text(step)),
+    )
+}
+
+/// What to write to add 1 to a variable of this name, or to subtract it.
+fn step_repair(name: Span, step: &[u8]) -> Repair {
+    let last = if step.ends_with(b"+") {
+        " + 1}"
+    } else {
+        " - 1}"
+    };
+    Repair::pair(["write ", "=`{expr $", last], name, name)
+}
+
 /// The warning for a value in a condition that is a number, or before an operator of another language, at its `$`.
 fn condition_value(view: View<'_, '_>, at: usize) -> Option<Warning> {
     let tokens = view.tokens;
     let next = at.wrapping_add(2);
     let value = tokens.span_to(at, at.wrapping_add(1));
-    let repair = if tokens.is_one_of(next, &["~", "eq", "is"]) {
-        let first = next.wrapping_add(1);
-        let rest = tokens.span_to(first, tokens.command_end(next));
+    let rest = tokens.span_to(next.wrapping_add(1), tokens.command_end(next));
+    let repair = if tokens.is_one_of(next, &MATCHES) {
         Repair::pair(["write ~ ", " ", ""], value, rest)
+    } else if tokens.is_one_of(next, &["-notlike", "-notmatch", "-notcontains", "-notin"]) {
+        Repair::pair(["write ! ~ ", " ", ""], value, rest)
     } else if tokens.is_one_of(next, &["ne", "lt", "le", "gt", "ge"]) {
         Repair::around("write test ", value, " -ne .., -lt .. or the like")
     } else if tokens.ends_command(next)
@@ -204,12 +301,13 @@ fn assigned_value(view: View<'_, '_>, at: usize) -> Option<Warning> {
     tokens.warning(at, WarningKind::ASSIGNS, repair)
 }
 
-/// The warning for `$x = a` with a variable to which the script gives no value.
+/// The warning for `$x = a` with a variable to which the script gives no value, or a number, which is no name.
 fn unset_value(view: View<'_, '_>, at: usize) -> Option<Warning> {
     let tokens = view.tokens;
     let name = at.wrapping_add(1);
     let text = tokens.text(name);
-    if is_number(text) || text == b"*".as_slice() || view.overview.has_variable(text) {
+    let may_have_name = view.overview.has_variable(text) && !view.overview.has_number(text);
+    if is_number(text) || text == b"*".as_slice() || may_have_name {
         return None;
     }
     let value = tokens.span(name.wrapping_add(2));

@@ -4,7 +4,10 @@ use crate::foreign::{FOREIGN, LONGEST_WORD};
 use crate::rules::functions::SIGNALS;
 
 /// Words of letters that rules are about, besides those of other shells.
-const WORDS: [&str; 8] = ["cd", "fn", "if", "in", "case", "eval", "exec", "switch"];
+const WORDS: [&str; 14] = [
+    "cd", "fn", "if", "in", "case", "eval", "exec", "flag", "from", "sudo", "nohup", "xargs",
+    "import", "switch",
+];
 
 /// For each length, the first bytes of the words that rules are about, each as one of 32 bits.
 #[derive(Clone, Copy)]

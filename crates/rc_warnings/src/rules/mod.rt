@@ -57,6 +57,7 @@ pub(crate) fn warning_at(view: View<'_, '_>, at: usize) -> Option<Warning> {
         TokenKind::Semicolon => commands::end_warning(tokens, at),
         TokenKind::Caret => words::caret_warning(tokens, at),
         TokenKind::Bar(_) => patterns::bar_warning(tokens, at),
+        TokenKind::OrOr => patterns::or_warning(view, at),
         TokenKind::Redirection(_, _) => redirections::redirection_warning(tokens, at),
         kind => brackets::bracket_warning(view, at, kind),
     }

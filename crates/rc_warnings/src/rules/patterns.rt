@@ -1,6 +1,6 @@
 //! The rules for patterns, and for what they are compared with.
 
-use crate::bytes::{find, has, is_plain};
+use crate::bytes::{find, has, has_any, is_number, is_plain};
 use crate::lexed::script_tokens::{Tokens, part};
 use crate::rules::View;
 use crate::rules::conditions::COMPARISONS;
@@ -121,6 +121,39 @@ pub(crate) fn bar_warning(tokens: Tokens<'_>, at: usize) -> Option<Warning> {
     tokens.warning(at, WarningKind::ALTERNATIVE, repair)
 }
 
+/// The warning for `~ $x a || '*.c'`, at the text that is no command.
+pub(crate) fn or_warning(view: View<'_, '_>, at: usize) -> Option<Warning> {
+    let tokens = view.tokens;
+    let start = tokens.command_start(at);
+    let next = at.wrapping_add(1);
+    let is_alone = tokens.is_word(start, "~") && tokens.ends_command(next.wrapping_add(1));
+    if !is_alone || !seems_pattern(view, next) {
+        return None;
+    }
+    let test = tokens.span_to(start, at.wrapping_sub(1));
+    let repair = Repair::pair(["write ", " ", ""], test, tokens.span(next));
+    tokens.warning(next, WarningKind::NO_PATTERN_HERE, repair)
+}
+
+/// Whether the token at this index seems to be a pattern and no command: it has a form that names have not, or it is a
+/// letter or an answer in a condition.
+fn seems_pattern(view: View<'_, '_>, at: usize) -> bool {
+    let tokens = view.tokens;
+    let text = tokens.text(at);
+    let is_answer = text.len() == 1 || tokens.is_one_of(at, &["yes", "no"]);
+    match tokens.kind(at) {
+        Some(TokenKind::Quoted) => tokens.is_in_condition(at),
+        Some(TokenKind::Word) if view.overview.has_function(text) => false,
+        Some(TokenKind::Word) => {
+            has_any(text, b"*?[")
+                || text.starts_with(b"-")
+                || is_number(text)
+                || is_answer && tokens.is_in_condition(at)
+        }
+        _ => false,
+    }
+}
+
 /// Whether a token joins words.
 fn is_caret(kind: Option<TokenKind>) -> bool {
     matches!(kind, Some(TokenKind::Caret | TokenKind::FreeCaret))
@@ -168,15 +201,25 @@ pub(crate) fn pattern_warning(tokens: Tokens<'_>, at: usize, text: &[u8]) -> Opt
             Repair::around("write test ", rest, ""),
         );
     }
+    if let Some(advice) = regular_expression(text) {
+        return tokens.warning(at, WarningKind::PATTERN, Repair::of(advice));
+    }
     if has_empty_class(text) {
         let repair = Repair::of("write a class as [a-z], and a [ that is meant as '['");
         return tokens.warning(at, WarningKind::NEVER, repair);
     }
-    if has(text, b"]+") {
-        let repair = Repair::of("write one class for each character, or use grep");
-        return tokens.warning(at, WarningKind::PATTERN, repair);
-    }
     case_warning(tokens, at, text)
+}
+
+/// What to write for a pattern with a part as of regular expressions.
+fn regular_expression(text: &[u8]) -> Option<&'static str> {
+    if has(text, b"[[:") {
+        return Some("write a class with its characters, as [a-z]");
+    }
+    if has(text, b"\\d") || has(text, b"\\w") || has(text, b"\\s") {
+        return Some("write a class with its characters, as [0-9]");
+    }
+    has(text, b"]+").then_some("write one class for each character, or use grep")
 }
 
 /// The warning for a `:` at the end of a pattern of a case line.
@@ -223,11 +266,8 @@ pub(crate) fn commas_warning(tokens: Tokens<'_>, at: usize, text: &[u8]) -> Opti
     let before = at.wrapping_sub(1);
     let is_assigned = tokens.is(before, TokenKind::LeftParen)
         && tokens.is(before.wrapping_sub(1), TokenKind::Equals);
-    let is_loop = tokens.is_word(before, "in")
-        && tokens.is(before.wrapping_sub(2), TokenKind::LeftParen)
-        && tokens.is_word(before.wrapping_sub(3), "for");
-    let is_only = (is_assigned || is_loop) && tokens.is(at.wrapping_add(1), TokenKind::RightParen);
-    if !is_only || !text.contains(&b',') {
+    let is_list = is_assigned && tokens.is(at.wrapping_add(1), TokenKind::RightParen);
+    if !is_list && !is_only_item(tokens, at, at) || !text.contains(&b',') {
         return None;
     }
     let repair = Repair::around("write ", tokens.span(at), " with blanks between its parts");
@@ -244,15 +284,79 @@ fn is_stars(text: &[u8]) -> bool {
     true
 }
 
+/// The text between the quotes of the token at this index.
+fn inside_quotes(tokens: Tokens<'_>, at: usize) -> Span {
+    let found = tokens.span(at);
+    Span {
+        start: found.start.saturating_add(1),
+        ..without_last(found)
+    }
+}
+
+/// The warning for a text in quotes that is all that a loop is for, as in `for(f in '*.c')`.
+pub(crate) fn quoted_item(tokens: Tokens<'_>, at: usize) -> Option<Warning> {
+    let inside = inside_quotes(tokens, at);
+    let inner = part(tokens.script, inside);
+    let is_pattern = has_any(inner, b"*?[") && is_plain(inner, b"._/-*?[]");
+    let is_list = blanks(inner) > 1 && is_plain(inner, b"._/- ");
+    if !is_pattern && !is_list || !is_only_item(tokens, at, at) {
+        return None;
+    }
+    let repair = Repair::around("write ", inside, " without quotes");
+    tokens.warning(at, WarningKind::ONE_WORD, repair)
+}
+
+/// How many blanks a text has.
+fn blanks(text: &[u8]) -> usize {
+    let mut count = 0usize;
+    for byte in text {
+        count = count.saturating_add(usize::from(*byte == b' '));
+    }
+    count
+}
+
+/// Whether the tokens from one index to another are all that a loop is for.
+pub(crate) fn is_only_item(tokens: Tokens<'_>, first: usize, last: usize) -> bool {
+    tokens.is_word(first.wrapping_sub(1), "in")
+        && tokens.is(first.wrapping_sub(3), TokenKind::LeftParen)
+        && tokens.is_word(first.wrapping_sub(4), "for")
+        && tokens.is(last.wrapping_add(1), TokenKind::RightParen)
+}
+
+/// The warning for a variable with a quoted pattern that files are meant by: all that a loop is for, or the argument of
+/// a command that takes files. It is at the name.
+pub(crate) fn file_pattern(view: View<'_, '_>, at: usize) -> Option<Warning> {
+    let tokens = view.tokens;
+    let dollar = at.wrapping_sub(1);
+    let is_alone = tokens.is(dollar, TokenKind::Dollar)
+        && !is_caret(tokens.kind_before(dollar))
+        && !is_caret(tokens.kind(at.wrapping_add(1)));
+    let start = tokens.command_start(at);
+    let takes_files = start < dollar
+        && tokens.is_one_of(start, &["ls", "rm", "cp", "mv", "cat", "wc"])
+        || is_only_item(tokens, dollar, at);
+    if !is_alone || !takes_files || !view.overview.has_quoted_pattern(tokens.text(at)) {
+        return None;
+    }
+    let repair = Repair::around(
+        "assign the pattern without quotes: ",
+        tokens.span(at),
+        "=..",
+    );
+    tokens.warning(dollar, WarningKind::NO_FILES, repair)
+}
+
 /// The warning for a pattern in quotes, or a comment directly after a quoted word.
 pub(crate) fn quoted_warning(tokens: Tokens<'_>, at: usize) -> Option<Warning> {
     if !is_pattern(tokens, at) {
-        return None;
+        return quoted_item(tokens, at);
     }
-    let found = tokens.span(at);
-    let start = (found.start as usize).saturating_add(1);
-    let stop = without_last(found).stop as usize;
-    let inner = part(tokens.script, span(start, stop));
+    let inside = inside_quotes(tokens, at);
+    let inner = part(tokens.script, inside);
+    if is_choice(inner) && !is_about_status(tokens, at) {
+        let repair = Repair::of("write the patterns one after the other, as in a b");
+        return tokens.warning(at, WarningKind::PATTERN, repair);
+    }
     if inner.len() > 1 && inner.starts_with(b"^") {
         let repair = Repair::of("write a pattern such as a*, without quotes, or use grep");
         return tokens.warning(at, WarningKind::PATTERN, repair);
@@ -260,8 +364,31 @@ pub(crate) fn quoted_warning(tokens: Tokens<'_>, at: usize) -> Option<Warning> {
     if is_stars(inner) || !inner.contains(&b'*') || !is_plain(inner, b"._/-*") {
         return None;
     }
-    let repair = Repair::around("write ", span(start, stop), "");
+    let repair = Repair::around("write ", inside, "");
     tokens.warning(at, WarningKind::LITERAL, repair)
+}
+
+/// Whether a text is of words with bars between them.
+fn is_choice(text: &[u8]) -> bool {
+    text.contains(&b'|')
+        && is_plain(text, b"._/-*|")
+        && text.first().is_some_and(u8::is_ascii_alphabetic)
+        && !text.ends_with(b"|")
+}
+
+/// Whether the pattern at this index is one for the status, which has bars itself.
+fn is_about_status(tokens: Tokens<'_>, at: usize) -> bool {
+    let start = tokens.command_start(at);
+    let head = match tokens.open_bracket(at) {
+        Some(open) if tokens.is_word(start, "case") => tokens.command_start(open.wrapping_sub(1)),
+        _ => start,
+    };
+    for index in head..head.saturating_add(5) {
+        if tokens.text(index) == b"status".as_slice() {
+            return true;
+        }
+    }
+    false
 }
 
 /// The warning for an empty list among the patterns of `~` or `case`.

@@ -19,6 +19,14 @@ pub(crate) fn redirection_warning(tokens: Tokens<'_>, at: usize) -> Option<Warni
         let repair = Repair::pair(["write ", "", ""], tokens.span(at), file);
         return tokens.warning(next, WarningKind::COMPARE, repair);
     }
+    if tokens.is_one_of(next, &["nul", "NUL"]) {
+        let repair = Repair::around("write ", tokens.span(at), "/dev/null");
+        return tokens.warning(next, WarningKind::PLAN9, repair);
+    }
+    if is_arrow(tokens, at) {
+        let repair = Repair::of("a value has no parts: write a variable for each");
+        return tokens.warning(at, WarningKind::ARROW, repair);
+    }
     if is_number_at(tokens, next) && !is_compared(tokens, at) {
         let repair = Repair::of("write >[1=2] for descriptor 2");
         return tokens.warning(next, WarningKind::COMPARE, repair);
@@ -27,6 +35,19 @@ pub(crate) fn redirection_warning(tokens: Tokens<'_>, at: usize) -> Option<Warni
         return None;
     }
     compare_warning(tokens, at)
+}
+
+/// Whether a redirection is the end of `->` between two names.
+fn is_arrow(tokens: Tokens<'_>, at: usize) -> bool {
+    let before = at.wrapping_sub(1);
+    let is_after_name = tokens.text(before).len() > 1
+        || matches!(tokens.kind_before(before), Some(TokenKind::FreeCaret));
+    is_after_name
+        && tokens.is(before, TokenKind::Word)
+        && tokens.text(before).ends_with(b"-")
+        && tokens.text(at) == b">".as_slice()
+        && tokens.touches_next(before)
+        && tokens.touches_next(at)
 }
 
 /// Whether a redirection is where other languages compare: in a condition, in a `test`, or after a value.

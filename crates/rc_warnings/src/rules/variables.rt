@@ -4,7 +4,7 @@ use crate::bytes::{find, has_any, is_number, is_plain};
 use crate::lexed::script_tokens::{Tokens, part};
 use crate::rules::View;
 use crate::rules::conditions::test_warning;
-use crate::rules::patterns::value_pattern;
+use crate::rules::patterns::{file_pattern, value_pattern};
 use crate::rules::words::span;
 use crate::warnings::kind::WarningKind;
 use crate::warnings::repair::{NOWHERE, Repair};
@@ -25,6 +25,7 @@ pub(crate) fn name_warning(view: View<'_, '_>, at: usize) -> Option<Warning> {
         subscript_warning(tokens, at),
         modifier_warning(view, at),
         value_pattern(view, at),
+        file_pattern(view, at),
         test_warning(tokens, at)
     )
 }
@@ -158,7 +159,7 @@ fn modifier_warning(view: View<'_, '_>, at: usize) -> Option<Warning> {
         Repair::around("write `{dirname $", name, "}")
     } else if text == b":t".as_slice() {
         Repair::around("write `{basename $", name, "}")
-    } else if text == b":r".as_slice() || text == b":e".as_slice() {
+    } else if text == b":r".as_slice() || text == b":e".as_slice() || text.starts_with(b":s/") {
         Repair::of("take the text apart by sed")
     } else if text == b".length".as_slice() || text == b".Count".as_slice() {
         Repair::around("write $#", name, "")
@@ -205,6 +206,8 @@ pub(crate) fn place_warning(view: View<'_, '_>, open: usize) -> Option<Warning> 
         Repair::around("write $", tokens.span(place), "")
     } else if has_any(text, b",:") {
         Repair::of("write (1 2) for two places, and (1-3) for a range")
+    } else if text.first().is_some_and(u8::is_ascii_alphabetic) && is_plain(text, b"_") {
+        Repair::of("a list has numbers alone for its places; write a variable for each name")
     } else {
         return None;
     };

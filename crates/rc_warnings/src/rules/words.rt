@@ -5,7 +5,8 @@ use crate::lexed::script_tokens::{ORDER_MARK, Tokens};
 use crate::rules::View;
 use crate::rules::assignments::{assignment_warning, colon_warning, sum_of_expr};
 use crate::rules::brackets::loop_warning;
-use crate::rules::commands::{command_warning, glob_warning};
+use crate::rules::commands::{called_function, command_warning, glob_warning};
+use crate::rules::conditions::{joined_warning, joins_commands};
 use crate::rules::foreign_words::inline_warning;
 use crate::rules::functions::signal_warning;
 use crate::rules::patterns::{comma_warning, commas_warning, pattern_warning};
@@ -16,7 +17,7 @@ use crate::warnings::warning::Warning;
 use rc_lexer::{Span, TokenKind};
 
 /// The beginnings of paths that Linux doesn't have.
-const PATHS: [&[u8]; 4] = [b"/env/", b"/fd/", b"/dev/tcp/", b"/dev/udp/"];
+const PATHS: [&[u8]; 5] = [b"/env/", b"/fd/", b"/rc/", b"/dev/tcp/", b"/dev/udp/"];
 
 /// The characters that a backslash quotes in other shells.
 const QUOTED: &[u8] = b" \t$;&|()<>#'\"*?[~!=^\\{}`";
@@ -44,7 +45,7 @@ pub(crate) fn word_warning(view: View<'_, '_>, at: usize) -> Option<Warning> {
 }
 
 /// Whether no rule is about a word of this text for its bytes: none means more in other shells, and it looks like no
-/// number, operator or absolute path.
+/// number, operator or absolute path, nor like a command of PowerShell.
 fn is_plain_word(text: &[u8]) -> bool {
     for byte in text {
         if is_notable(*byte) {
@@ -52,7 +53,7 @@ fn is_plain_word(text: &[u8]) -> bool {
         }
     }
     match text {
-        [first, .., last] => first.is_ascii_alphabetic() && !matches!(*last, b'+' | b'-'),
+        [first, .., last] => first.is_ascii_lowercase() && !matches!(*last, b'+' | b'-'),
         [only] => only.is_ascii_alphabetic(),
         [] => true,
     }
@@ -62,7 +63,7 @@ fn is_plain_word(text: &[u8]) -> bool {
 fn is_notable(byte: u8) -> bool {
     matches!(
         byte,
-        b'"' | b'*' | b',' | b':' | b'?' | b'[' | b'\\' | b']' | b'~' | 128..=255
+        b'"' | b'%' | b'*' | b',' | b':' | b'?' | b'[' | b'\\' | b']' | b'~' | 128..=255
     )
 }
 
@@ -87,6 +88,8 @@ fn argument_warning(view: View<'_, '_>, at: usize) -> Option<Warning> {
     }
     first_of!(
         inline_warning(tokens, at),
+        joined_warning(tokens, at),
+        called_function(view, at),
         loop_warning(view, at),
         commas_warning(tokens, at, text),
         sum_of_expr(tokens, at),
@@ -98,9 +101,12 @@ fn argument_warning(view: View<'_, '_>, at: usize) -> Option<Warning> {
     )
 }
 
-/// The warning for `kill %1` or `wait %1`.
+/// The warning for `kill %1` or `wait %1`, and for `wait -n`.
 fn job_number(tokens: Tokens<'_>, at: usize, text: &[u8]) -> Option<Warning> {
-    if !text.starts_with(b"%") || !tokens.is_one_of(tokens.command_start(at), &["kill", "wait"]) {
+    let start = tokens.command_start(at);
+    let is_number = text.starts_with(b"%") && tokens.is_one_of(start, &["kill", "wait"]);
+    let is_next = text == b"-n".as_slice() && tokens.is_word(start, "wait");
+    if !is_number && !is_next {
         return None;
     }
     let repair = Repair::of("keep each $apid, and wait for it: job=$apid, and wait $job");
@@ -191,7 +197,7 @@ fn backslash_warning(tokens: Tokens<'_>, at: usize, offset: usize) -> Option<War
     let place = offset_in(tokens.span(at), offset);
     let next = tokens.script.get(place.saturating_add(1))?;
     if !QUOTED.contains(next) {
-        return None;
+        return path_of_backslashes(tokens, at);
     }
     let start = tokens.span(at).start as usize;
     let rest = before(after(tokens.script, place.saturating_add(1)), b"\n");
@@ -204,6 +210,16 @@ fn backslash_warning(tokens: Tokens<'_>, at: usize, offset: usize) -> Option<War
         span(start, place),
         span(place.saturating_add(1), end_of_escaped(tokens, at, place)),
     );
+    tokens.warning(at, WarningKind::BACKSLASH, repair)
+}
+
+/// The warning for `.\script` and `..\x`.
+fn path_of_backslashes(tokens: Tokens<'_>, at: usize) -> Option<Warning> {
+    let text = tokens.text(at);
+    if !text.starts_with(b".\\") && !text.starts_with(b"..\\") {
+        return None;
+    }
+    let repair = Repair::of("write a / between the parts of a path");
     tokens.warning(at, WarningKind::BACKSLASH, repair)
 }
 
@@ -241,9 +257,41 @@ fn shape_warning(tokens: Tokens<'_>, at: usize) -> Option<Warning> {
     }
     first_of!(
         path_warning(tokens, at, text),
+        percent_warning(tokens, at, text),
         star_or_class(tokens, at, text),
         hash_warning(tokens, at)
     )
+}
+
+/// The warning for `%PATH%`.
+fn percent_warning(tokens: Tokens<'_>, at: usize, text: &[u8]) -> Option<Warning> {
+    let open = find(text, b"%")?;
+    let rest = after(text, open.saturating_add(1));
+    let name = before(rest, b"%");
+    let is_name = name.len() > 2
+        && name.len() < rest.len()
+        && name.first().is_some_and(u8::is_ascii_uppercase)
+        && is_upper(name);
+    if !is_name || text.starts_with(b"+") {
+        return None;
+    }
+    let start = offset_in(tokens.span(at), open).saturating_add(1);
+    let name = span(start, start.saturating_add(name.len()));
+    tokens.warning(
+        at,
+        WarningKind::PERCENT,
+        Repair::around("write $", name, ""),
+    )
+}
+
+/// Whether a text is of letters in upper case, digits and `_`.
+fn is_upper(text: &[u8]) -> bool {
+    for byte in text {
+        if !byte.is_ascii_uppercase() && !byte.is_ascii_digit() && *byte != b'_' {
+            return false;
+        }
+    }
+    true
 }
 
 /// The warning for a word that begins with a tilde.
@@ -251,7 +299,7 @@ fn tilde_warning(tokens: Tokens<'_>, at: usize, text: &[u8]) -> Option<Warning> 
     let start = offset_in(tokens.span(at), 1);
     let rest = span(start, tokens.span(at).stop as usize);
     let is_alone = text.len() == 1;
-    if is_alone && is_match(tokens, at) {
+    if is_alone && (is_match(tokens, at) || joins_commands(tokens, at.wrapping_sub(1))) {
         return None;
     }
     let repair = if is_alone || text.starts_with(b"~/") {
@@ -276,13 +324,21 @@ fn is_match(tokens: Tokens<'_>, at: usize) -> bool {
 
 /// The warning for a path that Linux doesn't have.
 fn path_warning(tokens: Tokens<'_>, at: usize, text: &[u8]) -> Option<Warning> {
+    if !is_elsewhere(text) && !tokens.is_one_of(at, &["/dev/cons", "/dev/consctl"]) {
+        return None;
+    }
+    let repair = Repair::of("use the variable, the descriptor or a program in its place");
+    tokens.warning(at, WarningKind::PLAN9, repair)
+}
+
+/// Whether a path begins as one that Linux doesn't have.
+fn is_elsewhere(text: &[u8]) -> bool {
     for path in &PATHS {
         if text.starts_with(*path) {
-            let repair = Repair::of("use the variable, the descriptor or a program in its place");
-            return tokens.warning(at, WarningKind::PLAN9, repair);
+            return true;
         }
     }
-    None
+    false
 }
 
 /// The warning for `[^a]`, at its bracket.

@@ -19,6 +19,11 @@ impl WarningKind {
         name: "alternative",
         words: "`~` writes nothing into a pipe",
     };
+    /// `~ $x a || '*.c'`.
+    pub const NO_PATTERN_HERE: WarningKind = WarningKind {
+        name: "alternative",
+        words: "this is a command, and no further pattern",
+    };
     /// `kill` is given `$apid`.
     pub const APID: WarningKind = WarningKind {
         name: "apid",
@@ -98,6 +103,11 @@ impl WarningKind {
     pub const COMMA: WarningKind = WarningKind {
         name: "comma",
         words: "the comma is a part of the word",
+    };
+    /// `$p->name`.
+    pub const ARROW: WarningKind = WarningKind {
+        name: "compare",
+        words: "this redirects to a file with this name",
     };
     /// A file whose name is a number.
     pub const COMPARE: WarningKind = WarningKind {
@@ -189,6 +199,21 @@ impl WarningKind {
         name: "literal",
         words: "this is compared as a text, and is no pattern",
     };
+    /// A variable with a quoted pattern, for a command that takes files.
+    pub const NO_FILES: WarningKind = WarningKind {
+        name: "literal",
+        words: "a value is a text, and no pattern",
+    };
+    /// `for(f in '*.c')`.
+    pub const ONE_WORD: WarningKind = WarningKind {
+        name: "literal",
+        words: "in quotes this is one word, and neither a pattern nor a list",
+    };
+    /// `@ x = a`.
+    pub const LOST: WarningKind = WarningKind {
+        name: "lost",
+        words: "only the subshell, which ends here, has this value",
+    };
     /// `$x:h`.
     pub const MODIFIER: WarningKind = WarningKind {
         name: "modifier",
@@ -248,6 +273,11 @@ impl WarningKind {
     pub const PATTERN: WarningKind = WarningKind {
         name: "pattern",
         words: "patterns have only * and ? and classes",
+    };
+    /// `sudo f` with a function `f`.
+    pub const PROGRAM: WarningKind = WarningKind {
+        name: "program",
+        words: "this starts programs, and knows no function of the script",
     };
     /// `$x(0)`.
     pub const PLACE: WarningKind = WarningKind {
@@ -309,6 +339,16 @@ impl WarningKind {
         name: "test",
         words: "this is called as a command",
     };
+    /// `test -f a and test -f b`.
+    pub const JOINED: WarningKind = WarningKind {
+        name: "test",
+        words: "this is an argument, and joins no commands",
+    };
+    /// `[ -f x]`.
+    pub const NO_BRACKET: WarningKind = WarningKind {
+        name: "test",
+        words: "the last argument of [ is a ] by itself",
+    };
     /// `~/x`.
     pub const TILDE: WarningKind = WarningKind {
         name: "tilde",
@@ -344,6 +384,11 @@ impl WarningKind {
         name: "variable",
         words: "no shell of this kind sets this variable",
     };
+    /// `%PATH%`.
+    pub const PERCENT: WarningKind = WarningKind {
+        name: "variable",
+        words: "this is a text, and the value of no variable",
+    };
     /// `$0` is used.
     pub const ZERO: WarningKind = WarningKind {
         name: "zero",
@@ -352,7 +397,7 @@ impl WarningKind {
 }
 
 /// The names of all kinds.
-pub(crate) const NAMES: [&str; 64] = [
+pub(crate) const NAMES: [&str; 66] = [
     "alternative",
     "apid",
     "arithmetic",
@@ -387,6 +432,7 @@ pub(crate) const NAMES: [&str; 64] = [
     "last",
     "list",
     "literal",
+    "lost",
     "modifier",
     "name",
     "never",
@@ -399,6 +445,7 @@ pub(crate) const NAMES: [&str; 64] = [
     "place",
     "plan9",
     "process",
+    "program",
     "quotes",
     "range",
     "removed",

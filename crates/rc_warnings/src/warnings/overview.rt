@@ -100,9 +100,14 @@ impl<'a> Overview<'a> {
 
     /// Whether the variable of this name has, or by its name seems to have, a text that is meant as a pattern.
     pub(crate) fn has_pattern(&self, name: &[u8]) -> bool {
-        self.patterns.contains(&name)
+        self.has_quoted_pattern(name)
             || name.starts_with(b"pat") && name != b"path".as_slice()
             || name.starts_with(b"glob")
+    }
+
+    /// Whether the script assigns a text with a pattern in quotes to the variable of this name.
+    pub(crate) fn has_quoted_pattern(&self, name: &[u8]) -> bool {
+        self.patterns.contains(&name)
     }
 
     /// What to write in place of a word that is a command of other shells, and of no function.
@@ -141,9 +146,12 @@ fn is_defined(tokens: Tokens<'_>, index: usize) -> bool {
     tokens.is_in_command(index, "fn") && tokens.command_start(index) != index
 }
 
-/// Whether the word at this index is a variable that is assigned, or that of a loop.
+/// Whether the word at this index is a variable that is assigned, or that of a loop; or `pid` as an argument, since a
+/// command may assign it.
 fn is_assigned(tokens: Tokens<'_>, index: usize) -> bool {
-    if tokens.is(index.wrapping_add(1), TokenKind::Equals) {
+    if tokens.is(index.wrapping_add(1), TokenKind::Equals)
+        || tokens.is_word(index, "pid") && !tokens.begins_command(index)
+    {
         return true;
     }
     tokens.is(index.wrapping_sub(1), TokenKind::LeftParen)

@@ -12,6 +12,7 @@ use crate::warnings::kind::WarningKind;
 use crate::warnings::overview::Overview;
 use crate::warnings::repair::Repair;
 use crate::warnings::warning::Warning;
+use rc_lexer::Token;
 use std::alloc::{AllocError, Global};
 
 /// The greatest number of warnings of a script. A script with more has one for nearly each of its commands, so that
@@ -24,10 +25,17 @@ pub fn warnings_of(alloc: Global, script: &[u8]) -> Result<Vec<Warning>, AllocEr
     ensures { IfOk result (λ warnings. AreIn script.now warnings.items) }
 {
     let all = tokens_of(alloc, script)?;
-    let contexts = contexts_of(alloc, script, &all)?;
+    warnings_in(alloc, script, &all)
+}
+
+/// The first warnings of a script with these tokens.
+pub fn warnings_in(alloc: Global, script: &[u8], all: &[Token]) -> Result<Vec<Warning>, AllocError>
+    ensures { IfOk result (λ warnings. AreIn script.now warnings.items) }
+{
+    let contexts = contexts_of(alloc, script, all)?;
     let tokens = Tokens {
         script,
-        all: &all,
+        all,
         contexts: &contexts,
     };
     let comments = Comments::new(alloc, script)?;
@@ -53,6 +61,9 @@ fn add_all(
         overview: &overview,
     };
     for index in 0..tokens.all.len() {
+        if warnings.len() >= MOST_WARNINGS {
+            return Ok(());
+        }
         push(warnings, script, comments, warning_at(view, index))?;
     }
     add_ends(warnings, script, view, comments)
