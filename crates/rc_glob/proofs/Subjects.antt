@@ -1,8 +1,10 @@
 -- Several patterns and a subject of several words.
 use Rattle.std.proofs.Common.{◌≡◌, Bool, true, false, ◌||◌, List, [], ◌∷◌, map, refl, ap, ◌∙◌}
 use Rattle.std.specs.List.{list_any}
-use Rattle.rc_model.specs.Syntax.Words.{Word}
+use Rattle.rc_model.specs.Syntax.Words.{Word, plain_words, written}
 use Rattle.rc_model.specs.Run.Patterns.{matched, matches}
+use Rattle.rc_text.specs.Texts.{text_bytes}
+use Rattle.rc_text.specs.declared.texts.Text.{Text}
 use Rattle.rc_glob.specs.Subjects.{is_met}
 
 module _ {X Y : Type 0} (t : X → Y → Bool) where
@@ -32,3 +34,9 @@ by_words subject patterns = any_swap (λ p w. matches p (map (λ m. m.0) w) fals
 pub by_one : (b : Bool) → b ≡ b || false
 by_one true = refl
 by_one false = refl
+
+-- the members of a value
+pub by_members : (w : Word) (value : List Text)
+    → list_any (λ t. matches (written (text_bytes t) true) (map (λ m. m.0) w) false) value ≡ is_met (plain_words (map text_bytes value)) w
+by_members w [] = refl
+by_members w (t ∷ value) = ap (λ b. matches (written (text_bytes t) true) (map (λ m. m.0) w) false || b) (by_members w value)

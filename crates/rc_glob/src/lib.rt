@@ -10,4 +10,4 @@ mod search;
 mod stars;
 
 pub use expansion::{expand, expand_all, find_files};
-pub use matching::{matched, matched_literal, matches};
+pub use matching::{matched, matched_literal, matched_value, matches};

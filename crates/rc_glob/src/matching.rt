@@ -1,18 +1,19 @@
 //! Pattern matching: from left to right, with one star to go back to.
-ghost use Rattle.std.specs.Prelude.{◌≡◌, ◌∷◌, [], false, option_map};
+ghost use Rattle.std.specs.Prelude.{◌≡◌, ◌∷◌, [], true, false, map, option_map};
 ghost use Rattle.std.specs.List.{list_any};
 ghost use Rattle.std.specs.Str.{chars};
 ghost use Rattle.rc_model.specs.Run.Patterns.{is_dots, matched, matches, Outside, parts_from, parts_match};
 ghost use Rattle.rc_model.specs.Mirrors.Greedy.{after_one, after_star, move};
-ghost use Rattle.rc_model.specs.Syntax.Words.{written};
+ghost use Rattle.rc_model.specs.Syntax.Words.{plain_words, written};
 ghost use Rattle.rc_text.specs.Literals.{marks};
+ghost use Rattle.rc_text.specs.Texts.{text_bytes};
 ghost use Rattle.rc_glob.specs.Moves.{move_of, LeavesLess};
 ghost use Rattle.rc_glob.specs.Subjects.{is_met};
 
 use crate::classes::{class_end, class_holds};
 use crate::search::stands_for;
 use crate::stars::{Start, later_place, next_place, start_of};
-use rc_text::{Ch, Literal, Word, any_pattern, first_char};
+use rc_text::{Ch, Literal, Text, Word, any_pattern, first_char};
 
 /// The next move of a match.
 enum Move<'a> {
@@ -190,4 +191,26 @@ pub fn matched_literal(subject: &[Word], pattern: &Literal) -> bool
     ensures { result ≡ matched subject.now (written pattern.now.0 pattern.now.1 ∷ []) }
 {
     subject.iter().any(|word| meets_literal(pattern, word))
+}
+
+/// Whether a member of a value, which is no pattern, matches the text.
+fn is_same(member: &Text, text: &str) -> bool
+    ensures { result ≡ matches (written (text_bytes member.now) true) (chars text.now) false }
+{
+    member.as_str() == text
+}
+
+/// Whether a member of a value matches a word.
+fn meets_value(value: &[Text], word: &Word) -> bool
+    ensures { result ≡ is_met (plain_words (map text_bytes value.now)) word.now }
+{
+    let text = word.text();
+    value.iter().any(|member| is_same(member, text))
+}
+
+/// Whether a member of a value matches the subject. It makes no words of the members.
+pub fn matched_value(subject: &[Word], value: &[Text]) -> bool
+    ensures { result ≡ matched subject.now (plain_words (map text_bytes value.now)) }
+{
+    subject.iter().any(|word| meets_value(value, word))
 }
