@@ -1,5 +1,5 @@
 //! What has to hold of each row: its calls and its end, also as they are shown; and of one that is no run of the
-//! program, at each lower limit the first of these calls, and the same in steps of one instruction.
+//! program, at each lower limit the first of these calls, and the same in steps of one instruction and of a few.
 
 use crate::answers::Calls;
 use crate::fault::RowError;
@@ -13,6 +13,9 @@ const MOST_LIMITS: u64 = 400;
 
 /// The bytes of a script and its calls, up to which a row is run at each limit.
 const SHORT: usize = 20_000;
+
+/// How many instructions are run at a time: one, and a few, so that runs begin and end within superinstructions.
+const AT_A_TIME: [u64; 3] = [1, 3, 7];
 
 /// The complaint about a run that is not as expected.
 fn said(
@@ -113,13 +116,29 @@ fn said_at(alloc: Global, limit: u64, came: &Story, calls: &Calls) -> Result<Str
     said(alloc, how.as_str(), came, calls.lines.as_str(), "limit")
 }
 
-/// What differs if the machine runs one instruction at a time, and if it is then run further.
+/// What differs if the machine runs some instructions at a time.
 fn difference_in_steps(
     alloc: Global,
     row: &Row<'_>,
     calls: &Calls,
 ) -> Result<Option<String>, RowError> {
-    match Stepped::new(alloc, row, calls) {
+    for count in AT_A_TIME {
+        let difference = difference_by(alloc, row, calls, count)?;
+        if difference.is_some() {
+            return Ok(difference);
+        }
+    }
+    Ok(None)
+}
+
+/// What differs if the machine runs this many instructions at a time, and if it is then run further.
+fn difference_by(
+    alloc: Global,
+    row: &Row<'_>,
+    calls: &Calls,
+    count: u64,
+) -> Result<Option<String>, RowError> {
+    match Stepped::new(alloc, row, calls, count) {
         Ok(mut stepped) => difference_of_steps(alloc, row, calls, &mut stepped),
         Err(RowError::Refused) => Ok(None),
         Err(fault) => Err(fault),

@@ -116,11 +116,12 @@ fn machine_of_image(alloc: Global, handed: &Handed) -> Result<Box<Machine>, RowE
     Ok(Box::new(alloc, started(alloc, code, image))?)
 }
 
-/// A machine over a tape.
+/// A machine over a tape, which runs so many instructions at a time.
 pub struct Stepped {
     machine: Box<Machine>,
     tape: Tape,
     progress: Progress,
+    count: u64,
 }
 
 impl Drop for Stepped {
@@ -129,13 +130,19 @@ impl Drop for Stepped {
             machine: _,
             tape: _,
             progress: _,
+            count: _,
         } = self;
     }
 }
 
 impl Stepped {
     /// The machine of a row before its first instruction, unless its script or image is refused.
-    pub fn new(alloc: Global, row: &Row<'_>, calls: &Calls) -> Result<Stepped, RowError> {
+    pub fn new(
+        alloc: Global,
+        row: &Row<'_>,
+        calls: &Calls,
+        count: u64,
+    ) -> Result<Stepped, RowError> {
         let answers = calls.answers(alloc)?;
         let machine = match row.handed(alloc)? {
             None => machine_of_script(alloc, row)?,
@@ -145,14 +152,18 @@ impl Stepped {
             machine,
             tape: Tape::new(answers),
             progress: Progress::Limit,
+            count,
         })
     }
 
-    /// Runs at most this many instructions, one at a time.
+    /// Runs at most this many instructions.
     pub fn step(&mut self, alloc: Global, limit: u64) -> Result<(), AllocError> {
+        let mut left = limit;
         for _ in 0..limit {
-            self.progress = self.machine.run(alloc, &mut self.tape, 1)?;
-            if !matches!(self.progress, Progress::Limit) {
+            let count = self.count.min(left);
+            self.progress = self.machine.run(alloc, &mut self.tape, count)?;
+            left -= count;
+            if left == 0 || !matches!(self.progress, Progress::Limit) {
                 break;
             }
         }
