@@ -8,7 +8,7 @@ use std::io;
 use std::process::{Child, Command, Stdio};
 
 /// Waits for the end of its input, and then for the ends of the runs, and removes a directory.
-const REMOVER: &str = "trap '' HUP INT TERM; read -r _; sleep 2; rm -rf -- \"$0\"";
+const REMOVER: &str = "trap '' HUP INT QUIT TERM; read -r _; sleep 2; rm -rf -- \"$0\"";
 
 /// A shell that removes a directory when this process is gone.
 #[derive(Drop)]
