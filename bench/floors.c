@@ -10,6 +10,9 @@
        COUNT pipelines STAGES PROGRAM      so many times so many copies of the program; each but the last is run by
                                            this one
 
+   Each start hands on the environment that this program has, as it is: for a shell with functions or variables that is
+   the one that the shell would hand over, with an entry of the same size for each.
+
    With the single argument `nothing` it ends at once. */
 #define _GNU_SOURCE
 #include <fcntl.h>
