@@ -170,6 +170,34 @@ impl State {
         Ok(())
     }
 
+    /// Assigns one text to a variable, and keeps the entry that an environment has for that value, until it changes. An
+    /// `Err` changes nothing.
+    #[tactic(auto, unfolding(crate::specs::States::state_of))]
+    pub fn set_with_entry(
+        &mut self,
+        variable: &str,
+        text: Text,
+        entry: KeptEntry,
+    ) -> Result<(), InputError<NameFault>>
+        requires { kept_text entry ≡ value_text (text_bytes text ∷ []) }
+        ensures ok { OnOk result (state_of self.new
+            ≡ set_value (state_of self.old) variable.now (text_bytes text ∷ [])) }
+        ensures bad_name { IsErrOf result (InputError.Fault NameFault.BadName) ↔ (is_name variable.now ≡ false) }
+        ensures err { OnErr result (state_of self.new ≡ state_of self.old) }
+    {
+        if !is_name(variable) {
+            return Err(InputError::Fault(NameFault::BadName));
+        }
+        if is_status(variable) {
+            self.status = text;
+            return Ok(());
+        }
+        let alloc = *self.background.allocator();
+        let one = Members::with_entry(alloc, text, entry)?;
+        self.variables.set(alloc, variable, one)?;
+        Ok(())
+    }
+
     /// Assigns one text to a variable whose name is known to be one. An `Err` changes nothing.
     #[tactic(auto, unfolding(crate::specs::States::state_of))]
     pub fn set_known(&mut self, variable: &str, text: Text) -> Result<(), AllocError>

@@ -91,6 +91,20 @@ impl Members {
         Ok(Members::new(texts))
     }
 
+    /// One member, with the entry that an environment has for it.
+    pub(crate) fn with_entry(
+        alloc: Global,
+        text: Text,
+        entry: KeptEntry,
+    ) -> Result<Members, AllocError>
+        requires { kept_text entry ≡ value_text (text_bytes text ∷ []) }
+        ensures { IfOk result (λ one. one ≡ text ∷ []) }
+    {
+        let mut one = Members::one(alloc, text)?;
+        one.keep(entry);
+        Ok(one)
+    }
+
     /// The members.
     pub fn as_slice(&self) -> &[Text]
         ensures { result.now ≡ self.now }
