@@ -1,16 +1,16 @@
 -- The functions that entries denote, and the whole state.
-use Rattle.std.specs.Prelude.{Option, Some, None, Result, Ok, Err, if◌then◌else◌, not, ◌||◌, is_some, codes, drop, map, string_bytes, length}
+use Rattle.std.specs.Prelude.{Option, Some, None, Result, Ok, Err, if◌then◌else◌, not, ◌||◌, is_some, codes, drop, map, length}
 use Rattle.std.proofs.Common.{◌≡◌, ℕ, List, [], ◌∷◌, ◌++◌, ◌&&◌, Bool, true, false, cond, refl, sym, ap, subst, ◌∙◌, ◌<◌, ◌≤◌, ◌+◌, get_or, drop-cons, add-one}
 use Rattle.std.specs.Str.{bytes_eq}
 use Rattle.std.specs.List.{list_any}
 use Rattle.std.specs.Map.{lookup}
 use Rattle.std.specs.Result.{IsErrAnd}
-use Rattle.std.specs.declared.alloc.Global.{Global}
-use Rattle.std.specs.declared.string.String.{String}
 use Rattle.std.proofs.Math.ListN.{drop_of_length-le}
 use Rattle.std.specs.BTreeMap.{insert_entry}
 use Rattle.std.proofs.lemmas.Bool.{false≢true, and_parts, false_from_ne_true, or_right}
 use Rattle.std.proofs.lemmas.Slice.Eq.{bytes_eq-Decides}
+use Rattle.rc_text.specs.Texts.{text_bytes}
+use Rattle.rc_text.specs.declared.texts.Text.{Text}
 use Rattle.rc_model.specs.Syntax.Text.{text_cmp, begins_with}
 use Rattle.rc_model.specs.Syntax.Tree.{Node, cmd}
 use Rattle.rc_model.specs.Run.State.{State, new_state, is_function_name, define, function_of}
@@ -227,26 +227,26 @@ unfolding function_in with_function
 fails_by_cut s e None bs h = fails_on e (with_function s (function_in None)) (λ t. defined_in t bs) h
 fails_by_cut s e (Some b) bs h = fails_on e (with_function s (function_in (Some b))) (λ t. defined_in t bs) h
 
-entry_left : (es : List (String Global)) (i : ℕ) (x : String Global) → i < length es → x ≡ get_or es i x → bindings (map string_bytes (drop i es)) ≡ with_cut (cut_entry (string_bytes x)) (bindings (map string_bytes (drop (i + 1) es)))
+entry_left : (es : List Text) (i : ℕ) (x : Text) → i < length es → x ≡ get_or es i x → bindings (map text_bytes (drop i es)) ≡ with_cut (cut_entry (text_bytes x)) (bindings (map text_bytes (drop (i + 1) es)))
 entry_left es i x lt is =
-    ap (λ z. bindings (map string_bytes z))
+    ap (λ z. bindings (map text_bytes z))
     (drop-cons es i x lt ∙ ap (λ n. get_or es i x ∷ drop n es) (sym (add-one i)) ∙ ap (λ w. w ∷ drop (i + 1) es) (sym is))
 
-pub defines_next : (s t : State) (es : List (String Global)) (i : ℕ) (x : String Global) (whole : Result State ImageFault) → i < length es → x ≡ get_or es i x →
-    with_function s (function_in (cut_entry (string_bytes x))) ≡ Ok t → defined_in s (bindings (map string_bytes (drop i es))) ≡ whole → defined_in t (bindings (map string_bytes (drop (i + 1) es))) ≡ whole
+pub defines_next : (s t : State) (es : List Text) (i : ℕ) (x : Text) (whole : Result State ImageFault) → i < length es → x ≡ get_or es i x →
+    with_function s (function_in (cut_entry (text_bytes x))) ≡ Ok t → defined_in s (bindings (map text_bytes (drop i es))) ≡ whole → defined_in t (bindings (map text_bytes (drop (i + 1) es))) ≡ whole
 defines_next s t es i x whole lt is h w =
-    sym (next_by_cut s t (cut_entry (string_bytes x)) (bindings (map string_bytes (drop (i + 1) es))) h)
+    sym (next_by_cut s t (cut_entry (text_bytes x)) (bindings (map text_bytes (drop (i + 1) es))) h)
     ∙ ap (defined_in s) (sym (entry_left es i x lt is)) ∙ w
 
-pub defines_not : (s : State) (e : ImageError) (es : List (String Global)) (i : ℕ) (x : String Global) (whole : Result State ImageFault) → i < length es → x ≡ get_or es i x →
-    Fails e (with_function s (function_in (cut_entry (string_bytes x)))) → defined_in s (bindings (map string_bytes (drop i es))) ≡ whole → Fails e whole
+pub defines_not : (s : State) (e : ImageError) (es : List Text) (i : ℕ) (x : Text) (whole : Result State ImageFault) → i < length es → x ≡ get_or es i x →
+    Fails e (with_function s (function_in (cut_entry (text_bytes x)))) → defined_in s (bindings (map text_bytes (drop i es))) ≡ whole → Fails e whole
 defines_not s e es i x whole lt is h w =
     subst (Fails e) (ap (defined_in s) (sym (entry_left es i x lt is)) ∙ w)
-    (fails_by_cut s e (cut_entry (string_bytes x)) (bindings (map string_bytes (drop (i + 1) es))) h)
+    (fails_by_cut s e (cut_entry (text_bytes x)) (bindings (map text_bytes (drop (i + 1) es))) h)
 
-pub defines_all : (s : State) (es : List (String Global)) (i : ℕ) (whole : Result State ImageFault) → length es ≤ i →
-    defined_in s (bindings (map string_bytes (drop i es))) ≡ whole → whole ≡ Ok s
-defines_all s es i whole l w = sym w ∙ ap (λ z. defined_in s (bindings (map string_bytes z))) (drop_of_length-le es l)
+pub defines_all : (s : State) (es : List Text) (i : ℕ) (whole : Result State ImageFault) → length es ≤ i →
+    defined_in s (bindings (map text_bytes (drop i es))) ≡ whole → whole ≡ Ok s
+defines_all s es i whole l w = sym w ∙ ap (λ z. defined_in s (bindings (map text_bytes z))) (drop_of_length-le es l)
 
 -- where there are none, they are those that the entries denote
 pub all_defined : (s : State) (bs : Bindings) → s.functions ≡ [] → defined_in s bs ≡ with_functions s bs

@@ -1,7 +1,7 @@
 -- What the entries of an environment say.
 use Rattle.std.specs.Prelude.{option_map, IfSome}
-use Rattle.std.proofs.Common.{◌≡◌, ℕ, ◌<◌, suc, List, [], ◌∷◌, ◌++◌, length, drop, map, get_or, refl, sym, ap, ◌∙◌, arith, append_assoc, Bool, true, false, cond, ◌==◌, ◌&&◌, ◌||◌, if◌then◌else◌, codes, Option, Some, None}
-use Rattle.std.proofs.lemmas.Bool.{ne_eqb, eqb-true}
+use Rattle.std.proofs.Common.{◌≡◌, ℕ, ◌<◌, suc, List, [], ◌∷◌, ◌++◌, length, drop, map, get_or, refl, sym, ap, subst, ◌∙◌, arith, append_assoc, Bool, true, false, cond, ◌==◌, ◌&&◌, ◌||◌, if◌then◌else◌, codes, Option, Some, None}
+use Rattle.std.proofs.lemmas.Bool.{ne_eqb, eqb-true, and_parts}
 use mathlib.Core.Bool.{true≢false}
 use Rattle.std.proofs.lemmas.List.{append-nil, map-append}
 use Rattle.std.specs.List.{slice_split, onto_first, list_any}
@@ -9,12 +9,14 @@ use Rattle.std.specs.Option.{MatchOption}
 use denote.Ref.{Bor}
 use Rattle.rc_text.specs.declared.texts.Text.{Text}
 use Rattle.rc_text.specs.Texts.{text_bytes}
+use Rattle.rc_model.specs.Syntax.Text.{begins_with}
 use Rattle.rc_model.specs.Run.State.{is_function_name}
-use Rattle.rc_model.specs.Handed.Environment.{cut_entry, with_first, unescaped, entry_members}
+use Rattle.rc_model.specs.Handed.Environment.{cut_entry, with_first, unescaped, entry_members, is_function}
+use Rattle.rc_model.specs.Handed.Image.{entry}
 use Rattle.rc_image.specs.Additions.{is_mark}
 use Rattle.rc_image.specs.Entries.{pair_of, function_in}
 use Rattle.law_image.proofs.Members.{past_other}
-use Rattle.rc_image.proofs.Beginnings.{begun_by, from_mark, not_begun}
+use Rattle.rc_image.proofs.Beginnings.{begun_by, begun_split, from_mark, not_begun}
 
 -- a text without a byte
 abbrev pub Lacks : ℕ → List ℕ → Type 0
@@ -204,3 +206,27 @@ function_unnamed entry rest name image n e r h k = by_name entry rest name image
 pub function_named : (entry rest name image : List ℕ) (n : ℕ) → entry ≡ codes "fn#" ++ drop n entry → rest ≡ drop n entry → Some (name, image) ≡ cut_entry rest → is_function_name name ≡ true →
     function_in (cut_entry entry) ≡ Some (name, image)
 function_named entry rest name image n e r h k = by_name entry rest name image n true e r h k
+
+-- ** whole entries
+
+pub cut_whole : (e : List ℕ) (b : List ℕ × List ℕ) → Some b ≡ cut_entry e → e ≡ entry b
+cut_whole e b h = subst (λ o. IfSome o (λ x. e ≡ x.0 ++ 61 ∷ x.1)) (sym h) (whole e)
+
+abbrev or_empty : Option (List ℕ × List ℕ) → List ℕ × List ℕ
+or_empty None = ([], [])
+or_empty (Some x) = x
+
+image_by : (e : List ℕ) (f b : List ℕ × List ℕ) (t : Bool) → is_function b.0 ≡ t → e ≡ entry b → Some f ≡ (if t then Some (drop 3 b.0, b.1) else None) →
+    e ≡ entry (codes "fn#" ++ f.0, f.1)
+image_by e f b false k w h = cc
+image_by e f b true k w h =
+    w ∙ ap (λ n. n ++ 61 ∷ b.1) (begun_split (codes "fn#") b.0 (and_parts (begins_with (codes "fn#") b.0) (is_function_name (drop 3 b.0)) k).0)
+    ∙ ap (λ (x : List ℕ × List ℕ). entry (codes "fn#" ++ x.0, x.1)) (sym (ap or_empty h))
+
+image_whole : (e : List ℕ) (f : List ℕ × List ℕ) (cut : Option (List ℕ × List ℕ)) → cut_entry e ≡ cut → Some f ≡ function_in cut → e ≡ entry (codes "fn#" ++ f.0, f.1)
+unfolding function_in
+image_whole e f None c h = cc
+image_whole e f (Some b) c h = image_by e f b (is_function b.0) refl (cut_whole e b (sym c)) h
+
+pub function_whole : (e : List ℕ) (f : List ℕ × List ℕ) → Some f ≡ function_in (cut_entry e) → e ≡ entry (codes "fn#" ++ f.0, f.1)
+function_whole e f h = image_whole e f (cut_entry e) refl h

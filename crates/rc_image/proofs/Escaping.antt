@@ -37,6 +37,10 @@ pub without_marks : (bs : List ℕ) → list_any is_mark bs ≡ false → escape
 without_marks [] none = refl
 without_marks (b ∷ bs) none = plain_by b bs (b == 1) (b == 2) refl refl none (without_marks bs)
 
+-- so does the text of a value that has no other member
+pub one_text : (text : List ℕ) → list_any is_mark text ≡ false → text ≡ value_text (text ∷ [])
+one_text text none = sym (without_marks text none)
+
 pub escaped_one : escaped (encode_utf8 1) ≡ 2 ∷ 65 ∷ []
 escaped_one = ap escaped (encode_ascii 1 (lit< tt))
 

@@ -6,7 +6,6 @@ ghost use Rattle.rc_image.specs.Entries.{pair_of, function_in};
 ghost use Rattle.rc_text.specs.Texts.{text_bytes};
 
 use crate::escaped_bytes::has_marks;
-use crate::text_copies::one;
 use rc_scope::is_function_name;
 use rc_text::Text;
 use std::alloc::{AllocError, Global};
@@ -60,7 +59,7 @@ fn unescaped(alloc: Global, text: &str) -> Result<Text, AllocError>
 }
 
 /// The members of a value, cut at each byte 1.
-fn cut_members(alloc: Global, text: &str) -> Result<Vec<Text>, AllocError>
+pub(crate) fn cut_members(alloc: Global, text: &str) -> Result<Vec<Text>, AllocError>
     ensures { IfOk result (λ members. map text_bytes members.items ≡ entry_members text.now) }
 {
     let mut members = Vec::new(alloc);
@@ -71,16 +70,6 @@ fn cut_members(alloc: Global, text: &str) -> Result<Vec<Text>, AllocError>
     }
     members.push(unescaped(alloc, rest)?)?;
     Ok(members)
-}
-
-/// The members of a value, which byte 1 separates. A text without bytes 1 and 2 is the only member.
-pub(crate) fn members(alloc: Global, text: &str) -> Result<Vec<Text>, AllocError>
-    ensures { IfOk result (λ members. map text_bytes members.items ≡ entry_members text.now) }
-{
-    if has_marks(text) {
-        return cut_members(alloc, text);
-    }
-    one(alloc, Text::of(alloc, text)?)
 }
 
 /// The name of a function and its image, if the entry is that of a function. Its name alone is cut off.

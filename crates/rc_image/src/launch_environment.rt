@@ -157,21 +157,6 @@ pub(crate) fn body_entry(alloc: Global, name: &str, body: &Cmd) -> Result<Text, 
     Text::from_string(alloc, push_image(text, body)?)
 }
 
-/// fn#NAME=IMAGE, of an image that is at hand.
-pub(crate) fn image_entry(alloc: Global, name: &str, text: &str) -> Result<Text, AllocError>
-    ensures { IfOk result (λ whole. text_bytes whole ≡ entry (codes "fn#" ++ name.now, text.now)) }
-{
-    let length = "fn#="
-        .len()
-        .saturating_add(name.len())
-        .saturating_add(text.len());
-    let mut whole = String::with_capacity(alloc, length)?;
-    whole.push_str("fn#")?;
-    push_name(&mut whole, name)?;
-    whole.push_str(text)?;
-    Text::from_string(alloc, whole)
-}
-
 /// The entry of a function, as it is kept or anew.
 fn function_entry(alloc: Global, definition: &Definition) -> Result<Text, AllocError>
     ensures { let body = body_tree definition.now.function.now in

@@ -1,6 +1,7 @@
+use Rattle.std.proofs.Common.{◌∙◌}
 use Rattle.rc_text.specs.Texts.{text_bytes}
 use Rattle.rc_image.proofs.Handing.{function_after}
 use Rattle.rc_image.proofs.read_environment.kept_image.Goals as goal
 
 pub returns : goal.returns
-returns c = function_after (text_bytes c.in_ok-entry.entry) c.args.name.now c.args.text.now c.in_ok-entry.ensures
+returns c = function_after (text_bytes c.in_ok-clone.field-0) c.args.name.now c.args._image.now (c.in_ok-clone.ensures.cases ∙ c.requires)
