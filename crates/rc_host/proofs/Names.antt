@@ -1,14 +1,15 @@
 -- Texts that stand one after the other, each ended by a byte 0.
-use Rattle.std.proofs.Common.{◌≡◌, ◌≢◌, refl, ap, sym, ◌∙◌, ℕ, suc, ◌<◌, ◌≤◌, ◌+◌, ◌-◌, ◌==◌, ◌||◌, ◌&&◌, not, if◌then◌else◌, Bool, cond, true, false, List, [], ◌∷◌, ◌++◌, length, take, drop, count_by, append_assoc, slice_index, EachIndex, IsUtf8, codes, arith}
+use Rattle.std.proofs.Common.{◌≡◌, ◌≢◌, refl, ap, sym, ◌∙◌, ℕ, suc, ◌<◌, ◌≤◌, ◌+◌, ◌-◌, ◌==◌, ◌||◌, ◌&&◌, not, if◌then◌else◌, Bool, cond, true, false, List, [], ◌∷◌, ◌++◌, length, take, drop, count_by, append_assoc, slice_index, EachIndex, IsUtf8, codes, map, string_bytes, arith}
 use Rattle.std.specs.Str.{bytes_eq, is_utf8}
+use Rattle.std.specs.declared.alloc.Global.{Global}
+use Rattle.std.specs.declared.string.String.{String}
 use Rattle.std.proofs.Math.Seq.{drop-cons}
 use Rattle.std.proofs.lemmas.Grind.{common_steps}
 use Rattle.std.proofs.lemmas.List.{append-nil, get_or-take, length-drop, length-take-le, take-append-drop}
 use Rattle.std.proofs.lemmas.List.Sums.{sum_by-cons, sum_by-drop_more, sum_by-take-drop}
 use Rattle.std.proofs.lemmas.Str.{is_utf8-from_IsUtf8, IsUtf8-from_is_utf8}
 use Rattle.bstr.specs.Find.{Nowhere, Passes, is_byte}
-use Rattle.rc_host.specs.Names.{named, entered, kept, ended_from}
-use Rattle.rc_host.specs.declared.ended.Sort.{Sort}
+use Rattle.rc_host.specs.Names.{named, entered, ended_from}
 
 no_text : (name : List ℕ) → (IsUtf8 name → ⊥) → (is : Bool) → is_utf8 name ≡ is → is ≡ false
 no_text name h true e = absurd (h (IsUtf8-from_is_utf8 name e))
@@ -45,12 +46,12 @@ clear_rest : (byte : ℕ) (bytes : List ℕ) → Clear (byte ∷ bytes) → Clea
 clear_rest byte bytes clear i h = clear (suc i) (omega arith)
 
 -- bytes other than 0 are of the first text
-past : (sort : Sort) (read bytes rest : List ℕ) → Clear bytes → ended_from sort read (bytes ++ rest) ≡ ended_from sort (read ++ bytes) rest
-past sort read [] rest clear = ap (λ r. ended_from sort r rest) (sym (append-nil read))
-past sort read (byte ∷ bytes) rest clear =
-    ap (λ is. if is then kept sort read ++ ended_from sort [] (bytes ++ rest) else ended_from sort (read ++ byte ∷ []) (bytes ++ rest)) (other_byte byte (clear 0 (omega arith)))
-    ∙ past sort (read ++ byte ∷ []) bytes rest (clear_rest byte bytes clear)
-    ∙ ap (λ r. ended_from sort r rest) (append_assoc read (byte ∷ []) bytes)
+past : (kept : List ℕ → List (List ℕ)) (read bytes rest : List ℕ) → Clear bytes → ended_from kept read (bytes ++ rest) ≡ ended_from kept (read ++ bytes) rest
+past kept read [] rest clear = ap (λ r. ended_from kept r rest) (sym (append-nil read))
+past kept read (byte ∷ bytes) rest clear =
+    ap (λ is. if is then kept read ++ ended_from kept [] (bytes ++ rest) else ended_from kept (read ++ byte ∷ []) (bytes ++ rest)) (other_byte byte (clear 0 (omega arith)))
+    ∙ past kept (read ++ byte ∷ []) bytes rest (clear_rest byte bytes clear)
+    ∙ ap (λ r. ended_from kept r rest) (append_assoc read (byte ∷ []) bytes)
 
 -- the byte at this place is 0
 abbrev IsEnd : List ℕ → ℕ → Type 0
@@ -75,26 +76,26 @@ ended bytes n inside end =
     drop-cons bytes n 0 inside ∙ ap (λ b. b ∷ drop (suc n) bytes) (zero_byte (slice_index bytes n) end) ∙ ap (λ m. 0 ∷ drop m bytes) next
 
 -- the first text, and those after its byte 0
-first_text : (sort : Sort) (bytes : List ℕ) (n : ℕ) → n < length bytes → Nowhere (IsEnd bytes) 0 n → IsEnd bytes n
-    → ended_from sort [] bytes ≡ kept sort (take n bytes) ++ ended_from sort [] (drop (n + 1) bytes)
-first_text sort bytes n inside none end =
-    ap (ended_from sort []) (sym (take-append-drop n bytes) ∙ ap (λ rest. take n bytes ++ rest) (ended bytes n inside end))
-    ∙ past sort [] (take n bytes) (0 ∷ drop (n + 1) bytes) (clear_front bytes n inside none)
+first_text : (kept : List ℕ → List (List ℕ)) (bytes : List ℕ) (n : ℕ) → n < length bytes → Nowhere (IsEnd bytes) 0 n → IsEnd bytes n
+    → ended_from kept [] bytes ≡ kept (take n bytes) ++ ended_from kept [] (drop (n + 1) bytes)
+first_text kept bytes n inside none end =
+    ap (ended_from kept []) (sym (take-append-drop n bytes) ∙ ap (λ rest. take n bytes ++ rest) (ended bytes n inside end))
+    ∙ past kept [] (take n bytes) (0 ∷ drop (n + 1) bytes) (clear_front bytes n inside none)
 
 -- a text is added to those before it
-pub text_added : (sort : Sort) (all before texts : List (List ℕ)) (bytes text others : List ℕ) (n : ℕ) → n < length bytes → Nowhere (Passes (is_byte 0) bytes) 0 n
-    → Passes (is_byte 0) bytes n → text ≡ take n bytes → others ≡ drop (n + 1) bytes → before ++ ended_from sort [] bytes ≡ all → texts ≡ before ++ kept sort text
-    → texts ++ ended_from sort [] others ≡ all
-text_added sort all before texts bytes text others n inside none end is left was now =
-    ap (λ l. l ++ ended_from sort [] others) (now ∙ ap (λ l. before ++ kept sort l) is)
-    ∙ append_assoc before (kept sort (take n bytes)) (ended_from sort [] others)
-    ∙ ap (λ l. before ++ (kept sort (take n bytes) ++ ended_from sort [] l)) left
-    ∙ ap (λ l. before ++ l) (sym (first_text sort bytes n inside none end)) ∙ was
+pub text_added : (kept : List ℕ → List (List ℕ)) (all before texts : List (List ℕ)) (bytes text others : List ℕ) (n : ℕ) → n < length bytes → Nowhere (Passes (is_byte 0) bytes) 0 n
+    → Passes (is_byte 0) bytes n → text ≡ take n bytes → others ≡ drop (n + 1) bytes → before ++ ended_from kept [] bytes ≡ all → texts ≡ before ++ kept text
+    → texts ++ ended_from kept [] others ≡ all
+text_added kept all before texts bytes text others n inside none end is left was now =
+    ap (λ l. l ++ ended_from kept [] others) (now ∙ ap (λ l. before ++ kept l) is)
+    ∙ append_assoc before (kept (take n bytes)) (ended_from kept [] others)
+    ∙ ap (λ l. before ++ (kept (take n bytes) ++ ended_from kept [] l)) left
+    ∙ ap (λ l. before ++ l) (sym (first_text kept bytes n inside none end)) ∙ was
 
 -- with no byte 0 left those before are all
-pub texts_end : (sort : Sort) (all texts : List (List ℕ)) (bytes : List ℕ) → Nowhere (Passes (is_byte 0) bytes) 0 (length bytes) → texts ++ ended_from sort [] bytes ≡ all → texts ≡ all
-texts_end sort all texts bytes none was =
-    let empty : ended_from sort [] bytes ≡ [] = ap (ended_from sort []) (sym (append-nil bytes)) ∙ past sort [] bytes [] (clear_whole bytes none) in
+pub texts_end : (kept : List ℕ → List (List ℕ)) (all texts : List (List ℕ)) (bytes : List ℕ) → Nowhere (Passes (is_byte 0) bytes) 0 (length bytes) → texts ++ ended_from kept [] bytes ≡ all → texts ≡ all
+texts_end kept all texts bytes none was =
+    let empty : ended_from kept [] bytes ≡ [] = ap (ended_from kept []) (sym (append-nil bytes)) ∙ past kept [] bytes [] (clear_whole bytes none) in
     sym (append-nil texts) ∙ ap (λ l. texts ++ l) (sym empty) ∙ was
 
 -- how many of the bytes are 0
@@ -134,3 +135,45 @@ pub left_shorter : (bytes others : List ℕ) (n count all : ℕ) → n < length 
 left_shorter bytes others n count all inside left was =
     let rest : length others ≡ length bytes - (n + 1) = ap length left ∙ length-drop (n + 1) bytes in
     omega arith
+
+-- ** texts that are read part by part
+
+-- the first text, and those after its byte 0
+first_part : (kept : List ℕ → List (List ℕ)) (read bytes after : List ℕ) (n : ℕ) → n < length bytes → Nowhere (IsEnd bytes) 0 n → IsEnd bytes n
+    → ended_from kept read (bytes ++ after) ≡ kept (read ++ take n bytes) ++ ended_from kept [] (drop (n + 1) bytes ++ after)
+first_part kept read bytes after n inside none end =
+    ap (λ b. ended_from kept read (b ++ after)) (sym (take-append-drop n bytes) ∙ ap (λ rest. take n bytes ++ rest) (ended bytes n inside end))
+    ∙ ap (ended_from kept read) (append_assoc (take n bytes) (0 ∷ drop (n + 1) bytes) after)
+    ∙ past kept read (take n bytes) (0 ∷ (drop (n + 1) bytes ++ after)) (clear_front bytes n inside none)
+
+-- a text is added to those before it
+pub part_added : (kept : List ℕ → List (List ℕ)) (all before texts : List (List ℕ)) (read bytes text others after begun : List ℕ) (n : ℕ) → n < length bytes
+    → Nowhere (Passes (is_byte 0) bytes) 0 n → Passes (is_byte 0) bytes n → text ≡ take n bytes → others ≡ drop (n + 1) bytes → begun ≡ []
+    → before ++ ended_from kept read (bytes ++ after) ≡ all → texts ≡ before ++ kept (read ++ text) → texts ++ ended_from kept begun (others ++ after) ≡ all
+part_added kept all before texts read bytes text others after begun n inside none end is left new was now =
+    ap (λ l. l ++ ended_from kept begun (others ++ after)) (now ∙ ap (λ t. before ++ kept (read ++ t)) is)
+    ∙ ap (λ b. (before ++ kept (read ++ take n bytes)) ++ ended_from kept b (others ++ after)) new
+    ∙ append_assoc before (kept (read ++ take n bytes)) (ended_from kept [] (others ++ after))
+    ∙ ap (λ o. before ++ (kept (read ++ take n bytes) ++ ended_from kept [] (o ++ after))) left
+    ∙ ap (λ l. before ++ l) (sym (first_part kept read bytes after n inside none end)) ∙ was
+
+-- with no byte 0 left the bytes are of the text that comes next
+pub part_end : (kept : List ℕ → List (List ℕ)) (all texts : List (List ℕ)) (read bytes begun after : List ℕ) → Nowhere (Passes (is_byte 0) bytes) 0 (length bytes)
+    → begun ≡ read ++ bytes → texts ++ ended_from kept read (bytes ++ after) ≡ all → texts ++ ended_from kept begun after ≡ all
+part_end kept all texts read bytes begun after none is was =
+    ap (λ b. texts ++ ended_from kept b after) is
+    ∙ ap (λ l. texts ++ l) (sym (past kept read bytes after (clear_whole bytes none))) ∙ was
+
+-- what is left is no longer than what was there
+pub left_within : (bytes others : List ℕ) (n all : ℕ) → n < length bytes → others ≡ drop (n + 1) bytes → length bytes ≤ all → length others ≤ all
+left_within bytes others n all inside left was =
+    let rest : length others ≡ length bytes - (n + 1) = ap length left ∙ length-drop (n + 1) bytes in
+    omega arith
+
+-- from nothing, and with nothing to follow
+pub whole_read : (texts : List (List ℕ)) (old : List (String Global)) (read begun bytes : List ℕ)
+    → ((after : List ℕ) → texts ++ ended_from entered begun after ≡ map string_bytes old ++ ended_from entered read (bytes ++ after)) → old ≡ [] → read ≡ []
+    → texts ≡ ended_from entered [] bytes
+whole_read texts old read begun bytes h o r =
+    sym (append-nil texts) ∙ h [] ∙ ap (λ z. map string_bytes z ++ ended_from entered read (bytes ++ [])) o
+    ∙ ap (λ z. ended_from entered z (bytes ++ [])) r ∙ ap (ended_from entered []) (append-nil bytes)

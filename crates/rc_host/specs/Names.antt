@@ -5,8 +5,6 @@ use Rattle.std.specs.IoError.{os_error_kind}
 use Rattle.std.specs.Str.{is_utf8}
 use Rattle.std.specs.declared.io.ErrorKind.TheVariants as kind
 use Rattle.rc_model.specs.Run.Patterns.{is_dots}
-use Rattle.rc_host.specs.declared.ended.Sort.{Sort}
-use Rattle.rc_host.specs.declared.ended.Sort.TheVariants.{Names, Entries}
 
 -- the name, if it is UTF-8 and neither `.` nor `..`
 abbrev pub named : List ℕ → List (List ℕ)
@@ -16,24 +14,20 @@ named name = if is_utf8 name && not (is_dots name) then name ∷ [] else []
 abbrev pub entered : List ℕ → List (List ℕ)
 entered text = if is_utf8 text then text ∷ [] else []
 
--- the text that is kept of these bytes, by their sort: a name or an entry
-abbrev pub kept : Sort → List ℕ → List (List ℕ)
-kept Names bytes = named bytes
-kept Entries bytes = entered bytes
-
--- the texts that are kept of bytes with terminated texts, after these bytes of the first one
-abbrev pub ended_from : Sort → List ℕ → List ℕ → List (List ℕ)
-ended_from sort read [] = []
-ended_from sort read (byte ∷ bytes) =
-    if byte == 0 then kept sort read ++ ended_from sort [] bytes else ended_from sort (read ++ byte ∷ []) bytes
+-- the texts that are kept of bytes with terminated texts, after these bytes of the first one; `kept` says what is kept of
+-- a text: a name or an entry
+abbrev pub ended_from : (List ℕ → List (List ℕ)) → List ℕ → List ℕ → List (List ℕ)
+ended_from kept read [] = []
+ended_from kept read (byte ∷ bytes) =
+    if byte == 0 then kept read ++ ended_from kept [] bytes else ended_from kept (read ++ byte ∷ []) bytes
 
 -- the names in bytes in which a byte 0 terminates each name
 abbrev pub names_in : List ℕ → List (List ℕ)
-names_in bytes = ended_from Names [] bytes
+names_in bytes = ended_from named [] bytes
 
 -- the entries in bytes in which a byte 0 terminates each entry
 abbrev pub entries_in : List ℕ → List (List ℕ)
-entries_in bytes = ended_from Entries [] bytes
+entries_in bytes = ended_from entered [] bytes
 
 -- the path with which a directory is opened: it ends in a slash, unless it is empty
 abbrev pub directory_path : List ℕ → List ℕ

@@ -7,7 +7,7 @@ ghost use Rattle.rc_world.specs.Faults.{fault_at, fault_of};
 ghost use Rattle.rc_host.specs.Names.{directory_path, names_in, IsLast};
 
 use crate::answers::answer;
-use crate::ended::{Sort, push_ended};
+use crate::ended::push_ended;
 use crate::files::read_again;
 use crate::linux::open_directory;
 use rc_world::Fault;
@@ -72,8 +72,8 @@ fn names_of<R: Read>(alloc: Global, directory: &mut R) -> Result<Vec<String>, Fa
 {
     let bytes = read_whole(alloc, directory)?;
     let mut names = Vec::new(alloc);
-    match push_ended(&mut names, &bytes, Sort::Names) {
-        Ok(_) => Ok(names),
+    match push_ended(&mut names, &bytes) {
+        Ok(()) => Ok(names),
         Err(AllocError) => Err(Fault::NoMemory),
     }
 }

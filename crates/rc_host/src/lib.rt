@@ -4,6 +4,8 @@
 mod answers;
 mod directory;
 mod ended;
+mod environment;
+mod environment_entries;
 mod files;
 mod host;
 mod input;
@@ -13,10 +15,11 @@ mod linux;
 mod process;
 mod table;
 
+pub use environment::{entries, entries_by_place};
 pub use host::HostWorld;
 pub use input::Input;
 pub use launches::planned::Plan;
 pub use launches::planning::plan;
 pub use leaving::Leaving;
-pub use process::{ArgumentsFault, arguments, entries, entries_by_place, open_standard, own_path};
+pub use process::{ArgumentsFault, arguments, open_standard, own_path};
 pub use rc_model::InputError;

@@ -2,39 +2,21 @@
 ghost use Rattle.std.specs.Prelude.{◌≡◌, ◌==◌, ◌+◌, ◌<◌, ◌≤◌, pos, None, Some, IfOk, IfSome, OnErr, count_by, drop};
 ghost use Rattle.std.specs.Prelude.{map, string_bytes, vec_len, ◌↔◌, IsTrue, Err, IsOkAnd, MatchResult};
 ghost use Rattle.std.specs.Path.{path_buf_bytes};
-ghost use Rattle.rc_host.specs.Names.{entries_in};
 ghost use Rattle.rc_host.specs.Process.{arguments_error, is_deleted, own_path, program_link, IsFileLost};
 ghost use Rattle.rc_world.specs.Faults.{fault_at};
 
-use crate::ended::{Sort, push_ended};
-use crate::files::read_again;
 use crate::leaving::open_null;
 use rc_model::InputError;
 use rc_world::{Fault, fault_of};
 use std::alloc::{AllocError, AllocGlobal, Global};
-use std::env::FillError;
-use std::io::Read;
 use std::os::fd::{AsFd, AsRawFd, IntoRawFd};
 use std::path::PathBuf;
 use std::rt::{Env, HostRuntime};
-use std::{env, fs, io, process};
+use std::{env, io, process};
 use thiserror::Error;
 
 /// Linux's number for a descriptor that is not open.
 const NOT_OPEN: i32 = 9;
-
-/// How many bytes of a long environment are read at first.
-const ENVIRONMENT_BYTES: usize = 8_192;
-
-/// For how many entries of the environment there is room at first. An environment that has more is long.
-const USUAL_ENTRIES: usize = 64;
-
-/// For how many bytes of an environment that is not long there is room at first.
-const USUAL_BYTES: usize = 1_024;
-
-/// For how many bytes of an entry that is taken by its index there is room at first. An environment that has a longer
-/// one is long.
-const ENTRY_BYTES: usize = 256;
 
 /// The fault of the arguments of a program.
 #[derive(Clone, Copy, Debug, Error)]
@@ -81,114 +63,6 @@ fn arguments_error(error: &io::Error) -> InputError<ArgumentsFault>
         Fault::NoMemory => InputError::NoMemory,
         _ => InputError::Fault(ArgumentsFault::NotText),
     }
-}
-
-/// The entries of the environment that are UTF-8, in their order. A long environment is read from Linux.
-pub fn entries(rt: &HostRuntime) -> Result<Vec<String>, AllocError> {
-    if !is_present(rt, USUAL_ENTRIES) {
-        if let Some(bytes) = usual_environment(rt)? {
-            let (entries, _) = entries_in(rt.alloc(), &bytes)?;
-            return Ok(entries);
-        }
-    }
-    if let Ok(bytes) = environment(rt) {
-        let (entries, count) = entries_in(rt.alloc(), &bytes)?;
-        if has_entries(rt, count) {
-            return Ok(entries);
-        }
-    }
-    entries_by_place(rt)
-}
-
-/// What Linux has of the environment of this process: bytes in which a byte 0 terminates each entry. A read that leaves
-/// room is the last one; if it left out an entry, there are fewer than the environment has.
-fn environment(rt: &HostRuntime) -> io::Result<Vec<u8>> {
-    let mut file = fs::open(rt, "/proc/self/environ")?;
-    let mut bytes = vec![in rt.alloc(); 0u8; ENVIRONMENT_BYTES]?;
-    let count = read_again(&mut file, &mut bytes)?;
-    bytes.truncate(count);
-    if count == ENVIRONMENT_BYTES {
-        file.read_to_end(&mut bytes)?;
-    }
-    Ok(bytes)
-}
-
-/// The entries that are UTF-8, from bytes in which a byte 0 terminates each entry, and how many entries there are.
-fn entries_in(alloc: Global, bytes: &[u8]) -> Result<(Vec<String>, usize), AllocError>
-    ensures entries { IfOk result (λ found. map string_bytes found.0.items ≡ entries_in bytes.now) }
-    ensures count { IfOk result (λ found. found.1 ≡ count_by (λ byte. byte == 0) bytes.now) }
-{
-    let mut entries = Vec::with_capacity(alloc, USUAL_ENTRIES)?;
-    let count = push_ended(&mut entries, bytes, Sort::Entries)?;
-    Ok((entries, count))
-}
-
-/// Whether the environment has exactly this many entries.
-fn has_entries<R: Env>(rt: &R, count: usize) -> bool {
-    !is_present(rt, count) && (count == 0 || is_present(rt, count - 1))
-}
-
-/// Whether the environment has an entry at this index.
-fn is_present<R: Env>(rt: &R, place: usize) -> bool {
-    !matches!(rt.var_at(place, &mut []), Err(FillError::NotPresent))
-}
-
-/// The entries of the environment that are UTF-8, in their order, each taken by its index. The C library counts the
-/// entries anew for each.
-pub fn entries_by_place<R: Env + AllocGlobal>(rt: &R) -> Result<Vec<String>, AllocError> {
-    let bytes = environment_by_place(rt)?;
-    let (entries, _) = entries_in(rt.alloc(), &bytes)?;
-    Ok(entries)
-}
-
-/// The environment of this process, each entry taken by its index and terminated by a byte 0.
-fn environment_by_place<R: Env + AllocGlobal>(rt: &R) -> Result<Vec<u8>, AllocError> {
-    let mut bytes = Vec::with_capacity(rt.alloc(), USUAL_BYTES)?;
-    let mut buffer = vec![in rt.alloc(); 0u8; ENTRY_BYTES]?;
-    for place in 0..usize::MAX {
-        let Some(length) = fill_entry(rt, place, &mut buffer)? else {
-            break;
-        };
-        bytes.extend_from_slice(&buffer[..length])?;
-        bytes.push(0)?;
-    }
-    Ok(bytes)
-}
-
-/// The environment of this process as `environment_by_place` returns it, unless it is long.
-fn usual_environment<R: Env + AllocGlobal>(rt: &R) -> Result<Option<Vec<u8>>, AllocError> {
-    let mut bytes = Vec::with_capacity(rt.alloc(), USUAL_BYTES)?;
-    let mut buffer = vec![in rt.alloc(); 0u8; ENTRY_BYTES]?;
-    for place in 0..USUAL_ENTRIES + 1 {
-        match rt.var_at(place, &mut buffer) {
-            Ok(length) => {
-                bytes.extend_from_slice(&buffer[..length])?;
-                bytes.push(0)?;
-            }
-            Err(FillError::NotPresent) => return Ok(Some(bytes)),
-            Err(FillError::TooLong) => return Ok(None),
-        }
-    }
-    Ok(None)
-}
-
-/// Fills the buffer with the entry at an index of the environment, and returns the entry's length. A buffer that is
-/// too small is doubled.
-fn fill_entry<R: Env>(
-    rt: &R,
-    place: usize,
-    buffer: &mut Vec<u8>,
-) -> Result<Option<usize>, AllocError>
-    ensures { IfOk result (λ found. IfSome found (λ length. length ≤ vec_len buffer.new)) }
-{
-    for _ in 0..usize::BITS {
-        match rt.var_at(place, buffer) {
-            Ok(length) => return Ok(Some(length)),
-            Err(FillError::NotPresent) => return Ok(None),
-            Err(FillError::TooLong) => buffer.resize(buffer.len().saturating_mul(2), 0)?,
-        }
-    }
-    Err(AllocError)
 }
 
 /// What Linux writes after the path of a file that has no name any more.

@@ -110,12 +110,21 @@ fn copies_of(alloc: Global, texts: &[Text]) -> Result<Vec<Text>, AllocError>
     Ok(copies)
 }
 
+/// How many bytes the block of these entries takes.
+fn size_of(entries: &[Text]) -> usize {
+    let mut size = 0usize;
+    for entry in entries {
+        size = size.saturating_add(entry.as_str().len()).saturating_add(1);
+    }
+    size
+}
+
 /// The block of these entries.
 fn env_of(alloc: Global, entries: &[Text]) -> Result<Vec<u8>, Fault>
     ensures held { IfOk result (λ held. Holds is_no_entry held.items (map text_bytes entries.now)) }
     ensures err { IfErr result (IsNotHeld is_no_entry (map text_bytes entries.now)) }
 {
-    let mut texts = room(alloc)?;
+    let mut texts = room(alloc, size_of(entries))?;
     for entry in entries {
         push_entry(&mut texts, entry.as_str())?;
     }

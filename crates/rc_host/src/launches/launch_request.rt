@@ -9,7 +9,7 @@ use rc_world::Fault;
 use std::alloc::Global;
 use std::os::fd::RawFd;
 
-/// For how many bytes of the arguments, and of the environment, there is room at first.
+/// For how many bytes of the arguments there is room at first.
 const USUAL_BYTES: usize = 1_024;
 
 /// A program and its arguments. These are as Linux takes them: texts in a sequence, each terminated by a byte 0, the
@@ -74,7 +74,7 @@ fn args_of(alloc: Global, program: &str, args: &[Text]) -> Result<Vec<u8>, Fault
     ensures held { IfOk result (λ held. Holds has_zero held.items (program.now ∷ map text_bytes args.now)) }
     ensures err { IfErr result (IsNotHeld has_zero (program.now ∷ map text_bytes args.now)) }
 {
-    let mut texts = room(alloc)?;
+    let mut texts = room(alloc, USUAL_BYTES)?;
     push_text(&mut texts, program)?;
     for arg in args {
         push_text(&mut texts, arg.as_str())?;
@@ -82,12 +82,12 @@ fn args_of(alloc: Global, program: &str, args: &[Text]) -> Result<Vec<u8>, Fault
     Ok(texts)
 }
 
-/// Room for texts.
-pub(crate) fn room(alloc: Global) -> Result<Vec<u8>, Fault>
+/// Room for texts of this many bytes at first.
+pub(crate) fn room(alloc: Global, size: usize) -> Result<Vec<u8>, Fault>
     ensures empty { IfOk result (λ texts. texts.items ≡ []) }
     ensures err { IfErr result (λ fault. fault ≡ Fault.NoMemory) }
 {
-    match Vec::with_capacity(alloc, USUAL_BYTES) {
+    match Vec::with_capacity(alloc, size) {
         Ok(texts) => Ok(texts),
         Err(_) => Err(Fault::NoMemory),
     }
