@@ -1,5 +1,6 @@
 //! A run of the program.
 ghost use Rattle.std.specs.Prelude.{◌≡◌, ◌≢◌, ◌↔◌, Err, None, Some, IfSome, map, option_map, string_bytes};
+ghost use Rattle.rc_text.specs.Texts.{text_bytes};
 ghost use Rattle.rc_cli.specs.Asked.{asked};
 ghost use Rattle.rc_cli.specs.Requests.{request_of, name_of};
 ghost use Rattle.rc_cli.specs.Runs.{IsResultOf, RunsImage, RunsInput, RunsRead, RunsRequest, RunsScript};
@@ -11,6 +12,7 @@ use crate::start::first_state;
 use crate::status::process_status;
 use rc_model::limits::MOST_INSTRUCTIONS;
 use rc_shell::{Ran, ShellFault, execute, execute_image};
+use rc_text::Text;
 use rc_world::World;
 use std::alloc::Global;
 use std::io::Read;
@@ -22,13 +24,13 @@ pub fn run_rc<'a, W: World, R: Read + Drop>(
     alloc: Global,
     world: &mut W,
     arguments: &'a [String],
-    entries: &[String],
+    entries: &[Text],
     input: Option<R>,
 ) -> Result<u8, RunError<'a>>
     ensures usage { (result ≡ Err RunError.Usage) ↔ (request_of (map string_bytes arguments.now) ≡ None) }
     ensures unchanged { result ≡ Err RunError.Usage → W.events world.new ≡ W.events world.old }
     ensures meant { IfSome (request_of (map string_bytes arguments.now))
-        (RunsRequest (option_map (λ r. R.remaining r) input) (map string_bytes entries.now)
+        (RunsRequest (option_map (λ r. R.remaining r) input) (map text_bytes entries.now)
         (W.events world.old) (W.events world.new) result) }
 {
     let Some(request) = request_of(arguments) else {
@@ -47,14 +49,14 @@ fn run_input<'a, W: World, R: Read + Drop>(
     alloc: Global,
     world: &mut W,
     request: Request<'a>,
-    entries: &[String],
+    entries: &[Text],
     input: Option<R>,
     name: &'a str,
 ) -> Result<u8, RunError<'a>>
     requires { name_of (asked request).source ≡ Some name.now }
     ensures usage { result ≢ Err RunError.Usage }
     ensures meant { RunsInput (option_map (λ r. R.remaining r) input) (W.events world.old) (W.events world.new)
-        (asked request.entry) (map string_bytes entries.now) result }
+        (asked request.entry) (map text_bytes entries.now) result }
 {
     let read = read_script(alloc, input, name);
     run_read(alloc, world, request, entries, read)
@@ -65,13 +67,13 @@ fn run_read<'a, W: World>(
     alloc: Global,
     world: &mut W,
     request: Request<'a>,
-    entries: &[String],
+    entries: &[Text],
     read: Result<Vec<u8>, RunError<'a>>,
 ) -> Result<u8, RunError<'a>>
     requires { read ≢ Err RunError.Usage }
     ensures usage { result ≢ Err RunError.Usage }
     ensures meant { RunsRead (W.events world.old) (W.events world.new)
-        (asked request.entry) (map string_bytes entries.now) read.entry result }
+        (asked request.entry) (map text_bytes entries.now) read.entry result }
 {
     match read {
         Ok(script) => run_script(alloc, world, request, entries, &script),
@@ -84,12 +86,12 @@ fn run_script<'a, W: World>(
     alloc: Global,
     world: &mut W,
     request: Request<'a>,
-    entries: &[String],
+    entries: &[Text],
     script: &[u8],
 ) -> Result<u8, RunError<'a>>
     ensures usage { result ≢ Err RunError.Usage }
     ensures meant { RunsScript (W.events world.old) (W.events world.new)
-        (asked request.entry) (map string_bytes entries.now) script.now result }
+        (asked request.entry) (map text_bytes entries.now) script.now result }
 {
     let state = first_state(alloc, request, entries)?;
     result_of(execute(alloc, world, script, state, MOST_INSTRUCTIONS))
@@ -100,11 +102,11 @@ fn run_image<'a, W: World>(
     alloc: Global,
     world: &mut W,
     request: Request<'a>,
-    entries: &[String],
+    entries: &[Text],
 ) -> Result<u8, RunError<'a>>
     ensures usage { result ≢ Err RunError.Usage }
     ensures meant { RunsImage (W.events world.old) (W.events world.new)
-        (asked request.entry) (map string_bytes entries.now) result }
+        (asked request.entry) (map text_bytes entries.now) result }
 {
     result_of(execute_image(
         alloc,

@@ -17,10 +17,10 @@ use std::alloc::{AllocError, Global};
 pub(crate) fn first_state(
     alloc: Global,
     request: Request<'_>,
-    entries: &[String],
+    entries: &[Text],
 ) -> Result<State, AllocError>
     ensures { IfOk result (λ state. state_of state
-        ≡ first_state (asked request.entry) (map string_bytes entries.now)) }
+        ≡ first_state (asked request.entry) (map text_bytes entries.now)) }
 {
     let mut state = given_state(alloc, entries)?;
     set_arguments(alloc, &mut state, request.arguments)?;
@@ -31,8 +31,8 @@ pub(crate) fn first_state(
 
 /// The state that the entries of any program denote.
 #[tactic(auto, unfolding(crate::specs::Start::given_state))]
-fn given_state(alloc: Global, entries: &[String]) -> Result<State, AllocError>
-    ensures { IfOk result (λ state. state_of state ≡ given_state (map string_bytes entries.now)) }
+fn given_state(alloc: Global, entries: &[Text]) -> Result<State, AllocError>
+    ensures { IfOk result (λ state. state_of state ≡ given_state (map text_bytes entries.now)) }
 {
     match read_state(alloc, false, &[], entries) {
         Ok(state) => Ok(state),

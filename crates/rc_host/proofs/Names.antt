@@ -1,8 +1,8 @@
 -- Texts that stand one after the other, each ended by a byte 0.
-use Rattle.std.proofs.Common.{◌≡◌, ◌≢◌, refl, ap, sym, ◌∙◌, ℕ, suc, ◌<◌, ◌≤◌, ◌+◌, ◌-◌, ◌==◌, ◌||◌, ◌&&◌, not, if◌then◌else◌, Bool, cond, true, false, List, [], ◌∷◌, ◌++◌, length, take, drop, count_by, append_assoc, slice_index, EachIndex, IsUtf8, codes, map, string_bytes, arith}
+use Rattle.std.proofs.Common.{◌≡◌, ◌≢◌, refl, ap, sym, ◌∙◌, ℕ, suc, ◌<◌, ◌≤◌, ◌+◌, ◌-◌, ◌==◌, ◌||◌, ◌&&◌, not, if◌then◌else◌, Bool, cond, true, false, List, [], ◌∷◌, ◌++◌, length, take, drop, count_by, append_assoc, slice_index, EachIndex, IsUtf8, codes, map, arith}
 use Rattle.std.specs.Str.{bytes_eq, is_utf8}
-use Rattle.std.specs.declared.alloc.Global.{Global}
-use Rattle.std.specs.declared.string.String.{String}
+use Rattle.rc_text.specs.Texts.{text_bytes}
+use Rattle.rc_text.specs.declared.texts.Text.{Text}
 use Rattle.std.proofs.Math.Seq.{drop-cons}
 use Rattle.std.proofs.lemmas.Grind.{common_steps}
 use Rattle.std.proofs.lemmas.List.{append-nil, get_or-take, length-drop, length-take-le, take-append-drop}
@@ -171,9 +171,9 @@ left_within bytes others n all inside left was =
     omega arith
 
 -- from nothing, and with nothing to follow
-pub whole_read : (texts : List (List ℕ)) (old : List (String Global)) (read begun bytes : List ℕ)
-    → ((after : List ℕ) → texts ++ ended_from entered begun after ≡ map string_bytes old ++ ended_from entered read (bytes ++ after)) → old ≡ [] → read ≡ []
+pub whole_read : (texts : List (List ℕ)) (old : List Text) (read begun bytes : List ℕ)
+    → ((after : List ℕ) → texts ++ ended_from entered begun after ≡ map text_bytes old ++ ended_from entered read (bytes ++ after)) → old ≡ [] → read ≡ []
     → texts ≡ ended_from entered [] bytes
 whole_read texts old read begun bytes h o r =
-    sym (append-nil texts) ∙ h [] ∙ ap (λ z. map string_bytes z ++ ended_from entered read (bytes ++ [])) o
+    sym (append-nil texts) ∙ h [] ∙ ap (λ z. map text_bytes z ++ ended_from entered read (bytes ++ [])) o
     ∙ ap (λ z. ended_from entered z (bytes ++ [])) r ∙ ap (ended_from entered []) (append-nil bytes)

@@ -1,9 +1,11 @@
 //! The environment of this process.
-ghost use Rattle.std.specs.Prelude.{◌≡◌, ◌==◌, ◌≤◌, IfOk, IfSome, count_by, map, string_bytes, vec_len};
+ghost use Rattle.std.specs.Prelude.{◌≡◌, ◌==◌, ◌≤◌, IfOk, IfSome, count_by, map, vec_len};
 ghost use Rattle.rc_host.specs.Names.{entries_in};
+ghost use Rattle.rc_text.specs.Texts.{text_bytes};
 
 use crate::environment_entries::push_entries;
 use crate::files::read_again;
+use rc_text::Text;
 use std::alloc::{AllocError, AllocGlobal, Global};
 use std::env::FillError;
 use std::io::Read;
@@ -24,7 +26,7 @@ const USUAL_BYTES: usize = 1_024;
 const ENTRY_BYTES: usize = 256;
 
 /// The entries of the environment that are UTF-8, in their order. A long environment is read from Linux.
-pub fn entries(rt: &HostRuntime) -> Result<Vec<String>, AllocError> {
+pub fn entries(rt: &HostRuntime) -> Result<Vec<Text>, AllocError> {
     if !is_present(rt, USUAL_ENTRIES) {
         if let Some(bytes) = usual_environment(rt)? {
             let (entries, _) = entries_in(rt.alloc(), &bytes)?;
@@ -41,13 +43,13 @@ pub fn entries(rt: &HostRuntime) -> Result<Vec<String>, AllocError> {
 
 /// What Linux has of the environment of this process: the entries that are UTF-8, in their order, and how many entries
 /// there are. If a part of it can't be read, there are fewer than the environment has.
-fn long_environment(rt: &HostRuntime) -> io::Result<(Vec<String>, usize)> {
+fn long_environment(rt: &HostRuntime) -> io::Result<(Vec<Text>, usize)> {
     let mut file = fs::open(rt, "/proc/self/environ")?;
     read_entries(rt.alloc(), &mut file)
 }
 
 /// Reads entries to the end of what a reader has, part by part.
-fn read_entries<R: Read>(alloc: Global, reader: &mut R) -> io::Result<(Vec<String>, usize)> {
+fn read_entries<R: Read>(alloc: Global, reader: &mut R) -> io::Result<(Vec<Text>, usize)> {
     let mut entries = Vec::with_capacity(alloc, USUAL_ENTRIES)?;
     let mut begun = Vec::new(alloc);
     let mut part = vec![in alloc; 0u8; PART_BYTES]?;
@@ -64,8 +66,8 @@ fn read_entries<R: Read>(alloc: Global, reader: &mut R) -> io::Result<(Vec<Strin
 }
 
 /// The entries that are UTF-8, from bytes in which a byte 0 terminates each entry, and how many entries there are.
-fn entries_in(alloc: Global, bytes: &[u8]) -> Result<(Vec<String>, usize), AllocError>
-    ensures entries { IfOk result (λ found. map string_bytes found.0.items ≡ entries_in bytes.now) }
+fn entries_in(alloc: Global, bytes: &[u8]) -> Result<(Vec<Text>, usize), AllocError>
+    ensures entries { IfOk result (λ found. map text_bytes found.0.items ≡ entries_in bytes.now) }
     ensures count { IfOk result (λ found. found.1 ≡ count_by (λ byte. byte == 0) bytes.now) }
 {
     let mut entries = Vec::with_capacity(alloc, USUAL_ENTRIES)?;
@@ -86,7 +88,7 @@ fn is_present<R: Env>(rt: &R, place: usize) -> bool {
 
 /// The entries of the environment that are UTF-8, in their order, each taken by its index. The C library counts the
 /// entries anew for each.
-pub fn entries_by_place<R: Env + AllocGlobal>(rt: &R) -> Result<Vec<String>, AllocError> {
+pub fn entries_by_place<R: Env + AllocGlobal>(rt: &R) -> Result<Vec<Text>, AllocError> {
     let bytes = environment_by_place(rt)?;
     let (entries, _) = entries_in(rt.alloc(), &bytes)?;
     Ok(entries)

@@ -2,8 +2,10 @@
 ghost use Rattle.std.specs.Prelude.{◌≡◌, ◌==◌, ◌++◌, ◌∷◌, [], ℕ, List, IfOk, OnOk};
 ghost use Rattle.std.specs.Prelude.{MatchOption, count_by, map, string_bytes};
 ghost use Rattle.rc_host.specs.Names.{ended_from, entered};
+ghost use Rattle.rc_text.specs.Texts.{text_bytes};
 
 use bstr::ByteSlice;
+use rc_text::Text;
 use std::alloc::AllocError;
 use std::mem::replace;
 use std::str;
@@ -11,13 +13,13 @@ use std::str;
 /// Adds the entries that are terminated in these bytes and are UTF-8, and returns how many are terminated. `begun` has
 /// the bytes that were read of the first one, and then those of the one after the last.
 pub(crate) fn push_entries(
-    entries: &mut Vec<String>,
+    entries: &mut Vec<Text>,
     begun: &mut Vec<u8>,
     bytes: &[u8],
 ) -> Result<usize, AllocError>
     ensures entries { OnOk result ((after : List ℕ) →
-        map string_bytes entries.new.items ++ ended_from entered begun.new.items after
-        ≡ map string_bytes entries.old.items ++ ended_from entered begun.old.items (bytes.now ++ after)) }
+        map text_bytes entries.new.items ++ ended_from entered begun.new.items after
+        ≡ map text_bytes entries.old.items ++ ended_from entered begun.old.items (bytes.now ++ after)) }
     ensures count { IfOk result (λ count. count ≡ count_by (λ byte. byte == 0) bytes.now) }
 {
     let mut rest = bytes;
@@ -33,12 +35,12 @@ pub(crate) fn push_entries(
 
 /// Adds an entry, if it is UTF-8: the bytes that were read of it, which are taken, and these.
 fn push_entry(
-    entries: &mut Vec<String>,
+    entries: &mut Vec<Text>,
     begun: &mut Vec<u8>,
     bytes: &[u8],
 ) -> Result<(), AllocError>
-    ensures added { OnOk result (map string_bytes entries.new.items
-        ≡ map string_bytes entries.old.items ++ entered (begun.old.items ++ bytes.now)) }
+    ensures added { OnOk result (map text_bytes entries.new.items
+        ≡ map text_bytes entries.old.items ++ entered (begun.old.items ++ bytes.now)) }
     ensures taken { OnOk result (begun.new.items ≡ []) }
 {
     if begun.is_empty() {
@@ -50,27 +52,28 @@ fn push_entry(
 }
 
 /// Adds an entry that was read in one part, if it is UTF-8.
-fn push_whole(entries: &mut Vec<String>, entry: &[u8]) -> Result<(), AllocError>
-    ensures { OnOk result (map string_bytes entries.new.items
-        ≡ map string_bytes entries.old.items ++ entered entry.now) }
+fn push_whole(entries: &mut Vec<Text>, entry: &[u8]) -> Result<(), AllocError>
+    ensures { OnOk result (map text_bytes entries.new.items
+        ≡ map text_bytes entries.old.items ++ entered entry.now) }
 {
     let Some(text) = entry_text(entry) else {
         return Ok(());
     };
-    let entry = String::from_str(*entries.allocator(), text)?;
+    let entry = Text::of(*entries.allocator(), text)?;
     entries.push(entry)?;
     Ok(())
 }
 
 /// Adds an entry that was read in several parts, if it is UTF-8. Its bytes are not copied.
-fn push_joined(entries: &mut Vec<String>, entry: Vec<u8>) -> Result<(), AllocError>
-    ensures { OnOk result (map string_bytes entries.new.items
-        ≡ map string_bytes entries.old.items ++ entered entry.items) }
+fn push_joined(entries: &mut Vec<Text>, entry: Vec<u8>) -> Result<(), AllocError>
+    ensures { OnOk result (map text_bytes entries.new.items
+        ≡ map text_bytes entries.old.items ++ entered entry.items) }
 {
     let Some(string) = entry_string(entry) else {
         return Ok(());
     };
-    entries.push(string)?;
+    let entry = Text::from_string(*entries.allocator(), string)?;
+    entries.push(entry)?;
     Ok(())
 }
 

@@ -1,7 +1,6 @@
 //! Reading the state that an environment denotes.
 
 ghost use Rattle.std.specs.Prelude.{◌≡◌, ◌++◌, ◌∷◌, [], codes, false, if◌then◌else◌, OnOk, IfOk, map};
-ghost use Rattle.std.specs.Prelude.{string_bytes};
 ghost use Rattle.std.specs.List.{list_any};
 ghost use Rattle.rc_model.specs.Handed.Environment.{Bindings, bindings, with_cut, cut_entry, read_state};
 ghost use Rattle.rc_model.specs.Handed.Image.{entry};
@@ -19,7 +18,7 @@ use crate::cut_entries::{cut_entry, cut_members, function_entry};
 use crate::escaped_bytes::has_marks;
 use crate::{ImageError, check_tree};
 use rc_model::InputError;
-use rc_scope::{KeptEntry, NameFault, State, texts_of};
+use rc_scope::{KeptEntry, NameFault, State};
 use rc_text::Text;
 use std::alloc::{AllocError, Global};
 
@@ -167,9 +166,9 @@ fn define_functions(alloc: Global, state: &mut State, entries: &[Text]) -> Resul
     Ok(())
 }
 
-/// The state that the texts of an environment denote, as `read_env` reads it. What launches hand on as it is here is
-/// shared.
-fn read_texts(alloc: Global, entries: &[Text], own: bool) -> Result<State, ImageError>
+/// The state that an environment denotes. Functions and the status are read only if it is `own`, from a shell of the
+/// same kind. Entries that launches hand on as they are here are shared.
+pub fn read_env(alloc: Global, entries: &[Text], own: bool) -> Result<State, ImageError>
     ensures { Gives (λ state. state_of state) result (read_state own [] (map text_bytes entries.now)) }
 {
     let mut state = read_values(alloc, entries, own)?;
@@ -177,13 +176,4 @@ fn read_texts(alloc: Global, entries: &[Text], own: bool) -> Result<State, Image
         define_functions(alloc, &mut state, entries)?;
     }
     Ok(state)
-}
-
-/// The state that an environment denotes. Functions and the status are read only if it is `own`, from a shell of the
-/// same kind.
-pub fn read_env(alloc: Global, entries: &[String], own: bool) -> Result<State, ImageError>
-    ensures { Gives (λ state. state_of state) result (read_state own [] (map string_bytes entries.now)) }
-{
-    let texts = texts_of(alloc, entries)?;
-    read_texts(alloc, texts.as_slice(), own)
 }

@@ -7,11 +7,13 @@ ghost use Rattle.rc_tree.specs.View.{cmd_tree};
 ghost use Rattle.rc_scope.specs.States.{state_of};
 ghost use Rattle.rc_model.specs.Syntax.Faults.{Gives};
 ghost use Rattle.rc_image.specs.Entries.{with_arguments};
+ghost use Rattle.rc_text.specs.Texts.{text_bytes};
 
 use crate::ImageError;
 use crate::image_words::read_words;
 use crate::read_environment::{read_env, set_value};
 use rc_scope::{State, texts_of};
+use rc_text::Text;
 use rc_tree::Cmd;
 use std::alloc::{AllocError, Global};
 
@@ -32,10 +34,10 @@ pub fn read_state(
     alloc: Global,
     own: bool,
     args: &[String],
-    entries: &[String],
+    entries: &[Text],
 ) -> Result<State, ImageError>
     ensures { Gives (λ state. state_of state) result
-        (read_state own (map string_bytes args.now) (map string_bytes entries.now)) }
+        (read_state own (map string_bytes args.now) (map text_bytes entries.now)) }
 {
     let mut state = read_env(alloc, entries, own)?;
     set_arguments(alloc, &mut state, args)?;
@@ -47,10 +49,10 @@ pub fn read_image(
     alloc: Global,
     strict: bool,
     words: &[String],
-    entries: &[String],
+    entries: &[Text],
 ) -> Result<(Cmd, State), ImageError>
     ensures { Gives (λ x. (cmd_tree x.0, state_of x.1)) result
-        (read_image strict (map string_bytes words.now) (map string_bytes entries.now)) }
+        (read_image strict (map string_bytes words.now) (map text_bytes entries.now)) }
 {
     let (cmd, taken) = read_words(alloc, words)?;
     let (_, args) = words.split_at(taken);

@@ -15,6 +15,7 @@ use rc_cli::{Request, RunError, Source, report, request_of, run_rc};
 use rc_covering::{Covering, covering_of};
 use rc_host::{ArgumentsFault, HostWorld, Input, InputError, Leaving, entries, open_standard};
 use rc_image::read_pieces;
+use rc_text::Text;
 use rc_tree::Cmd;
 use std::alloc::Global;
 use std::fs;
@@ -78,7 +79,7 @@ pub struct Shell {
     /// What the process may give up of its own descriptors.
     pub leaving: Leaving,
     /// The entries of the environment.
-    pub entries: Vec<String>,
+    pub entries: Vec<Text>,
     /// What the script is read from, if it could be opened; an image reads nothing.
     pub input: Option<Input>,
 }

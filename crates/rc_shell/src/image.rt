@@ -1,10 +1,12 @@
 //! Running what a shell was handed.
 
 ghost use Rattle.std.specs.Prelude.{map, string_bytes};
+ghost use Rattle.rc_text.specs.Texts.{text_bytes};
 ghost use Rattle.rc_shell.specs.Executed.{IsExecuted, image_from};
 
 use crate::run::{Ran, ShellFault, run_tree};
 use rc_image::{InputError, read_image};
+use rc_text::Text;
 use rc_world::World;
 use std::alloc::Global;
 
@@ -16,12 +18,12 @@ pub fn execute_image<W: World>(
     world: &mut W,
     strict: bool,
     words: &[String],
-    entries: &[String],
+    entries: &[Text],
     limit: u64,
 ) -> Result<Ran, ShellFault>
     // Words and entries that denote no tree and state are refused before any call. Others make the calls of the tree's
     // meaning; nothing is lost over fresh answers, and what each subshell was handed reads back.
-    ensures { IsExecuted (image_from strict (map string_bytes words.now) (map string_bytes entries.now)) limit
+    ensures { IsExecuted (image_from strict (map string_bytes words.now) (map text_bytes entries.now)) limit
         (W.events world.old) (W.events world.new) result }
 {
     match read_image(alloc, strict, words, entries) {

@@ -2,6 +2,7 @@
 
 use crate::options::Asked;
 use rc_scope::is_name;
+use rc_text::Text;
 use rc_trace::Manner;
 use std::alloc::{AllocError, Global};
 
@@ -16,7 +17,7 @@ const DEFAULTS: [(&str, &str); 3] = [
 pub(crate) fn manner(
     alloc: Global,
     asked: Asked<'_>,
-    entries: &[String],
+    entries: &[Text],
 ) -> Result<Manner, AllocError> {
     if asked.environment && asked.images {
         return Ok(Manner::Whole);
@@ -34,12 +35,12 @@ pub(crate) fn manner(
 
 /// The entries that aren't shown: those that the shell was handed. The first one passes over some, and begins with
 /// others.
-fn known(alloc: Global, asked: Asked<'_>, entries: &[String]) -> Result<Vec<String>, AllocError> {
+fn known(alloc: Global, asked: Asked<'_>, entries: &[Text]) -> Result<Vec<String>, AllocError> {
     let is_first = asked.process.is_none();
     let mut known = Vec::new(alloc);
     for entry in entries {
-        if !is_first || is_of_variable(entry) {
-            known.push(entry.clone()?)?;
+        if !is_first || is_of_variable(entry.as_str()) {
+            known.push(String::from_str(alloc, entry.as_str())?)?;
         }
     }
     if is_first {

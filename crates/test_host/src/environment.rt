@@ -42,8 +42,8 @@ fn is_taken_by_place(rt: HostRuntime) -> Result<(), Fail> {
     let entries = entries_by_place(&(given, rt.alloc()))?;
     assert!(rt; entries.len() == 4);
     assert!(rt; entries[0].as_str() == "first=1");
-    assert!(rt; entries[1].len() == 300);
-    assert!(rt; entries[2].is_empty());
+    assert!(rt; entries[1].as_str().len() == 300);
+    assert!(rt; entries[2].as_str().is_empty());
     assert!(rt; entries[3].as_str() == "last=2");
     Ok(())
 }

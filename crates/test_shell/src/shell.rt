@@ -96,7 +96,10 @@ fn out_of_memory_in_an_image_is_reported(rt: HostRuntime) -> Result<(), Fail> {
     let alloc = rt.alloc();
     let mut tape = one_program(alloc)?;
     let words = texts(alloc, &["rc1;c2,w1:f$w1:x", "p"])?;
-    let entries = texts(alloc, &["path=/bin", "x=hello", "fn#f=rc1;c2,w4:echo$w1:1"])?;
+    let entries = texts_of(
+        alloc,
+        &texts(alloc, &["path=/bin", "x=hello", "fn#f=rc1;c2,w4:echo$w1:1"])?,
+    )?;
     let ran = execute_image(alloc, &mut tape, false, &words, &entries, 100);
     check_calls(&rt, &tape);
     ended(&rt, ran, &tape, "", 3)

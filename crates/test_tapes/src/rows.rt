@@ -15,7 +15,8 @@
 use crate::fault::RowError;
 use crate::input::Input;
 use crate::options::{has, limit, repeated, set_up, texts};
-use rc_scope::State;
+use rc_scope::{State, texts_of};
+use rc_text::Text;
 use std::alloc::{AllocError, Global};
 
 /// A script, and the expected run.
@@ -45,7 +46,7 @@ impl Drop for Row<'_> {
 pub struct Handed {
     pub is_strict: bool,
     pub words: Vec<String>,
-    pub entries: Vec<String>,
+    pub entries: Vec<Text>,
 }
 
 impl Drop for Handed {
@@ -61,7 +62,7 @@ impl Drop for Handed {
 /// The arguments and the environment of the program.
 pub struct Given {
     pub words: Vec<String>,
-    pub entries: Vec<String>,
+    pub entries: Vec<Text>,
 }
 
 impl Drop for Given {
@@ -102,7 +103,7 @@ impl<'a> Row<'a> {
             return Ok(None);
         }
         let words = lines(alloc, self.script.as_str())?;
-        let entries = texts(alloc, self.options, "entry")?;
+        let entries = texts_of(alloc, &texts(alloc, self.options, "entry")?)?;
         Ok(Some(Handed {
             is_strict: has(self.options, "strict"),
             words,
@@ -118,7 +119,7 @@ impl<'a> Row<'a> {
     /// The arguments and the environment of the program.
     pub fn given(&self, alloc: Global) -> Result<Given, RowError> {
         let words = texts(alloc, self.options, "word")?;
-        let entries = texts(alloc, self.options, "entry")?;
+        let entries = texts_of(alloc, &texts(alloc, self.options, "entry")?)?;
         Ok(Given { words, entries })
     }
 

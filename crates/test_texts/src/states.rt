@@ -53,7 +53,7 @@ fn begun_with(
     alloc: Global,
     is_strict: bool,
     words: &[String],
-    entries: &[String],
+    entries: &[Text],
 ) -> Result<Box<(Cmd, State)>, ImageError> {
     Ok(Box::new(alloc, read_image(alloc, is_strict, words, entries)?)?)
 }
@@ -63,7 +63,7 @@ fn begun_by_words(
     alloc: Global,
     out: &mut String,
     options: &str,
-    entries: &[String],
+    entries: &[Text],
 ) -> Result<(), RowError> {
     let words = all(alloc, options, "word")?;
     let begun = begun_with(alloc, has(options, "strict"), &words, entries)?;
@@ -148,7 +148,7 @@ fn begun_by_arguments(
     out: &mut String,
     options: &str,
     args: &[String],
-    entries: &[String],
+    entries: &[Text],
 ) -> Result<(), RowError> {
     let is_own = has(options, "own");
     let mut read = if args.is_empty() {
@@ -164,7 +164,7 @@ fn begun_by_arguments(
 
 /// Adds the result for a row.
 pub fn begun(alloc: Global, out: &mut String, options: &str) -> Result<(), RowError> {
-    let entries = all(alloc, options, "entry")?;
+    let entries = texts_of(alloc, &all(alloc, options, "entry")?)?;
     if has(options, "image") {
         return begun_by_words(alloc, out, options, &entries);
     }

@@ -58,8 +58,7 @@ fn read_child(alloc: Global, launch: &Launch) -> Result<(Cmd, State), AllocError
         return Ok((Cmd::Empty, State::new(alloc)));
     };
     let words = strings(alloc, words)?;
-    let entries = strings(alloc, launch.env.as_slice())?;
-    match read_image(alloc, is_strict, &words, &entries) {
+    match read_image(alloc, is_strict, &words, launch.env.as_slice()) {
         Ok(read) => Ok(read),
         Err(InputError::Fault(_)) => Ok((Cmd::Empty, State::new(alloc))),
         Err(InputError::NoMemory) => Err(AllocError),

@@ -8,6 +8,6 @@ run_read-requires g c = no_wrong_use c.args.name c.read_script-read.result c.rea
 
 pub returns-clause-meant : goal.returns-clause-meant
 returns-clause-meant g c =
-    input_run (g.W.World.events c.args.world.now) (g.W.World.events c.run_read.new.world) (asked c.args.request) (map string_bytes c.args.entries.now) c.args.name
+    input_run (g.W.World.events c.args.world.now) (g.W.World.events c.run_read.new.world) (asked c.args.request) (map text_bytes c.args.entries.now) c.args.name
     c.run_read.result c.requires (λ r. g.R.Read.remaining r) c.args.input c.read_script-read.result
     c.read_script-read.ensures.unopened c.read_script-read.ensures.script c.read_script-read.ensures.err c.run_read.ensures.meant

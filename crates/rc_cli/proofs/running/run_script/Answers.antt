@@ -11,7 +11,7 @@ use Rattle.rc_cli.proofs.running.run_script.Goals as goal
 pub returns-in_err-state-clause-meant : goal.returns-in_err-state-clause-meant
 returns-in_err-state-clause-meant g c =
     let p = err_from_is_err_and c.from_residual.result c.from_residual.ensures.1 in
-    rw (p.1, p.2) (left_unrecorded _ (text_from c.args.script.now (first_state (asked c.args.request) (map string_bytes c.args.entries.now))))
+    rw (p.1, p.2) (left_unrecorded _ (text_from c.args.script.now (first_state (asked c.args.request) (map text_bytes c.args.entries.now))))
 
 pub returns-clause-meant : goal.returns-clause-meant
 returns-clause-meant g c =

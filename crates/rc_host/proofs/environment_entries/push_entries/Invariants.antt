@@ -1,4 +1,5 @@
-use Rattle.std.proofs.Common.{◌≡◌, ◌==◌, ◌≤◌, ◌+◌, ◌++◌, ℕ, List, count_by, map, string_bytes, length}
+use Rattle.std.proofs.Common.{◌≡◌, ◌==◌, ◌≤◌, ◌+◌, ◌++◌, ℕ, List, count_by, map, length}
+use Rattle.rc_text.specs.Texts.{text_bytes}
 use Rattle.rc_host.specs.Names.{ended_from, entered}
 use Rattle.rc_host.proofs.environment_entries.push_entries.Given as goal
 
@@ -6,8 +7,8 @@ use Rattle.rc_host.proofs.environment_entries.push_entries.Given as goal
 -- shorter by each entry
 abbrev pub invariant-loop-length : goal.invariant-loop-length
 invariant-loop-length l =
-    ((after : List ℕ) → map string_bytes l.entries.items ++ ended_from entered l.begun.items (l.rest ++ after)
-    ≡ map string_bytes l.fn.entries.items ++ ended_from entered l.fn.begun.items (l.bytes ++ after))
+    ((after : List ℕ) → map text_bytes l.entries.items ++ ended_from entered l.begun.items (l.rest ++ after)
+    ≡ map text_bytes l.fn.entries.items ++ ended_from entered l.fn.begun.items (l.bytes ++ after))
     × (l.count + count_by (λ byte. byte == 0) l.rest ≡ count_by (λ byte. byte == 0) l.bytes)
     × (l.count + length l.rest ≤ length l.bytes)
 

@@ -5,8 +5,8 @@ use Rattle.rc_model.specs.Handed.Environment.{bindings}
 use Rattle.rc_scope.specs.States.{state_of}
 use Rattle.rc_model.specs.Syntax.Faults.{Fails}
 use Rattle.rc_image.proofs.Denoted.{no_functions, passed_on, read_own, read_other}
-use Rattle.rc_image.proofs.read_environment.read_texts.Goals as goal
-use Rattle.rc_image.proofs.read_environment.read_texts.Goals.{then-own+in_ok-define_functions, else-own}
+use Rattle.rc_image.proofs.read_environment.read_env.Goals as goal
+use Rattle.rc_image.proofs.read_environment.read_env.Goals.{then-own+in_ok-define_functions, else-own}
 
 pub define_functions-requires : goal.define_functions-requires
 define_functions-requires c =
