@@ -14,7 +14,7 @@ use crate::lexed_script::LexedScript;
 use crate::syntax_faults::syntax_fault;
 use crate::token_stream::{Source, Tokens};
 use crate::trees::script;
-use rc_lexer::{Pieces, ScriptError};
+use rc_lexer::{ScriptError, lex_bytes};
 use rc_model::limits::LONGEST_SCRIPT;
 use rc_model::{FaultKind, InputError, SyntaxFault};
 use rc_tree::Cmd;
@@ -56,7 +56,7 @@ fn pass(passed: &mut Vec<Snapshot<u8>>, piece: &[u8]) -> Result<(), AllocError>
 /// The script so far. Past the greatest length it takes no more memory, since it is known to be too long.
 pub struct Reader {
     alloc: Global,
-    pieces: Pieces,
+    text: Vec<u8>,
     /// How many more bytes may come.
     room: usize,
     /// The bytes that came when there was no room.
@@ -67,7 +67,7 @@ impl Drop for Reader {
     fn drop(self) {
         let Reader {
             alloc: _,
-            pieces: _,
+            text: _,
             room: _,
             passed: _,
         } = self;
@@ -77,9 +77,9 @@ impl Drop for Reader {
 impl Model for Reader {
     ghost Value = { List ℕ };
 
-    ghost view = { λ r. r.pieces ++ map (λ s. s.value) r.passed.items };
+    ghost view = { λ r. r.text.items ++ map (λ s. s.value) r.passed.items };
 
-    ghost invariant = { λ r. IsKept (length r.pieces) r.room (length r.passed.items) };
+    ghost invariant = { λ r. IsKept (length r.text.items) r.room (length r.passed.items) };
 }
 
 impl Reader {
@@ -89,7 +89,7 @@ impl Reader {
     {
         Reader {
             alloc,
-            pieces: Pieces::new(alloc),
+            text: Vec::new(alloc),
             room: LONGEST_SCRIPT,
             passed: Vec::new(alloc),
         }
@@ -110,19 +110,20 @@ impl Reader {
         if !self.passed.is_empty() || piece.len() > self.room {
             return pass(&mut self.passed, piece);
         }
-        self.pieces.feed(piece)?;
+        self.text.extend_from_slice(piece)?;
         self.room -= piece.len();
         Ok(())
     }
 
-    /// Returns the text with its tokens, or its first fault, in the order of [`parse`](crate::parse).
-    pub fn lexed(self) -> Result<LexedScript, ScriptError>
-        ensures text { IfOk result (λ script. script ≡ self) }
+    /// Returns the text, unless it is too long.
+    pub fn into_text(self) -> Result<Vec<u8>, ScriptError>
+        ensures text { IfOk result (λ text. text.items ≡ self) }
+        ensures short { IfOk result (λ text. length text.items ≤ longest_script) }
         ensures refused { IfErr result (λ e. Refuses e self) }
     {
         let Reader {
             alloc: _,
-            pieces,
+            text,
             room: _,
             passed,
         } = self;
@@ -132,7 +133,17 @@ impl Reader {
                 line: 0,
             }));
         }
-        let (text, tokens) = pieces.finish();
+        Ok(text)
+    }
+
+    /// Returns the text with its tokens, or its first fault, in the order of [`parse`](crate::parse).
+    pub fn lexed(self) -> Result<LexedScript, ScriptError>
+        ensures text { IfOk result (λ script. script ≡ self) }
+        ensures refused { IfErr result (λ e. Refuses e self) }
+    {
+        let alloc = self.alloc;
+        let text = self.into_text()?;
+        let tokens = lex_bytes(alloc, &text);
         LexedScript::new(text, tokens)
     }
 
