@@ -7,11 +7,11 @@ ghost use Rattle.rc_model.specs.Syntax.Accepted.{HasTokens};
 ghost use Rattle.rc_model.specs.Syntax.Tree as tree;
 ghost use Rattle.rc_model.specs.Syntax.Tree.{Many, snoc};
 ghost use Rattle.rc_tree.specs.View.{item_tree};
-ghost use Rattle.rc_builtin.specs.Scripts.{Compiles, IsCompiled, SyntaxErrorsAreFirstFaults};
+ghost use Rattle.rc_builtin.specs.Scripts.{Compiles, IsCodeOf, IsCompiled, SyntaxErrorsAreFirstFaults};
 ghost use Rattle.rc_scope.specs.States.{state_of};
 
 use rc_code::{Code, Compiler};
-use rc_parser::{InputError, Items, Reader, ScriptError, Source};
+use rc_parser::{InputError, Items, PartError, PartedItems, Reader, ScriptError, Source};
 use rc_scope::State;
 use rc_tree::Item;
 use std::alloc::{AllocError, Global};
@@ -37,22 +37,46 @@ fn compile_items(alloc: Global, source: &Source<'_>) -> Result<Code, ScriptError
     Ok(compiler.finish()?)
 }
 
-/// Compiles the text that was read, or returns its first fault.
-pub(crate) fn compile_read(alloc: Global, reader: Reader) -> Result<Code, ScriptError>
-    ensures { IsCompiled reader result }
-{
-    let lexed = reader.lexed()?;
-    compile_items(alloc, &lexed.source())
-}
-
-/// Compiles a script into the code of its tree, which never stands in memory as a whole, or returns its first fault, as
-/// `parse` does.
-pub fn compile_script(alloc: Global, script: &[u8]) -> Result<Code, ScriptError>
+/// Compiles a script as a whole, or returns its first fault.
+fn compile_whole(alloc: Global, script: &[u8]) -> Result<Code, ScriptError>
     ensures { IsCompiled script.now result }
 {
     let mut reader = Reader::new(alloc);
     reader.feed(script)?;
-    compile_read(alloc, reader)
+    let lexed = reader.lexed()?;
+    compile_items(alloc, &lexed.source())
+}
+
+/// Compiles a script part by part, if it is accepted. Each item is parsed, compiled and dropped before the next.
+fn compile_parts(alloc: Global, script: &[u8]) -> Result<Code, PartError>
+    ensures { IfOk result (λ body. IsCodeOf script.now body) }
+{
+    let mut items = PartedItems::new(alloc, script)?;
+    let mut compiler = Compiler::new(alloc);
+    while let Some(item) = items.next()? {
+        compile_item(&mut compiler, item)?;
+    }
+    Ok(compiler.finish()?)
+}
+
+/// Compiles a script into the code of its tree, or returns its first fault, as `parse` does. Neither the tree nor the
+/// list of the tokens of a script that is accepted stands in memory as a whole.
+pub fn compile_script(alloc: Global, script: &[u8]) -> Result<Code, ScriptError>
+    ensures { IsCompiled script.now result }
+{
+    match compile_parts(alloc, script) {
+        Ok(body) => Ok(body),
+        Err(InputError::Fault(_)) => compile_whole(alloc, script),
+        Err(InputError::NoMemory) => Err(InputError::NoMemory),
+    }
+}
+
+/// Compiles the text that was read, or returns its first fault.
+pub(crate) fn compile_read(alloc: Global, reader: Reader) -> Result<Code, ScriptError>
+    ensures { IsCompiled reader result }
+{
+    let text = reader.into_text()?;
+    compile_script(alloc, &text)
 }
 
 /// A text sets the status `syntax error` exactly if it has a first fault: the one that `compile_script` returns.

@@ -12,3 +12,5 @@ pub mod ReadItems
 pub mod Kept
 pub mod Unquoted
 pub mod Depths
+pub mod PartItems
+pub mod PartReaders

@@ -1,5 +1,5 @@
 -- The items of a script, one after the other.
-use Rattle.std.proofs.Common.{◌≡◌, ℕ, ◌+◌, ◌-◌, ◌<◌, ◌∙◌, not, ◌&&◌, if◌then◌else◌, Bool, true, false, List, length, Some, Result, Ok, Err, refl, sym, ap, subst, arith, max, nat_le}
+use Rattle.std.proofs.Common.{◌≡◌, ℕ, ◌+◌, ◌-◌, ◌<◌, ◌≤◌, ◌∙◌, not, ◌&&◌, if◌then◌else◌, Bool, true, false, List, length, Some, Result, Ok, Err, refl, sym, ap, subst, arith, max, nat_le}
 use Rattle.std.specs.Result.{IsErrAnd}
 use Rattle.std.proofs.lemmas.Bool.Decides.{nat_tests}
 use Rattle.rc_model.specs.Syntax.Tokens as model
@@ -77,6 +77,14 @@ few_levels (more y ys) i n =
 pub fits_more : (front : Many t.item) (i : Node t.item) → nat_le (depth (t.Seq (snoc front i))) 200 ≡ nat_le (depth (t.Seq front)) 200 && nat_le (depth i) 199
 fits_more front i =
     le_suc (depths (snoc front i)) 200 ∙ few_levels front i 199 ∙ ap (λ v. v && nat_le (depth i) 199) (sym (le_suc (depths front) 200))
+
+-- one more item of few levels adds no level to few
+pub deeper_by : (front : Many t.item) (i : Node t.item) → depth (t.Seq front) ≤ 200 → depth i < 200 → depth (t.Seq (snoc front i)) ≤ 200
+deeper_by front i h k = let d = depths_snoc front i in omega (arith, d)
+  where
+    depths_snoc : (front : Many t.item) (i : Node t.item) → depths (snoc front i) ≡ max (depths front) (depth i)
+    depths_snoc none i = omega arith
+    depths_snoc (more y ys) i = let d = depths_snoc ys i in omega (arith, d)
 
 -- a fault of the descent, at its line, is the script's first one
 pub refused_by : (script : List ℕ) (tokens : List model.Token) (found : TokenFault) (f : SyntaxFault) → HasTokens script tokens →

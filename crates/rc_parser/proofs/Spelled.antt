@@ -1,8 +1,8 @@
 -- What the words of a script say is text.
-use Rattle.std.proofs.Common.{◌≡◌, ◌<◌, ◌≤◌, ◌+◌, ◌-◌, ◌∙◌, ℕ, Bool, true, List, [], ◌∷◌, drop, get_or, length, refl, sym, ap, subst, add-one, drop-cons, length-drop}
+use Rattle.std.proofs.Common.{◌≡◌, ◌<◌, ◌≤◌, ◌+◌, ◌-◌, ◌∙◌, ℕ, zero, suc, Bool, true, List, [], ◌∷◌, drop, get_or, length, refl, sym, ap, subst, add-one, drop-cons, length-drop}
 use Rattle.std.proofs.lemmas.Bool.{and_from, and_parts}
 use Rattle.std.proofs.lemmas.Grind.{common_steps}
-use Rattle.std.proofs.lemmas.List.{drop_all, length-map}
+use Rattle.std.proofs.lemmas.List.{drop_all, drop-map, length-map}
 use Rattle.std.proofs.lemmas.Str.{IsUtf8-from_ascii, IsUtf8-from_is_utf8, is_utf8-from_IsUtf8}
 use Rattle.std.proofs.lemmas.Str.Ascii.{IsAscii-nil, IsAscii-cons}
 use Rattle.std.specs.List.{list_all}
@@ -14,7 +14,7 @@ use Rattle.rc_model.specs.Syntax.Lexemes.{Lexeme}
 use Rattle.rc_model.specs.Syntax.Accepted.{lexemes}
 use Rattle.rc_model.specs.Mirrors.Spelling.{IsSpelled, AreSpelled}
 use Rattle.rc_lexer.specs.declared.Token.{Token}
-use Rattle.rc_lexer.specs.Views.{lexeme_of, slice_at, tokens_of}
+use Rattle.rc_lexer.specs.Views.{lexeme_of, slice_at, token_of, tokens_of}
 use Rattle.rc_parser.specs.Texts.{has_text, have_texts}
 
 -- a name is ASCII
@@ -81,6 +81,20 @@ none_at script xs place h = ap (λ ys. lexemes (tokens_of script ys)) (drop_all 
 
 pub tokens_count : (script : List ℕ) (xs : List Token) (place : ℕ) → length (lexemes (tokens_of script (drop place xs))) ≡ length xs - place
 tokens_count script xs place = simp (length-map, length-drop)
+
+-- from a place on what they say is text, if it is from the first one on
+texts_drop : (ls : List Lexeme) (n : ℕ) → have_texts ls ≡ true → have_texts (drop n ls) ≡ true
+texts_drop ls zero h = h
+texts_drop [] (suc n) h = refl
+texts_drop (l ∷ ls) (suc n) h = texts_drop ls n (and_parts (has_text l) (have_texts ls) h).1
+
+pub lexemes_drop : (script : List ℕ) (xs : List Token) (n : ℕ) → lexemes (tokens_of script (drop n xs)) ≡ drop n (lexemes (tokens_of script xs))
+lexemes_drop script xs n = ap lexemes (sym (drop-map (λ x. token_of script x) n xs)) ∙ sym (drop-map (λ x. x.lexeme) n (tokens_of script xs))
+
+pub place_texts : (script : List ℕ) (xs : List Token) (n : ℕ) → have_texts (lexemes (tokens_of script xs)) ≡ true → have_texts (lexemes (tokens_of script (drop n xs))) ≡ true
+place_texts script xs n h = ap have_texts (lexemes_drop script xs n) ∙ texts_drop (lexemes (tokens_of script xs)) n h
+
+pub ruleset texts_from = (lexemes_drop, place_texts, common_steps)
 
 pub ruleset firsts = (first_at, rest_texts, none_at, common_steps)
 

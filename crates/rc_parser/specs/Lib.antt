@@ -8,3 +8,4 @@ pub mod Reading
 pub mod Texts
 pub mod Tokens
 pub mod ItemReading
+pub mod PartReading

@@ -8,6 +8,7 @@ mod items;
 mod joined_nodes;
 mod lexed_script;
 mod parsed_words;
+mod parts;
 mod reader;
 mod syntax_faults;
 mod text;
@@ -22,6 +23,7 @@ ghost use Rattle.rc_tree.specs.View.{cmd_tree};
 
 pub use items::Items;
 pub use lexed_script::LexedScript;
+pub use parts::{PartError, PartFault, PartedItems};
 pub use rc_lexer::ScriptError;
 pub use rc_model::{FaultKind, InputError, SyntaxFault};
 use rc_tree::Cmd;

@@ -10,7 +10,7 @@ ghost use Rattle.rc_check.specs.Findings.{IsChecked, IsFoundIn, IsScript};
 use crate::faults::places::located;
 use crate::positions::on_line;
 use rc_model::SyntaxFault;
-use rc_parser::{InputError, Items, Reader, ScriptError, Source};
+use rc_parser::{InputError, Items, PartError, PartedItems, Reader, ScriptError, Source};
 use rc_warnings::Advice;
 use std::alloc::{AllocError, Global};
 
@@ -35,8 +35,32 @@ pub fn first_fault(alloc: Global, script: &[u8]) -> Result<Option<Finding>, Allo
     }
 }
 
-/// Reads a script, whose tree never stands in memory as a whole, or returns its first fault, as `parse` does.
+/// Reads a script, or returns its first fault, as `parse` does. Neither the tree nor the list of the tokens of a script
+/// that is accepted stands in memory as a whole.
 fn read(alloc: Global, script: &[u8]) -> Result<(), ScriptError>
+    ensures accepted { IfOk result (λ _. IsScript script.now) }
+    ensures refused { IfErr result (λ e. Refuses e script.now) }
+{
+    match read_parts(alloc, script) {
+        Ok(()) => Ok(()),
+        Err(InputError::Fault(_)) => read_whole(alloc, script),
+        Err(InputError::NoMemory) => Err(InputError::NoMemory),
+    }
+}
+
+/// Reads a script part by part, if it is accepted. Each item is dropped before the next is parsed.
+fn read_parts(alloc: Global, script: &[u8]) -> Result<(), PartError>
+    ensures { IfOk result (λ _. IsScript script.now) }
+{
+    let mut items = PartedItems::new(alloc, script)?;
+    while let Some(item) = items.next()? {
+        drop(item);
+    }
+    Ok(())
+}
+
+/// Reads a script as a whole, or returns its first fault.
+fn read_whole(alloc: Global, script: &[u8]) -> Result<(), ScriptError>
     ensures accepted { IfOk result (λ _. IsScript script.now) }
     ensures refused { IfErr result (λ e. Refuses e script.now) }
 {

@@ -29,7 +29,7 @@ pub(crate) struct Found<'a> {
 /// Parses a command, and returns whether it has at most as many levels as are left. Its levels are counted only if it
 /// took at least `left` tokens, since it has at most one level more than tokens.
 #[tactic(auto, using(crate::proofs::Depths::commands))]
-fn parse_measured(
+pub(crate) fn parse_measured(
     alloc: Global,
     left: usize,
     after_if: bool,

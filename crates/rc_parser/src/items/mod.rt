@@ -1,6 +1,6 @@
 //! The items of a script, which are parsed one after the other, so that no tree holds them all.
 
-mod found_items;
+pub(crate) mod found_items;
 
 ghost use Rattle.std.specs.Prelude.{◌≡◌, ◌≤◌, ◌<◌, IfOk, IsNone, IsSome, List, Ok, OnErr, length, ℕ};
 ghost use Rattle.rc_lexer.specs.Views.{tokens_of};

@@ -39,6 +39,15 @@ impl<'a> Tokens<'a> {
         Tokens { source, place: 0 }
     }
 
+    /// The tokens of a source from a place on.
+    #[tactic(auto, using(crate::proofs::Spelled::texts_from))]
+    pub(crate) fn from(source: &'a Source<'a>, place: usize) -> Tokens<'a>
+        requires { have_texts (lexemes (tokens_of source.now.script.now source.now.tokens.now)) ≡ true }
+        ensures { lexemes_of result ≡ drop place (lexemes (tokens_of source.now.script.now source.now.tokens.now)) }
+    {
+        Tokens { source, place }
+    }
+
     /// How many there are.
     #[tactic(auto, using(crate::proofs::Spelled::tokens_count))]
     pub(crate) fn len(self) -> usize

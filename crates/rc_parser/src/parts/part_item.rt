@@ -1,0 +1,58 @@
+//! The next item of a part of a script.
+
+ghost use Rattle.std.specs.Prelude.{◌≡◌, true, false, IfOk};
+ghost use Rattle.law_syntax.specs.Parts.{has_next};
+ghost use Rattle.rc_parser.specs.PartReading.{Takes, past_separators};
+ghost use Rattle.rc_parser.specs.Tokens.{lexemes_of};
+
+use crate::items::found_items::parse_measured;
+use crate::token_stream::Tokens;
+use crate::token_stream::lookahead::item_end;
+use crate::token_stream::token_faults::{TokenError, fault_at};
+use rc_lexer::TokenKind;
+use rc_model::DescentFault;
+use rc_model::limits::MOST_LEVELS;
+use rc_tree::Item;
+use std::alloc::Global;
+
+/// What follows the semicolons and newlines that stand here.
+pub(crate) fn past_separators(tokens: Tokens<'_>) -> Tokens<'_>
+    ensures { lexemes_of result ≡ past_separators (lexemes_of tokens.entry) }
+{
+    let mut rest = tokens;
+    loop {
+        match rest.first() {
+            Some((TokenKind::Semicolon, _, after)) => rest = after,
+            Some((TokenKind::Newline, _, after)) => rest = after,
+            _ => return rest,
+        }
+    }
+}
+
+/// Whether a command that ends here may go on in the next part.
+fn may_go_on(is_last: bool, tokens: Tokens<'_>) -> bool
+    ensures { result ≡ false → is_last ≡ false → has_next (lexemes_of tokens.entry) ≡ true }
+{
+    !is_last && tokens.len() == 0
+}
+
+/// Parses the item that begins here, and returns the tokens after it. A command that may go on in the next part is
+/// refused.
+pub(crate) fn take_item(
+    alloc: Global,
+    after_if: bool,
+    is_last: bool,
+    tokens: Tokens<'_>,
+) -> Result<(Item, Tokens<'_>), TokenError>
+    ensures { IfOk result (λ x. Takes after_if is_last (lexemes_of tokens.entry) x.0 (lexemes_of x.1)) }
+{
+    let (cmd, fits, after) = parse_measured(alloc, MOST_LEVELS - 1, after_if, tokens)?;
+    if !fits {
+        return Err(fault_at(DescentFault::TooDeep, after));
+    }
+    if may_go_on(is_last, after) {
+        return Err(fault_at(DescentFault::Unexpected, after));
+    }
+    let (background, rest) = item_end(after)?;
+    Ok((Item { cmd, background }, rest))
+}
