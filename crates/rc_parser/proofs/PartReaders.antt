@@ -181,9 +181,9 @@ read_more script before front r is_last i rest place h last x e =
     }
 
 -- all of the part was read
-pub read_part : (script before : List ℕ) (front : Many t.item) (r : PartReader) → HasPartsRead script before front r → past_separators (drop r.place (lexemes r.tokens)) ≡ [] →
-    HasPartsRead script before front (record r { place = length r.tokens })
-read_part script before front r h empty =
+pub read_part : (script before : List ℕ) (front : Many t.item) (r : PartReader) (place : ℕ) → HasPartsRead script before front r → past_separators (drop r.place (lexemes r.tokens)) ≡ [] →
+    place ≡ length r.tokens → HasPartsRead script before front (record r { place = place })
+read_part script before front r place h empty at =
     let ts = lexemes r.tokens in
     let count = length-map r.tokens (λ y. y.lexeme) in
     record {
@@ -191,12 +191,12 @@ read_part script before front r h empty =
       short = h.short;
       utf8 = h.utf8;
       lexed = h.lexed;
-      within = omega arith;
+      within = omega (arith, at);
       goes_on = record {
         items = λ second third vs is rest_at u k p.
             let c = splits r.part r.rest second third r.tokens vs h.lexed rest_at u k in
             let here : Phrase (g.items false r.after_if) c.more is [] =
-            subst (λ z. Phrase (g.items false r.after_if) z is []) (ap (drop (length r.tokens)) c.are ∙ drop_at ts c.more (length r.tokens) count) p in
+            subst (λ z. Phrase (g.items false r.after_if) z is []) (ap (drop place) c.are ∙ drop_at ts c.more place (count ∙ sym at)) p in
             let all = separated (drop r.place ts) c.more (subst (λ z. Phrase (g.items false r.after_if) (z ++ c.more) is []) (sym empty) here) in
             h.goes_on.items second third vs is rest_at u k
             (subst (λ z. Phrase (g.items false r.after_if) z is []) (sym (after_place r.tokens vs c.more r.place h.within c.are)) all);

@@ -40,6 +40,13 @@ pub record Takes (after_if is_last : Bool) (ts : List Lexeme) (i : Item) (rest :
   pub shallow : depth (item_tree i) < MOST_LEVELS
   pub narrow : most_stages (item_tree i) ≤ MOST_STAGES
 
+-- An item was found among these tokens of a part, from this place on, with the place after it; or only separators were.
+abbrev pub Finds : (after_if is_last : Bool) → (place : ℕ) → List Token → Option (Item × ℕ) → Type 0
+Finds after_if is_last place tokens None = past_separators (drop place (lexemes tokens)) ≡ []
+Finds after_if is_last place tokens (Some x) =
+    (rest : List Lexeme) × Takes after_if is_last (past_separators (drop place (lexemes tokens))) x.0 rest ×
+    (x.1 ≡ length tokens - length rest)
+
 -- the text ends with a newline
 abbrev pub HasLineEnd : List ℕ → Type 0
 HasLineEnd text = (front : List ℕ) × (text ≡ front ++ 10 ∷ [])
@@ -103,6 +110,12 @@ HasParted script front items = (before : List ℕ) × HasPartsRead script before
 -- the part is the last one
 abbrev pub IsLast : PartedItems → Type 0
 IsLast p = p.part_len ≡ length p.text.now
+
+-- the next item of the part was found, or the part has no other
+abbrev pub FindsIn : PartedItems → Option (Item × ℕ) → Type 0
+FindsIn p found =
+    (is_last : Bool) × (is_last ≡ true → IsLast p) ×
+    Finds p.after_if is_last p.place (tokens_of (take p.part_len p.text.now) p.tokens.items) found
 
 -- all tokens of the part were read
 abbrev pub IsPartRead : PartedItems → Type 0

@@ -11,9 +11,9 @@ ghost use Rattle.rc_model.specs.Syntax.Tree as t;
 ghost use Rattle.rc_parser.specs.Texts.{have_texts};
 
 use crate::joined_nodes::allows_if_not;
-use crate::token_stream::{Source, Tokens};
+use crate::token_stream::Source;
 use lexed_part::{lex_part, part_end};
-use part_item::{past_separators, take_item};
+use part_item::next_item;
 use rc_lexer::Token;
 use rc_model::InputError;
 use rc_model::limits::LONGEST_SCRIPT;
@@ -29,14 +29,6 @@ pub struct PartFault;
 
 /// Why the items of a script were not read part by part: a part has a fault, or memory was refused.
 pub type PartError = InputError<PartFault>;
-
-/// A part with its tokens.
-fn source<'a>(script: &'a [u8], tokens: &'a [Token]) -> Source<'a>
-    ensures script { result.script.now ≡ script.now }
-    ensures tokens { result.tokens.now ≡ tokens.now }
-{
-    Source { script, tokens }
-}
 
 /// The items of a script that are still to be parsed.
 pub struct PartedItems<'a> {
@@ -73,7 +65,7 @@ impl Drop for PartedItems<'_> {
 }
 
 impl<'a> PartedItems<'a> {
-    ghost use Rattle.rc_parser.specs.PartReading.{HasParted, IsLast, IsPartRead, ReadsPart, ReadsParts};
+    ghost use Rattle.rc_parser.specs.PartReading.{FindsIn, HasParted, IsLast, IsPartRead, ReadsPart, ReadsParts};
     ghost use Rattle.rc_parser.specs.PartReading.{items_left, unlexed};
 
     /// All items of a script.
@@ -102,6 +94,29 @@ impl<'a> PartedItems<'a> {
         self.part_len == self.text.len()
     }
 
+    /// The part with its tokens.
+    fn source(&self) -> Source<'_>
+        ensures script { result.script.now ≡ take self.now.part_len self.now.text.now }
+        ensures tokens { result.tokens.now ≡ self.now.tokens.items }
+    {
+        Source {
+            script: &self.text[..self.part_len],
+            tokens: self.tokens.as_slice(),
+        }
+    }
+
+    /// The next item of the part with the place after it, or `None` after the last one.
+    fn found(&self) -> Result<Option<(Item, usize)>, PartError>
+        ensures { IfOk result (λ found. FindsIn self.now found) }
+    {
+        let is_last = self.is_last();
+        match next_item(self.alloc, &self.source(), self.place, self.after_if, is_last) {
+            Ok(found) => Ok(found),
+            Err(InputError::Fault(_)) => Err(InputError::Fault(PartFault)),
+            Err(InputError::NoMemory) => Err(InputError::NoMemory),
+        }
+    }
+
     /// Parses the next item of the part, or returns `None` after the last one. After an error these items are as they
     /// were.
     fn next_of_part(&mut self) -> Result<Option<Item>, PartError>
@@ -112,22 +127,14 @@ impl<'a> PartedItems<'a> {
         ensures fewer { IfOk result (λ item. IsSome item → items_left self.new < items_left self.old) }
         ensures same { IfOk result (λ item. IsNone item → items_left self.new ≡ items_left self.old) }
     {
-        let text = self.text;
-        let source = source(&text[..self.part_len], self.tokens.as_slice());
-        let rest = past_separators(Tokens::from(&source, self.place));
-        if rest.len() == 0 {
+        let Some((item, place)) = self.found()? else {
             self.place = self.tokens.len();
             return Ok(None);
-        }
+        };
         if self.turns == 0 {
             return Err(InputError::Fault(PartFault));
         }
-        let (item, rest) = match take_item(self.alloc, self.after_if, self.is_last(), rest) {
-            Ok(taken) => taken,
-            Err(InputError::Fault(_)) => return Err(InputError::Fault(PartFault)),
-            Err(InputError::NoMemory) => return Err(InputError::NoMemory),
-        };
-        self.place = self.tokens.len() - rest.len();
+        self.place = place;
         self.turns -= 1;
         self.after_if = allows_if_not(item.background, &item.cmd);
         Ok(Some(item))
@@ -176,9 +183,10 @@ impl<'a> PartedItems<'a> {
         ensures fewer { OnOk result (unlexed self.new < unlexed self.old) }
         ensures same { items_left self.new ≡ items_left self.old }
     {
-        if self.place >= self.tokens.len() {
-            self.leave_part();
+        if self.place < self.tokens.len() {
+            return self.extend_part();
         }
+        self.leave_part();
         self.extend_part()
     }
 
@@ -192,8 +200,9 @@ impl<'a> PartedItems<'a> {
         while !self.is_last() {
             match self.next_of_part() {
                 Ok(Some(item)) => return Ok(Some(item)),
+                Ok(None) => self.lex_on()?,
+                Err(InputError::Fault(_)) => self.lex_on()?,
                 Err(InputError::NoMemory) => return Err(InputError::NoMemory),
-                _ => self.lex_on()?,
             }
         }
         self.next_of_part()

@@ -2,11 +2,14 @@
 
 ghost use Rattle.std.specs.Prelude.{◌≡◌, true, false, IfOk};
 ghost use Rattle.law_syntax.specs.Parts.{has_next};
-ghost use Rattle.rc_parser.specs.PartReading.{Takes, past_separators};
+ghost use Rattle.rc_parser.specs.PartReading.{Finds, Takes, past_separators};
+ghost use Rattle.rc_lexer.specs.Views.{tokens_of};
+ghost use Rattle.rc_model.specs.Syntax.Accepted.{lexemes};
+ghost use Rattle.rc_parser.specs.Texts.{have_texts};
 ghost use Rattle.rc_parser.specs.Tokens.{lexemes_of};
 
 use crate::items::found_items::parse_measured;
-use crate::token_stream::Tokens;
+use crate::token_stream::{Source, Tokens};
 use crate::token_stream::lookahead::item_end;
 use crate::token_stream::token_faults::{TokenError, fault_at};
 use rc_lexer::TokenKind;
@@ -55,4 +58,25 @@ pub(crate) fn take_item(
     }
     let (background, rest) = item_end(after)?;
     Ok((Item { cmd, background }, rest))
+}
+
+/// Parses the next item of a part, from this place on, and returns it with the place after it; or `None` where only
+/// separators are left.
+pub(crate) fn next_item(
+    alloc: Global,
+    source: &Source<'_>,
+    place: usize,
+    after_if: bool,
+    is_last: bool,
+) -> Result<Option<(Item, usize)>, TokenError>
+    requires { have_texts (lexemes (tokens_of source.now.script.now source.now.tokens.now)) ≡ true }
+    ensures { IfOk result (λ found.
+        Finds after_if is_last place (tokens_of source.now.script.now source.now.tokens.now) found) }
+{
+    let rest = past_separators(Tokens::from(source, place));
+    if rest.len() == 0 {
+        return Ok(None);
+    }
+    let (item, rest) = take_item(alloc, after_if, is_last, rest)?;
+    Ok(Some((item, source.tokens.len().saturating_sub(rest.len()))))
 }

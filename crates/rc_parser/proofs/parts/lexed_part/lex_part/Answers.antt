@@ -1,4 +1,5 @@
-use Rattle.std.proofs.Common.{◌≡◌, ◌⊎◌, inl, inr, ℕ, Bool, true, false, ◌==◌, List, [], ◌∷◌, length, Result, Ok, Err, IfOk, is_err, refl, sym, ap, subst, ◌∙◌}
+use Rattle.std.proofs.Common.{◌≡◌, ◌⊎◌, inl, inr, ℕ, Bool, true, false, ◌==◌, List, [], ◌∷◌, length, Result, Ok, Err, IfOk, is_err, refl, sym, ap, subst, ◌∙◌, arith}
+use Rattle.std.proofs.lemmas.Bool.Decides.{nat_tests}
 use Rattle.std.specs.Str.{IsUtf8}
 use Rattle.law_syntax.specs.Parts.{last_of}
 use Rattle.law_syntax.proofs.Spelled.{spelled_tokens}
@@ -15,9 +16,12 @@ text_of : {S E : Type 0} (now : S → List ℕ) (part : List ℕ) (r : Result S 
 text_of now part (Ok s) e u h = subst IsUtf8 e u
 text_of now part (Err f) e u h = absurd cc
 
+zero_by : (n : ℕ) → (n == 0) ≡ true → n ≡ 0
+zero_by n h = grind (arith, nat_tests)
+
 empty_by : (xs : List ℕ) → (length xs == 0) ≡ true → xs ≡ []
 empty_by [] h = refl
-empty_by (x ∷ xs) h = absurd cc
+empty_by (x ∷ xs) h = let e = zero_by (length (x ∷ xs)) h in absurd (omega (arith, e))
 
 pub returns-then-end_line-clause-part : goal.returns-then-end_line-clause-part
 returns-then-end_line-clause-part c =
